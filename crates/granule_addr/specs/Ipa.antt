@@ -1,0 +1,26 @@
+-- IPA granules and the table entries that cover them. RMM 1.0, RTT and address space.
+use Rattle.std.specs.Prelude.{ℕ, ◌-◌, ◌*◌, ◌/◌, ◌%◌, ◌^◌, ◌==◌, Bool, nat_lt, if◌then◌else◌}
+
+-- the IPA widths, in bits, that a realm may have
+abbrev pub is_width : ℕ → Bool
+is_width width = width == 39
+
+-- an IPA granule lies in the realm's address space
+abbrev pub is_in_space : ℕ → ℕ → Bool
+is_in_space ipa width = nat_lt ipa (2 ^ (width - 12))
+
+-- an IPA granule lies in the protected half of the address space: the top bit of the IPA is 0
+abbrev pub is_protected_at : ℕ → ℕ → Bool
+is_protected_at ipa width = nat_lt ipa (2 ^ (width - 13))
+
+-- how many IPA granules an entry of a level covers: 1 GiB, 2 MiB or 4 KiB
+abbrev pub covered_count : ℕ → ℕ
+covered_count level = if level == 1 then 2 ^ 18 else (if level == 2 then 2 ^ 9 else 1)
+
+-- the first IPA granule of the level's entry that covers the IPA granule
+abbrev pub first_covered : ℕ → ℕ → ℕ
+first_covered level ipa = ipa / covered_count level * covered_count level
+
+-- which of a table's 512 entries covers the IPA granule
+abbrev pub entry_index : ℕ → ℕ → ℕ
+entry_index level ipa = ipa / covered_count level % 512

@@ -1,0 +1,61 @@
+//! Blocks of granules.
+ghost use Rattle.std.specs.Prelude.{◌≡◌, ◌*◌, ◌/◌, ◌^◌, ◌<◌, ◌≤◌, nat_le, Some, None, if◌then◌else◌, bit_xor};
+
+use crate::Gran;
+use std::marker::Model;
+
+/// The order of a block, 0 to 9: the block has 2^order granules, and its first number is a multiple of that.
+#[derive(Clone, Copy, Debug, PartialEq, Eq, PartialOrd, Ord)]
+pub struct Order(u8);
+
+impl Model for Order {
+    ghost use Rattle.std.specs.Prelude.{ℕ, ◌≤◌};
+
+    ghost Value = { ℕ };
+
+    ghost view = { λ o. o.0 };
+
+    ghost invariant = { λ o. o.0 ≤ 9 };
+
+    ghost inverse = { λ n. record { 0 = n } };
+}
+
+impl Order {
+    pub fn new(order: u8) -> Option<Order>
+        ensures { result ≡ (if nat_le order 9 then Some order else None) }
+    {
+        if order <= 9 { Some(Order(order)) } else { None }
+    }
+
+    pub fn number(self) -> u8
+        ensures value { result ≡ self }
+        ensures at_most { result ≤ 9 }
+    {
+        self.0
+    }
+
+    /// How many granules a block of this order has.
+    pub fn size(self) -> u16
+        ensures value { result ≡ 2 ^ self }
+        ensures some { 0 < result }
+        ensures at_most { result ≤ 512 }
+        ensures order { self ≤ 9 }
+    {
+        1u16 << self.0
+    }
+}
+
+/// The greatest multiple of 2^order that is at most `number`.
+pub fn align_down(number: u16, order: Order) -> u16
+    ensures { result ≡ number / 2 ^ order * 2 ^ order }
+{
+    let size = order.size();
+    number / size * size
+}
+
+/// The number that differs from that of `first` in bit `order` alone. A machine may lack that granule.
+pub fn buddy_of(first: Gran, order: Order) -> u16
+    ensures { result ≡ bit_xor first (2 ^ order) }
+{
+    first.number() ^ order.size()
+}

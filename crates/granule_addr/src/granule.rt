@@ -1,0 +1,43 @@
+//! Granules of the machine.
+ghost use Rattle.std.specs.Prelude.{◌≡◌, ◌<◌, ◌&&◌, nat_lt, Some, None, if◌then◌else◌};
+
+use std::marker::Model;
+
+/// The most pages that a machine has.
+pub const MOST_PAGES: u16 = 4096;
+
+/// The number of a granule: its address is the number times 4,096. RMM 1.0, Granule.
+#[derive(Clone, Copy, Debug, PartialEq, Eq, PartialOrd, Ord)]
+pub struct Gran(u16);
+
+impl Model for Gran {
+    ghost use Rattle.std.specs.Prelude.{ℕ, ◌<◌};
+
+    ghost Value = { ℕ };
+
+    ghost view = { λ g. g.0 };
+
+    ghost invariant = { λ g. g.0 < 4096 };
+
+    ghost inverse = { λ n. record { 0 = n } };
+}
+
+impl Gran {
+    /// The granule of that number, where a machine of so many pages has it.
+    pub fn new(number: u16, pages: u16) -> Option<Gran>
+        ensures { result ≡ (if nat_lt number 4096 && nat_lt number pages then Some number else None) }
+    {
+        if number < MOST_PAGES && number < pages {
+            Some(Gran(number))
+        } else {
+            None
+        }
+    }
+
+    pub fn number(self) -> u16
+        ensures value { result ≡ self }
+        ensures below { result < 4096 }
+    {
+        self.0
+    }
+}

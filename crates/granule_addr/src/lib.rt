@@ -1,0 +1,19 @@
+//! The numbers that a machine of realms is spoken of with, and their arithmetic.
+//!
+//! Each type keeps its range: a value that is there is in range. Granules, IPA granules and pages are counted in
+//! units of 4 KiB; contracts see each number as it is.
+#![tactic(auto)]
+
+mod block;
+mod granule;
+mod ids;
+mod ipa;
+mod level;
+mod page;
+
+pub use block::{Order, align_down, buddy_of};
+pub use granule::{Gran, MOST_PAGES};
+pub use ids::{BuildId, RecNo, Vmid};
+pub use ipa::{IPA_WIDTH, IpaGran, index_at, is_protected};
+pub use level::Level;
+pub use page::PageOff;

@@ -1,0 +1,88 @@
+-- Checks of a command, in the order in which they are made.
+use Rattle.std.specs.Prelude.{ℕ, ◌-◌, ◌==◌, nat_lt, List, [], ◌∷◌, Bool, true, false, cond, not, ◌&&◌, Option, Some, None, Result, Ok, Err}
+use Rattle.std.specs.List.{list_any}
+use Rattle.std.specs.FinMap.{get, insert}
+use Rattle.granule_addr.specs.Ipa.{is_protected_at}
+use Rattle.realm_model.specs.declared.rmi.Rmi.{Rmi}
+use Rattle.realm_model.specs.declared.rmi.Status.{Status}
+use Rattle.realm_model.specs.declared.rmi.Status.TheVariants.{Input, Realm as OfRealm, Rec as OfRec, Rtt as OfRtt}
+use Rattle.realm_model.specs.declared.states.GranuleState.TheVariants.{Undelegated, Delegated}
+use Rattle.realm_model.specs.declared.states.RealmState.TheVariants.{New, Active}
+use Rattle.realm_model.specs.declared.states.RecState.TheVariants.{Ready, Running}
+use Rattle.realm_model.specs.Rows.{Rows, Row, Walk, walk}
+use Rattle.realm_model.specs.Machine.{RecRow, RealmRow, Seen}
+use Rattle.realm_model.specs.Update.{Outcome, Update, Put}
+
+-- ---- refusals. RMM 1.0, RMI command return codes
+
+abbrev pub refused : Status → ℕ → Rmi
+refused status index = record { status = status; index = index }
+
+-- RMI_ERROR_INPUT, RMI_ERROR_REALM, RMI_ERROR_REC, and RMI_ERROR_RTT with a level
+abbrev pub error_input : Rmi
+error_input = refused Input 0
+
+abbrev pub error_realm : Rmi
+error_realm = refused OfRealm 0
+
+abbrev pub error_rec : Rmi
+error_rec = refused OfRec 0
+
+abbrev pub error_rtt : ℕ → Rmi
+error_rtt level = refused OfRtt level
+
+-- where the check holds the rest decides, else it is refused so
+unfoldable pub check : Bool → Rmi → Outcome → Outcome
+check holds rmi rest = cond holds rest (Err rmi)
+
+-- ---- what is looked at
+
+abbrev pub is_undelegated : Seen → Bool
+is_undelegated g = elim g.cell.state [ Undelegated ↦ true | _ ↦ false ]
+
+abbrev pub is_delegated : Seen → Bool
+is_delegated g = elim g.cell.state [ Delegated ↦ true | _ ↦ false ]
+
+abbrev pub all_different : List Seen → Bool
+all_different [] = true
+all_different (g ∷ gs) = not (list_any (λ h. g.number == h.number) gs) && all_different gs
+
+abbrev pub is_new : RealmRow → Bool
+is_new realm = elim realm.state [ New ↦ true | Active ↦ false ]
+
+abbrev pub is_ready : RecRow → Bool
+is_ready rec = elim rec.state [ Ready ↦ true | Running ↦ false ]
+
+-- an IPA granule of the protected half, of a realm whose IPAs have 39 bits
+abbrev pub is_protected : ℕ → Bool
+is_protected ipa = is_protected_at ipa 39
+
+-- ---- what is looked up
+
+-- the realm of an RD granule: a granule that is no RD is an input error
+unfoldable pub with_realm : Seen → (RealmRow → Outcome) → Outcome
+with_realm rd f = elim rd.cell.descriptor [ Some realm ↦ f realm | None ↦ Err error_input ]
+
+-- the REC of a number: a number that no REC has is an input error
+unfoldable pub with_rec : RealmRow → ℕ → (RecRow → Outcome) → Outcome
+with_rec realm number f = elim (get realm.recs number) [ Some rec ↦ f rec | None ↦ Err error_input ]
+
+-- where a walk towards a level ends
+unfoldable pub with_end : Rows → ℕ → ℕ → (Walk → Outcome) → Outcome
+with_end rows ipa level f = elim (walk rows ipa level) [ Some end ↦ f end | None ↦ Err (error_rtt 0) ]
+
+-- the row where it ends, if that is at the level
+abbrev pub with_row : Rows → ℕ → ℕ → (Row → Outcome) → Outcome
+with_row rows ipa level f = with_end rows ipa level (λ end. check (end.level == level) (error_rtt end.level) (f end.row))
+
+-- the granule that a row leads to
+unfoldable pub with_granule : Row → (ℕ → Outcome) → Outcome
+with_granule row f = elim row.granule [ Some granule ↦ f granule | None ↦ Err error_input ]
+
+-- ---- what changes of a realm
+
+abbrev pub put_realm : Seen → RealmRow → Update
+put_realm rd realm = Put rd.number (record rd.cell { descriptor = Some realm })
+
+abbrev pub put_rec : Seen → RealmRow → ℕ → RecRow → Update
+put_rec rd realm number rec = put_realm rd (record realm { recs = insert realm.recs number rec })

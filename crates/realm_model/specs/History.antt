@@ -1,0 +1,91 @@
+-- Histories: what is open, replay, what is legal, a history without a build.
+use Rattle.std.specs.Prelude.{◌≡◌, ℕ, List, [], ◌∷◌, ◌++◌, Bool, true, false, cond, ◌&&◌, ◌||◌, ◌==◌, not, IsTrue, map, filter, length, Option, Some, None, IsSome, option_map, option_and_then}
+use Rattle.std.specs.List.{last_or, flat_map}
+use Rattle.realm_model.specs.declared.act.Act.{Act}
+use Rattle.realm_model.specs.declared.act.Act.TheVariants.{Take}
+use Rattle.realm_model.specs.declared.act.Event.{Event}
+use Rattle.realm_model.specs.Machine.{Limits}
+use Rattle.realm_model.specs.Act.{block, reverse_of, is_paired, is_reverse}
+use Rattle.realm_model.specs.World.{World, opening, without}
+use Rattle.realm_model.specs.Step.{step}
+
+-- The history without the events of a build, the others in their order.
+abbrev pub erase : ℕ → List Event → List Event
+erase build history = filter (λ event. not (event.build == build)) history
+
+-- the acts of a build, in order
+abbrev pub acts_of : ℕ → List Event → List Act
+acts_of build history = map (λ event. event.act) (filter (λ event. event.build == build) history)
+
+-- ---- what is open: a reverse act matches the latest paired act before it such that between the two there are as many
+-- ---- paired as reverse acts
+
+-- as many paired as reverse acts
+abbrev pub is_balanced : List Act → Bool
+is_balanced acts = length (filter is_paired acts) == length (filter is_reverse acts)
+
+-- a paired act stands in the list, with as many paired as reverse acts after it
+abbrev pub has_nearer : List Act → Bool
+has_nearer [] = false
+has_nearer (act ∷ acts) = (is_paired act && is_balanced acts) || has_nearer acts
+
+-- An act that stands before `between` is matched by a reverse act in the rest: between them there are as many paired as
+-- reverse acts, and of no later paired act is that so.
+abbrev pub is_matched : List Act → List Act → Bool
+is_matched between [] = false
+is_matched between (act ∷ rest) =
+    (is_reverse act && is_balanced between && not (has_nearer between)) || is_matched (between ++ act ∷ []) rest
+
+-- the paired acts that nothing matches, in order
+abbrev pub unmatched : List Act → List Act
+unmatched [] = []
+unmatched (act ∷ acts) = cond (is_paired act && not (is_matched [] acts)) (act ∷ unmatched acts) (unmatched acts)
+
+-- What a build has open: its paired acts that nothing has reversed.
+unfoldable pub open_entries : ℕ → List Event → List Act
+open_entries build history = unmatched (acts_of build history)
+
+-- the pages that an open act holds: those of a block that was taken
+abbrev pub pages_held : Act → List ℕ
+pages_held (Take order first) = block order first
+pages_held _ = []
+
+-- The pages of a build: the blocks that it has open, in the order of taking. Its page k is the k-th, from 0.
+abbrev pub pages_of : ℕ → List Event → List ℕ
+pages_of build history = flat_map pages_held (open_entries build history)
+
+-- ---- replay
+
+-- step after step
+unfoldable pub after : Limits → List Event → World → Option World
+after limits [] world = Some world
+after limits (event ∷ events) world = option_and_then (after limits events) (step limits world event)
+
+-- The world that a history leads to from the opening one.
+abbrev pub replay : Limits → List Event → Option World
+replay limits history = after limits history (opening limits)
+
+-- ---- legal histories
+
+-- a reverse act after a history is that of the newest act that its build has open
+abbrev pub IsInTurn : List Event → Event → Type 0
+IsInTurn before event =
+    IsTrue (is_reverse event.act) → option_and_then reverse_of (last_or None (open_entries event.build before)) ≡ Some event.act
+
+-- each of the events, after those before it
+abbrev pub AllInTurn : List Event → List Event → Type 0
+AllInTurn before [] = Unit {0}
+AllInTurn before (event ∷ events) = IsInTurn before event × AllInTurn (before ++ event ∷ []) events
+
+-- A legal history: each event is a step, and each reverse is that of its build's newest open act.
+pub record IsLegal (limits : Limits) (history : List Event) : Type 0 where
+  pub steps : IsSome (replay limits history)
+  pub in_turn : AllInTurn [] history
+
+-- ---- a history without a build
+
+-- The history without a build is legal, and leads to the world without that build.
+abbrev pub LeavesNoTrace : Limits → List Event → ℕ → Type 0
+LeavesNoTrace limits history build =
+    IsLegal limits (erase build history)
+    × (replay limits (erase build history) ≡ option_map (λ world. without world build) (replay limits history))

@@ -1,0 +1,13 @@
+pub mod Rmi
+pub mod Rows
+pub mod Measurement
+pub mod Machine
+pub mod Update
+pub mod Command
+pub mod Act
+pub mod Outcome
+pub mod World
+pub mod Step
+pub mod History
+pub mod Ownership
+pub mod Codes

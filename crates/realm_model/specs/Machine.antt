@@ -1,0 +1,74 @@
+-- What the monitor keeps of granules, realms and RECs. RMM 1.0, Granule, Realm and REC attributes.
+use Rattle.std.specs.Prelude.{ℕ, List, Option, Some, None, replicate, slice_index_or}
+use Rattle.std.specs.FinMap.{FinMap}
+use Rattle.std.specs.Ordering.{nat_cmp}
+use Rattle.realm_model.specs.declared.states.GranuleState.{GranuleState}
+use Rattle.realm_model.specs.declared.states.GranuleState.TheVariants.{Undelegated, Delegated}
+use Rattle.realm_model.specs.declared.states.RealmState.{RealmState}
+use Rattle.realm_model.specs.declared.states.RecState.{RecState}
+use Rattle.realm_model.specs.Rows.{Rows}
+
+-- How many pages, VMIDs, auxiliary granules of a REC and builds a machine has.
+pub record Limits : Type 0 where
+  pub pages : ℕ
+  pub vmids : ℕ
+  pub aux : ℕ
+  pub builds : ℕ
+
+-- A REC: its granule, its auxiliary granules and its state. RMM 1.0, REC attributes.
+pub record RecRow : Type 0 where
+  pub granule : ℕ
+  pub auxiliaries : List ℕ
+  pub state : RecState
+
+-- A realm: state, VMID, root table, the number of its next REC, measurement, RECs by number, translation.
+-- RMM 1.0, Realm attributes.
+pub record RealmRow : Type 0 where
+  pub state : RealmState
+  pub vmid : ℕ
+  pub root : ℕ
+  pub next : ℕ
+  pub measurement : List ℕ
+  pub recs : FinMap nat_cmp RecRow
+  pub rows : Rows
+
+-- A granule: its state, the RD of the realm that it belongs to, and the bytes of its page.
+-- The row of a realm stands at its RD granule, and nowhere else. The page of a table, an RD or a REC counts as zero.
+pub record Cell : Type 0 where
+  pub state : GranuleState
+  pub realm : Option ℕ
+  pub bytes : List ℕ
+  pub descriptor : Option RealmRow
+
+unfoldable pub page_of : ℕ → List ℕ
+page_of value = replicate 4096 value
+
+unfoldable pub zero_page : List ℕ
+zero_page = replicate 4096 0
+
+-- a granule as nobody has it
+abbrev pub blank : Cell
+blank = record { state = Undelegated; realm = None; bytes = zero_page; descriptor = None }
+
+-- a granule as it leaves a realm, or as it is delegated: DELEGATED, of no realm, and zero
+abbrev pub left : Cell
+left = record { state = Delegated; realm = None; bytes = zero_page; descriptor = None }
+
+-- a granule in a state of a realm, with a page that counts as zero
+abbrev pub held : GranuleState → ℕ → Cell
+held state rd = record { state = state; realm = Some rd; bytes = zero_page; descriptor = None }
+
+-- A machine: a cell for each granule.
+abbrev pub Machine : Type 0
+Machine = List Cell
+
+abbrev pub cell_at : Machine → ℕ → Cell
+cell_at machine granule = slice_index_or machine granule blank
+
+-- A granule as a command that names it sees it.
+pub record Seen : Type 0 where
+  pub number : ℕ
+  pub cell : Cell
+
+abbrev pub seen : Machine → ℕ → Seen
+seen machine granule = record { number = granule; cell = cell_at machine granule }

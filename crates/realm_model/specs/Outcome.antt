@@ -1,0 +1,90 @@
+-- What comes of an act: the command that it stands for, and what its own fields say besides.
+use Rattle.std.specs.Prelude.{ℕ, ◌-◌, ◌%◌, ◌^◌, ◌==◌, nat_eq, nat_le, List, [], ◌∷◌, map, Bool, true, false, ◌&&◌, Option, Some, None, Result, Ok, Err, is_none, slice_index}
+use Rattle.std.specs.List.{list_all}
+use Rattle.std.specs.Option.{option_eq}
+use Rattle.std.specs.FinMap.{get}
+use Rattle.std.specs.Str.{bytes_eq}
+use Rattle.realm_model.specs.declared.act.Act.{Act}
+use Rattle.realm_model.specs.declared.act.Act.TheVariants.{Take, UnTake, Fill, Peek, Delegate, Undelegate, Realm, UnRealm, Activate, Rtt, UnRtt, Ripas, Data, Unknown, UnData, Rec, UnRec, Enter, Exit, Poke}
+use Rattle.realm_model.specs.Rows.{Row, row_at}
+use Rattle.realm_model.specs.Machine.{Limits, Seen, RealmRow, RecRow}
+use Rattle.realm_model.specs.Update.{Update, Outcome, Lease, Free}
+use Rattle.realm_model.specs.Command.Check.{error_input, is_undelegated}
+use Rattle.realm_model.specs.Command.Granule.{granule_delegate, granule_undelegate, host_fill, host_peek}
+use Rattle.realm_model.specs.Command.Realm.{realm_create, realm_activate, realm_destroy}
+use Rattle.realm_model.specs.Command.Table.{rtt_create, rtt_destroy, rtt_init_ripas}
+use Rattle.realm_model.specs.Command.Data.{data_create, data_create_unknown, data_destroy}
+use Rattle.realm_model.specs.Command.Rec.{rec_create, rec_enter, rec_exit, rec_destroy, guest_write}
+
+-- ---- the granules that a command wants, by how many they are
+
+abbrev pub on_one : List Seen → (Seen → Outcome) → Outcome
+on_one [] f = Err error_input
+on_one (g ∷ gs) f = f g
+
+abbrev pub on_two : List Seen → (Seen → Seen → Outcome) → Outcome
+on_two gs f = on_one gs (λ g. elim gs [ [] ↦ Err error_input | x ∷ rest ↦ on_one rest (λ h. f g h) ])
+
+abbrev pub on_more : List Seen → (Seen → List Seen → Outcome) → Outcome
+on_more [] f = Err error_input
+on_more (g ∷ gs) f = f g gs
+
+abbrev pub on_realm : Option Seen → (Seen → Outcome) → Outcome
+on_realm None f = Err error_input
+on_realm (Some rd) f = f rd
+
+-- What comes of an act, by the realm of its build and the granules that it names.
+-- Take and UnTake are no commands of the monitor: a block is leased, or it is given back.
+unfoldable pub outcome_of : Limits → Act → Option Seen → List Seen → Outcome
+outcome_of limits (Take order first) realm gs = Ok (map (λ g. Lease g.number) gs)
+outcome_of limits (UnTake order first) realm gs = Ok (map (λ g. Free g.number) gs)
+outcome_of limits (Fill granule value) realm gs = on_one gs (λ g. host_fill g value)
+outcome_of limits (Peek granule offset byte) realm gs = on_one gs host_peek
+outcome_of limits (Delegate granule) realm gs = on_one gs granule_delegate
+outcome_of limits (Undelegate granule) realm gs = on_one gs granule_undelegate
+outcome_of limits (Realm rd root vmid) realm gs = on_two gs (λ d r. realm_create limits d r vmid)
+outcome_of limits (UnRealm rd root vmid) realm gs = on_one gs realm_destroy
+outcome_of limits Activate realm gs = on_realm realm realm_activate
+outcome_of limits (Rtt granule ipa level) realm gs = on_realm realm (λ rd. on_one gs (λ g. rtt_create rd g ipa level))
+outcome_of limits (UnRtt granule ipa level) realm gs = on_realm realm (λ rd. rtt_destroy rd ipa level)
+outcome_of limits (Ripas ipa count) realm gs = on_realm realm (λ rd. rtt_init_ripas rd ipa count)
+outcome_of limits (Data granule ipa source) realm gs = on_realm realm (λ rd. on_two gs (λ g s. data_create rd g ipa s))
+outcome_of limits (Unknown granule ipa) realm gs = on_realm realm (λ rd. on_one gs (λ g. data_create_unknown rd g ipa))
+outcome_of limits (UnData granule ipa) realm gs = on_realm realm (λ rd. data_destroy rd ipa)
+outcome_of limits (Rec granule auxiliaries number) realm gs = on_realm realm (λ rd. on_more gs (λ g aux. rec_create limits rd g aux))
+outcome_of limits (UnRec granule auxiliaries number) realm gs = on_realm realm (λ rd. rec_destroy rd number)
+outcome_of limits (Enter number) realm gs = on_realm realm (λ rd. rec_enter rd number)
+outcome_of limits (Exit number) realm gs = on_realm realm (λ rd. rec_exit rd number)
+outcome_of limits (Poke number ipa offset value) realm gs = on_realm realm (λ rd. guest_write rd number ipa offset value)
+
+-- ---- what an act's own fields say of what is there
+
+-- the build has a realm, and the test holds of its RD and its row
+abbrev pub realm_is : Option Seen → (Seen → RealmRow → Bool) → Bool
+realm_is None test = false
+realm_is (Some rd) test = elim rd.cell.descriptor [ Some realm ↦ test rd realm | None ↦ false ]
+
+-- a block of order 0 to 9 begins there
+abbrev pub is_block_start : ℕ → ℕ → Bool
+is_block_start order first = nat_le order 9 && first % 2 ^ order == 0
+
+abbrev pub leads_to : Option Row → ℕ → Bool
+leads_to row granule = elim row [ Some r ↦ option_eq nat_eq r.granule (Some granule) | None ↦ false ]
+
+-- A block begins where one may, and is UNDELEGATED where it is given back. The byte of a Peek is the one seen. A build
+-- has one realm at most. A reverse names what its command takes away. A REC gets the next number.
+unfoldable pub fits : Act → Option Seen → List Seen → Bool
+fits (Take order first) realm gs = is_block_start order first
+fits (UnTake order first) realm gs = is_block_start order first && list_all is_undelegated gs
+fits (Peek granule offset byte) realm gs = list_all (λ g. slice_index g.cell.bytes offset == byte) gs
+fits (Realm rd root vmid) realm gs = is_none realm
+fits (UnRealm rd root vmid) realm gs = realm_is realm (λ d r. d.number == rd && r.root == root && r.vmid == vmid)
+fits (UnRtt granule ipa level) realm gs = realm_is realm (λ d r. leads_to (row_at r.rows (level - 1) ipa) granule)
+fits (UnData granule ipa) realm gs = realm_is realm (λ d r. leads_to (row_at r.rows 3 ipa) granule)
+fits (Rec granule auxiliaries number) realm gs = realm_is realm (λ d r. number == r.next)
+fits (UnRec granule auxiliaries number) realm gs =
+    realm_is realm (λ d r. elim (get r.recs number) [
+      | Some rec ↦ rec.granule == granule && bytes_eq rec.auxiliaries auxiliaries.items
+      | None ↦ false
+    ])
+fits _ realm gs = true

@@ -1,0 +1,38 @@
+-- Who owns what: a world but for bytes, RIPAS, measurements, the numbers of next RECs, and the states of realms and RECs.
+use Rattle.std.specs.Prelude.{◌≡◌, ℕ, List, Option, Some, None, option_map}
+use Rattle.std.specs.FinMap.{get}
+use Rattle.realm_model.specs.declared.states.Hipas.{Hipas}
+use Rattle.realm_model.specs.Rows.{Row, Rows}
+use Rattle.realm_model.specs.Machine.{RecRow, RealmRow, Cell, cell_at}
+use Rattle.realm_model.specs.World.{World}
+
+-- the granules of a REC
+abbrev pub granules_of_rec : RecRow → ℕ × List ℕ
+granules_of_rec rec = (rec.granule, rec.auxiliaries)
+
+-- the kind of a row, and the granule that it leads to
+abbrev pub mapping_of_row : Row → Hipas × Option ℕ
+mapping_of_row row = (row.hipas, row.granule)
+
+-- Two realms have the same VMID, root, RECs and mappings.
+pub record SameRealm (r s : RealmRow) : Type 0 where
+  pub vmid : r.vmid ≡ s.vmid
+  pub root : r.root ≡ s.root
+  pub recs : (number : ℕ) → option_map granules_of_rec (get r.recs number) ≡ option_map granules_of_rec (get s.recs number)
+  pub rows : (place : ℕ × ℕ) → option_map mapping_of_row (get r.rows place) ≡ option_map mapping_of_row (get s.rows place)
+
+abbrev pub SameDescriptor : Option RealmRow → Option RealmRow → Type 0
+SameDescriptor None None = Unit {0}
+SameDescriptor None (Some s) = ⊥
+SameDescriptor (Some r) None = ⊥
+SameDescriptor (Some r) (Some s) = SameRealm r s
+
+pub record SameCell (c d : Cell) : Type 0 where
+  pub state : c.state ≡ d.state
+  pub realm : c.realm ≡ d.realm
+  pub descriptor : SameDescriptor c.descriptor d.descriptor
+
+-- Two worlds own the same: the same leases, states, realms, and realms that are the same.
+pub record OwnsSame (w v : World) : Type 0 where
+  pub leases : w.leases ≡ v.leases
+  pub cells : (granule : ℕ) → SameCell (cell_at w.machine granule) (cell_at v.machine granule)

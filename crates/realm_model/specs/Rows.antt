@@ -1,0 +1,135 @@
+-- The translation of a realm: which row covers an IPA granule. No table stands in it. RMM 1.0, Realm Translation Table.
+use Rattle.std.specs.Prelude.{ℕ, zero, suc, ◌+◌, ◌-◌, ◌*◌, ◌%◌, ◌==◌, ◌&&◌, ◌||◌, Bool, true, false, not, nat_lt, nat_le, Option, Some, None}
+use Rattle.std.specs.Ordering.{nat_cmp, on, then_cmp}
+use Rattle.std.specs.declared.cmp.Ordering.{Ordering}
+use Rattle.std.specs.FinMap.{FinMap, empty, get, insert, retain_keys}
+use Rattle.granule_addr.specs.Ipa.{covered_count, first_covered}
+use Rattle.realm_model.specs.declared.states.Hipas.{Hipas}
+use Rattle.realm_model.specs.declared.states.Hipas.TheVariants.{Unassigned, Assigned, Table}
+use Rattle.realm_model.specs.declared.states.Ripas.{Ripas}
+use Rattle.realm_model.specs.declared.states.Ripas.TheVariants.{Empty, Ram, Destroyed}
+
+-- What stands at a place of the translation. RMM 1.0, RTT entry.
+-- A row that is ASSIGNED or TABLE has the granule that it leads to. A TABLE row counts as EMPTY.
+pub record Row : Type 0 where
+  pub hipas : Hipas
+  pub ripas : Ripas
+  pub granule : Option ℕ
+
+-- A place is a level and a first IPA granule. Places are in order of level, and then of granule.
+abbrev pub place_cmp : ℕ × ℕ → ℕ × ℕ → Ordering
+place_cmp = then_cmp (on (λ p. p.0) nat_cmp) (on (λ p. p.1) nat_cmp)
+
+-- the rows of a realm by their places
+abbrev pub Rows : Type 0
+Rows = FinMap place_cmp Row
+
+-- the row of the level that covers the IPA granule
+abbrev pub row_at : Rows → ℕ → ℕ → Option Row
+row_at rows level ipa = get rows (level, first_covered level ipa)
+
+-- ---- walks. RMM 1.0, RTT walk
+
+-- where a walk ends
+pub record Walk : Type 0 where
+  pub level : ℕ
+  pub row : Row
+
+-- A walk towards a level ends at the row of the greatest level, at most this one, that covers the IPA granule.
+unfoldable pub walk : Rows → ℕ → ℕ → Option Walk
+walk rows ipa zero = None
+walk rows ipa (suc level) = elim (row_at rows (suc level) ipa) [
+  | Some row ↦ Some (record { level = suc level; row = row })
+  | None ↦ walk rows ipa level
+]
+
+-- ---- rows by their kind. RMM 1.0, HIPAS
+
+abbrev pub unassigned : Ripas → Row
+unassigned ripas = record { hipas = Unassigned; ripas = ripas; granule = None }
+
+abbrev pub assigned : Ripas → ℕ → Row
+assigned ripas granule = record { hipas = Assigned; ripas = ripas; granule = Some granule }
+
+abbrev pub table : ℕ → Row
+table granule = record { hipas = Table; ripas = Empty; granule = Some granule }
+
+abbrev pub is_unassigned : Row → Bool
+is_unassigned row = elim row.hipas [ Unassigned ↦ true | Assigned ↦ false | Table ↦ false ]
+
+abbrev pub is_assigned : Row → Bool
+is_assigned row = elim row.hipas [ Unassigned ↦ false | Assigned ↦ true | Table ↦ false ]
+
+abbrev pub is_table : Row → Bool
+is_table row = elim row.hipas [ Unassigned ↦ false | Assigned ↦ false | Table ↦ true ]
+
+-- The RIPAS that stays where a page is unmapped. RMM 1.0, RMI_DATA_DESTROY.
+abbrev pub unmapped_ripas : Ripas → Ripas
+unmapped_ripas Empty = Empty
+unmapped_ripas Ram = Destroyed
+unmapped_ripas Destroyed = Destroyed
+
+-- ---- several rows at once
+
+-- The `n` rows of the level from an IPA granule on are there, and the test holds of each.
+unfoldable pub all_rows : (Row → Bool) → Rows → ℕ → ℕ → ℕ → Bool
+all_rows test rows level first zero = true
+all_rows test rows level first (suc n) =
+    elim (get rows (level, first + n * covered_count level)) [ Some row ↦ test row | None ↦ false ]
+    && all_rows test rows level first n
+
+-- the rows with `n` of the level from an IPA granule on, each made from what was there
+unfoldable pub put_rows : (Option Row → Row) → Rows → ℕ → ℕ → ℕ → Rows
+put_rows change rows level first zero = rows
+put_rows change rows level first (suc n) =
+    let place : ℕ × ℕ = (level, first + n * covered_count level) in
+    insert (put_rows change rows level first n) place (change (get rows place))
+
+-- the rows but those of the level at `count` IPA granules
+unfoldable pub drop_rows : Rows → ℕ → ℕ → ℕ → Rows
+drop_rows rows level first count =
+    retain_keys rows (λ place. not (place.0 == level && nat_le first place.1 && nat_lt place.1 (first + count)))
+
+abbrev pub put_row : Rows → ℕ → ℕ → Row → Rows
+put_row rows level ipa row = insert rows (level, first_covered level ipa) row
+
+-- ---- what commands make of the rows
+
+-- The rows of a realm that has just been made: those of its root. RMM 1.0, RMI_REALM_CREATE.
+-- Rows of unprotected IPAs are like the others, which is this profile's own.
+unfoldable pub root_rows : Rows
+root_rows = put_rows (λ _. unassigned Empty) empty 1 0 512
+
+-- With a table of a level, at an IPA granule: the row above leads to it, and its rows have the RIPAS that was above.
+-- RMM 1.0, RMI_RTT_CREATE.
+unfoldable pub with_table : Rows → ℕ → ℕ → ℕ → Ripas → Rows
+with_table rows level ipa granule ripas =
+    put_rows (λ _. unassigned ripas) (put_row rows (level - 1) ipa (table granule)) level ipa 512
+
+-- Without that table: its rows are gone, and the row above is DESTROYED. RMM 1.0, RMI_RTT_DESTROY.
+unfoldable pub without_table : Rows → ℕ → ℕ → Rows
+without_table rows level ipa =
+    put_row (drop_rows rows level ipa (512 * covered_count level)) (level - 1) ipa (unassigned Destroyed)
+
+-- no row of that table is ASSIGNED or TABLE
+unfoldable pub is_table_unused : Rows → ℕ → ℕ → Bool
+is_table_unused rows level ipa = all_rows is_unassigned rows level ipa 512
+
+-- a row that becomes RAM
+abbrev pub as_ram : Option Row → Row
+as_ram None = unassigned Ram
+as_ram (Some row) = record row { ripas = Ram }
+
+-- With RAM at `count` pages. RMM 1.0, RMI_RTT_INIT_RIPAS.
+unfoldable pub with_ram : Rows → ℕ → ℕ → Rows
+with_ram rows ipa count = put_rows as_ram rows 3 ipa count
+
+-- a row of the root leads to a table
+abbrev pub has_root_table : Rows → Bool
+has_root_table rows = not (all_rows (λ row. not (is_table row)) rows 1 0 512)
+
+-- ---- where tables may stand. RMM 1.0, RMI_RTT_CREATE, input conditions
+
+-- a level below the root, and the first IPA granule of a table of that level
+abbrev pub is_table_place : ℕ → ℕ → Bool
+is_table_place ipa level = (level == 2 || level == 3) && ipa % covered_count (level - 1) == 0

@@ -1,0 +1,55 @@
+-- What a command changes: one granule after another, each alone.
+use Rattle.std.specs.Prelude.{ℕ, List, [], ◌∷◌, Option, Some, None, Result, Ok, Err, slice_set}
+use Rattle.realm_model.specs.declared.rmi.Rmi.{Rmi}
+use Rattle.realm_model.specs.Machine.{Cell, Machine, blank, cell_at}
+
+-- A granule gets a cell or a byte, or it is leased, or given back and blank.
+pub data Update : Type 0 where
+  Put : (granule : ℕ) (cell : Cell) → Update
+  PutByte : (granule : ℕ) (offset : ℕ) (value : ℕ) → Update
+  Lease : (granule : ℕ) → Update
+  Free : (granule : ℕ) → Update
+
+-- What comes of a command: what it changes, or the first check that fails.
+abbrev pub Outcome : Type 0
+Outcome = Result (List Update) Rmi
+
+abbrev pub granule_of : Update → ℕ
+granule_of (Put granule cell) = granule
+granule_of (PutByte granule offset value) = granule
+granule_of (Lease granule) = granule
+granule_of (Free granule) = granule
+
+abbrev pub cell_after : Update → Cell → Cell
+cell_after (Put granule cell) old = cell
+cell_after (PutByte granule offset value) old = record old { bytes = slice_set old.bytes offset value }
+cell_after (Lease granule) old = old
+cell_after (Free granule) old = blank
+
+-- who leases the granule before an update by a build, and after it
+abbrev pub lease_before : ℕ → Update → Option ℕ
+lease_before build (Put granule cell) = Some build
+lease_before build (PutByte granule offset value) = Some build
+lease_before build (Lease granule) = None
+lease_before build (Free granule) = Some build
+
+abbrev pub lease_after : ℕ → Update → Option ℕ
+lease_after build (Put granule cell) = Some build
+lease_after build (PutByte granule offset value) = Some build
+lease_after build (Lease granule) = Some build
+lease_after build (Free granule) = None
+
+-- ---- a machine after updates
+
+abbrev pub machine_after : Update → Machine → Machine
+machine_after update machine =
+    slice_set machine (granule_of update) (cell_after update (cell_at machine (granule_of update)))
+
+unfoldable pub machine_after_all : List Update → Machine → Machine
+machine_after_all [] machine = machine
+machine_after_all (update ∷ updates) machine = machine_after_all updates (machine_after update machine)
+
+-- A machine after a command: a refusal changes nothing.
+abbrev pub machine_after_command : Outcome → Machine → Machine
+machine_after_command (Ok updates) machine = machine_after_all updates machine
+machine_after_command (Err rmi) machine = machine

@@ -1,0 +1,14 @@
+//! What a machine of realms does, as definitions: granules, realms and their translation, the commands of the
+//! monitor, events, histories, and the laws that hold of every history.
+//!
+//! `specs/` has the definitions, one subject a file. The types that contracts and code share are here, and the laws
+//! are the contracts of the functions in `law`, which do nothing.
+#![tactic(auto)]
+
+mod act;
+mod rmi;
+mod states;
+
+pub use act::{Act, Event};
+pub use rmi::{Rmi, Status};
+pub use states::{GranuleState, Hipas, RealmState, RecState, Ripas};

@@ -1,0 +1,51 @@
+//! What the monitor answers.
+ghost use Rattle.std.specs.Prelude.{◌≡◌, ◌+◌, ◌*◌};
+
+/// Why a command is refused. RMM 1.0, RMI status codes.
+#[derive(Clone, Copy, Debug, PartialEq, Eq)]
+pub enum Status {
+    Input,
+    Realm,
+    Rec,
+    Rtt,
+}
+
+impl Status {
+    ghost use Rattle.realm_model.specs.Rmi.{status_code};
+
+    /// The code in the result word: RMI_SUCCESS is 0, and no refusal has it.
+    pub fn code(self) -> u8
+        ensures { result ≡ status_code self }
+    {
+        match self {
+            Status::Input => 1,
+            Status::Realm => 2,
+            Status::Rec => 3,
+            Status::Rtt => 4,
+        }
+    }
+}
+
+/// A refusal: with RMI_ERROR_RTT the index is the level of a table, else it is 0.
+#[derive(Clone, Copy, Debug, PartialEq, Eq)]
+pub struct Rmi {
+    pub status: Status,
+    pub index: u8,
+}
+
+impl Rmi {
+    ghost use Rattle.realm_model.specs.Rmi.{result_word};
+
+    /// The refusal of an input.
+    pub const INPUT: Rmi = Rmi {
+        status: Status::Input,
+        index: 0,
+    };
+
+    /// The result word: the status in bits 0 to 7, the index in bits 8 to 15.
+    pub fn word(self) -> u64
+        ensures { result ≡ result_word self }
+    {
+        self.status.code() as u64 + 256 * self.index as u64
+    }
+}
