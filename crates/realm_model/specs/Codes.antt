@@ -13,7 +13,7 @@ use Rattle.realm_model.specs.declared.states.RealmState.{RealmState}
 use Rattle.realm_model.specs.declared.states.RecState.{RecState}
 use Rattle.realm_model.specs.declared.states.Hipas.{Hipas}
 use Rattle.realm_model.specs.declared.states.Ripas.{Ripas}
-use Rattle.realm_model.specs.Rows.{Row, Rows, place_cmp}
+use Rattle.realm_model.specs.Rows.{Row, Rows}
 use Rattle.realm_model.specs.Machine.{RecRow, RealmRow, Cell, Machine}
 use Rattle.realm_model.specs.World.{World}
 

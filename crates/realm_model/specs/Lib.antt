@@ -8,6 +8,13 @@ pub mod Act
 pub mod Outcome
 pub mod World
 pub mod Step
+pub mod StepLaw
 pub mod History
+pub mod Stack
+pub mod Pages
+pub mod Room
 pub mod Ownership
+pub mod Sound
+pub mod Roles
+pub mod Undoing
 pub mod Codes

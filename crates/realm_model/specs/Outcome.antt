@@ -1,5 +1,5 @@
 -- What comes of an act: the command that it stands for, and what its own fields say besides.
-use Rattle.std.specs.Prelude.{ℕ, ◌-◌, ◌%◌, ◌^◌, ◌==◌, nat_eq, nat_le, List, [], ◌∷◌, map, Bool, true, false, ◌&&◌, Option, Some, None, Result, Ok, Err, is_none, slice_index}
+use Rattle.std.specs.Prelude.{ℕ, ◌-◌, ◌%◌, ◌^◌, ◌==◌, nat_eq, nat_le, List, [], ◌∷◌, map, Bool, true, false, ◌&&◌, Option, Some, None, Ok, Err, is_none, slice_index}
 use Rattle.std.specs.List.{list_all}
 use Rattle.std.specs.Option.{option_eq}
 use Rattle.std.specs.FinMap.{get}
@@ -7,8 +7,8 @@ use Rattle.std.specs.Str.{bytes_eq}
 use Rattle.realm_model.specs.declared.act.Act.{Act}
 use Rattle.realm_model.specs.declared.act.Act.TheVariants.{Take, UnTake, Fill, Peek, Delegate, Undelegate, Realm, UnRealm, Activate, Rtt, UnRtt, Ripas, Data, Unknown, UnData, Rec, UnRec, Enter, Exit, Poke}
 use Rattle.realm_model.specs.Rows.{Row, row_at}
-use Rattle.realm_model.specs.Machine.{Limits, Seen, RealmRow, RecRow}
-use Rattle.realm_model.specs.Update.{Update, Outcome, Lease, Free}
+use Rattle.realm_model.specs.Machine.{Limits, Seen, RealmRow}
+use Rattle.realm_model.specs.Update.{Outcome, Lease, Free}
 use Rattle.realm_model.specs.Command.Check.{error_input, is_undelegated}
 use Rattle.realm_model.specs.Command.Granule.{granule_delegate, granule_undelegate, host_fill, host_peek}
 use Rattle.realm_model.specs.Command.Realm.{realm_create, realm_activate, realm_destroy}

@@ -2,7 +2,7 @@
 use Rattle.std.specs.Prelude.{◌≡◌, ℕ, List, Option, Some, None, option_map}
 use Rattle.std.specs.FinMap.{get}
 use Rattle.realm_model.specs.declared.states.Hipas.{Hipas}
-use Rattle.realm_model.specs.Rows.{Row, Rows}
+use Rattle.realm_model.specs.Rows.{Row}
 use Rattle.realm_model.specs.Machine.{RecRow, RealmRow, Cell, cell_at}
 use Rattle.realm_model.specs.World.{World}
 

@@ -5,7 +5,7 @@ use Rattle.realm_model.specs.declared.act.Act.{Act}
 use Rattle.realm_model.specs.declared.act.Act.TheVariants.{Realm}
 use Rattle.realm_model.specs.declared.act.Event.{Event}
 use Rattle.realm_model.specs.Machine.{Cell, Machine, Limits, Seen, seen}
-use Rattle.realm_model.specs.Update.{Update, Outcome}
+use Rattle.realm_model.specs.Update.{Outcome}
 use Rattle.realm_model.specs.Act.{named, holder}
 use Rattle.realm_model.specs.Outcome.{outcome_of, fits}
 use Rattle.realm_model.specs.World.{World, is_leased_to, realm_of, updated_all}

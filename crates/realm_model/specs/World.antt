@@ -1,8 +1,8 @@
 -- The world: the machine, and who leases each granule.
-use Rattle.std.specs.Prelude.{ℕ, suc, List, [], ◌∷◌, Bool, true, false, ◌&&◌, not, ◌==◌, nat_eq, nat_lt, cond, Option, Some, None, is_some, slice_get, slice_set, map, filter, length, replicate}
+use Rattle.std.specs.Prelude.{ℕ, suc, List, [], ◌∷◌, Bool, false, ◌&&◌, not, ◌==◌, nat_eq, cond, Option, Some, None, is_some, slice_get, slice_set, map, filter, length, replicate}
 use Rattle.std.specs.List.{range_with_len}
 use Rattle.std.specs.Option.{option_eq}
-use Rattle.realm_model.specs.Machine.{Cell, Machine, Limits, blank, cell_at, Seen, RealmRow}
+use Rattle.realm_model.specs.Machine.{Cell, Machine, Limits, blank, Seen}
 use Rattle.realm_model.specs.Update.{Update, granule_of, machine_after, lease_before, lease_after}
 
 pub record World : Type 0 where

@@ -6,6 +6,7 @@
 #![tactic(auto)]
 
 mod act;
+pub mod law;
 mod rmi;
 mod states;
 

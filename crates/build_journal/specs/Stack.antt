@@ -1,0 +1,9 @@
+-- Stacks of acts.
+use Rattle.std.specs.Prelude.{ℕ, Bool, List}
+use Rattle.std.specs.List.{list_all}
+use Rattle.realm_model.specs.declared.act.Act.{Act}
+use Rattle.realm_model.specs.Act.{is_paired}
+
+-- each act has a reverse
+abbrev pub are_paired : List Act → Bool
+are_paired acts = list_all is_paired acts

@@ -1,0 +1,73 @@
+//! The stack of what a build has open.
+ghost use Rattle.std.specs.Prelude.{◌≡◌, ◌<◌, ◌≤◌, [], ◌∷◌, ◌++◌, length, IfOk, IfSome, IfNone, IsTrue, MatchOption, option_map, option_to_list, true};
+ghost use Rattle.std.specs.List.{last_or};
+ghost use Rattle.realm_model.specs.Act.{is_paired};
+
+use realm_model::Act;
+use std::alloc::{AllocError, Global};
+use std::marker::Model;
+
+/// How many acts a build has open at most.
+pub const JOURNAL_ROOM: u16 = 512;
+
+/// The acts that a build has open, the newest last. All its memory is taken when it is built.
+#[derive(Drop)]
+pub struct Journal {
+    entries: Vec<Act>,
+}
+
+impl Model for Journal {
+    ghost use Rattle.std.specs.Prelude.{◌≡◌, ◌≤◌, List, vec_capacity, vec_len, true};
+    ghost use Rattle.realm_model.specs.declared.act.Act.{Act};
+    ghost use Rattle.build_journal.specs.Stack.{are_paired};
+
+    ghost Value = { List Act };
+
+    ghost view = { λ j. j.entries.items };
+
+    ghost invariant = { λ j. (512 ≤ vec_capacity j.entries) × (vec_len j.entries ≤ 512) × (are_paired j.entries.items ≡ true) };
+}
+
+impl Journal {
+    /// An empty journal.
+    pub fn build(alloc: Global) -> Result<Journal, AllocError>
+        ensures { IfOk result (λ j. j ≡ []) }
+    {
+        let entries = Vec::with_capacity(alloc, JOURNAL_ROOM as usize)?;
+        Ok(Journal { entries })
+    }
+
+    pub fn len(&self) -> u16
+        ensures value { result ≡ length self.now }
+        ensures at_most { result ≤ 512 }
+    {
+        self.entries.len() as u16
+    }
+
+    /// Adds an act that has a reverse.
+    pub fn push(&mut self, act: Act)
+        requires room { length self.old < 512 }
+        requires paired { is_paired act ≡ true }
+        ensures { self.new ≡ self.old ++ act ∷ [] }
+    {
+        let Ok(()) = self.entries.push(act) else {
+            unreachable!()
+        };
+    }
+
+    /// The newest act.
+    pub fn newest(&self) -> Option<&Act>
+        ensures value { option_map (λ a. a.now) result ≡ last_or None (self.now) }
+        ensures paired { IfSome result (λ a. is_paired a.now ≡ true) }
+    {
+        self.entries.last()
+    }
+
+    /// Takes off the newest act.
+    pub fn pop(&mut self) -> Option<Act>
+        ensures value { self.old ≡ self.new ++ option_to_list result }
+        ensures none { IfNone result (self.new ≡ []) }
+    {
+        self.entries.pop()
+    }
+}

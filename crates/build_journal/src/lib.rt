@@ -1,0 +1,10 @@
+//! What a build has open: a stack of the acts that can be reversed, and the reverse of each.
+#![tactic(auto)]
+
+mod journal;
+mod kind;
+mod reverse;
+
+pub use journal::{JOURNAL_ROOM, Journal};
+pub use kind::{Kind, kind_of};
+pub use reverse::reverse_of;

@@ -1,0 +1,62 @@
+//! Reverses of acts.
+ghost use Rattle.std.specs.Prelude.{◌≡◌};
+ghost use Rattle.realm_model.specs.Act as acts;
+
+use arrayvec::ArrayVec;
+use granule_addr::Gran;
+use realm_model::Act;
+
+/// The same granules again.
+fn granules_again(granules: &ArrayVec<Gran, 16>) -> ArrayVec<Gran, 16>
+    ensures { result ≡ granules.now }
+{
+    let mut again = ArrayVec::new();
+    for granule in granules.as_slice() {
+        again.push(*granule);
+    }
+    again
+}
+
+/// The act that takes back another, or None where it has no reverse. Two kinds of data have the same reverse.
+#[tactic(auto, unfolding(realm_model::specs::Act::reverse_of))]
+pub fn reverse_of(act: &Act) -> Option<Act>
+    ensures { result ≡ acts.reverse_of act.now }
+{
+    match act {
+        Act::Take { order, first } => Some(Act::UnTake {
+            order: *order,
+            first: *first,
+        }),
+        Act::Delegate { granule } => Some(Act::Undelegate { granule: *granule }),
+        Act::Realm { rd, root, vmid } => Some(Act::UnRealm {
+            rd: *rd,
+            root: *root,
+            vmid: *vmid,
+        }),
+        Act::Rtt {
+            granule,
+            ipa,
+            level,
+        } => Some(Act::UnRtt {
+            granule: *granule,
+            ipa: *ipa,
+            level: *level,
+        }),
+        Act::Data { granule, ipa, .. } | Act::Unknown { granule, ipa } => {
+            Some(Act::UnData {
+                granule: *granule,
+                ipa: *ipa,
+            })
+        }
+        Act::Rec {
+            granule,
+            auxiliaries,
+            number,
+        } => Some(Act::UnRec {
+            granule: *granule,
+            auxiliaries: granules_again(auxiliaries),
+            number: *number,
+        }),
+        _ => None,
+    }
+}

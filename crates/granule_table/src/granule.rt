@@ -1,0 +1,19 @@
+//! What is kept of a granule.
+use granule_addr::Gran;
+use realm_model::GranuleState;
+
+/// What the monitor keeps of a granule. RMM 1.0, Granule attributes.
+#[derive(Clone, Copy, Debug, PartialEq, Eq)]
+pub struct Granule {
+    pub state: GranuleState,
+    /// The RD of the realm that the granule belongs to.
+    pub realm: Option<Gran>,
+}
+
+impl Granule {
+    /// A granule of the host's, of no realm: each is so at the start.
+    pub const UNDELEGATED: Granule = Granule {
+        state: GranuleState::Undelegated,
+        realm: None,
+    };
+}

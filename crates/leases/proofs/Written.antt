@@ -1,0 +1,63 @@
+-- What a stack is after a block is pushed, and what the list of stacks is after one is written.
+use Rattle.std.proofs.Common.{◌≡◌, ℕ, ◌+◌, ◌-◌, ◌<◌, ◌≤◌, List, [], ◌∷◌, ◌++◌, length, get_or, set, vec_len, vec_capacity, Bool, true, false, if◌then◌else◌, Option, Some, None, sym, ap, ◌∙◌, subst, arith, append_assoc, length-append, ◌^◌}
+use Rattle.std.proofs.lemmas.List.{length-map, get_or-map, map-set, map-id}
+use Rattle.std.proofs.lemmas.List.Elements.{All-set}
+use Rattle.std.proofs.lemmas.List.FromFn.{map-range_with_len_more, length-range_with_len}
+use Rattle.std.proofs.lemmas.Option.{same_Some}
+use Rattle.std.specs.Global.{Vec}
+use Rattle.std.specs.List.{range_with_len}
+use Rattle.leases.specs.Stacks.{pushed, contents, IsRoomy, IsKept}
+
+-- a run of numbers with one more
+pub range_with_len_more : (a n b : ℕ) → a + n ≡ b → range_with_len a (n + 1) ≡ range_with_len a n ++ b ∷ []
+range_with_len_more a n b next =
+    sym (map-id (range_with_len a (n + 1)))
+    ∙ map-range_with_len_more (λ k. k) a n b next
+    ∙ ap (λ ks. ks ++ b ∷ []) (map-id (range_with_len a n))
+
+-- the granule of a number that a machine has
+pub granule_is : (fits : Bool) (k granule : ℕ) (found : Option ℕ) → found ≡ (if fits then Some k else None) → found ≡ Some granule → granule ≡ k
+granule_is true k granule found is found_is = same_Some granule k (sym found_is ∙ is)
+granule_is false k granule found is found_is = let clash : None ≡ Some granule = sym is ∙ found_is in cc
+
+-- how long a stack is with a block
+pub length-pushed : (pages : List ℕ) (first order : ℕ) → length (pushed pages first order) ≡ length pages + 2 ^ order
+length-pushed pages first order =
+    length-append pages (range_with_len first (2 ^ order)) ∙ ap (λ (n : ℕ). length pages + n) (length-range_with_len first (2 ^ order))
+
+-- one more granule of the block
+pub pushed_on : (start before after : List ℕ) (first k granule : ℕ) → first ≤ k → granule ≡ k → before ≡ start ++ range_with_len first (k - first) → after ≡ before ++ granule ∷ [] → after ≡ start ++ range_with_len first (k + 1 - first)
+pushed_on start before after first k granule low same before_is after_is =
+    let here : first + (k - first) ≡ granule = omega arith in
+    let next : k - first + 1 ≡ k + 1 - first = omega arith in
+    after_is
+    ∙ ap (λ pages. pages ++ granule ∷ []) before_is
+    ∙ append_assoc start (range_with_len first (k - first)) (granule ∷ [])
+    ∙ ap (λ run. start ++ run) (sym (range_with_len_more first (k - first) granule here) ∙ ap (range_with_len first) next)
+
+module _ (stacks : List (Vec ℕ)) (at build : ℕ) (old new : Vec ℕ) (same : at ≡ build) (there : build < length (contents stacks)) (read : old ≡ get_or stacks at old) where
+  inside : at < length stacks
+  inside = let len = length-map stacks (λ stack. stack.items) in omega arith
+
+  pub old_contents : get_or (contents stacks) build [] ≡ old.items
+  old_contents =
+      ap (λ (k : ℕ). get_or (contents stacks) k []) (sym same)
+      ∙ get_or-map (λ stack. stack.items) stacks at old [] inside
+      ∙ ap (λ (stack : Vec ℕ). stack.items) (sym read)
+
+  -- a stack that is written by a function of its pages
+  pub contents_written : (f : List ℕ → List ℕ) → new.items ≡ f old.items → contents (set stacks at new) ≡ set (contents stacks) build (f (get_or (contents stacks) build []))
+  contents_written f is =
+      map-set (λ stack. stack.items) stacks at new
+      ∙ ap (λ (k : ℕ). set (contents stacks) k new.items) same
+      ∙ ap (λ (pages : List ℕ). set (contents stacks) build pages) (is ∙ ap f (sym old_contents))
+
+  -- a stack that keeps its memory and fits
+  pub IsKept-written : (room : ℕ) → IsKept stacks room → vec_capacity old ≤ vec_capacity new → vec_len new ≤ room → IsKept (set stacks at new) room
+  IsKept-written room kept memory fits =
+      let was : IsRoomy room old = subst (IsRoomy room) (sym read) (kept.roomy at old inside) in
+      let taken = was.taken in
+      record {
+        roomy = All-set (IsRoomy room) stacks at new (record { taken = omega arith; fits = fits }) kept.roomy;
+        few_pages = kept.few_pages;
+      }

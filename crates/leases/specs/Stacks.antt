@@ -1,0 +1,37 @@
+-- The pages that builds lease, as stacks.
+use Rattle.std.specs.Prelude.{ℕ, ◌-◌, ◌^◌, ◌≤◌, ◌++◌, List, [], length, take, map, slice_index_or, slice_set, vec_len, vec_capacity, All}
+use Rattle.std.specs.List.{range_with_len}
+use Rattle.std.specs.Global.{Vec}
+
+-- The pages of each build, in the order of taking, and how many each build has room for.
+pub record Stacks : Type 0 where
+  pub stacks : List (List ℕ)
+  pub room : ℕ
+
+-- The pages of a build: its page k is the k-th, from 0.
+abbrev pub stack_of : Stacks → ℕ → List ℕ
+stack_of leases build = slice_index_or leases.stacks build []
+
+-- the leases with other pages of a build
+abbrev pub with_stack : Stacks → ℕ → List ℕ → Stacks
+with_stack leases build pages = record leases { stacks = slice_set leases.stacks build pages }
+
+-- the pages of a build after it takes a block, in rising order at the end, and after the reverse of that
+abbrev pub pushed : List ℕ → ℕ → ℕ → List ℕ
+pushed pages first order = pages ++ range_with_len first (2 ^ order)
+
+abbrev pub popped : List ℕ → ℕ → List ℕ
+popped pages order = take (length pages - 2 ^ order) pages
+
+-- the memory of a build's stack is there already, and the stack fits
+pub record IsRoomy (room : ℕ) (stack : Vec ℕ) : Type 0 where
+  pub taken : room ≤ vec_capacity stack
+  pub fits : vec_len stack ≤ room
+
+-- the stacks as they are kept
+abbrev pub contents : List (Vec ℕ) → List (List ℕ)
+contents stacks = map (λ stack. stack.items) stacks
+
+pub record IsKept (stacks : List (Vec ℕ)) (room : ℕ) : Type 0 where
+  pub roomy : All (IsRoomy room) stacks
+  pub few_pages : room ≤ 4096

@@ -1,0 +1,81 @@
+//! The stacks of pages of all builds.
+ghost use Rattle.std.specs.Prelude.{◌≡◌, ◌+◌, ◌^◌, ◌<◌, ◌≤◌, [], length, replicate, IfOk, slice_get};
+ghost use Rattle.leases.specs.Stacks.{stack_of, with_stack, pushed, popped};
+
+use crate::run::{pop_run, push_run};
+use granule_addr::{BuildId, Gran, Order};
+use std::alloc::{AllocError, Global};
+use std::marker::Model;
+
+/// The pages that each build leases, in the order of taking.
+#[derive(Drop)]
+pub struct Leases {
+    stacks: Vec<Vec<Gran>>,
+    room: u16,
+}
+
+impl Model for Leases {
+    ghost use Rattle.leases.specs.Stacks.{Stacks, contents, IsKept};
+
+    ghost Value = { Stacks };
+
+    ghost view = { λ leases. record { stacks = contents leases.stacks.items; room = leases.room } };
+
+    ghost invariant = { λ leases. IsKept leases.stacks.items leases.room };
+}
+
+impl Leases {
+    /// The leases of so many builds, which have no pages, with room for `pages` pages of each.
+    pub fn build(alloc: Global, builds: u8, pages: u16) -> Result<Leases, AllocError>
+        requires some_builds { 1 ≤ builds }
+        requires few_builds { builds ≤ 8 }
+        requires some_pages { 1 ≤ pages }
+        requires few_pages { pages ≤ 4096 }
+        ensures { IfOk result (λ leases. leases ≡ record { stacks = replicate builds []; room = pages }) }
+    {
+        let mut stacks = Vec::with_capacity(alloc, builds as usize)?;
+        for _i in 0..builds {
+            stacks.push(Vec::with_capacity(alloc, pages as usize)?)?;
+        }
+        Ok(Leases {
+            stacks,
+            room: pages,
+        })
+    }
+
+    /// Puts the pages of a block that a build has taken at the end of its stack, in rising order.
+    pub fn push_block(&mut self, build: BuildId, first: Gran, order: Order)
+        requires there { build < length self.old.stacks }
+        requires room { length (stack_of self.old build) + 2 ^ order ≤ self.old.room }
+        requires machine { first + 2 ^ order ≤ 4096 }
+        ensures { self.new ≡ with_stack self.old build (pushed (stack_of self.old build) first order) }
+    {
+        push_run(&mut self.stacks[build.number() as usize], first, order);
+    }
+
+    /// Removes the pages of the block that a build has taken last.
+    pub fn pop_block(&mut self, build: BuildId, order: Order)
+        requires there { build < length self.old.stacks }
+        requires enough { 2 ^ order ≤ length (stack_of self.old build) }
+        ensures { self.new ≡ with_stack self.old build (popped (stack_of self.old build) order) }
+    {
+        pop_run(&mut self.stacks[build.number() as usize], order);
+    }
+
+    /// A build's page `k`; `None` comes exactly where it has no such page.
+    pub fn page(&self, build: BuildId, k: u16) -> Option<Gran>
+        requires { build < length self.now.stacks }
+        ensures { result ≡ slice_get (stack_of self.now build) k }
+    {
+        self.stacks[build.number() as usize].get(k as usize).copied()
+    }
+
+    /// How many pages a build has.
+    pub fn count(&self, build: BuildId) -> u16
+        requires { build < length self.now.stacks }
+        ensures value { result ≡ length (stack_of self.now build) }
+        ensures fits { result ≤ self.now.room }
+    {
+        self.stacks[build.number() as usize].len() as u16
+    }
+}

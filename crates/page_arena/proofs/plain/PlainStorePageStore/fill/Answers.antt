@@ -1,0 +1,7 @@
+use Rattle.std.proofs.Common.{ℕ, set, ap}
+use Rattle.page_arena.specs.Page.{page_of}
+use Rattle.page_arena.proofs.plain.PlainStorePageStore.fill.Goals as goal
+
+pub returns-clause-filled : goal.returns-clause-filled
+unfolding page_of
+returns-clause-filled c = ap (λ (k : ℕ). set c.args.self.now.pages.items k (page_of c.args.value)) c.number.ensures.value

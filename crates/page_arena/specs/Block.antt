@@ -1,0 +1,30 @@
+-- Blocks of granules: 2^order of them, from a multiple of 2^order on.
+use Rattle.std.specs.Prelude.{◌≡◌, ℕ, ◌+◌, ◌%◌, ◌^◌, ◌<◌, ◌≤◌, Bool, true, false, List, ◌++◌, length, take, drop, replicate}
+use Rattle.page_arena.specs.Page.{is_free}
+
+-- the `count` flags from `first` on are all `flag`
+pub record IsRun (flag : Bool) (flags : List Bool) (first count : ℕ) : Type 0 where
+  pub each : (granule : ℕ) → first ≤ granule → granule < first + count → is_free flags granule ≡ flag
+
+-- A block lies inside the machine, and its granules are all free (`true`), or all taken (`false`).
+pub record IsBlock (flag : Bool) (flags : List Bool) (order first : ℕ) : Type 0 where
+  pub aligned : first % 2 ^ order ≡ 0
+  pub inside : first + 2 ^ order ≤ length flags
+  pub run : IsRun flag flags first (2 ^ order)
+
+abbrev pub IsFreeBlock : List Bool → ℕ → ℕ → Type 0
+IsFreeBlock flags order first = IsBlock true flags order first
+
+abbrev pub IsTakenBlock : List Bool → ℕ → ℕ → Type 0
+IsTakenBlock flags order first = IsBlock false flags order first
+
+-- the list with `x` at the `count` places from `first` on
+unfoldable pub with_run : {X : Type 0} → List X → ℕ → ℕ → X → List X
+with_run xs first count x = take first xs ++ replicate count x ++ drop (first + count) xs
+
+-- the flags after a block is taken, and after it is given back
+abbrev pub with_taken : List Bool → ℕ → ℕ → List Bool
+with_taken flags order first = with_run flags first (2 ^ order) false
+
+abbrev pub with_given : List Bool → ℕ → ℕ → List Bool
+with_given flags order first = with_run flags first (2 ^ order) true

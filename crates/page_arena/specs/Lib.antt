@@ -1,0 +1,6 @@
+pub mod Page
+pub mod Block
+pub mod Word
+pub mod Pages
+pub mod Runs
+pub mod Words

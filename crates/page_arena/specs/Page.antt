@@ -1,0 +1,24 @@
+-- The pages of a machine, and which of them are free. RMM 1.0, Granule.
+use Rattle.std.specs.Prelude.{◌≡◌, ℕ, ◌≤◌, Bool, false, List, [], length, replicate, slice_index_or, All}
+
+-- the bytes of a page; a granule outside the machine has none
+abbrev pub page_at : List (List ℕ) → ℕ → List ℕ
+page_at pages granule = slice_index_or pages granule []
+
+-- whether a granule is free; one outside the machine is not
+abbrev pub is_free : List Bool → ℕ → Bool
+is_free flags granule = slice_index_or flags granule false
+
+-- a page with one value in each byte
+unfoldable pub page_of : ℕ → List ℕ
+page_of value = replicate 4096 value
+
+abbrev pub zero_page : List ℕ
+zero_page = page_of 0
+
+-- There are 1 to 4,096 pages of 4,096 bytes each, and a flag for each page.
+pub record IsSized (pages : List (List ℕ)) (flags : List Bool) : Type 0 where
+  pub some_page : 1 ≤ length pages
+  pub few_pages : length pages ≤ 4096
+  pub whole : All (λ page. length page ≡ 4096) pages
+  pub flagged : length flags ≡ length pages

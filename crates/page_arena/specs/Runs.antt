@@ -1,0 +1,107 @@
+-- Laws of a list that is written from one place on, as flags and pages are by a take or a give.
+use Rattle.std.specs.Prelude.{◌≡◌, ℕ, ◌+◌, ◌-◌, ◌<◌, ◌≤◌, ◌⊎◌, List, [], ◌∷◌, ◌++◌, length, take, drop, replicate, get_or, set}
+use Rattle.std.proofs.Common.{sym, ap, ◌∙◌, inl, inr, ⊎_elim, arith, length-append, append-nil, append_assoc, take-append-drop}
+use Rattle.std.proofs.lemmas.List.{length-drop, length-replicate, length-take-le, drop_more, set_at, replicate_more, get_or_append_left, get_or-append_right, get_or-take, get_or-drop, get_or-replicate, get_or-set_other, length-set, ext_get_or}
+use Rattle.std.proofs.lemmas.Bool.{cases_lt}
+use Rattle.std.proofs.lemmas.Grind.{get_or-set_at}
+use Rattle.page_arena.specs.Block.{with_run}
+
+-- a place is in a run, or below it, or above
+pub inside_or_outside : (first count i : ℕ) → ((first ≤ i) × (i < first + count)) ⊎ ((i < first) ⊎ (first + count ≤ i))
+inside_or_outside first count i =
+    ⊎_elim (λ below. inr (inl below)) (λ low. ⊎_elim (λ high. inl (low, high)) (λ above. inr (inr above)) (cases_lt i (first + count))) (cases_lt i first)
+
+-- a run of no places
+pub with_run_none : {X : Type 0} (xs : List X) (first : ℕ) (x : X) → with_run xs first 0 x ≡ xs
+unfolding with_run
+with_run_none xs first x =
+    let same : first + 0 ≡ first = omega arith in
+    rw (same, append-nil) (take-append-drop first xs)
+
+-- a run of one more place
+pub with_run_more : {X : Type 0} (xs : List X) (first count : ℕ) (x : X) → first + count < length xs → set (with_run xs first count x) (first + count) x ≡ with_run xs first (count + 1) x
+unfolding with_run
+with_run_more xs first count x within =
+    let front : length (take first xs ++ replicate count x) ≡ first + count =
+      length-append (take first xs) (replicate count x) ∙ (let a = length-take-le first xs (omega arith) in let b = length-replicate count x in omega arith) in
+    let next : first + count + 1 ≡ first + (count + 1) = omega arith in
+    ap (λ rest. set ((take first xs ++ replicate count x) ++ rest) (first + count) x) (drop_more xs (first + count) x within)
+    ∙ set_at (take first xs ++ replicate count x) _ _ x (first + count) front
+    ∙ ap (λ rest. (take first xs ++ replicate count x) ++ x ∷ rest) (ap (λ (n : ℕ). drop n xs) next)
+    ∙ sym (append_assoc (take first xs ++ replicate count x) (x ∷ []) _)
+    ∙ ap (λ part. part ++ drop (first + (count + 1)) xs)
+        (append_assoc (take first xs) (replicate count x) (x ∷ []) ∙ ap (λ part. take first xs ++ part) (replicate_more count x))
+
+module _ {X : Type 0} (xs : List X) (first count : ℕ) (x : X) (fits : first + count ≤ length xs) where
+  front : length (take first xs) ≡ first
+  front = length-take-le first xs (omega arith)
+
+  fronts : length (take first xs ++ replicate count x) ≡ first + count
+  fronts = length-append (take first xs) (replicate count x) ∙ (let a = front in let b = length-replicate count x in omega arith)
+
+  pub length-with_run : length (with_run xs first count x) ≡ length xs
+  unfolding with_run
+  length-with_run =
+      length-append (take first xs ++ replicate count x) (drop (first + count) xs)
+      ∙ (let a = fronts in let b = length-drop (first + count) xs in omega arith)
+
+  -- a place of the run
+  pub get_or-with_run_inside : (i : ℕ) (d : X) → first ≤ i → i < first + count → get_or (with_run xs first count x) i d ≡ x
+  unfolding with_run
+  get_or-with_run_inside i d low high =
+      get_or_append_left (take first xs ++ replicate count x) _ d i (let a = fronts in omega arith)
+      ∙ get_or-append_right (take first xs) (replicate count x) first i d front low
+      ∙ get_or-replicate count (i - first) x d (omega arith)
+
+  -- a place beside the run
+  pub get_or-with_run_outside : (i : ℕ) (d : X) → (i < first) ⊎ (first + count ≤ i) → get_or (with_run xs first count x) i d ≡ get_or xs i d
+  unfolding with_run
+  get_or-with_run_outside i d (inl below) =
+      get_or_append_left (take first xs ++ replicate count x) _ d i (let a = fronts in omega arith)
+      ∙ get_or_append_left (take first xs) (replicate count x) d i (let a = front in omega arith)
+      ∙ get_or-take first xs i d below
+  get_or-with_run_outside i d (inr above) =
+      let same : first + count + (i - (first + count)) ≡ i = omega arith in
+      get_or-append_right (take first xs ++ replicate count x) _ (first + count) i d fronts above
+      ∙ get_or-drop (first + count) xs (i - (first + count)) d
+      ∙ ap (λ (n : ℕ). get_or xs n d) same
+
+  -- a run that is there already
+  pub with_run_same : (d : X) → ((i : ℕ) → first ≤ i → i < first + count → get_or xs i d ≡ x) → with_run xs first count x ≡ xs
+  with_run_same d there = ext_get_or d _ _ length-with_run (λ i lt.
+      ⊎_elim
+        (λ h. get_or-with_run_inside i d h.0 h.1 ∙ sym (there i h.0 h.1))
+        (λ h. get_or-with_run_outside i d h)
+        (inside_or_outside first count i))
+
+-- a run that is written over
+pub with_run-with_run : {X : Type 0} (xs : List X) (first count : ℕ) (x y : X) → first + count ≤ length xs → with_run (with_run xs first count y) first count x ≡ with_run xs first count x
+with_run-with_run {X} xs first count x y fits =
+    let ys : List X = with_run xs first count y in
+    let len : length ys ≡ length xs = length-with_run xs first count y fits in
+    let ys_fits : first + count ≤ length ys = omega arith in
+    ext_get_or x _ _ (length-with_run ys first count x ys_fits ∙ len ∙ sym (length-with_run xs first count x fits)) (λ i lt.
+      ⊎_elim
+        (λ h. get_or-with_run_inside ys first count x ys_fits i x h.0 h.1 ∙ sym (get_or-with_run_inside xs first count x fits i x h.0 h.1))
+        (λ h. get_or-with_run_outside ys first count x ys_fits i x h ∙ get_or-with_run_outside xs first count y fits i x h ∙ sym (get_or-with_run_outside xs first count x fits i x h))
+        (inside_or_outside first count i))
+
+-- a run of one more place, written from the front
+pub with_run_first : {X : Type 0} (xs : List X) (first count : ℕ) (x : X) → first + (count + 1) ≤ length xs → with_run (set xs first x) (first + 1) count x ≡ with_run xs first (count + 1) x
+with_run_first {X} xs first count x fits =
+    let ys : List X = set xs first x in
+    let len : length ys ≡ length xs = length-set xs first x in
+    let rest_fits : first + 1 + count ≤ length ys = omega arith in
+    ext_get_or x _ _ (length-with_run ys (first + 1) count x rest_fits ∙ len ∙ sym (length-with_run xs first (count + 1) x fits)) (λ i lt.
+      ⊎_elim
+        (λ h.
+          ⊎_elim
+            (λ front. get_or-with_run_outside ys (first + 1) count x rest_fits i x (inl front) ∙ get_or-set_at xs first i x x (omega arith) (omega arith))
+            (λ behind. get_or-with_run_inside ys (first + 1) count x rest_fits i x behind (omega arith))
+            (cases_lt i (first + 1))
+          ∙ sym (get_or-with_run_inside xs first (count + 1) x fits i x h.0 h.1))
+        (λ h.
+          get_or-with_run_outside ys (first + 1) count x rest_fits i x (⊎_elim (λ below. inl (omega arith)) (λ above. inr (omega arith)) h)
+          ∙ get_or-set_other xs first i x x (λ (same : i ≡ first). ⊎_elim (λ below. omega arith) (λ above. omega arith) h)
+          ∙ sym (get_or-with_run_outside xs first (count + 1) x fits i x h))
+        (inside_or_outside first (count + 1) i))

@@ -1,0 +1,24 @@
+-- The 512 words of a page, of 8 bytes each, little endian.
+use Rattle.std.specs.Prelude.{ℕ, ◌+◌, ◌*◌, List, ◌++◌, length, take, drop, slice_range, slice_set}
+use Rattle.std.specs.Int.{from_le_bytes, to_le_bytes, w64}
+use Rattle.page_arena.specs.Page.{page_at}
+
+-- the bytes with others from a place on
+unfoldable pub with_bytes : List ℕ → ℕ → List ℕ → List ℕ
+with_bytes page at bytes = take at page ++ bytes ++ drop (at + length bytes) page
+
+-- a page's word i
+unfoldable pub word_of_page : List ℕ → ℕ → ℕ
+word_of_page page i = from_le_bytes w64 (slice_range page (8 * i) (8 * i + 8))
+
+-- a page with a word in place of its word i
+unfoldable pub page_with_word : List ℕ → ℕ → ℕ → List ℕ
+page_with_word page i word = with_bytes page (8 * i) (to_le_bytes w64 word)
+
+-- word i of a granule's page
+abbrev pub word_at : List (List ℕ) → ℕ → ℕ → ℕ
+word_at pages granule i = word_of_page (page_at pages granule) i
+
+-- the pages with a word in place of word i of a granule's page
+abbrev pub with_word : List (List ℕ) → ℕ → ℕ → ℕ → List (List ℕ)
+with_word pages granule i word = slice_set pages granule (page_with_word (page_at pages granule) i word)

@@ -1,0 +1,14 @@
+//! Stores of pages: the memory that granules are, and which of it is free.
+//!
+//! A store is seen as a list of pages of 4,096 bytes and a flag for each page, whichever store it is. A block of pages
+//! is taken, written and read, and given back cleared; no call but `build` takes memory. All above is proved once for
+//! any `PageStore`. Of the caller it asks that what is written or given back is taken.
+#![tactic(auto)]
+
+mod build_error;
+mod plain;
+mod store;
+
+pub use build_error::BuildError;
+pub use plain::PlainStore;
+pub use store::PageStore;

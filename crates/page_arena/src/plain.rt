@@ -1,0 +1,106 @@
+//! The plainest store: vectors and a scan.
+ghost use Rattle.std.specs.Prelude.{◌≡◌, ◌↔◌, ◌<◌, ◌⊎◌, true, replicate, IfOk, IsErrOf};
+ghost use Rattle.page_arena.specs.Page.{zero_page, IsSized};
+
+mod clear;
+mod flags;
+mod words;
+
+use crate::{BuildError, PageStore};
+use clear::{clear_run, zero_pages};
+use flags::{find_block, is_run_free, set_run};
+use granule_addr::{Gran, MOST_PAGES, Order, PageOff};
+use std::alloc::Global;
+use words::{set_word_in, word_in};
+
+/// A store that keeps pages and flags each in a vector, and looks for a free block from the lowest page on.
+#[derive(Drop)]
+pub struct PlainStore {
+    pages: Vec<[u8; 4096]>,
+    free: Vec<bool>,
+    ghost sized: { IsSized pages.items free.items },
+}
+
+impl PlainStore {
+    /// A store of so many pages, all free and zero. `BadSize` comes exactly where the number is not 1 to 4,096, and
+    /// else the one error is `Memory`.
+    pub fn build(alloc: Global, pages: u16) -> Result<PlainStore, BuildError>
+        ensures bad_size { IsErrOf result BuildError.BadSize ↔ ((pages < 1) ⊎ (4096 < pages)) }
+        ensures zero { IfOk result (λ store. ⟦<PlainStore as PageStore>⟧.page_bytes store ≡ replicate pages zero_page) }
+        ensures free { IfOk result (λ store. ⟦<PlainStore as PageStore>⟧.free_flags store ≡ replicate pages true) }
+    {
+        if pages < 1 || pages > MOST_PAGES {
+            return Err(BuildError::BadSize);
+        }
+        let count = pages as usize;
+        let pages = zero_pages(alloc, count).map_err(BuildError::Memory)?;
+        let free = vec![in alloc; true; count].map_err(BuildError::Memory)?;
+        Ok(PlainStore { pages, free })
+    }
+}
+
+impl PageStore for PlainStore {
+    ghost page_bytes = { λ store. store.pages.items };
+
+    ghost free_flags = { λ store. store.free.items };
+
+    fn pages(&self) -> u16 {
+        self.pages.len() as u16
+    }
+
+    fn free_count(&self) -> u16 {
+        self.free.iter().filter(|flag| **flag).count() as u16
+    }
+
+    fn take(&mut self, order: Order) -> Option<Gran> {
+        let size = order.size() as usize;
+        let first = find_block(&self.free, size)?;
+        set_run(&mut self.free, first, size, false);
+        Gran::new(first as u16, MOST_PAGES)
+    }
+
+    fn take_at(&mut self, order: Order, first: Gran) -> bool {
+        let size = order.size() as usize;
+        let first = first.number() as usize;
+        let is_block = first % size == 0
+            && first + size <= self.free.len()
+            && is_run_free(&self.free, first, size);
+        if is_block {
+            set_run(&mut self.free, first, size, false);
+        }
+        is_block
+    }
+
+    fn give(&mut self, first: Gran, order: Order) {
+        let size = order.size() as usize;
+        let first = first.number() as usize;
+        clear_run(&mut self.pages, first, size);
+        set_run(&mut self.free, first, size, true);
+    }
+
+    fn bytes(&self, granule: Gran) -> &[u8] {
+        &self.pages[granule.number() as usize]
+    }
+
+    fn fill(&mut self, granule: Gran, value: u8) {
+        self.pages[granule.number() as usize] = [value; 4096];
+    }
+
+    fn set(&mut self, granule: Gran, offset: PageOff, value: u8) {
+        self.pages[granule.number() as usize][offset.number() as usize] = value;
+    }
+
+    fn copy(&mut self, target: Gran, source: Gran) {
+        self.pages[target.number() as usize] = self.pages[source.number() as usize];
+    }
+
+    fn word(&self, granule: Gran, index: u16) -> u64 {
+        word_in(&self.pages[granule.number() as usize], index as usize)
+    }
+
+    fn set_word(&mut self, granule: Gran, index: u16, word: u64) {
+        set_word_in(&mut self.pages[granule.number() as usize], index as usize, word);
+    }
+
+    ghost sized = { λ store. store.sized };
+}

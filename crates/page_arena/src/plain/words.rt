@@ -1,0 +1,25 @@
+//! Words in a page.
+ghost use Rattle.std.specs.Prelude.{◌≡◌, ◌<◌, length};
+ghost use Rattle.page_arena.specs.Word.{word_of_page, page_with_word};
+
+// Word `index` of a page.
+#[tactic(auto, unfolding(crate::specs::Word::word_of_page))]
+pub fn word_in(page: &[u8], index: usize) -> u64
+    requires page { length page.now ≡ 4096 }
+    requires index { index < 512 }
+    ensures { result ≡ word_of_page page.now index }
+{
+    let mut bytes = [0; 8];
+    bytes.copy_from_slice(&page[8 * index..8 * index + 8]);
+    u64::from_le_bytes(bytes)
+}
+
+// Writes word `index` of a page.
+#[tactic(auto, unfolding(crate::specs::Word::page_with_word, crate::specs::Word::with_bytes))]
+pub fn set_word_in(page: &mut [u8], index: usize, word: u64)
+    requires page { length page.old ≡ 4096 }
+    requires index { index < 512 }
+    ensures { page.new ≡ page_with_word page.old index word }
+{
+    page[8 * index..8 * index + 8].copy_from_slice(&word.to_le_bytes());
+}

@@ -1,0 +1,94 @@
+//! What a store of pages is.
+ghost use Rattle.std.specs.Prelude.{◌≡◌, ◌≢◌, ℕ, ◌+◌, ◌^◌, ◌<◌, ◌≤◌, ◌↔◌, Bool, true, false, List, length, filter, IsTrue, IfSome, IfNone, slice_set};
+ghost use Rattle.std.specs.Bool.{OnTrue, OnFalse};
+ghost use Rattle.page_arena.specs.Page.{page_at, is_free, page_of, zero_page, IsSized};
+ghost use Rattle.page_arena.specs.Block.{IsFreeBlock, IsTakenBlock, with_run, with_taken, with_given};
+ghost use Rattle.page_arena.specs.Word.{word_at, with_word};
+
+use granule_addr::{Gran, Order, PageOff};
+
+/// The pages of a machine, of 4,096 bytes each, and which of them are free. RMM 1.0, Granule.
+///
+/// A block of order k is 2^k pages from a multiple of 2^k on. No call takes memory, and none fails.
+pub trait PageStore {
+    /// The bytes of each page.
+    ghost page_bytes: { Self → List (List ℕ) };
+
+    /// Of each page, whether it is free.
+    ghost free_flags: { Self → List Bool };
+
+    /// How many pages there are.
+    fn pages(&self) -> u16
+        ensures { result ≡ length (page_bytes self.now) };
+
+    /// How many pages are free.
+    fn free_count(&self) -> u16
+        ensures { result ≡ length (filter (λ flag. flag) (free_flags self.now)) };
+
+    /// Takes a free block. Which one is left open; `None` comes exactly where there is none.
+    fn take(&mut self, order: Order) -> Option<Gran>
+        ensures block { IfSome result (IsFreeBlock (free_flags self.old) order) }
+        ensures taken { IfSome result (λ first. free_flags self.new ≡ with_taken (free_flags self.old) order first) }
+        ensures none { IfNone result ((first : ℕ) → ¬ (IsFreeBlock (free_flags self.old) order first)) }
+        ensures unchanged { IfNone result (free_flags self.new ≡ free_flags self.old) }
+        ensures bytes { page_bytes self.new ≡ page_bytes self.old };
+
+    /// Takes that block. `false`, with nothing changed, comes exactly where it is not aligned, inside and free.
+    fn take_at(&mut self, order: Order, first: Gran) -> bool
+        ensures answer { IsTrue result ↔ IsFreeBlock (free_flags self.old) order first }
+        ensures taken { OnTrue result (free_flags self.new ≡ with_taken (free_flags self.old) order first) }
+        ensures unchanged { OnFalse result (free_flags self.new ≡ free_flags self.old) }
+        ensures bytes { page_bytes self.new ≡ page_bytes self.old };
+
+    /// Gives a block back: its pages are zero and free from now on.
+    fn give(&mut self, first: Gran, order: Order)
+        requires { IsTakenBlock (free_flags self.old) order first }
+        ensures given { free_flags self.new ≡ with_given (free_flags self.old) order first }
+        ensures cleared { page_bytes self.new ≡ with_run (page_bytes self.old) first (2 ^ order) zero_page };
+
+    /// The 4,096 bytes of a page.
+    fn bytes(&self, granule: Gran) -> &[u8]
+        requires { granule < length (page_bytes self.now) }
+        ensures value { result.now ≡ page_at (page_bytes self.now) granule }
+        ensures count { length result.now ≡ 4096 };
+
+    /// Writes one value to each byte of a page.
+    fn fill(&mut self, granule: Gran, value: u8)
+        requires inside { granule < length (page_bytes self.old) }
+        requires taken { is_free (free_flags self.old) granule ≡ false }
+        ensures filled { page_bytes self.new ≡ slice_set (page_bytes self.old) granule (page_of value) }
+        ensures flags { free_flags self.new ≡ free_flags self.old };
+
+    /// Writes one byte of a page.
+    fn set(&mut self, granule: Gran, offset: PageOff, value: u8)
+        requires inside { granule < length (page_bytes self.old) }
+        requires taken { is_free (free_flags self.old) granule ≡ false }
+        ensures written { page_bytes self.new ≡ slice_set (page_bytes self.old) granule (slice_set (page_at (page_bytes self.old) granule) offset value) }
+        ensures flags { free_flags self.new ≡ free_flags self.old };
+
+    /// Writes the bytes of one page to another. The source may be free.
+    fn copy(&mut self, target: Gran, source: Gran)
+        requires inside { target < length (page_bytes self.old) }
+        requires source_inside { source < length (page_bytes self.old) }
+        requires taken { is_free (free_flags self.old) target ≡ false }
+        requires different { target ≢ source }
+        ensures copied { page_bytes self.new ≡ slice_set (page_bytes self.old) target (page_at (page_bytes self.old) source) }
+        ensures flags { free_flags self.new ≡ free_flags self.old };
+
+    /// Word `index` of a page's 512 words, little endian.
+    fn word(&self, granule: Gran, index: u16) -> u64
+        requires inside { granule < length (page_bytes self.now) }
+        requires index { index < 512 }
+        ensures { result ≡ word_at (page_bytes self.now) granule index };
+
+    /// Writes word `index` of a page, little endian.
+    fn set_word(&mut self, granule: Gran, index: u16, word: u64)
+        requires inside { granule < length (page_bytes self.old) }
+        requires taken { is_free (free_flags self.old) granule ≡ false }
+        requires index { index < 512 }
+        ensures written { page_bytes self.new ≡ with_word (page_bytes self.old) granule index word }
+        ensures flags { free_flags self.new ≡ free_flags self.old };
+
+    /// There are 1 to 4,096 pages, each has 4,096 bytes, and there is a flag for each.
+    ghost sized: { (store : Self) → IsSized (page_bytes store) (free_flags store) };
+}

@@ -1,0 +1,3 @@
+pub mod View
+pub mod Refusals
+pub mod Answer

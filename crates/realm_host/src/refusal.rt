@@ -1,0 +1,33 @@
+//! Why the host refuses.
+use granule_addr::Order;
+use realm_model::Rmi;
+use thiserror::Error;
+
+/// A refusal: of those that apply and hold, the one with the lowest number is given, and nothing changes.
+#[derive(Clone, Copy, Debug, PartialEq, Eq, Error)]
+pub enum Refusal {
+    /// 1: the build isn't there.
+    #[error("there is no such build")]
+    NoBuild,
+    /// 3: the order of a block is above 9.
+    #[error("a block has at most 512 pages")]
+    BadOrder,
+    /// 4: the build has no such page.
+    #[error("the build has no page {0}")]
+    NotLeased(u16),
+    /// 7: the build has nothing open.
+    #[error("there is nothing to undo")]
+    NothingToUndo,
+    /// 9: the build has 512 acts open.
+    #[error("the journal is full")]
+    JournalFull,
+    /// 10: the room would be touched that the build's reverses need.
+    #[error("the history is full")]
+    HistoryFull,
+    /// 11: no aligned block of that order is free.
+    #[error("no block of order {} is free", .0.number())]
+    NoBlock(Order),
+    /// 13: the monitor refused.
+    #[error("the monitor refused: {:?}, index {}", .0.status, .0.index)]
+    Rmi(Rmi),
+}

@@ -1,0 +1,20 @@
+//! What builds ask for.
+
+/// A command of a build. Pages are named by the build's own numbers, from 0 in the order of taking.
+#[derive(Debug, PartialEq, Eq, Drop)]
+pub enum Cmd {
+    /// A block of 2^order pages is leased.
+    Take { order: u8 },
+    /// Every byte of a page gets the value.
+    Fill { page: u16, value: u8 },
+    /// A page is delegated.
+    Delegate { page: u16 },
+}
+
+/// What a build asks for in one turn.
+#[derive(Debug, PartialEq, Eq, Drop)]
+pub enum Step {
+    Ask(Cmd),
+    /// The newest open act of the build is reversed.
+    Undo,
+}

@@ -1,0 +1,199 @@
+-- What a command changes is what its act names, and the realm of its build.
+use Rattle.std.proofs.Common.{◌≡◌, ◌≢◌, ℕ, zero, suc, ◌+◌, ◌-◌, ◌≤◌, Bool, true, false, cond, ◌&&◌, not, List, [], ◌∷◌, ◌++◌, length, map, Option, Some, None, Result, Ok, Err, refl, sym, ap, ◌∙◌, subst, arith}
+use Rattle.std.specs.Prelude.{is_some, slice_get, ◌==◌, nat_eq}
+use Rattle.std.specs.List.{list_all}
+use Rattle.std.specs.Option.{option_eq}
+use Rattle.std.specs.FinMap.{get}
+use Rattle.std.specs.Str.{bytes_eq}
+use Rattle.std.specs.Cmp.Lexicographic.{bytes_decides}
+use Rattle.std.proofs.lemmas.Bool.{and_parts, and_from, eqb-true, ltb-true}
+use Rattle.std.proofs.lemmas.Option.{same_Some}
+use Rattle.std.proofs.lemmas.List.{length-append, append_assoc}
+use Rattle.realm_model.specs.declared.act.Act.{Act}
+use Rattle.realm_model.specs.declared.act.Act.TheVariants.{Take, UnTake, Fill, Peek, Delegate, Undelegate, Realm, UnRealm, Activate, Rtt, UnRtt, Ripas, Data, Unknown, UnData, Rec, UnRec, Enter, Exit, Poke}
+use Rattle.realm_model.specs.declared.states.GranuleState.TheVariants.{RecAux}
+use Rattle.realm_model.proofs.Leases.{lease_is, leased_from}
+use Rattle.realm_model.proofs.Growth.{is_change, step-command}
+use Rattle.realm_model.proofs.Unpaired.{IsAt, IsAt-realm_of}
+use Rattle.realm_model.proofs.Owned.{Yields, Yields-Ok, Yields-Err, Yields-check, Yields-with_realm, Yields-with_rec, Yields-with_end, Yields-with_granule}
+use Rattle.realm_model.specs.Rows.{Row, Rows, Walk, walk, row_at, is_assigned}
+use Rattle.realm_model.specs.Machine.{Limits, RecRow, RealmRow, Cell, Machine, Seen, blank, cell_at, seen, held as held_cell, left}
+use Rattle.realm_model.specs.Act.{named, holder}
+use Rattle.realm_model.specs.Update.{Outcome, Update, Put, PutByte, machine_after_all}
+use Rattle.realm_model.specs.Outcome.{outcome_of, fits, leads_to, realm_is}
+use Rattle.realm_model.specs.World.{World, is_leased_to, is_lease, realm_from, realm_of}
+use Rattle.realm_model.specs.Step.{step, is_allowed}
+
+-- ---- the realm of a build is at a granule that it leases
+
+abbrev pub IsHeld : ℕ → List (Option ℕ) → Option Seen → Type 0
+IsHeld b leases None = Unit {0}
+IsHeld b leases (Some rd) = is_leased_to (Some b) leases rd.number ≡ true
+
+slice_get_at : (front : List (Option ℕ)) (l : Option ℕ) (rest : List (Option ℕ)) → slice_get (front ++ l ∷ rest) (length front) ≡ Some l
+slice_get_at [] l rest = refl
+slice_get_at (x ∷ front) l rest = slice_get_at front l rest
+
+IsHeld-realm_from : (b : ℕ) (front leases : List (Option ℕ)) (machine : Machine) → IsHeld b (front ++ leases) (realm_from b (length front) leases machine)
+unfolding realm_from
+IsHeld-realm_from b front [] machine = tt
+IsHeld-realm_from b front (l ∷ leases) [] = tt
+IsHeld-realm_from b front (l ∷ leases) (c ∷ machine) =
+    elim (is_lease l (Some b) && is_some c.descriptor) as (λ t. (is_lease l (Some b) && is_some c.descriptor) ≡ t → IsHeld b (front ++ l ∷ leases) (cond t (Some (record { number = length front; cell = c })) (realm_from b (suc (length front)) leases machine))) [
+      | true ↦ λ e. leased_from (Some b) (front ++ l ∷ leases) (length front) (slice_get_at front l leases ∙ ap Some (lease_is l (Some b) (and_parts _ _ e).0))
+      | false ↦ λ e.
+          let long : length (front ++ l ∷ []) ≡ suc (length front) = simp length-append (omega arith) in
+          subst (λ n. IsHeld b (front ++ l ∷ leases) (realm_from b n leases machine)) long
+            (subst (λ ls. IsHeld b ls (realm_from b (length (front ++ l ∷ [])) leases machine)) (append_assoc front (l ∷ []) leases) (IsHeld-realm_from b (front ++ l ∷ []) leases machine))
+    ] refl
+
+pub IsHeld-realm_of : (b : ℕ) (w : World) → IsHeld b w.leases (realm_of b w)
+IsHeld-realm_of b w = IsHeld-realm_from b [] w.leases w.machine
+
+-- ---- where a walk ends
+
+pub walk_within : (rows : Rows) (ipa level : ℕ) (end : Walk) → walk rows ipa level ≡ Some end → end.level ≤ level
+unfolding walk
+walk_within rows ipa zero end e = cc
+walk_within rows ipa (suc level) end e =
+    elim (row_at rows (suc level) ipa) as (λ o. elim o [ Some row ↦ Some (record { level = suc level; row = row }) | None ↦ walk rows ipa level ] ≡ Some end → end.level ≤ suc level) [
+      | Some row ↦ λ e. let same : suc level ≡ end.level = ap (λ (x : Walk). x.level) (same_Some _ _ e) in omega arith
+      | None ↦ λ e. let less : end.level ≤ level = walk_within rows ipa level end e in omega arith
+    ] e
+
+pub walk_at : (rows : Rows) (ipa level : ℕ) (end : Walk) → walk rows ipa level ≡ Some end → end.level ≡ level → row_at rows level ipa ≡ Some end.row
+unfolding walk
+walk_at rows ipa zero end e same = cc
+walk_at rows ipa (suc level) end e same =
+    elim (row_at rows (suc level) ipa) as (λ o. elim o [ Some row ↦ Some (record { level = suc level; row = row }) | None ↦ walk rows ipa level ] ≡ Some end → o ≡ Some end.row) [
+      | Some row ↦ λ e. ap (λ (x : Walk). Some x.row) (same_Some _ _ e)
+      | None ↦ λ e. let less : end.level ≤ level = walk_within rows ipa level end e in absurd (omega arith)
+    ] e
+
+-- a test of the realm of a build, where its row is known
+pub realm_test : (rd : Seen) (d : RealmRow) (test : Seen → RealmRow → Bool) → realm_is (Some rd) test ≡ true → rd.cell.descriptor ≡ Some d → test rd d ≡ true
+realm_test rd d test fit is = sym (ap (λ o. elim o [ Some realm ↦ test rd realm | None ↦ false ]) is) ∙ fit
+
+-- the row where the walk ends points to the granule that the act names
+pub pointed : (rows : Rows) (ipa level g pa : ℕ) (end : Walk) → leads_to (row_at rows level ipa) g ≡ true → walk rows ipa level ≡ Some end → (end.level == level) ≡ true → end.row.granule ≡ Some pa → pa ≡ g
+pointed rows ipa level g pa end fit e last there =
+    eqb-true pa g (sym (ap (λ o. option_eq nat_eq o (Some g)) there) ∙ sym (ap (λ o. leads_to o g) (walk_at rows ipa level end e (eqb-true end.level level last))) ∙ fit)
+
+-- ---- acts
+
+abbrev pub is_of_block : Act → Bool
+is_of_block (Take order first) = true
+is_of_block (UnTake order first) = true
+is_of_block _ = false
+
+module _ (limits : Limits) (b : ℕ) (w : World) where
+  abbrev L : ℕ → Bool
+  L g = is_leased_to (Some b) w.leases g
+
+  abbrev C : List Update → Type 0
+  C us = list_all (is_change b w.leases) us ≡ true
+
+  two : (g h : ℕ) → L g ≡ true → L h ≡ true → (L g && (L h && true)) ≡ true
+  two g h p q = and_from _ _ p (and_from _ _ q refl)
+
+  one : (g : ℕ) → L g ≡ true → (L g && true) ≡ true
+  one g p = and_from _ _ p refl
+
+  named_puts : (cell : Cell) (gs : List ℕ) (us : List Update) → list_all L gs ≡ true → C us → C (map (λ g. Put g cell) gs ++ us)
+  named_puts cell [] us h c = c
+  named_puts cell (g ∷ gs) us h c = let both = and_parts _ _ h in and_from _ _ both.0 (named_puts cell gs us both.1 c)
+
+  seen_puts : (cell : Cell) (gs : List ℕ) (us : List Update) → list_all L gs ≡ true → C us → C (map (λ (a : Seen). Put a.number cell) (map (seen w.machine) gs) ++ us)
+  seen_puts cell [] us h c = c
+  seen_puts cell (g ∷ gs) us h c = let both = and_parts _ _ h in and_from _ _ both.0 (seen_puts cell gs us both.1 c)
+
+  root_is : (own : Seen) (rd root v : ℕ) (d : RealmRow) → realm_is (Some own) (λ x r. x.number == rd && r.root == root && r.vmid == v) ≡ true
+      → cell_at w.machine own.number ≡ own.cell → (cell_at w.machine rd).descriptor ≡ Some d → d.root ≡ root
+  root_is own rd root v d fit at is =
+      elim own.cell.descriptor as (λ o. own.cell.descriptor ≡ o → elim o [ Some r ↦ own.number == rd && r.root == root && r.vmid == v | None ↦ false ] ≡ true → d.root ≡ root) [
+        | Some r ↦ λ e t.
+            let parts = and_parts _ _ (and_parts _ _ t).0 in
+            let number : own.number ≡ rd = eqb-true own.number rd parts.0 in
+            let same : d ≡ r = same_Some _ _ (sym is ∙ ap (λ n. (cell_at w.machine n).descriptor) (sym number) ∙ ap (λ (c : Cell). c.descriptor) at ∙ e) in
+            ap (λ (x : RealmRow). x.root) same ∙ eqb-true r.root root parts.1
+        | None ↦ λ e t. cc
+      ] refl fit
+
+  rec_test : (rd : Seen) (d : RealmRow) (n : ℕ) (rec : RecRow) (test : RecRow → Bool) → realm_is (Some rd) (λ x r. elim (get r.recs n) [ Some rec ↦ test rec | None ↦ false ]) ≡ true
+      → rd.cell.descriptor ≡ Some d → get d.recs n ≡ Some rec → test rec ≡ true
+  rec_test rd d n rec test fit is there =
+      sym (ap (λ o. elim o [ Some rec ↦ test rec | None ↦ false ]) there) ∙ realm_test rd d (λ x r. elim (get r.recs n) [ Some rec ↦ test rec | None ↦ false ]) fit is
+
+  -- the granule that a guest's write reaches is leased too: what is asked of the worlds that are reached
+  abbrev pub ReachesOwn : Act → Option Seen → Type 0
+  ReachesOwn (Poke n ipa o v) (Some rd) = (d : RealmRow) (end : Walk) (pa : ℕ) → rd.cell.descriptor ≡ Some d → walk d.rows ipa 3 ≡ Some end → is_assigned end.row ≡ true → end.row.granule ≡ Some pa → L pa ≡ true
+  ReachesOwn _ realm = Unit {0}
+
+  pub changes : (act : Act) (realm : Option Seen) → is_of_block act ≡ false → ReachesOwn act realm → list_all L (named act) ≡ true → IsAt w.machine realm → IsHeld b w.leases realm
+      → fits act realm (map (seen w.machine) (named act)) ≡ true → Yields C (outcome_of limits act realm (map (seen w.machine) (named act)))
+  unfolding outcome_of named fits
+  changes (Fill g v) realm k reach h at held fit = Yields-check C _ _ _ (λ _. Yields-Ok C _ h)
+  changes (Peek g o v) realm k reach h at held fit = Yields-check C _ _ _ (λ _. Yields-Ok C _ refl)
+  changes (Delegate g) realm k reach h at held fit = Yields-check C _ _ _ (λ _. Yields-Ok C _ h)
+  changes (Undelegate g) realm k reach h at held fit = Yields-check C _ _ _ (λ _. Yields-Ok C _ h)
+  changes (Realm rd root v) realm k reach h at held fit = Yields-check C _ _ _ (λ _. Yields-Ok C _ h)
+  changes (UnRealm rd root v) None k reach h at held fit = cc
+  changes (UnRealm rd root v) (Some own) k reach h at held fit = Yields-with_realm C _ _ (λ d is. Yields-check C _ _ _ (λ _. Yields-Ok C _
+      (two rd d.root (and_parts _ _ h).0 (ap L (root_is own rd root v d fit at is) ∙ (and_parts _ _ (and_parts _ _ h).1).0))))
+  changes Activate None k reach h at held fit = Yields-Err C _
+  changes Activate (Some rd) k reach h at held fit = Yields-with_realm C _ _ (λ d is. Yields-check C _ _ _ (λ _. Yields-Ok C _ (one rd.number held)))
+  changes (Rtt g ipa level) None k reach h at held fit = Yields-Err C _
+  changes (Rtt g ipa level) (Some rd) k reach h at held fit = Yields-with_realm C _ _ (λ d is. Yields-check C _ _ _ (λ _. Yields-with_end C _ _ _ _ (λ end e. Yields-check C _ _ _ (λ _. Yields-check C _ _ _ (λ _.
+      Yields-Ok C _ (two g rd.number (and_parts _ _ h).0 held))))))
+  changes (UnRtt g ipa level) None k reach h at held fit = Yields-Err C _
+  changes (UnRtt g ipa level) (Some rd) k reach h at held fit = Yields-with_realm C _ _ (λ d is. Yields-check C _ _ _ (λ _. Yields-with_end C _ _ _ _ (λ end e. Yields-check C _ _ _ (λ last. Yields-check C _ _ _ (λ _. Yields-check C _ _ _ (λ _. Yields-with_granule C _ _ (λ pa there.
+      Yields-Ok C _ (two pa rd.number
+        (ap L (pointed d.rows ipa (level - 1) g pa end (realm_test rd d (λ x r. leads_to (row_at r.rows (level - 1) ipa) g) fit is) e last there) ∙ (and_parts _ _ h).0) held))))))))
+  changes (Ripas ipa n) None k reach h at held fit = Yields-Err C _
+  changes (Ripas ipa n) (Some rd) k reach h at held fit = Yields-with_realm C _ _ (λ d is. Yields-check C _ _ _ (λ _. Yields-check C _ _ _ (λ _. Yields-with_end C _ _ _ _ (λ end e. Yields-check C _ _ _ (λ _. Yields-check C _ _ _ (λ _.
+      Yields-Ok C _ (one rd.number held)))))))
+  changes (Data g ipa source) None k reach h at held fit = Yields-Err C _
+  changes (Data g ipa source) (Some rd) k reach h at held fit = Yields-with_realm C _ _ (λ d is. Yields-check C _ _ _ (λ _. Yields-check C _ _ _ (λ _. Yields-with_end C _ _ _ _ (λ end e. Yields-check C _ _ _ (λ _. Yields-check C _ _ _ (λ _.
+      Yields-Ok C _ (two g rd.number (and_parts _ _ h).0 held)))))))
+  changes (Unknown g ipa) None k reach h at held fit = Yields-Err C _
+  changes (Unknown g ipa) (Some rd) k reach h at held fit = Yields-with_realm C _ _ (λ d is. Yields-check C _ _ _ (λ _. Yields-with_end C _ _ _ _ (λ end e. Yields-check C _ _ _ (λ _. Yields-check C _ _ _ (λ _.
+      Yields-Ok C _ (two g rd.number (and_parts _ _ h).0 held))))))
+  changes (UnData g ipa) None k reach h at held fit = Yields-Err C _
+  changes (UnData g ipa) (Some rd) k reach h at held fit = Yields-with_realm C _ _ (λ d is. Yields-check C _ _ _ (λ _. Yields-with_end C _ _ _ _ (λ end e. Yields-check C _ _ _ (λ last. Yields-check C _ _ _ (λ _. Yields-with_granule C _ _ (λ pa there.
+      Yields-Ok C _ (two pa rd.number
+        (ap L (pointed d.rows ipa 3 g pa end (realm_test rd d (λ x r. leads_to (row_at r.rows 3 ipa) g) fit is) e last there) ∙ (and_parts _ _ h).0) held)))))))
+  changes (Rec g aux n) None k reach h at held fit = Yields-Err C _
+  changes (Rec g aux n) (Some rd) k reach h at held fit = Yields-with_realm C _ _ (λ d is. Yields-check C _ _ _ (λ _. Yields-check C _ _ _ (λ _. Yields-Ok C _
+      (let both = and_parts _ _ h in and_from _ _ both.0 (seen_puts (held_cell RecAux rd.number) aux.items _ both.1 (one rd.number held))))))
+  changes (UnRec g aux n) None k reach h at held fit = Yields-Err C _
+  changes (UnRec g aux n) (Some rd) k reach h at held fit = Yields-with_realm C _ _ (λ d is. Yields-with_rec C _ _ _ (λ rec there. Yields-check C _ _ _ (λ _. Yields-Ok C _
+      (let both = and_parts _ _ h in
+       let known = and_parts _ _ (rec_test rd d n rec (λ r. r.granule == g && bytes_eq r.auxiliaries aux.items) fit is there) in
+       and_from _ _ (ap L (eqb-true rec.granule g known.0) ∙ both.0)
+         (named_puts left rec.auxiliaries _ (ap (list_all L) ((bytes_decides rec.auxiliaries aux.items).0 known.1) ∙ both.1) (one rd.number held))))))
+  changes (Enter n) None k reach h at held fit = Yields-Err C _
+  changes (Enter n) (Some rd) k reach h at held fit = Yields-with_realm C _ _ (λ d is. Yields-with_rec C _ _ _ (λ rec there. Yields-check C _ _ _ (λ _. Yields-check C _ _ _ (λ _. Yields-Ok C _ (one rd.number held)))))
+  changes (Exit n) None k reach h at held fit = Yields-Err C _
+  changes (Exit n) (Some rd) k reach h at held fit = Yields-with_realm C _ _ (λ d is. Yields-with_rec C _ _ _ (λ rec there. Yields-check C _ _ _ (λ _. Yields-Ok C _ (one rd.number held))))
+  changes (Poke n ipa o v) None k reach h at held fit = Yields-Err C _
+  changes (Poke n ipa o v) (Some rd) k reach h at held fit = Yields-with_realm C _ _ (λ d is. Yields-with_rec C _ _ _ (λ rec there. Yields-check C _ _ _ (λ _. Yields-check C _ _ _ (λ _.
+      Yields-with_end C _ _ _ _ (λ end e. Yields-check C _ _ _ (λ a. Yields-with_granule C _ _ (λ pa to. Yields-Ok C _ (one pa (reach d end pa is e a to)))))))))
+  changes (Take order first) realm k reach h at held fit = cc
+  changes (UnTake order first) realm k reach h at held fit = cc
+
+holder_is : (build : ℕ) (act : Act) → is_of_block act ≡ false → holder build act ≡ Some build
+holder_is build (Take order first) k = cc
+holder_is build _ k = refl
+
+-- where the granules named are the build's, the act fits, and its command is not refused, the step is made
+pub step_exact : (limits : Limits) (w : World) (build : ℕ) (act : Act) (us : List Update) → is_of_block act ≡ false → ReachesOwn limits build w act (realm_of build w)
+    → is_allowed limits w (record { build = build; act = act }) ≡ true
+    → outcome_of limits act (realm_of build w) (map (seen w.machine) (named act)) ≡ Ok us
+    → step limits w (record { build = build; act = act }) ≡ Some (record { machine = machine_after_all us w.machine; leases = w.leases })
+step_exact limits w build act us k reach opened planned =
+    let outer = and_parts _ _ opened in
+    let inner = and_parts _ _ outer.0 in
+    let first = and_parts _ _ inner.0 in
+    let mine : list_all (is_leased_to (Some build) w.leases) (named act) ≡ true = ap (λ l. list_all (is_leased_to l w.leases) (named act)) (sym (holder_is build act k)) ∙ first.1 in
+    step-command limits w build act us (ltb-true build limits.builds first.0) first.1 inner.1 outer.1 planned
+      ((changes limits build w act (realm_of build w) k reach mine (IsAt-realm_of build w) (IsHeld-realm_of build w) outer.1).where_ok us planned)

@@ -1,0 +1,139 @@
+-- Small histories, computed.
+use Rattle.std.proofs.Common.{◌≡◌, ℕ, Bool, true, false, List, [], ◌∷◌, map, Option, Some, None, refl}
+use Rattle.std.specs.Prelude.{is_some, option_map}
+use Rattle.realm_model.specs.declared.act.Act.{Act}
+use Rattle.realm_model.specs.declared.act.Act.TheVariants.{Take, UnTake, Fill, Delegate, Undelegate, Realm}
+use Rattle.realm_model.specs.declared.act.Event.{Event}
+use Rattle.realm_model.specs.declared.states.GranuleState.{GranuleState}
+use Rattle.realm_model.specs.declared.states.GranuleState.TheVariants.{Undelegated, Delegated, Rd, Rtt as InRtt}
+use Rattle.realm_model.specs.Machine.{Limits, Cell, zero_page}
+use Rattle.realm_model.specs.Act.{named, reverse_of, is_reverse}
+use Rattle.realm_model.specs.Command.Check.{check}
+use Rattle.realm_model.specs.Command.Realm.{new_realm}
+use Rattle.realm_model.specs.Outcome.{outcome_of, fits}
+use Rattle.realm_model.specs.World.{World, realm_from, updated_all, free_set}
+use Rattle.realm_model.specs.Step.{step}
+use Rattle.realm_model.specs.History.{after, replay, open_entries, pages_of, erase, IsLegal}
+use Rattle.realm_model.specs.Undoing.{by}
+
+abbrev machine_of : ℕ → Limits
+machine_of pages = record { pages = pages; vmids = 8; aux = 0; builds = 2 }
+
+abbrev states : Option World → Option (List GranuleState)
+states w = option_map (λ (w : World). map (λ (c : Cell). c.state) w.machine) w
+
+abbrev free : Option World → Option (List ℕ)
+free w = option_map free_set w
+
+abbrev pages_seen : Option World → Option (List (List ℕ))
+pages_seen w = option_map (λ (w : World). map (λ (c : Cell). c.bytes) w.machine) w
+
+-- ---- two builds want the one page of a machine
+
+abbrev one_taken : List Event
+one_taken = by 0 (Take 0 0) ∷ []
+
+one_taken-legal : IsLegal (machine_of 1) one_taken
+unfolding after step named outcome_of fits updated_all is_reverse
+one_taken-legal = record { steps = refl; in_turn = (λ r. cc, tt) }
+
+one_taken-pages : pages_of 0 one_taken ≡ 0 ∷ []
+unfolding open_entries reverse_of is_reverse
+one_taken-pages = refl
+
+both_take : replay (machine_of 1) (by 0 (Take 0 0) ∷ by 1 (Take 0 0) ∷ []) ≡ None
+unfolding after step named outcome_of fits updated_all
+both_take = refl
+
+-- without the first build the page is free
+left_out : (erase 0 one_taken ≡ []) × (free (replay (machine_of 1) (erase 0 one_taken)) ≡ Some (0 ∷ []))
+unfolding after
+left_out = (refl, refl)
+
+-- ---- a page filled, delegated and undelegated
+
+abbrev cleared : List Event
+cleared = by 0 (Take 0 0) ∷ by 0 (Fill 0 255) ∷ by 0 (Delegate 0) ∷ by 0 (Undelegate 0) ∷ []
+
+cleared-legal : IsLegal (machine_of 1) cleared
+unfolding after step named outcome_of fits updated_all is_reverse check open_entries reverse_of
+cleared-legal = record { steps = refl; in_turn = (λ r. cc, (λ r. cc, (λ r. cc, (λ r. refl, tt)))) }
+
+cleared-state : states (replay (machine_of 1) cleared) ≡ Some (Undelegated ∷ [])
+unfolding after step named outcome_of fits updated_all check
+cleared-state = refl
+
+-- it is zero then, whatever was filled in
+cleared-zero : pages_seen (replay (machine_of 1) cleared) ≡ Some (zero_page ∷ [])
+unfolding after step named outcome_of fits updated_all check
+cleared-zero = refl
+
+cleared-open : open_entries 0 cleared ≡ Take 0 0 ∷ []
+unfolding open_entries reverse_of is_reverse
+cleared-open = refl
+
+-- ---- two blocks of two pages, undone, and then one of four
+
+abbrev blocks : List Event
+blocks = by 0 (Take 1 0) ∷ by 0 (Take 1 2) ∷ by 0 (UnTake 1 2) ∷ by 0 (UnTake 1 0) ∷ by 0 (Take 2 0) ∷ []
+
+blocks-legal : IsLegal (machine_of 4) blocks
+unfolding after step named outcome_of fits updated_all is_reverse check open_entries reverse_of
+blocks-legal = record { steps = refl; in_turn = (λ r. cc, (λ r. cc, (λ r. refl, (λ r. refl, (λ r. cc, tt))))) }
+
+blocks-pages : pages_of 0 blocks ≡ 0 ∷ 1 ∷ 2 ∷ 3 ∷ []
+unfolding open_entries reverse_of is_reverse
+blocks-pages = refl
+
+two_blocks-pages : pages_of 0 (by 0 (Take 1 2) ∷ by 0 (Take 1 0) ∷ []) ≡ 2 ∷ 3 ∷ 0 ∷ 1 ∷ []
+unfolding open_entries reverse_of is_reverse
+two_blocks-pages = refl
+
+blocks-free : free (replay (machine_of 4) blocks) ≡ Some []
+unfolding after step named outcome_of fits updated_all check
+blocks-free = refl
+
+-- a block begins at a multiple of its size
+unaligned : replay (machine_of 4) (by 0 (Take 1 1) ∷ []) ≡ None
+unfolding after step named outcome_of fits updated_all
+unaligned = refl
+
+-- ---- a granule that another build leases can't be delegated
+
+foreign : replay (machine_of 2) (by 0 (Take 0 0) ∷ by 1 (Take 0 1) ∷ by 1 (Delegate 0) ∷ []) ≡ None
+unfolding after step named outcome_of fits updated_all check
+foreign = refl
+
+-- nor one that nobody leases
+unleased : replay (machine_of 2) (by 0 (Take 0 0) ∷ by 0 (Delegate 1) ∷ []) ≡ None
+unfolding after step named outcome_of fits updated_all check
+unleased = refl
+
+-- ---- a realm of two delegated granules, beside another build
+
+abbrev realm_made : List Event
+realm_made = by 0 (Take 1 0) ∷ by 1 (Take 0 2) ∷ by 0 (Delegate 0) ∷ by 0 (Delegate 1) ∷ by 0 (Realm 0 1 1) ∷ by 1 (Fill 2 7) ∷ []
+
+realm_made-legal : IsLegal (machine_of 4) realm_made
+unfolding after step named outcome_of fits updated_all is_reverse check realm_from
+realm_made-legal = record { steps = refl; in_turn = (λ r. cc, (λ r. cc, (λ r. cc, (λ r. cc, (λ r. cc, (λ r. cc, tt)))))) }
+
+realm_made-states : states (replay (machine_of 4) realm_made) ≡ Some (Rd ∷ InRtt ∷ Undelegated ∷ Undelegated ∷ [])
+unfolding after step named outcome_of fits updated_all check realm_from
+realm_made-states = refl
+
+realm_made-open : open_entries 0 realm_made ≡ Take 1 0 ∷ Delegate 0 ∷ Delegate 1 ∷ Realm 0 1 1 ∷ []
+unfolding open_entries reverse_of is_reverse
+realm_made-open = refl
+
+realm_made-erased : erase 0 realm_made ≡ by 1 (Take 0 2) ∷ by 1 (Fill 2 7) ∷ []
+realm_made-erased = refl
+
+realm_made-free : free (replay (machine_of 4) (erase 0 realm_made)) ≡ Some (0 ∷ 1 ∷ 3 ∷ [])
+unfolding after step named outcome_of fits updated_all check
+realm_made-free = refl
+
+-- a second realm of the build is refused
+second_realm : is_some (replay (machine_of 4) (by 0 (Take 2 0) ∷ by 0 (Delegate 0) ∷ by 0 (Delegate 1) ∷ by 0 (Delegate 2) ∷ by 0 (Delegate 3) ∷ by 0 (Realm 0 1 1) ∷ by 0 (Realm 2 3 2) ∷ [])) ≡ false
+unfolding after step named outcome_of fits updated_all check realm_from new_realm
+second_realm = refl

@@ -1,0 +1,59 @@
+-- Lists of leases and of cells, read and changed at one granule.
+use Rattle.std.proofs.Common.{◌≡◌, ◌≢◌, ℕ, zero, suc, Bool, true, false, cond, eqb, ◌&&◌, List, [], ◌∷◌, map, set, get_or, Option, Some, None, refl, sym, ap, ◌∙◌}
+use Rattle.std.specs.Prelude.{slice_get, option_map, is_some}
+use Rattle.std.specs.Option.{option_eq}
+use Rattle.std.proofs.lemmas.Bool.{eqb-true, eq-eqb, ne_eqb}
+use Rattle.std.proofs.lemmas.Option.{slice_get-map, get_or_from_slice_get}
+use Rattle.std.proofs.lemmas.List.{set-get_or}
+use Rattle.realm_model.specs.Machine.{Cell, Machine, blank, cell_at}
+use Rattle.realm_model.specs.World.{is_lease, is_leased_to, each}
+
+pub lease_is : (a b : Option ℕ) → is_lease a b ≡ true → a ≡ b
+lease_is None None e = refl
+lease_is None (Some y) e = cc
+lease_is (Some x) None e = cc
+lease_is (Some x) (Some y) e = ap Some (eqb-true x y e)
+
+pub lease_same : (a : Option ℕ) → is_lease a a ≡ true
+lease_same None = refl
+lease_same (Some x) = eq-eqb x x refl
+
+-- who leases the granule, if the test says so
+leased_there : (o : Option (Option ℕ)) (lease : Option ℕ) → option_eq is_lease o (Some lease) ≡ true → o ≡ Some lease
+leased_there None lease e = cc
+leased_there (Some l) lease e = ap Some (lease_is l lease e)
+
+pub leased : (lease : Option ℕ) (leases : List (Option ℕ)) (g : ℕ) → is_leased_to lease leases g ≡ true → slice_get leases g ≡ Some lease
+leased lease leases g e = leased_there (slice_get leases g) lease e
+
+pub leased_from : (lease : Option ℕ) (leases : List (Option ℕ)) (g : ℕ) → slice_get leases g ≡ Some lease → is_leased_to lease leases g ≡ true
+leased_from lease leases g e = ap (λ o. option_eq is_lease o (Some lease)) e ∙ lease_same lease
+
+-- a lease that a change keeps is there after it
+pub leased-map : (f : Option ℕ → Option ℕ) (lease : Option ℕ) (leases : List (Option ℕ)) (g : ℕ) → f lease ≡ lease
+    → is_leased_to lease leases g ≡ true → is_leased_to lease (map f leases) g ≡ true
+leased-map f lease leases g kept e =
+    leased_from lease (map f leases) g (slice_get-map f leases g ∙ ap (option_map f) (leased lease leases g e) ∙ ap Some kept)
+
+-- a write to the place of a lease that is so already
+pub set_lease : (leases : List (Option ℕ)) (g : ℕ) (lease : Option ℕ) → slice_get leases g ≡ Some lease → set leases g lease ≡ leases
+set_lease leases g lease e = ap (set leases g) (sym (get_or_from_slice_get leases g lease lease e)) ∙ set-get_or leases g lease
+
+pub each-set : {L C : Type 0} (f : L → C → C) (ls : List L) (cs : List C) (g : ℕ) (l : L) (c : C) → each f (set ls g l) (set cs g c) ≡ set (each f ls cs) g (f l c)
+each-set f [] cs g l c = refl
+each-set f (x ∷ ls) [] zero l c = refl
+each-set f (x ∷ ls) [] (suc g) l c = refl
+each-set f (x ∷ ls) (y ∷ cs) zero l c = refl
+each-set f (x ∷ ls) (y ∷ cs) (suc g) l c = ap (λ r. f x y ∷ r) (each-set f ls cs g l c)
+
+-- a granule's cell, each changed by its lease
+pub cell_at-each : (f : Option ℕ → Cell → Cell) (ls : List (Option ℕ)) (cells : Machine) (g : ℕ) (lease : Option ℕ)
+    → f lease blank ≡ blank → slice_get ls g ≡ Some lease → cell_at (each f ls cells) g ≡ f lease (cell_at cells g)
+cell_at-each f [] cells g lease none e = cc
+cell_at-each f (l ∷ ls) [] g lease none e = sym none
+cell_at-each f (l ∷ ls) (c ∷ cells) zero lease none e = let same : l ≡ lease = cc in ap (λ x. f x c) same
+cell_at-each f (l ∷ ls) (c ∷ cells) (suc g) lease none e = cell_at-each f ls cells g lease none e
+
+-- a write of what stands there
+pub set_cell : (cells : Machine) (g : ℕ) (c : Cell) → cell_at cells g ≡ c → set cells g c ≡ cells
+set_cell cells g c e = ap (set cells g) (sym e) ∙ set-get_or cells g blank

@@ -1,0 +1,55 @@
+-- Worlds that histories lead to: a free granule is blank, and there is a cell and a lease for each page.
+use Rattle.std.proofs.Common.{◌≡◌, ℕ, zero, suc, List, [], ◌∷◌, length, set, Option, Some, None, Ok, Err, refl, sym, ap, ◌∙◌, subst}
+use Rattle.std.proofs.lemmas.Option.{same_Some, option_and_then_some}
+use Rattle.std.proofs.lemmas.List.{length-set, length-replicate}
+use Rattle.realm_model.specs.declared.act.Event.{Event}
+use Rattle.realm_model.specs.Machine.{Limits, blank, cell_at}
+use Rattle.realm_model.specs.Update.{Update, Outcome, granule_of, cell_after, lease_after}
+use Rattle.realm_model.specs.World.{World, updated, updated_all, opening}
+use Rattle.realm_model.specs.Step.{step, is_allowed, after_outcome}
+use Rattle.realm_model.specs.History.{after, replay}
+use Rattle.realm_model.proofs.Updates.{IsClean}
+use Rattle.realm_model.proofs.Steps.{IsClean-step}
+use Rattle.realm_model.proofs.Histories.{IsClean-opening}
+use Rattle.realm_model.proofs.Tests.{guarded}
+
+module _ (limits : Limits) (P : World → Type 0) (kept : (w v : World) (e : Event) → P w → step limits w e ≡ Some v → P v) where
+  kept_after : (es : List Event) (w v : World) → P w → after limits es w ≡ Some v → P v
+  unfolding after
+  kept_after [] w v h done = subst P (same_Some _ _ done) h
+  kept_after (e ∷ es) w v h done = option_and_then_some (after limits es) (step limits w e) v done (λ x stepped rest. kept_after es x v (kept w x e h stepped) rest)
+
+  -- what holds at first, and is kept by each step, holds of each world that is reached
+  pub of_reached : P (opening limits) → (history : List Event) (w : World) → replay limits history ≡ Some w → P w
+  of_reached first history w at_w = kept_after history (opening limits) w first at_w
+
+pub clean_reached : (limits : Limits) (history : List Event) (w : World) → replay limits history ≡ Some w → IsClean w
+clean_reached limits = of_reached limits IsClean (λ w v e h s. IsClean-step limits w v e h s) (IsClean-opening limits)
+
+pub record IsSized (limits : Limits) (w : World) : Type 0 where
+  pub machine : length w.machine ≡ limits.pages
+  pub leases : length w.leases ≡ limits.pages
+
+sized_all : (limits : Limits) (b : ℕ) (us : List Update) (w v : World) → IsSized limits w → updated_all b us w ≡ Some v → IsSized limits v
+unfolding updated_all
+sized_all limits b [] w v h e = subst (IsSized limits) (same_Some _ _ e) h
+sized_all limits b (u ∷ us) w v h e =
+    sized_all limits b us (updated b u w) v (record {
+      machine = length-set w.machine (granule_of u) (cell_after u (cell_at w.machine (granule_of u))) ∙ h.machine;
+      leases = length-set w.leases (granule_of u) (lease_after b u) ∙ h.leases;
+    }) (guarded _ _ _ e).1
+
+sized_step : (limits : Limits) (w v : World) (e : Event) → IsSized limits w → step limits w e ≡ Some v → IsSized limits v
+unfolding step
+sized_step limits w v e h s = of_outcome _ (guarded (is_allowed limits w e) _ v s).1
+  where
+    of_outcome : (o : Outcome) → after_outcome e.build o w ≡ Some v → IsSized limits v
+    of_outcome (Ok us) done = sized_all limits e.build us w v h done
+    of_outcome (Err rmi) done = cc
+
+abbrev nobody : Option ℕ
+nobody = None
+
+pub sized_reached : (limits : Limits) (history : List Event) (w : World) → replay limits history ≡ Some w → IsSized limits w
+sized_reached limits = of_reached limits (IsSized limits) (λ w v e h s. sized_step limits w v e h s)
+    (record { machine = length-replicate limits.pages blank; leases = length-replicate limits.pages nobody })

@@ -1,0 +1,497 @@
+-- A reverse act, after its pair and whatever else the build owns the same through: its command, and where that leads.
+use Rattle.std.proofs.Common.{◌≡◌, ◌≢◌, ℕ, zero, suc, ◌+◌, ◌-◌, ◌*◌, ◌<◌, ◌≤◌, Bool, true, false, cond, eqb, ◌&&◌, ◌||◌, not, ◌⊎◌, inl, inr, List, [], ◌∷◌, ◌++◌, map, length, Option, Some, None, Result, Ok, Err, refl, sym, ap, ◌∙◌, subst, arith, lit≤}
+use Rattle.std.specs.Prelude.{option_map, is_some, is_none, ◌==◌, slice_get, nat_eq}
+use Rattle.std.specs.List.{list_any, list_all}
+use Rattle.std.specs.Option.{option_eq}
+use Rattle.std.specs.Ordering.{nat_cmp, eq_by_cmp}
+use Rattle.std.specs.Cmp.{nat_cmp_total, eq_by_cmp_equiv}
+use Rattle.std.specs.FinMap.{FinMap, get, insert, remove, empty, len, get-insert, get-remove, get-empty, len-empty, same_map, nat_cmp-IsAntisymmetric}
+use Rattle.std.specs.Str.{bytes_eq}
+use Rattle.std.specs.Cmp.Lexicographic.{bytes_decides}
+use Rattle.std.proofs.lemmas.Bool.{and_parts, and_from, eqb-true, eqb-false, eq-eqb, ne_eqb}
+use Rattle.std.proofs.lemmas.Option.{same_Some}
+use Rattle.realm_model.specs.declared.states.GranuleState.{GranuleState}
+use Rattle.realm_model.specs.declared.states.GranuleState.TheVariants.{Undelegated, Delegated, Rd, Rec as InRec, RecAux, Data as InData, Rtt as InRtt}
+use Rattle.realm_model.specs.declared.states.RecState.TheVariants.{Ready, Running}
+use Rattle.realm_model.specs.declared.states.Hipas.{Hipas}
+use Rattle.realm_model.specs.declared.states.Hipas.TheVariants.{Unassigned, Assigned, Table}
+use Rattle.realm_model.specs.declared.states.Ripas.{Ripas}
+use Rattle.realm_model.specs.declared.states.Ripas.TheVariants.{Ram, Empty}
+use Rattle.realm_model.specs.declared.rmi.Rmi.{Rmi}
+use Rattle.realm_model.specs.declared.rmi.Status.TheVariants.{Rec as OfRec}
+use Rattle.arrayvec.specs.declared.array_vec.ArrayVec.{ArrayVec}
+use Rattle.realm_model.specs.declared.act.Act.{Act}
+use Rattle.realm_model.specs.declared.act.Act.TheVariants.{Take, UnTake, Fill, Peek, Delegate, Undelegate, Realm, UnRealm, Activate, Rtt, UnRtt, Ripas as ToRam, Data, Unknown, UnData, Rec, UnRec, Enter, Exit, Poke}
+use Rattle.realm_model.proofs.Owned.{Yields, Yields-Ok, Yields-Err, Yields-check, Yields-with_realm, Yields-with_rec, Yields-with_end, Yields-with_granule}
+use Rattle.realm_model.proofs.Unpaired.{IsAt}
+use Rattle.realm_model.proofs.Changes.{IsHeld, walk_at, realm_test, is_of_block}
+use Rattle.realm_model.proofs.StepBack.{undelegated_state}
+use Rattle.realm_model.proofs.RowLaws.{table_back, same_place}
+use Rattle.realm_model.proofs.RowsSound.{look-insert, look-with_table, look-with_table_below, none_among, table_place, put_there, place_self, IsTablePlace}
+use Rattle.realm_model.proofs.PartSound.{delegated_state, nat_place}
+use Rattle.realm_model.proofs.Writes.{put_at, put_last, lefts, Leaves, back_left, tail_one, same_bare, bare, delegated_leaves, descriptor_none, descriptor_some, check_true, realm_there, rec_there, granule_there, end_there, walk_there, realm_of_there}
+use Rattle.realm_model.specs.Rows.{Row, Rows, Walk, walk, row_at, all_rows, put_row, assigned, unassigned, unmapped_ripas, with_table, without_table, root_rows, is_unassigned, is_assigned, is_table, is_table_unused, place_cmp, is_table_place, has_root_table}
+use Rattle.granule_addr.specs.Ipa.{covered_count, first_covered}
+use Rattle.realm_model.specs.Machine.{Limits, RecRow, RealmRow, Cell, Machine, Seen, blank, left, held, held as held_cell, zero_page, cell_at, seen}
+use Rattle.realm_model.specs.Update.{Outcome, Update, Put, PutByte, Lease, Free, granule_of}
+use Rattle.realm_model.specs.Command.Check.{error_input, check, is_undelegated, is_delegated, is_ready, is_protected, error_rec}
+use Rattle.realm_model.specs.Measurement.{measurement_after, data_event, rec_event}
+use Rattle.realm_model.specs.Command.Realm.{new_realm}
+use Rattle.realm_model.specs.Act.{named, reverse_of, is_paired}
+use Rattle.realm_model.specs.Outcome.{outcome_of, fits, leads_to, realm_is}
+use Rattle.realm_model.specs.World.{World, is_leased_to, realm_of}
+use Rattle.realm_model.specs.Ownership.{mapping_of_row, granules_of_rec, SameRealm, SameDescriptor, SameCell}
+use Rattle.realm_model.specs.Sound.{look, IsKind, IsShaped, is_table_kind, is_host_state, is_rd_state, IsSoundRows, IsSoundRealm, IsSoundCell, IsSoundPart}
+use Rattle.realm_model.specs.Undoing.{is_running}
+use Rattle.realm_model.proofs.Tests.{true_false, not_true, none_from, not_false, none_map}
+use Rattle.realm_model.proofs.Lists.{is_in}
+
+pub record Reversal (limits : Limits) (b : ℕ) (u w : World) (act r : Act) : Type 0 where
+  pub ready : Bool
+  pub refusal : Rmi
+  pub updates : List Update
+  pub planned : outcome_of limits r (realm_of b w) (map (seen w.machine) (named r)) ≡ check ready refusal (Ok updates)
+  pub fitting : fits r (realm_of b w) (map (seen w.machine) (named r)) ≡ true
+  pub back : (k : ℕ) → SameCell (cell_at u.machine k) (put_at updates k (cell_at w.machine k))
+  pub ready_if : is_running (realm_of b w) act ≡ false → ready ≡ true
+
+-- ---- rows that look so
+
+pub look_get : (o : Option Row) (p : Hipas × Option ℕ) → option_map mapping_of_row o ≡ Some p → (row : Row) × (o ≡ Some row) × (mapping_of_row row ≡ p)
+look_get None p e = cc
+look_get (Some row) p e = (row, refl, same_Some _ _ e)
+
+abbrev kind_unassigned : Hipas × Option ℕ → Bool
+kind_unassigned p = elim p.0 [ Unassigned ↦ true | Assigned ↦ false | Table ↦ false ]
+
+abbrev kind_assigned : Hipas × Option ℕ → Bool
+kind_assigned p = elim p.0 [ Unassigned ↦ false | Assigned ↦ true | Table ↦ false ]
+
+abbrev kind_table : Hipas × Option ℕ → Bool
+kind_table p = elim p.0 [ Unassigned ↦ false | Assigned ↦ false | Table ↦ true ]
+
+abbrev Vacant : Hipas × Option ℕ
+Vacant = (Unassigned, None)
+
+free_unassigned : (level : ℕ) (h : Hipas) (g : Option ℕ) → IsKind level h g → kind_unassigned (h, g) ≡ true → ◌≡◌ {A = Hipas × Option ℕ} (h, g) Vacant
+free_unassigned level Unassigned g k e = λ i. (Unassigned, k i)
+free_unassigned level Assigned g k e = cc
+free_unassigned level Table g k e = cc
+
+free_above : (level : ℕ) (h : Hipas) (g : Option ℕ) → level ≤ 2 → IsKind level h g → kind_table (h, g) ≡ false → ◌≡◌ {A = Hipas × Option ℕ} (h, g) Vacant
+free_above level Unassigned g low k e = λ i. (Unassigned, k i)
+free_above level Assigned g low k e = let three : level ≡ 3 = k.0 in absurd (omega arith)
+free_above level Table g low k e = cc
+
+-- the row at a place of sound rows
+shape_of : (rows : Rows) (place : ℕ × ℕ) (row : Row) → IsSoundRows (look rows) → get rows place ≡ Some row → IsKind place.0 row.hipas row.granule
+shape_of rows place row sound there = subst (IsShaped place.0) (ap (option_map mapping_of_row) there) (sound.shaped place)
+
+all_rows_from : (test : Row → Bool) → ((row : Row) → mapping_of_row row ≡ Vacant → test row ≡ true) → (rows : Rows) (level first n : ℕ)
+    → ((k : ℕ) → k < n → look rows (level, first + k * covered_count level) ≡ Some Vacant) → all_rows test rows level first n ≡ true
+unfolding all_rows
+all_rows_from test passes rows level first zero h = refl
+all_rows_from test passes rows level first (suc n) h =
+    let found = look_get (get rows (level, first + n * covered_count level)) Vacant (h n (omega arith)) in
+    and_from _ _ (ap (λ o. elim o [ Some row ↦ test row | None ↦ false ]) found.1 ∙ passes found.0 found.2)
+      (all_rows_from test passes rows level first n (λ k less. h k (omega arith)))
+
+no_recs : (m : FinMap nat_cmp RecRow) → ((n : ℕ) → get m n ≡ None) → len m ≡ 0
+no_recs m h = ap len (same_map nat_cmp_total nat_cmp-IsAntisymmetric m empty (λ n. h n ∙ sym (get-empty nat_cmp n))) ∙ len-empty nat_cmp RecRow
+
+pub seen_numbers : (m : Machine) (gs : List ℕ) → map (λ (a : Seen). a.number) (map (seen m) gs) ≡ gs
+seen_numbers m [] = refl
+seen_numbers m (g ∷ gs) = ap (λ r. g ∷ r) (seen_numbers m gs)
+
+abbrev pub rev : Act → Act
+rev (Take order first) = UnTake order first
+rev (Delegate g) = Undelegate g
+rev (Realm rd root v) = UnRealm rd root v
+rev (Rtt g ipa level) = UnRtt g ipa level
+rev (Data g ipa source) = UnData g ipa
+rev (Unknown g ipa) = UnData g ipa
+rev (Rec g aux n) = UnRec g aux n
+rev act = act
+
+pub reverse_is : (act r : Act) → reverse_of act ≡ Some r → rev act ≡ r
+unfolding reverse_of
+reverse_is (Take order first) r e = same_Some _ _ e
+reverse_is (Delegate g) r e = same_Some _ _ e
+reverse_is (Realm rd root v) r e = same_Some _ _ e
+reverse_is (Rtt g ipa level) r e = same_Some _ _ e
+reverse_is (Data g ipa source) r e = same_Some _ _ e
+reverse_is (Unknown g ipa) r e = same_Some _ _ e
+reverse_is (Rec g aux n) r e = same_Some _ _ e
+reverse_is _ r e = cc
+
+module _ (limits : Limits) (b : ℕ) (u w : World) (su : IsSoundPart u) (sw : IsSoundPart w) (leases : w.leases ≡ u.leases) where
+  abbrev pub Leads : List Update → Type 0
+  Leads us = (k : ℕ) → SameCell (put_at us k (cell_at u.machine k)) (cell_at w.machine k)
+
+  leased_too : (g : ℕ) → is_leased_to (Some b) u.leases g ≡ true → is_leased_to (Some b) w.leases g ≡ true
+  leased_too g h = ap (λ ls. is_leased_to (Some b) ls g) leases ∙ h
+
+  -- ---- Delegate
+
+  undone_delegate : (g : ℕ) → is_undelegated (seen u.machine g) ≡ true → Leads (Put g left ∷ []) → Reversal limits b u w (Delegate g) (Undelegate g)
+  unfolding outcome_of named fits
+  undone_delegate g host leads =
+      let at_g : SameCell left (cell_at w.machine g) = subst (λ c. SameCell c (cell_at w.machine g)) (put_last [] g left (cell_at u.machine g)) (leads g) in
+      let was : (cell_at u.machine g).state ≡ Undelegated = undelegated_state (cell_at u.machine g) g host in
+      let clear = bare su.rd g (cell_at u.machine g) Undelegated (su.cells g) was refl refl in
+      record {
+        ready = is_delegated (seen w.machine g);
+        refusal = error_input;
+        updates = Put g (record (cell_at w.machine g) { state = Undelegated }) ∷ [];
+        planned = refl;
+        fitting = refl;
+        back = back_left u w (Put g left ∷ []) (Put g (record (cell_at w.machine g) { state = Undelegated }) ∷ []) [] refl (λ k e. cc)
+          (tail_one u g _ (same_bare (cell_at u.machine g) (record (cell_at w.machine g) { state = Undelegated }) was clear.0 (sym at_g.realm) clear.1 (descriptor_none _ at_g.descriptor))) leads;
+        ready_if = λ r. ap (λ s. elim s [ Delegated ↦ true | _ ↦ false ]) (sym at_g.state);
+      }
+
+  -- ---- the realm in both worlds
+
+  pub record InBoth (n : ℕ) (d1 : RealmRow) : Type 0 where
+    pub realm : RealmRow
+    pub there : (cell_at w.machine n).descriptor ≡ Some realm
+    pub same : SameRealm d1 realm
+    pub found : realm_of b w ≡ Some (seen w.machine n)
+
+  in_both : (n : ℕ) (c : Cell) (d1 : RealmRow) → c.descriptor ≡ Some d1 → is_leased_to (Some b) u.leases n ≡ true → SameCell c (cell_at w.machine n) → InBoth n d1
+  in_both n c d1 is held same =
+      let found = descriptor_some d1 (cell_at w.machine n).descriptor (subst (λ o. SameDescriptor o (cell_at w.machine n).descriptor) is same.descriptor) in
+      record { realm = found.0; there = found.1; same = found.2; found = realm_of_there b w sw n found.0 (leased_too n held) found.1 }
+
+  realm_tail : (rd : Seen) (d d1 d3 : RealmRow) → cell_at u.machine rd.number ≡ rd.cell → rd.cell.descriptor ≡ Some d
+      → SameCell (record rd.cell { descriptor = Some d1 }) (cell_at w.machine rd.number) → SameRealm d d3
+      → SameCell (cell_at u.machine rd.number) (record (cell_at w.machine rd.number) { descriptor = Some d3 })
+  realm_tail rd d d1 d3 at is same realm = record {
+    state = ap (λ (c : Cell). c.state) at ∙ same.state;
+    realm = ap (λ (c : Cell). c.realm) at ∙ same.realm;
+    descriptor = subst (λ o. SameDescriptor o (Some d3)) (sym (ap (λ (c : Cell). c.descriptor) at ∙ is)) realm;
+  }
+
+  -- ---- Realm
+
+  in_one : (g : ℕ) → Leaves u g → (k : ℕ) → is_in k (g ∷ []) ≡ true → Leaves u k
+  in_one g h k e = elim (k == g) as (λ t. (k == g) ≡ t → (t || false) ≡ true → Leaves u k) [
+    | true ↦ λ same e. subst (Leaves u) (sym (eqb-true k g same)) h
+    | false ↦ λ same e. cc
+  ] refl e
+
+  no_table_free : (row : Row) → mapping_of_row row ≡ Vacant → not (is_table row) ≡ true
+  no_table_free row e = ap (λ p. not (kind_table p)) e
+
+  new_rows_free : (v root : ℕ) (d2 : RealmRow) → SameRealm (new_realm v root) d2 → not (has_root_table d2.rows) ≡ true
+  unfolding new_realm root_rows
+  new_rows_free v root d2 same =
+      ap (λ t. not (not t)) (all_rows_from (λ row. not (is_table row)) no_table_free d2.rows 1 0 512
+        (λ k less. sym (same.rows (1, 0 + k * covered_count 1)) ∙ put_there (unassigned Empty) empty 1 0 512 k less))
+
+  new_recs_none : (v root : ℕ) (d2 : RealmRow) → SameRealm (new_realm v root) d2 → len d2.recs ≡ 0
+  unfolding new_realm
+  new_recs_none v root d2 same = no_recs d2.recs (λ n. none_map granules_of_rec (get d2.recs n) (sym (same.recs n) ∙ ap (option_map granules_of_rec) (get-empty {X = RecRow} nat_cmp n)))
+
+  new_root : (v root : ℕ) (d2 : RealmRow) → SameRealm (new_realm v root) d2 → (d2.root ≡ root) × (d2.vmid ≡ v)
+  unfolding new_realm
+  new_root v root d2 same = (sym same.root, sym same.vmid)
+
+  undone_realm : (rd root v : ℕ) → is_delegated (seen u.machine rd) ≡ true → is_delegated (seen u.machine root) ≡ true → not (rd == root) ≡ true → is_leased_to (Some b) u.leases rd ≡ true
+      → Leads (Put rd (record { state = Rd; realm = Some rd; bytes = zero_page; descriptor = Some (new_realm v root) }) ∷ Put root (held InRtt rd) ∷ [])
+      → (act : Act) → Reversal limits b u w act (UnRealm rd root v)
+  unfolding outcome_of named fits
+  undone_realm rd root v free_rd free_root differ held_rd leads act =
+      let z : Cell = record { state = Rd; realm = Some rd; bytes = zero_page; descriptor = Some (new_realm v root) } in
+      let us : List Update = Put rd z ∷ Put root (held InRtt rd) ∷ [] in
+      let written : put_at us rd (cell_at u.machine rd) ≡ z =
+          ap (λ t. cond t (held InRtt rd) (cond (rd == rd) z (cell_at u.machine rd))) (not_true _ differ) ∙ ap (λ t. cond t z (cell_at u.machine rd)) (eq-eqb rd rd refl) in
+      let both = in_both rd z (new_realm v root) refl held_rd (subst (λ c. SameCell c (cell_at w.machine rd)) written (leads rd)) in
+      let d2 : RealmRow = both.realm in
+      let roots = new_root v root d2 both.same in
+      record {
+        ready = true;
+        refusal = error_input;
+        updates = lefts (rd ∷ root ∷ []) ++ [];
+        planned = realm_there (seen w.machine rd) _ d2 both.there
+            ∙ check_true _ _ _ (and_from _ _ (eq-eqb (len d2.recs) 0 (new_recs_none v root d2 both.same)) (new_rows_free v root d2 both.same))
+            ∙ (λ i. Ok (Put rd left ∷ Put (roots.0 i) left ∷ []))
+            ∙ sym (check_true true error_input _ refl);
+        fitting = ap (λ o. realm_is o (λ x y. x.number == rd && y.root == root && y.vmid == v)) both.found
+            ∙ ap (λ o. elim o [ Some y ↦ rd == rd && y.root == root && y.vmid == v | None ↦ false ]) both.there
+            ∙ and_from _ _ (and_from _ _ (eq-eqb rd rd refl) (eq-eqb d2.root root roots.0)) (eq-eqb d2.vmid v roots.1);
+        back = back_left u w us [] (rd ∷ root ∷ []) refl
+            (λ k e. elim (k == rd) as (λ t. (k == rd) ≡ t → (t || is_in k (root ∷ [])) ≡ true → Leaves u k) [
+              | true ↦ λ same e. subst (Leaves u) (sym (eqb-true k rd same)) (delegated_leaves su.rd u rd (su.cells rd) free_rd)
+              | false ↦ λ same e. in_one root (delegated_leaves su.rd u root (su.cells root) free_root) k e
+            ] refl e)
+            (λ k c e. cc) leads;
+        ready_if = λ r. refl;
+      }
+
+  -- ---- Rtt
+
+  planned_rtt : (d2 : RealmRow) (n ipa g level : ℕ) (row : Row) → (cell_at w.machine n).descriptor ≡ Some d2 → get d2.rows (level - 1, first_covered (level - 1) ipa) ≡ Some row → is_table row ≡ true → row.granule ≡ Some g
+      → is_table_place ipa level ≡ true → is_protected ipa ≡ true → 1 ≤ level - 1 → is_table_unused d2.rows level ipa ≡ true → realm_of b w ≡ Some (seen w.machine n)
+      → outcome_of limits (UnRtt g ipa level) (realm_of b w) (map (seen w.machine) (named (UnRtt g ipa level)))
+        ≡ check true error_input (Ok (Put g left ∷ Put n (record (cell_at w.machine n) { descriptor = Some (record d2 { rows = without_table d2.rows level ipa }) }) ∷ []))
+  unfolding outcome_of named
+  planned_rtt d2 n ipa g level row there at table granule place protected low unused found =
+      ap (λ o. outcome_of limits (UnRtt g ipa level) o (map (seen w.machine) (named (UnRtt g ipa level)))) found
+      ∙ realm_there (seen w.machine n) _ d2 there
+      ∙ check_true _ _ _ (and_from _ _ place protected)
+      ∙ end_there d2.rows ipa (level - 1) _ (record { level = level - 1; row = row }) (walk_there d2.rows ipa (level - 1) row low at)
+      ∙ check_true _ _ _ (eq-eqb (level - 1) (level - 1) refl)
+      ∙ check_true _ _ _ table
+      ∙ check_true _ _ _ unused
+      ∙ granule_there row _ g granule
+      ∙ sym (check_true true error_input _ refl)
+
+  undone_rtt : (act : Act) (rd : Seen) (d : RealmRow) (g ipa level : ℕ) (c : Cell) (above : Row)
+      → cell_at u.machine rd.number ≡ rd.cell → rd.cell.descriptor ≡ Some d → is_leased_to (Some b) u.leases rd.number ≡ true
+      → is_delegated (seen u.machine g) ≡ true → is_table_place ipa level ≡ true → is_protected ipa ≡ true → row_at d.rows (level - 1) ipa ≡ Some above → is_table above ≡ false
+      → Leads (Put g c ∷ Put rd.number (record rd.cell { descriptor = Some (record d { rows = with_table d.rows level ipa g above.ripas }) }) ∷ [])
+      → Reversal limits b u w act (UnRtt g ipa level)
+  unfolding outcome_of named fits is_table_unused
+  undone_rtt act rd d g ipa level c above at is held_rd free_g place protected there plain leads =
+      let n = rd.number in
+      let d1 : RealmRow = record d { rows = with_table d.rows level ipa g above.ripas } in
+      let z : Cell = record rd.cell { descriptor = Some d1 } in
+      let at_n : SameCell z (cell_at w.machine n) = subst (λ x. SameCell x (cell_at w.machine n)) (put_last (Put g c ∷ []) n z (cell_at u.machine n)) (leads n) in
+      let both = in_both n z d1 refl held_rd at_n in
+      let d2 : RealmRow = both.realm in
+      let spot : IsTablePlace ipa level = table_place ipa level place in
+      let sound : IsSoundRealm d = (subst (IsSoundCell su.rd n) at (su.cells n)).row d is in
+      let up : ℕ × ℕ = (level - 1, first_covered (level - 1) ipa) in
+      let row = look_get (get d2.rows up) (Table, Some g) (sym (both.same.rows up) ∙ look-with_table d.rows level ipa above sound.rows spot there g above.ripas plain) in
+      let unused : is_table_unused d2.rows level ipa ≡ true = all_rows_from is_unassigned (λ r e. ap kind_unassigned e) d2.rows level ipa 512
+          (λ k less. sym (both.same.rows (level, ipa + k * covered_count level)) ∙ look-with_table_below d.rows level ipa above sound.rows spot there g above.ripas k less) in
+      let d3 : RealmRow = record d2 { rows = without_table d2.rows level ipa } in
+      let tail : List Update = Put n (record (cell_at w.machine n) { descriptor = Some d3 }) ∷ [] in
+      let was_free : mapping_of_row above ≡ Vacant = free_above (level - 1) above.hipas above.granule spot.low.1 (shape_of d.rows up above sound.rows there) plain in
+      let rows_back : (q : ℕ × ℕ) → look d.rows q ≡ look d3.rows q = table_back d.rows d2.rows level ipa g above.ripas above there was_free (none_among d.rows level ipa above sound.rows spot there plain) both.same.rows in
+      let granule : row.0.granule ≡ Some g = ap (λ (p : Hipas × Option ℕ). p.1) row.2 in
+      record {
+        ready = true;
+        refusal = error_input;
+        updates = lefts (g ∷ []) ++ tail;
+        planned = planned_rtt d2 n ipa g level row.0 both.there row.1 (ap kind_table row.2) granule place protected spot.low.0 unused both.found;
+        fitting = ap (λ o. realm_is o (λ x y. leads_to (row_at y.rows (level - 1) ipa) g)) both.found
+            ∙ ap (λ o. elim o [ Some y ↦ leads_to (row_at y.rows (level - 1) ipa) g | None ↦ false ]) both.there
+            ∙ ap (λ o. leads_to o g) row.1 ∙ ap (λ o. option_eq nat_eq o (Some g)) granule ∙ eq-eqb g g refl;
+        back = back_left u w (Put g c ∷ Put n z ∷ []) tail (g ∷ []) refl (in_one g (delegated_leaves su.rd u g (su.cells g) free_g)) (tail_one u n _ (realm_tail rd d d1 d3 at is at_n
+            (record { vmid = both.same.vmid; root = both.same.root; recs = both.same.recs; rows = rows_back }))) leads;
+        ready_if = λ r. refl;
+      }
+
+  -- ---- Data
+
+  planned_data : (d2 : RealmRow) (c : Cell) (n ipa g : ℕ) (row : Row) → (cell_at w.machine n).descriptor ≡ Some d2 → get d2.rows (3, first_covered 3 ipa) ≡ Some row → is_assigned row ≡ true → row.granule ≡ Some g
+      → is_protected ipa ≡ true → realm_of b w ≡ Some (seen w.machine n)
+      → outcome_of limits (UnData g ipa) (realm_of b w) (map (seen w.machine) (named (UnData g ipa)))
+        ≡ check true error_input (Ok (Put g left ∷ Put n (record (cell_at w.machine n) { descriptor = Some (record d2 { rows = put_row d2.rows 3 ipa (unassigned (unmapped_ripas row.ripas)) }) }) ∷ []))
+  unfolding outcome_of named
+  planned_data d2 c n ipa g row there at assigned granule protected found =
+      ap (λ o. outcome_of limits (UnData g ipa) o (map (seen w.machine) (named (UnData g ipa)))) found
+      ∙ realm_there (seen w.machine n) _ d2 there
+      ∙ check_true _ _ _ protected
+      ∙ end_there d2.rows ipa 3 _ (record { level = 3; row = row }) (walk_there d2.rows ipa 3 row (lit≤ tt) at)
+      ∙ check_true _ _ _ refl
+      ∙ check_true _ _ _ assigned
+      ∙ granule_there row _ g granule
+      ∙ sym (check_true true error_input _ refl)
+
+  undone_data : (act : Act) (rd : Seen) (d : RealmRow) (m : List ℕ) (g ipa : ℕ) (ripas : Ripas) (old : Row) (c : Cell) → (r : is_running (realm_of b w) act ≡ false)
+      → cell_at u.machine rd.number ≡ rd.cell → rd.cell.descriptor ≡ Some d → is_leased_to (Some b) u.leases rd.number ≡ true
+      → is_delegated (seen u.machine g) ≡ true → is_protected ipa ≡ true → row_at d.rows 3 ipa ≡ Some old → is_unassigned old ≡ true
+      → Leads (Put g c ∷ Put rd.number (record rd.cell { descriptor = Some (record d { rows = put_row d.rows 3 ipa (assigned ripas g); measurement = m }) }) ∷ [])
+      → Reversal limits b u w act (UnData g ipa)
+  unfolding outcome_of named fits
+  undone_data act rd d m g ipa ripas old c r at is held_rd free_g protected there free leads =
+      let n = rd.number in
+      let d1 : RealmRow = record d { rows = put_row d.rows 3 ipa (assigned ripas g); measurement = m } in
+      let z : Cell = record rd.cell { descriptor = Some d1 } in
+      let at_n : SameCell z (cell_at w.machine n) = subst (λ x. SameCell x (cell_at w.machine n)) (put_last (Put g c ∷ []) n z (cell_at u.machine n)) (leads n) in
+      let both = in_both n z d1 refl held_rd at_n in
+      let d2 : RealmRow = both.realm in
+      let place : ℕ × ℕ = (3, first_covered 3 ipa) in
+      let now_there : look d1.rows place ≡ Some (Assigned, Some g) = look-insert d.rows place place (assigned ripas g) ∙ ap (λ t. cond t (Some (mapping_of_row (assigned ripas g))) (look d.rows place)) (place_self place) in
+      let row = look_get (get d2.rows place) (Assigned, Some g) (sym (both.same.rows place) ∙ now_there) in
+      let d3 : RealmRow = record d2 { rows = put_row d2.rows 3 ipa (unassigned (unmapped_ripas row.0.ripas)) } in
+      let tail : List Update = Put n (record (cell_at w.machine n) { descriptor = Some d3 }) ∷ [] in
+      let sound : IsSoundRealm d = (subst (IsSoundCell su.rd n) at (su.cells n)).row d is in
+      let was_free : mapping_of_row old ≡ Vacant = free_unassigned 3 old.hipas old.granule (shape_of d.rows place old sound.rows there) free in
+      let rows_back : (q : ℕ × ℕ) → look d.rows q ≡ look d3.rows q = λ q.
+          elim (eq_by_cmp place_cmp q place) as (λ t. eq_by_cmp place_cmp q place ≡ t → look d.rows q ≡ cond t (Some Vacant) (look d2.rows q)) [
+            | true ↦ λ e. ap (look d.rows) (same_place q place e) ∙ ap (option_map mapping_of_row) there ∙ ap Some was_free
+            | false ↦ λ e. sym (look-insert d.rows place q (assigned ripas g) ∙ ap (λ t. cond t (Some (mapping_of_row (assigned ripas g))) (look d.rows q)) e) ∙ both.same.rows q
+          ] refl ∙ sym (look-insert d2.rows place q (unassigned (unmapped_ripas row.0.ripas))) in
+      let granule : row.0.granule ≡ Some g = ap (λ (p : Hipas × Option ℕ). p.1) row.2 in
+      record {
+        ready = true;
+        refusal = error_input;
+        updates = lefts (g ∷ []) ++ tail;
+        planned = planned_data d2 (cell_at w.machine n) n ipa g row.0 both.there row.1 (ap kind_assigned row.2) granule protected both.found;
+        fitting = ap (λ o. realm_is o (λ x y. leads_to (row_at y.rows 3 ipa) g)) both.found
+            ∙ ap (λ o. elim o [ Some y ↦ leads_to (row_at y.rows 3 ipa) g | None ↦ false ]) both.there
+            ∙ ap (λ o. leads_to o g) row.1 ∙ ap (λ o. option_eq nat_eq o (Some g)) granule ∙ eq-eqb g g refl;
+        back = back_left u w (Put g c ∷ Put n z ∷ []) tail (g ∷ []) refl (in_one g (delegated_leaves su.rd u g (su.cells g) free_g)) (tail_one u n _ (realm_tail rd d d1 d3 at is at_n
+            (record { vmid = both.same.vmid; root = both.same.root; recs = both.same.recs; rows = rows_back }))) leads;
+        ready_if = λ r. refl;
+      }
+
+  -- ---- Rec
+
+  abbrev auxes : ℕ → List ℕ → List Update
+  auxes n gs = map (λ (a : Seen). Put a.number (held RecAux n)) (map (seen u.machine) gs)
+
+  rec_granules : (g n : ℕ) (c z : Cell) (gs : List ℕ) → map granule_of ((Put g c ∷ auxes n gs) ++ Put n z ∷ []) ≡ (g ∷ gs) ++ n ∷ []
+  rec_granules g n c z gs = ap (λ r. g ∷ r) (rest gs)
+    where
+      rest : (gs : List ℕ) → map granule_of (auxes n gs ++ Put n z ∷ []) ≡ gs ++ n ∷ []
+      rest [] = refl
+      rest (x ∷ gs) = ap (λ r. x ∷ r) (rest gs)
+
+  in_all : (gs : List ℕ) → list_all is_delegated (map (seen u.machine) gs) ≡ true → (k : ℕ) → is_in k gs ≡ true → Leaves u k
+  in_all [] h k e = cc
+  in_all (g ∷ gs) h k e =
+      let parts = and_parts _ _ h in
+      elim (k == g) as (λ t. (k == g) ≡ t → (t || is_in k gs) ≡ true → Leaves u k) [
+        | true ↦ λ same e. subst (Leaves u) (sym (eqb-true k g same)) (delegated_leaves su.rd u g (su.cells g) parts.0)
+        | false ↦ λ same e. in_all gs parts.1 k e
+      ] refl e
+
+  look_rec : (o : Option RecRow) (p : ℕ × List ℕ) → option_map granules_of_rec o ≡ Some p → (rec : RecRow) × (o ≡ Some rec) × (granules_of_rec rec ≡ p)
+  look_rec None p e = cc
+  look_rec (Some rec) p e = (rec, refl, same_Some _ _ e)
+
+  planned_rec : (d2 : RealmRow) (k g : ℕ) (aux : ArrayVec ℕ 16 (Unit {0})) (n : ℕ) (rec : RecRow) → (cell_at w.machine k).descriptor ≡ Some d2 → get d2.recs n ≡ Some rec → granules_of_rec rec ≡ (g, aux.items) → realm_of b w ≡ Some (seen w.machine k)
+      → outcome_of limits (UnRec g aux n) (realm_of b w) (map (seen w.machine) (named (UnRec g aux n)))
+        ≡ check (is_ready rec) error_rec (Ok (lefts (g ∷ aux.items) ++ Put k (record (cell_at w.machine k) { descriptor = Some (record d2 { recs = remove d2.recs n }) }) ∷ []))
+  unfolding outcome_of named
+  planned_rec d2 k g aux n rec there at own found =
+      ap (λ o. outcome_of limits (UnRec g aux n) o (map (seen w.machine) (named (UnRec g aux n)))) found
+      ∙ realm_there (seen w.machine k) _ d2 there
+      ∙ rec_there d2 n _ rec at
+      ∙ ap (λ (p : ℕ × List ℕ). check (is_ready rec) error_rec (Ok (lefts (p.0 ∷ p.1) ++ Put k (record (cell_at w.machine k) { descriptor = Some (record d2 { recs = remove d2.recs n }) }) ∷ []))) own
+
+  abbrev runs : Option RecRow → Bool
+  runs None = false
+  runs (Some rec) = not (is_ready rec)
+
+  abbrev fits_rec : ℕ → List ℕ → Option RecRow → Bool
+  fits_rec g items None = false
+  fits_rec g items (Some rec) = rec.granule == g && bytes_eq rec.auxiliaries items
+
+  undone_rec : (rd : Seen) (d : RealmRow) (m : List ℕ) (g : ℕ) (aux : ArrayVec ℕ 16 (Unit {0})) (n : ℕ)
+      → cell_at u.machine rd.number ≡ rd.cell → rd.cell.descriptor ≡ Some d → is_leased_to (Some b) u.leases rd.number ≡ true
+      → list_all is_delegated (map (seen u.machine) (g ∷ aux.items)) ≡ true → n ≡ d.next
+      → Leads ((Put g (held InRec rd.number) ∷ auxes rd.number aux.items)
+          ++ Put rd.number (record rd.cell { descriptor = Some (record d {
+            recs = insert d.recs d.next (record { granule = g; auxiliaries = map (λ (a : Seen). a.number) (map (seen u.machine) aux.items); state = Ready });
+            next = d.next + 1;
+            measurement = m;
+          }) }) ∷ [])
+      → Reversal limits b u w (Rec g aux n) (UnRec g aux n)
+  unfolding outcome_of named fits
+  undone_rec rd d m g aux n at is held_rd frees number leads =
+      let k = rd.number in
+      let rec1 : RecRow = record { granule = g; auxiliaries = map (λ (a : Seen). a.number) (map (seen u.machine) aux.items); state = Ready } in
+      let d1 : RealmRow = record d { recs = insert d.recs d.next rec1; next = d.next + 1; measurement = m } in
+      let z : Cell = record rd.cell { descriptor = Some d1 } in
+      let us : List Update = Put g (held InRec k) ∷ auxes k aux.items in
+      let at_k : SameCell z (cell_at w.machine k) = subst (λ x. SameCell x (cell_at w.machine k)) (put_last us k z (cell_at u.machine k)) (leads k) in
+      let both = in_both k z d1 refl held_rd at_k in
+      let d2 : RealmRow = both.realm in
+      let sound : IsSoundRealm d = (subst (IsSoundCell su.rd k) at (su.cells k)).row d is in
+      let made : get d1.recs d.next ≡ Some rec1 = get-insert nat_cmp_total d.recs d.next rec1 d.next ∙ ap (λ t. cond t (Some rec1) (get d.recs d.next)) ((eq_by_cmp_equiv nat_cmp_total).refl d.next) in
+      let rec = look_rec (get d2.recs d.next) (g, aux.items) (sym (both.same.recs d.next) ∙ ap (option_map granules_of_rec) made ∙ (λ i. Some (g, seen_numbers u.machine aux.items i))) in
+      let there : get d2.recs n ≡ Some rec.0 = ap (get d2.recs) number ∙ rec.1 in
+      let d3 : RealmRow = record d2 { recs = remove d2.recs n } in
+      let tail : List Update = Put k (record (cell_at w.machine k) { descriptor = Some d3 }) ∷ [] in
+      let recs_back : (q : ℕ) → option_map granules_of_rec (get d.recs q) ≡ option_map granules_of_rec (get d3.recs q) = λ q.
+          elim (eq_by_cmp nat_cmp q n) as (λ t. eq_by_cmp nat_cmp q n ≡ t → option_map granules_of_rec (get d.recs q) ≡ option_map granules_of_rec (cond t None (get d2.recs q))) [
+            | true ↦ λ e. ap (option_map granules_of_rec) (unnumbered d q sound (nat_place q n e ∙ number))
+            | false ↦ λ e. sym (ap (option_map granules_of_rec) (get-insert nat_cmp_total d.recs d.next rec1 q ∙ ap (λ t. cond t (Some rec1) (get d.recs q)) (ap (eq_by_cmp nat_cmp q) (sym number) ∙ e))) ∙ both.same.recs q
+          ] refl ∙ sym (ap (option_map granules_of_rec) (get-remove nat_cmp_total d2.recs n q)) in
+      record {
+        ready = is_ready rec.0;
+        refusal = error_rec;
+        updates = lefts (g ∷ aux.items) ++ tail;
+        planned = planned_rec d2 k g aux n rec.0 both.there there rec.2 both.found;
+        fitting = ap (λ o. realm_is o (λ x y. fits_rec g aux.items (get y.recs n))) both.found
+            ∙ ap (λ o. elim o [ Some y ↦ fits_rec g aux.items (get y.recs n) | None ↦ false ]) both.there
+            ∙ ap (fits_rec g aux.items) there
+            ∙ and_from _ _ (eq-eqb rec.0.granule g (ap (λ (p : ℕ × List ℕ). p.0) rec.2)) ((bytes_decides rec.0.auxiliaries aux.items).1 (ap (λ (p : ℕ × List ℕ). p.1) rec.2));
+        back = back_left u w (us ++ Put k z ∷ []) tail (g ∷ aux.items) (rec_granules g k (held InRec k) z aux.items) (in_all (g ∷ aux.items) frees)
+            (tail_one u k _ (realm_tail rd d d1 d3 at is at_k (record { vmid = both.same.vmid; root = both.same.root; recs = recs_back; rows = both.same.rows }))) leads;
+        ready_if = λ r. not_false (is_ready rec.0)
+          (sym (ap (λ o. realm_is o (λ x y. runs (get y.recs n))) both.found ∙ ap (λ o. elim o [ Some y ↦ runs (get y.recs n) | None ↦ false ]) both.there ∙ ap runs there) ∙ r);
+      }
+    where
+      unnumbered : (d : RealmRow) (q : ℕ) → IsSoundRealm d → q ≡ d.next → get d.recs q ≡ None
+      unnumbered d q sound e = elim (get d.recs q) as (λ o. get d.recs q ≡ o → o ≡ None) [
+        | None ↦ λ h. refl
+        | Some rec ↦ λ h. let less : q < d.next = sound.recs q rec h in absurd (omega arith)
+      ] refl
+
+  -- ---- paired acts
+
+  abbrev Y : Act → List Update → Type 0
+  Y act us = Leads us → Reversal limits b u w act (rev act)
+
+  pub undone : (act : Act) (realm : Option Seen) → is_of_block act ≡ false → is_paired act ≡ true → list_all (is_leased_to (Some b) u.leases) (named act) ≡ true
+      → IsAt u.machine realm → IsHeld b u.leases realm → fits act realm (map (seen u.machine) (named act)) ≡ true
+      → Yields (Y act) (outcome_of limits act realm (map (seen u.machine) (named act)))
+  unfolding outcome_of named fits reverse_of
+  undone (Delegate g) realm k p h at held fit = Yields-check (Y (Delegate g)) _ _ _ (λ host. Yields-Ok (Y (Delegate g)) _ (undone_delegate g host))
+  undone (Realm rd root v) realm k p h at held fit =
+      let P = Y (Realm rd root v) in
+      Yields-check P _ _ _ (λ all.
+        let three = and_parts _ _ (and_parts _ _ (and_parts _ _ all).0).0 in
+        let two = and_parts _ _ three.0 in
+        Yields-Ok P _ (λ leads. undone_realm rd root v two.0 two.1 three.1 (and_parts _ _ h).0 leads (Realm rd root v)))
+  undone (Rtt g ipa level) None k p h at held fit = Yields-Err (Y (Rtt g ipa level)) _
+  undone (Rtt g ipa level) (Some rd) k p h at held fit =
+      let P = Y (Rtt g ipa level) in
+      Yields-with_realm P _ _ (λ d is. Yields-check P _ _ _ (λ all. Yields-with_end P _ _ _ _ (λ end e. Yields-check P _ _ _ (λ last. Yields-check P _ _ _ (λ plain.
+        let outer = and_parts _ _ all in
+        let inner = and_parts _ _ outer.0 in
+        Yields-Ok P _ (λ leads. undone_rtt (Rtt g ipa level) rd d g ipa level (held_cell InRtt rd.number) end.row at is held inner.0 inner.1 outer.1
+          (walk_at d.rows ipa (level - 1) end e (eqb-true end.level (level - 1) last)) (not_true _ plain) leads))))))
+  undone (Data g ipa source) None k p h at held fit = Yields-Err (Y (Data g ipa source)) _
+  undone (Data g ipa source) (Some rd) k p h at held fit =
+      let P = Y (Data g ipa source) in
+      Yields-with_realm P _ _ (λ d is. Yields-check P _ _ _ (λ all. Yields-check P _ _ _ (λ _. Yields-with_end P _ _ _ _ (λ end e. Yields-check P _ _ _ (λ last. Yields-check P _ _ _ (λ free.
+        let outer = and_parts _ _ all in
+        let inner = and_parts _ _ outer.0 in
+        let bytes = (cell_at u.machine source).bytes in
+        Yields-Ok P _ (λ leads. undone_data (Data g ipa source) rd d (measurement_after d.measurement (data_event ipa bytes)) g ipa Ram end.row (record (held_cell InData rd.number) { bytes = bytes }) refl at is held inner.0 outer.1
+          (walk_at d.rows ipa 3 end e (eqb-true end.level 3 last)) free leads)))))))
+  undone (Unknown g ipa) None k p h at held fit = Yields-Err (Y (Unknown g ipa)) _
+  undone (Unknown g ipa) (Some rd) k p h at held fit =
+      let P = Y (Unknown g ipa) in
+      Yields-with_realm P _ _ (λ d is. Yields-check P _ _ _ (λ all. Yields-with_end P _ _ _ _ (λ end e. Yields-check P _ _ _ (λ last. Yields-check P _ _ _ (λ free.
+        let outer = and_parts _ _ all in
+        Yields-Ok P _ (λ leads. undone_data (Unknown g ipa) rd d d.measurement g ipa end.row.ripas end.row (held_cell InData rd.number) refl at is held outer.0 outer.1
+          (walk_at d.rows ipa 3 end e (eqb-true end.level 3 last)) free leads))))))
+  undone (Rec g aux n) None k p h at held fit = Yields-Err (Y (Rec g aux n)) _
+  undone (Rec g aux n) (Some rd) k p h at held fit =
+      let P = Y (Rec g aux n) in
+      Yields-with_realm P _ _ (λ d is. Yields-check P _ _ _ (λ all. Yields-check P _ _ _ (λ _.
+        Yields-Ok P _ (λ leads. undone_rec rd d (measurement_after d.measurement (rec_event d.next)) g aux n at is held (and_parts _ _ (and_parts _ _ all).0).0
+          (eqb-true n d.next (realm_test rd d (λ x y. n == y.next) fit is)) leads))))
+  undone (Take order first) realm k p h at held fit = cc
+  undone (UnTake order first) realm k p h at held fit = cc
+  undone (Fill g v) realm k p h at held fit = cc
+  undone (Peek g o v) realm k p h at held fit = cc
+  undone (Undelegate g) realm k p h at held fit = cc
+  undone (UnRealm rd root v) realm k p h at held fit = cc
+  undone Activate realm k p h at held fit = cc
+  undone (UnRtt g ipa level) realm k p h at held fit = cc
+  undone (ToRam ipa n) realm k p h at held fit = cc
+  undone (UnData g ipa) realm k p h at held fit = cc
+  undone (UnRec g aux n) realm k p h at held fit = cc
+  undone (Enter n) realm k p h at held fit = cc
+  undone (Exit n) realm k p h at held fit = cc
+  undone (Poke n ipa o v) realm k p h at held fit = cc

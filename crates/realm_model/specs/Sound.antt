@@ -1,0 +1,66 @@
+-- What every reached world keeps of the part of a build.
+use Rattle.std.specs.Prelude.{◌≡◌, ℕ, ◌-◌, ◌<◌, ◌≤◌, ◌==◌, ◌||◌, Bool, true, false, Option, Some, None, is_some, option_map}
+use Rattle.std.specs.FinMap.{get}
+use Rattle.realm_model.specs.declared.states.GranuleState.{GranuleState}
+use Rattle.realm_model.specs.declared.states.GranuleState.TheVariants.{Undelegated, Delegated, Rd}
+use Rattle.realm_model.specs.declared.states.Hipas.{Hipas}
+use Rattle.realm_model.specs.declared.states.Hipas.TheVariants.{Unassigned, Assigned, Table}
+use Rattle.realm_model.specs.Rows.{Row, Rows}
+use Rattle.granule_addr.specs.Ipa.{first_covered}
+use Rattle.realm_model.specs.Machine.{RecRow, RealmRow, Cell, cell_at}
+use Rattle.realm_model.specs.Ownership.{mapping_of_row}
+use Rattle.realm_model.specs.World.{World, part_of}
+
+-- a row's kind and granule
+abbrev pub look : Rows → ℕ × ℕ → Option (Hipas × Option ℕ)
+look rows place = option_map mapping_of_row (get rows place)
+
+abbrev pub IsKind : ℕ → Hipas → Option ℕ → Type 0
+IsKind level Unassigned granule = granule ≡ None
+IsKind level Assigned granule = (level ≡ 3) × (is_some granule ≡ true)
+IsKind level Table granule = (level ≤ 2) × (is_some granule ≡ true)
+
+abbrev pub IsShaped : ℕ → Option (Hipas × Option ℕ) → Type 0
+IsShaped level None = Unit {0}
+IsShaped level (Some row) = IsKind level row.0 row.1
+
+abbrev pub is_table_kind : Option (Hipas × Option ℕ) → Bool
+is_table_kind None = false
+is_table_kind (Some row) = elim row.0 [ Unassigned ↦ false | Assigned ↦ false | Table ↦ true ]
+
+-- a row of the root, or below a table
+abbrev pub has_table : (ℕ × ℕ → Option (Hipas × Option ℕ)) → ℕ × ℕ → Bool
+has_table rows place = place.0 == 1 || is_table_kind (rows (place.0 - 1, first_covered (place.0 - 1) place.1))
+
+-- an UNASSIGNED row has no granule, an ASSIGNED one is of level 3, and above each row but the root's is a table
+pub record IsSoundRows (rows : ℕ × ℕ → Option (Hipas × Option ℕ)) : Type 0 where
+  pub shaped : (place : ℕ × ℕ) → IsShaped place.0 (rows place)
+  pub below : (place : ℕ × ℕ) → is_some (rows place) ≡ true → has_table rows place ≡ true
+
+pub record IsSoundRealm (realm : RealmRow) : Type 0 where
+  pub rows : IsSoundRows (look realm.rows)
+  pub recs : (number : ℕ) (rec : RecRow) → get realm.recs number ≡ Some rec → number < realm.next
+
+abbrev pub is_host_state : GranuleState → Bool
+is_host_state Undelegated = true
+is_host_state Delegated = true
+is_host_state _ = false
+
+abbrev pub is_rd_state : GranuleState → Bool
+is_rd_state Rd = true
+is_rd_state _ = false
+
+-- A cell of a build whose realm, if it has one, stands at rd
+pub record IsSoundCell (rd granule : ℕ) (cell : Cell) : Type 0 where
+  pub realm : is_host_state cell.state ≡ true → cell.realm ≡ None
+  pub descriptor : is_some cell.descriptor ≡ is_rd_state cell.state
+  pub alone : is_rd_state cell.state ≡ true → granule ≡ rd
+  pub row : (realm : RealmRow) → cell.descriptor ≡ Some realm → IsSoundRealm realm
+
+pub record IsSoundPart (world : World) : Type 0 where
+  pub rd : ℕ
+  pub cells : (granule : ℕ) → IsSoundCell rd granule (cell_at world.machine granule)
+
+-- of one build
+abbrev pub IsSoundFor : ℕ → World → Type 0
+IsSoundFor build world = IsSoundPart (part_of world build)

@@ -1,0 +1,14 @@
+-- What is open, as a stack.
+use Rattle.std.specs.Prelude.{◌≡◌, ◌-◌, List, [], ◌∷◌, ◌++◌, cond, fold, length, take}
+use Rattle.realm_model.specs.declared.act.Act.{Act}
+use Rattle.realm_model.specs.Act.{is_paired, is_reverse}
+use Rattle.realm_model.specs.History.{unmatched}
+
+-- A paired act goes on top, which is at the end. A reverse act takes the top away. No other act changes the stack.
+unfoldable pub pushed : List Act → Act → List Act
+pushed stack act =
+    cond (is_paired act) (stack ++ act ∷ []) (cond (is_reverse act) (take (length stack - 1) stack) stack)
+
+-- what nothing matches is what is left on the stack
+abbrev pub MatchingIsAStack : List Act → Type 0
+MatchingIsAStack acts = unmatched acts ≡ fold pushed [] acts

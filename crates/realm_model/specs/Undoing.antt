@@ -1,0 +1,71 @@
+-- What can be undone, and all of it undone.
+use Rattle.std.specs.Prelude.{◌≡◌, ℕ, List, [], ◌∷◌, ◌++◌, map, reverse, Bool, true, false, not, Option, Some, None}
+use Rattle.std.specs.List.{last_or}
+use Rattle.std.specs.FinMap.{get}
+use Rattle.realm_model.specs.declared.act.Act.{Act}
+use Rattle.realm_model.specs.declared.act.Act.TheVariants.{Rec}
+use Rattle.realm_model.specs.declared.act.Event.{Event}
+use Rattle.realm_model.specs.Machine.{Limits, Seen, RecRow}
+use Rattle.realm_model.specs.Command.Check.{is_ready}
+use Rattle.realm_model.specs.Outcome.{realm_is}
+use Rattle.realm_model.specs.Act.{reverse_of}
+use Rattle.realm_model.specs.World.{World, realm_of, without}
+use Rattle.realm_model.specs.Step.{step}
+use Rattle.realm_model.specs.Room.{is_rec_running}
+use Rattle.realm_model.specs.Ownership.{OwnsSame}
+use Rattle.realm_model.specs.History.{erase, open_entries, replay, IsLegal}
+
+-- the REC that the act made is running
+abbrev pub is_running : Option Seen → Act → Bool
+is_running realm (Rec granule auxiliaries number) = realm_is realm (λ d r. is_rec_running (get r.recs number))
+is_running realm _ = false
+
+-- no REC of the realm is running
+abbrev pub IsAtRest : Option Seen → Type 0
+IsAtRest realm = (number : ℕ) → realm_is realm (λ d r. is_rec_running (get r.recs number)) ≡ false
+
+abbrev pub by : ℕ → Act → Event
+by build act = record { build = build; act = act }
+
+-- the reverses of paired acts
+abbrev pub reverses : List Act → List Act
+reverses [] = []
+reverses (act ∷ acts) = elim (reverse_of act) [ Some r ↦ r ∷ reverses acts | None ↦ reverses acts ]
+
+-- all that a build has open, undone, the newest first
+abbrev pub undoing : ℕ → List Event → List Event
+undoing build history = map (by build) (reverses (reverse (open_entries build history)))
+
+-- an act that is open, the newest of its build, is undone
+pub record IsUndoneNext (limits : Limits) (history : List Event) (build : ℕ) (act : Act) : Type 0 where
+  pub back : Act
+  pub reverse_is : reverse_of act ≡ Some back
+  pub legal : IsLegal limits (history ++ by build back ∷ [])
+  pub left_open : open_entries build (history ++ by build back ∷ []) ++ act ∷ [] ≡ open_entries build history
+
+-- all that a build has open is undone
+pub record IsUndone (limits : Limits) (history : List Event) (build : ℕ) : Type 0 where
+  pub legal : IsLegal limits (history ++ undoing build history)
+  pub world_is : replay limits (history ++ undoing build history) ≡ replay limits (erase build history)
+  pub same_others : erase build (history ++ undoing build history) ≡ erase build history
+  pub none_open : open_entries build (history ++ undoing build history) ≡ []
+
+-- ---- laws, for every legal history and the world that it leads to
+
+-- the newest open act of a build can be undone, whatever came between, unless it is a REC that runs
+abbrev pub NewestCanBeUndone : Limits → List Event → ℕ → World → Act → Type 0
+NewestCanBeUndone limits history build world act =
+    last_or None (open_entries build history) ≡ Some act → is_running (realm_of build world) act ≡ false → IsUndoneNext limits history build act
+
+-- where no REC of a build runs, all that it has open can be undone, and it leaves no trace
+abbrev pub AllCanBeUndone : Limits → List Event → ℕ → World → Type 0
+AllCanBeUndone limits history build world = IsAtRest (realm_of build world) → IsUndone limits history build
+
+-- where nothing of a build is open, the world is that of the history without it
+abbrev pub NothingOpenIsNoTrace : Limits → List Event → ℕ → World → Type 0
+NothingOpenIsNoTrace limits history build world = open_entries build history ≡ [] → replay limits (erase build history) ≡ Some world
+
+-- a reverse act right after its pair leads back to what was owned before
+abbrev pub PairLeadsBack : Limits → ℕ → World → Act → Act → World → World → Type 0
+PairLeadsBack limits build world act back middle end =
+    reverse_of act ≡ Some back → step limits world (by build act) ≡ Some middle → step limits middle (by build back) ≡ Some end → OwnsSame world end

@@ -1,0 +1,5 @@
+pub mod Zips
+pub mod Machines
+pub mod Checks
+pub mod Granules
+pub mod Blocks

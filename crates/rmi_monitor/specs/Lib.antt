@@ -1,0 +1,3 @@
+pub mod View
+pub mod Codes
+pub mod Inside

@@ -1,0 +1,57 @@
+//! Commands on single granules.
+ghost use Rattle.std.specs.Prelude.{◌≡◌};
+ghost use Rattle.realm_model.specs.Command.Granule as command;
+ghost use Rattle.rmi_monitor.specs.View.{IsTaken, Answers, seen_in, after_command};
+
+use crate::Monitor;
+use granule_addr::Gran;
+use page_arena::PageStore;
+use realm_model::{GranuleState, Rmi};
+
+impl<S: PageStore> Monitor<S> {
+    /// Delegates a granule: it is UNDELEGATED before, and DELEGATED and zero after.
+    ///
+    /// RMM 1.0, RMI_GRANULE_DELEGATE. RMI_ERROR_INPUT comes where it is not UNDELEGATED.
+    pub fn granule_delegate(&mut self, granule: Gran) -> Result<(), Rmi>
+        requires { IsTaken self.old granule }
+        ensures answer { Answers result (command.granule_delegate (seen_in self.old granule)) }
+        ensures machine { self.new ≡ after_command (command.granule_delegate (seen_in self.old granule)) self.old }
+    {
+        if !self.granules.shift(granule, GranuleState::Undelegated, GranuleState::Delegated, None) {
+            return Err(Rmi::INPUT);
+        }
+        self.store.fill(granule, 0);
+        Ok(())
+    }
+
+    /// Undelegates a granule: it is DELEGATED before, and UNDELEGATED after.
+    ///
+    /// RMM 1.0, RMI_GRANULE_UNDELEGATE. RMI_ERROR_INPUT comes where it is not DELEGATED.
+    pub fn granule_undelegate(&mut self, granule: Gran) -> Result<(), Rmi>
+        requires { IsTaken self.old granule }
+        ensures answer { Answers result (command.granule_undelegate (seen_in self.old granule)) }
+        ensures machine { self.new ≡ after_command (command.granule_undelegate (seen_in self.old granule)) self.old }
+    {
+        if !self.granules.shift(granule, GranuleState::Delegated, GranuleState::Undelegated, None) {
+            return Err(Rmi::INPUT);
+        }
+        Ok(())
+    }
+
+    /// Writes a value to each byte of an UNDELEGATED granule. This profile's own.
+    ///
+    /// RMI_ERROR_INPUT comes where it is not UNDELEGATED.
+    pub fn host_fill(&mut self, granule: Gran, value: u8) -> Result<(), Rmi>
+        requires { IsTaken self.old granule }
+        ensures answer { Answers result (command.host_fill (seen_in self.old granule) value) }
+        ensures machine { self.new ≡ after_command (command.host_fill (seen_in self.old granule) value) self.old }
+    {
+        match self.granules.state(granule) {
+            GranuleState::Undelegated => {
+                self.store.fill(granule, value);
+                Ok(())
+            }
+            _ => Err(Rmi::INPUT),
+        }
+    }
+}

@@ -1,0 +1,11 @@
+//! The monitor: commands named after the Realm Management Interface, over any store of pages.
+//!
+//! It is seen as the machine of the definitions, beside which granules are free. Each command answers what its
+//! definition says of the granules that it names, and changes the machine as the definition says; a refusal changes
+//! nothing. A caller owes that the granules which a command names are taken.
+#![tactic(auto)]
+
+mod granule;
+mod monitor;
+
+pub use monitor::Monitor;

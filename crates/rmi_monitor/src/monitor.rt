@@ -1,0 +1,117 @@
+//! The monitor, its memory, and blocks of pages.
+ghost use Rattle.std.specs.Prelude.{◌≡◌, ◌<◌, ◌≤◌, ◌↔◌, ℕ, Bool, true, List, length, filter, replicate, IsTrue, IfOk, IfErr, IfSome, IfNone};
+ghost use Rattle.std.specs.Bool.{OnTrue, OnFalse};
+ghost use Rattle.page_arena.specs.Block.{IsFreeBlock};
+ghost use Rattle.page_arena.specs.Page.{zero_page};
+ghost use Rattle.realm_model.specs.Machine.{cell_at, blank};
+ghost use Rattle.rmi_monitor.specs.View.{IsGivable, IsPageOf, fresh, with_block, without_block};
+
+use granule_addr::{Gran, Order};
+use granule_table::GranuleTable;
+use page_arena::PageStore;
+use realm_model::GranuleState;
+use std::alloc::{AllocError, Global};
+use std::marker::Model;
+
+/// A monitor of realms over a store of pages. All its memory is taken when it is built.
+#[derive(Drop)]
+pub struct Monitor<S: PageStore> {
+    pub(crate) store: S,
+    pub(crate) granules: GranuleTable,
+    vmids: u8,
+    aux: u8,
+}
+
+impl<S: PageStore> Model for Monitor<S> {
+    ghost use Rattle.rmi_monitor.specs.View.{MonitorView};
+    ghost use Rattle.rmi_monitor.specs.Codes.{monitor_code};
+    ghost use Rattle.rmi_monitor.specs.Inside.{stands_for, IsWhole};
+
+    ghost Value = { MonitorView };
+
+    ghost coded = { monitor_code };
+
+    ghost view = { λ m. stands_for m.vmids m.aux m.granules (S.page_bytes m.store) (S.free_flags m.store) };
+
+    ghost invariant = { λ m. IsWhole m.granules (S.page_bytes m.store) };
+}
+
+impl<S: PageStore> Monitor<S> {
+    /// A monitor with so many VMIDs, 1 to 255, and auxiliary granules for each REC, 0 to 16. Every page of the store is
+    /// free and zero. Where there is no memory, the store comes back.
+    pub fn build(alloc: Global, vmids: u8, aux: u8, store: S) -> Result<Monitor<S>, (AllocError, S)>
+        requires some_vmid { 1 ≤ vmids }
+        requires few_auxiliaries { aux ≤ 16 }
+        requires zero { S.page_bytes store ≡ replicate (length (S.page_bytes store)) zero_page }
+        requires free { S.free_flags store ≡ replicate (length (S.page_bytes store)) true }
+        ensures ok { IfOk result (λ m. m ≡ fresh vmids aux (length (S.page_bytes store))) }
+        ensures err { IfErr result (λ e. e.1 ≡ store) }
+    {
+        match GranuleTable::build(alloc, store.pages()) {
+            Ok(granules) => Ok(Monitor {
+                store,
+                granules,
+                vmids,
+                aux,
+            }),
+            Err(error) => Err((error, store)),
+        }
+    }
+
+    /// Takes a free block of 2^order granules. Which one is left open; `None` comes exactly where there is none.
+    pub fn take(&mut self, order: Order) -> Option<Gran>
+        ensures block { IfSome result (IsFreeBlock self.old.free order) }
+        ensures taken { IfSome result (λ first. self.new ≡ with_block self.old order first) }
+        ensures none { IfNone result ((first : ℕ) → ¬ (IsFreeBlock self.old.free order first)) }
+        ensures unchanged { IfNone result (self.new ≡ self.old) }
+    {
+        self.store.take(order)
+    }
+
+    /// Takes that block. `false`, with nothing changed, comes exactly where it is not aligned, inside and free.
+    pub fn take_at(&mut self, order: Order, first: Gran) -> bool
+        ensures answer { IsTrue result ↔ IsFreeBlock self.old.free order first }
+        ensures taken { OnTrue result (self.new ≡ with_block self.old order first) }
+        ensures unchanged { OnFalse result (self.new ≡ self.old) }
+    {
+        self.store.take_at(order, first)
+    }
+
+    /// Gives a block of UNDELEGATED granules back: they are blank and free from now on.
+    pub fn give(&mut self, first: Gran, order: Order)
+        requires { IsGivable self.old order first }
+        ensures { self.new ≡ without_block self.old order first }
+    {
+        self.store.give(first, order)
+    }
+
+    /// How many granules are free.
+    pub fn free_count(&self) -> u16
+        ensures { result ≡ length (filter (λ flag. flag) self.now.free) }
+    {
+        self.store.free_count()
+    }
+
+    /// How many granules there are, 1 to 4,096.
+    pub fn pages(&self) -> u16
+        ensures { result ≡ length self.now.machine }
+    {
+        self.store.pages()
+    }
+
+    /// The state of a granule.
+    pub fn state(&self, granule: Gran) -> GranuleState
+        requires { granule < length self.now.machine }
+        ensures { result ≡ (cell_at self.now.machine granule).state }
+    {
+        self.granules.state(granule)
+    }
+
+    /// The 4,096 bytes of a granule that is no table. Of a table nothing is said: its contents are rows.
+    pub fn bytes(&self, granule: Gran) -> &[u8]
+        requires { granule < length self.now.machine }
+        ensures { IsPageOf (cell_at self.now.machine granule) result.now }
+    {
+        self.store.bytes(granule)
+    }
+}
