@@ -1,7 +1,8 @@
 //! The stack of what a build has open.
-ghost use Rattle.std.specs.Prelude.{◌≡◌, ◌<◌, ◌≤◌, [], ◌∷◌, ◌++◌, length, IfOk, IfSome, IfNone, IsTrue, MatchOption, option_map, option_to_list, true};
+ghost use Rattle.std.specs.Prelude.{◌≡◌, ◌≤◌, [], length, IfOk, IfSome, option_map, true};
 ghost use Rattle.std.specs.List.{last_or};
 ghost use Rattle.realm_model.specs.Act.{is_paired};
+ghost use Rattle.realm_model.specs.Stack.{pushed};
 
 use realm_model::Act;
 use std::alloc::{AllocError, Global};
@@ -44,15 +45,17 @@ impl Journal {
         self.entries.len() as u16
     }
 
-    /// Adds an act that has a reverse.
-    pub fn push(&mut self, act: Act)
-        requires room { length self.old < 512 }
-        requires paired { is_paired act ≡ true }
-        ensures { self.new ≡ self.old ++ act ∷ [] }
+    /// Follows an act of the build: one that has a reverse is put on top, a reverse takes the top off, and no other act
+    /// changes anything.
+    pub fn follow(&mut self, act: &Act)
+        requires { length (pushed self.old act.now) ≤ 512 }
+        ensures { self.new ≡ pushed self.old act.now }
     {
-        let Ok(()) = self.entries.push(act) else {
-            unreachable!()
-        };
+        if act.is_paired() {
+            self.entries.push_reserved(act.again());
+        } else if act.is_reverse() {
+            self.entries.pop();
+        }
     }
 
     /// The newest act.
@@ -61,13 +64,5 @@ impl Journal {
         ensures paired { IfSome result (λ a. is_paired a.now ≡ true) }
     {
         self.entries.last()
-    }
-
-    /// Takes off the newest act.
-    pub fn pop(&mut self) -> Option<Act>
-        ensures value { self.old ≡ self.new ++ option_to_list result }
-        ensures none { IfNone result (self.new ≡ []) }
-    {
-        self.entries.pop()
     }
 }

@@ -2,20 +2,7 @@
 ghost use Rattle.std.specs.Prelude.{◌≡◌};
 ghost use Rattle.realm_model.specs.Act as acts;
 
-use arrayvec::ArrayVec;
-use granule_addr::Gran;
-use realm_model::Act;
-
-/// The same granules again.
-fn granules_again(granules: &ArrayVec<Gran, 16>) -> ArrayVec<Gran, 16>
-    ensures { result ≡ granules.now }
-{
-    let mut again = ArrayVec::new();
-    for granule in granules.as_slice() {
-        again.push(*granule);
-    }
-    again
-}
+use realm_model::{Act, granules_again};
 
 /// The act that takes back another, or None where it has no reverse. Two kinds of data have the same reverse.
 #[tactic(auto, unfolding(realm_model::specs::Act::reverse_of))]

@@ -23,7 +23,11 @@ impl BuildId {
     pub fn new(build: u8) -> Option<BuildId>
         ensures { result ≡ (if nat_lt build 8 then Some build else None) }
     {
-        if build < 8 { Some(BuildId(build)) } else { None }
+        if build < 8 {
+            Some(BuildId(build))
+        } else {
+            None
+        }
     }
 
     pub fn number(self) -> u8

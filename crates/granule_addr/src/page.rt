@@ -23,7 +23,11 @@ impl PageOff {
     pub fn new(offset: u16) -> Option<PageOff>
         ensures { result ≡ (if nat_lt offset 4096 then Some offset else None) }
     {
-        if offset < 4096 { Some(PageOff(offset)) } else { None }
+        if offset < 4096 {
+            Some(PageOff(offset))
+        } else {
+            None
+        }
     }
 
     pub fn number(self) -> u16

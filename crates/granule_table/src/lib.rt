@@ -9,3 +9,6 @@ mod table;
 
 pub use granule::Granule;
 pub use table::GranuleTable;
+
+#[cfg(test)]
+mod tests;

@@ -64,7 +64,13 @@ impl GranuleTable {
 
     /// Moves a granule from one state to another, for that realm or for none. `false`, with nothing changed, comes
     /// exactly where the granule is not in the first state.
-    pub fn shift(&mut self, granule: Gran, from: GranuleState, to: GranuleState, realm: Option<Gran>) -> bool
+    pub fn shift(
+        &mut self,
+        granule: Gran,
+        from: GranuleState,
+        to: GranuleState,
+        realm: Option<Gran>,
+    ) -> bool
         requires { granule < length self.old }
         ensures answer { IsTrue result ↔ ((granule_at self.old granule).state ≡ from) }
         ensures shifted { OnTrue result (self.new ≡ slice_set self.old granule (record { state = to; realm = realm })) }

@@ -1,12 +1,12 @@
 -- What a stack is after a block is pushed, and what the list of stacks is after one is written.
-use Rattle.std.proofs.Common.{◌≡◌, ℕ, ◌+◌, ◌-◌, ◌<◌, ◌≤◌, List, [], ◌∷◌, ◌++◌, length, get_or, set, vec_len, vec_capacity, Bool, true, false, if◌then◌else◌, Option, Some, None, sym, ap, ◌∙◌, subst, arith, append_assoc, length-append, ◌^◌}
+use Rattle.std.proofs.Common.{◌≡◌, ℕ, ◌+◌, ◌-◌, ◌<◌, ◌≤◌, List, [], ◌∷◌, ◌++◌, length, get_or, set, vec_len, vec_capacity, Bool, true, false, if◌then◌else◌, Option, Some, None, sym, ap, ◌∙◌, subst, arith, append_assoc}
 use Rattle.std.proofs.lemmas.List.{length-map, get_or-map, map-set, map-id}
 use Rattle.std.proofs.lemmas.List.Elements.{All-set}
-use Rattle.std.proofs.lemmas.List.FromFn.{map-range_with_len_more, length-range_with_len}
+use Rattle.std.proofs.lemmas.List.FromFn.{map-range_with_len_more}
 use Rattle.std.proofs.lemmas.Option.{same_Some}
 use Rattle.std.specs.Global.{Vec}
 use Rattle.std.specs.List.{range_with_len}
-use Rattle.leases.specs.Stacks.{pushed, contents, IsRoomy, IsKept}
+use Rattle.leases.specs.Stacks.{contents, IsRoomy, IsKept}
 
 -- a run of numbers with one more
 pub range_with_len_more : (a n b : ℕ) → a + n ≡ b → range_with_len a (n + 1) ≡ range_with_len a n ++ b ∷ []
@@ -19,11 +19,6 @@ range_with_len_more a n b next =
 pub granule_is : (fits : Bool) (k granule : ℕ) (found : Option ℕ) → found ≡ (if fits then Some k else None) → found ≡ Some granule → granule ≡ k
 granule_is true k granule found is found_is = same_Some granule k (sym found_is ∙ is)
 granule_is false k granule found is found_is = let clash : None ≡ Some granule = sym is ∙ found_is in cc
-
--- how long a stack is with a block
-pub length-pushed : (pages : List ℕ) (first order : ℕ) → length (pushed pages first order) ≡ length pages + 2 ^ order
-length-pushed pages first order =
-    length-append pages (range_with_len first (2 ^ order)) ∙ ap (λ (n : ℕ). length pages + n) (length-range_with_len first (2 ^ order))
 
 -- one more granule of the block
 pub pushed_on : (start before after : List ℕ) (first k granule : ℕ) → first ≤ k → granule ≡ k → before ≡ start ++ range_with_len first (k - first) → after ≡ before ++ granule ∷ [] → after ≡ start ++ range_with_len first (k + 1 - first)
@@ -53,11 +48,11 @@ module _ (stacks : List (Vec ℕ)) (at build : ℕ) (old new : Vec ℕ) (same : 
       ∙ ap (λ (pages : List ℕ). set (contents stacks) build pages) (is ∙ ap f (sym old_contents))
 
   -- a stack that keeps its memory and fits
-  pub IsKept-written : (room : ℕ) → IsKept stacks room → vec_capacity old ≤ vec_capacity new → vec_len new ≤ room → IsKept (set stacks at new) room
+  pub IsKept-written : (room : ℕ) → IsKept room stacks → vec_capacity old ≤ vec_capacity new → vec_len new ≤ room → IsKept room (set stacks at new)
   IsKept-written room kept memory fits =
       let was : IsRoomy room old = subst (IsRoomy room) (sym read) (kept.roomy at old inside) in
-      let taken = was.taken in
+      let had = was.memory in
       record {
-        roomy = All-set (IsRoomy room) stacks at new (record { taken = omega arith; fits = fits }) kept.roomy;
         few_pages = kept.few_pages;
+        roomy = All-set (IsRoomy room) stacks at new (record { memory = omega arith; fits = fits }) kept.roomy;
       }

@@ -12,26 +12,28 @@ pub record Stacks : Type 0 where
 abbrev pub stack_of : Stacks → ℕ → List ℕ
 stack_of leases build = slice_index_or leases.stacks build []
 
--- the leases with other pages of a build
+-- the leases with other pages of one build
 abbrev pub with_stack : Stacks → ℕ → List ℕ → Stacks
 with_stack leases build pages = record leases { stacks = slice_set leases.stacks build pages }
 
--- the pages of a build after it takes a block, in rising order at the end, and after the reverse of that
+-- the pages of a build with those of a block at the end, in rising order
 abbrev pub pushed : List ℕ → ℕ → ℕ → List ℕ
 pushed pages first order = pages ++ range_with_len first (2 ^ order)
 
+-- the pages of a build without as many at the end as a block has
 abbrev pub popped : List ℕ → ℕ → List ℕ
 popped pages order = take (length pages - 2 ^ order) pages
 
--- the memory of a build's stack is there already, and the stack fits
+-- ---- stacks as they are kept
+
+-- A stack has its memory already, for as many pages as it may have.
 pub record IsRoomy (room : ℕ) (stack : Vec ℕ) : Type 0 where
-  pub taken : room ≤ vec_capacity stack
+  pub memory : room ≤ vec_capacity stack
   pub fits : vec_len stack ≤ room
 
--- the stacks as they are kept
 abbrev pub contents : List (Vec ℕ) → List (List ℕ)
 contents stacks = map (λ stack. stack.items) stacks
 
-pub record IsKept (stacks : List (Vec ℕ)) (room : ℕ) : Type 0 where
-  pub roomy : All (IsRoomy room) stacks
+pub record IsKept (room : ℕ) (stacks : List (Vec ℕ)) : Type 0 where
   pub few_pages : room ≤ 4096
+  pub roomy : All (IsRoomy room) stacks

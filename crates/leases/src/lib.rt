@@ -9,3 +9,6 @@ mod run;
 mod stacks;
 
 pub use stacks::Leases;
+
+#[cfg(test)]
+mod tests;

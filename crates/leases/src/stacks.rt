@@ -21,16 +21,13 @@ impl Model for Leases {
 
     ghost view = { λ leases. record { stacks = contents leases.stacks.items; room = leases.room } };
 
-    ghost invariant = { λ leases. IsKept leases.stacks.items leases.room };
+    ghost invariant = { λ leases. IsKept leases.room leases.stacks.items };
 }
 
 impl Leases {
     /// The leases of so many builds, which have no pages, with room for `pages` pages of each.
     pub fn build(alloc: Global, builds: u8, pages: u16) -> Result<Leases, AllocError>
-        requires some_builds { 1 ≤ builds }
-        requires few_builds { builds ≤ 8 }
-        requires some_pages { 1 ≤ pages }
-        requires few_pages { pages ≤ 4096 }
+        requires { pages ≤ 4096 }
         ensures { IfOk result (λ leases. leases ≡ record { stacks = replicate builds []; room = pages }) }
     {
         let mut stacks = Vec::with_capacity(alloc, builds as usize)?;
@@ -67,7 +64,8 @@ impl Leases {
         requires { build < length self.now.stacks }
         ensures { result ≡ slice_get (stack_of self.now build) k }
     {
-        self.stacks[build.number() as usize].get(k as usize).copied()
+        let stack = &self.stacks[build.number() as usize];
+        stack.get(k as usize).copied()
     }
 
     /// How many pages a build has.

@@ -3,4 +3,5 @@ pub mod Block
 pub mod Word
 pub mod Pages
 pub mod Runs
+pub mod Blocks
 pub mod Words

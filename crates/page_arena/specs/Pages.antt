@@ -74,7 +74,7 @@ module _ (pages : List (List ℕ)) (flags : List Bool) (sized : IsSized pages fl
         some_page = omega arith;
         few_pages = omega arith;
         whole = All-from_get_or (λ page. length page ≡ 4096) _ [] (λ i lt.
-          ⊎_elim
+            ⊎_elim
             (λ h. ap length (get_or-with_run_inside pages first count zero_page within i [] h.0 h.1) ∙ length-page_of 0)
             (λ h. ap length (get_or-with_run_outside pages first count zero_page within i [] h) ∙ length-page_at i (omega arith))
             (inside_or_outside first count i));

@@ -23,14 +23,14 @@ pub with_run_more : {X : Type 0} (xs : List X) (first count : ℕ) (x : X) → f
 unfolding with_run
 with_run_more xs first count x within =
     let front : length (take first xs ++ replicate count x) ≡ first + count =
-      length-append (take first xs) (replicate count x) ∙ (let a = length-take-le first xs (omega arith) in let b = length-replicate count x in omega arith) in
+    length-append (take first xs) (replicate count x) ∙ (let a = length-take-le first xs (omega arith) in let b = length-replicate count x in omega arith) in
     let next : first + count + 1 ≡ first + (count + 1) = omega arith in
     ap (λ rest. set ((take first xs ++ replicate count x) ++ rest) (first + count) x) (drop_more xs (first + count) x within)
     ∙ set_at (take first xs ++ replicate count x) _ _ x (first + count) front
     ∙ ap (λ rest. (take first xs ++ replicate count x) ++ x ∷ rest) (ap (λ (n : ℕ). drop n xs) next)
     ∙ sym (append_assoc (take first xs ++ replicate count x) (x ∷ []) _)
     ∙ ap (λ part. part ++ drop (first + (count + 1)) xs)
-        (append_assoc (take first xs) (replicate count x) (x ∷ []) ∙ ap (λ part. take first xs ++ part) (replicate_more count x))
+    (append_assoc (take first xs) (replicate count x) (x ∷ []) ∙ ap (λ part. take first xs ++ part) (replicate_more count x))
 
 module _ {X : Type 0} (xs : List X) (first count : ℕ) (x : X) (fits : first + count ≤ length xs) where
   front : length (take first xs) ≡ first
@@ -70,9 +70,9 @@ module _ {X : Type 0} (xs : List X) (first count : ℕ) (x : X) (fits : first + 
   pub with_run_same : (d : X) → ((i : ℕ) → first ≤ i → i < first + count → get_or xs i d ≡ x) → with_run xs first count x ≡ xs
   with_run_same d there = ext_get_or d _ _ length-with_run (λ i lt.
       ⊎_elim
-        (λ h. get_or-with_run_inside i d h.0 h.1 ∙ sym (there i h.0 h.1))
-        (λ h. get_or-with_run_outside i d h)
-        (inside_or_outside first count i))
+      (λ h. get_or-with_run_inside i d h.0 h.1 ∙ sym (there i h.0 h.1))
+      (λ h. get_or-with_run_outside i d h)
+      (inside_or_outside first count i))
 
 -- a run that is written over
 pub with_run-with_run : {X : Type 0} (xs : List X) (first count : ℕ) (x y : X) → first + count ≤ length xs → with_run (with_run xs first count y) first count x ≡ with_run xs first count x
@@ -81,10 +81,10 @@ with_run-with_run {X} xs first count x y fits =
     let len : length ys ≡ length xs = length-with_run xs first count y fits in
     let ys_fits : first + count ≤ length ys = omega arith in
     ext_get_or x _ _ (length-with_run ys first count x ys_fits ∙ len ∙ sym (length-with_run xs first count x fits)) (λ i lt.
-      ⊎_elim
-        (λ h. get_or-with_run_inside ys first count x ys_fits i x h.0 h.1 ∙ sym (get_or-with_run_inside xs first count x fits i x h.0 h.1))
-        (λ h. get_or-with_run_outside ys first count x ys_fits i x h ∙ get_or-with_run_outside xs first count y fits i x h ∙ sym (get_or-with_run_outside xs first count x fits i x h))
-        (inside_or_outside first count i))
+    ⊎_elim
+    (λ h. get_or-with_run_inside ys first count x ys_fits i x h.0 h.1 ∙ sym (get_or-with_run_inside xs first count x fits i x h.0 h.1))
+    (λ h. get_or-with_run_outside ys first count x ys_fits i x h ∙ get_or-with_run_outside xs first count y fits i x h ∙ sym (get_or-with_run_outside xs first count x fits i x h))
+    (inside_or_outside first count i))
 
 -- a run of one more place, written from the front
 pub with_run_first : {X : Type 0} (xs : List X) (first count : ℕ) (x : X) → first + (count + 1) ≤ length xs → with_run (set xs first x) (first + 1) count x ≡ with_run xs first (count + 1) x
@@ -93,15 +93,15 @@ with_run_first {X} xs first count x fits =
     let len : length ys ≡ length xs = length-set xs first x in
     let rest_fits : first + 1 + count ≤ length ys = omega arith in
     ext_get_or x _ _ (length-with_run ys (first + 1) count x rest_fits ∙ len ∙ sym (length-with_run xs first (count + 1) x fits)) (λ i lt.
-      ⊎_elim
-        (λ h.
-          ⊎_elim
-            (λ front. get_or-with_run_outside ys (first + 1) count x rest_fits i x (inl front) ∙ get_or-set_at xs first i x x (omega arith) (omega arith))
-            (λ behind. get_or-with_run_inside ys (first + 1) count x rest_fits i x behind (omega arith))
-            (cases_lt i (first + 1))
-          ∙ sym (get_or-with_run_inside xs first (count + 1) x fits i x h.0 h.1))
-        (λ h.
-          get_or-with_run_outside ys (first + 1) count x rest_fits i x (⊎_elim (λ below. inl (omega arith)) (λ above. inr (omega arith)) h)
-          ∙ get_or-set_other xs first i x x (λ (same : i ≡ first). ⊎_elim (λ below. omega arith) (λ above. omega arith) h)
-          ∙ sym (get_or-with_run_outside xs first (count + 1) x fits i x h))
-        (inside_or_outside first (count + 1) i))
+    ⊎_elim
+    (λ h.
+    ⊎_elim
+    (λ front. get_or-with_run_outside ys (first + 1) count x rest_fits i x (inl front) ∙ get_or-set_at xs first i x x (omega arith) (omega arith))
+    (λ behind. get_or-with_run_inside ys (first + 1) count x rest_fits i x behind (omega arith))
+    (cases_lt i (first + 1))
+    ∙ sym (get_or-with_run_inside xs first (count + 1) x fits i x h.0 h.1))
+    (λ h.
+    get_or-with_run_outside ys (first + 1) count x rest_fits i x (⊎_elim (λ below. inl (omega arith)) (λ above. inr (omega arith)) h)
+    ∙ get_or-set_other xs first i x x (λ (same : i ≡ first). ⊎_elim (λ below. omega arith) (λ above. omega arith) h)
+    ∙ sym (get_or-with_run_outside xs first (count + 1) x fits i x h))
+    (inside_or_outside first (count + 1) i))

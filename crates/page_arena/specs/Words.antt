@@ -49,10 +49,10 @@ module _ (page bytes : List ℕ) (at : ℕ) (eight : length bytes ≡ 8) (fits :
       let a : length (slice_range (with_bytes page at bytes) other (other + 8)) ≡ other + 8 - other = length-between (with_bytes page at bytes) other (other + 8) (omega arith) in
       let b : length (slice_range page other (other + 8)) ≡ other + 8 - other = length-between page other (other + 8) within in
       ext_get_or 0 _ _ (a ∙ sym b) (λ k lt.
-          let c : k < 8 = omega (arith, a, lt) in
-          get_or-between (with_bytes page at bytes) other (other + 8) k 0 (omega arith)
-          ∙ kept (other + k) (⊎_elim (λ l. inl (omega arith)) (λ l. inr (omega arith)) beside)
-          ∙ sym (get_or-between page other (other + 8) k 0 (omega arith)))
+      let c : k < 8 = omega (arith, a, lt) in
+      get_or-between (with_bytes page at bytes) other (other + 8) k 0 (omega arith)
+      ∙ kept (other + k) (⊎_elim (λ l. inl (omega arith)) (λ l. inr (omega arith)) beside)
+      ∙ sym (get_or-between page other (other + 8) k 0 (omega arith)))
 
 apart : (i j : ℕ) → j ≢ i → (j + 1 ≤ i) ⊎ (i + 1 ≤ j)
 apart i j other = ⊎_elim (λ l. inl (omega arith)) (λ l. inr (omega arith)) (cases_lt j i)
@@ -75,7 +75,7 @@ module _ (page : List ℕ) (i word : ℕ) (whole : length page ≡ 4096) (index 
   unfolding word_of_page page_with_word
   word_of_page-page_with_word_other j other lt =
       ap (from_le_bytes w64) (range_beside page (to_le_bytes w64 word) (8 * i) refl (omega arith) (8 * j) (omega arith)
-        (⊎_elim (λ l. inl (omega arith)) (λ l. inr (omega arith)) (apart i j other)))
+      (⊎_elim (λ l. inl (omega arith)) (λ l. inr (omega arith)) (apart i j other)))
 
 -- each word of a page of zeros is 0
 pub word_of_page-zero_page : (i : ℕ) → i < 512 → word_of_page zero_page i ≡ 0
@@ -83,9 +83,9 @@ unfolding word_of_page page_of
 word_of_page-zero_page i index =
     let eight : 8 * i + 8 - 8 * i ≡ 8 = omega arith in
     ap (from_le_bytes w64)
-      (ap (take (8 * i + 8 - 8 * i)) (drop-replicate (8 * i) 4096 0)
-      ∙ take-replicate (8 * i + 8 - 8 * i) (4096 - 8 * i) 0 (omega arith)
-      ∙ ap (λ (k : ℕ). replicate k 0) eight)
+    (ap (take (8 * i + 8 - 8 * i)) (drop-replicate (8 * i) 4096 0)
+    ∙ take-replicate (8 * i + 8 - 8 * i) (4096 - 8 * i) 0 (omega arith)
+    ∙ ap (λ (k : ℕ). replicate k 0) eight)
 
 -- ---- a word written into the page of a granule
 
@@ -103,13 +103,13 @@ module _ (pages : List (List ℕ)) (granule i word : ℕ) (inside : granule < le
   word_at-with_word_other other j (inl ne) lt = ap (λ page. word_of_page page j) (get_or-set_other pages granule other _ [] ne)
   word_at-with_word_other other j (inr ne) lt =
       ⊎_elim
-        (λ same.
-          ap (λ (k : ℕ). word_at (with_word pages granule i word) k j) same
-          ∙ ap (λ page. word_of_page page j) new_page
-          ∙ word_of_page-page_with_word_other (page_at pages granule) i word whole index j ne lt
-          ∙ ap (λ (k : ℕ). word_at pages k j) (sym same))
-        (λ beside. ap (λ page. word_of_page page j) (get_or-set_other pages granule other _ [] beside))
-        (cases_eq other granule)
+      (λ same.
+      ap (λ (k : ℕ). word_at (with_word pages granule i word) k j) same
+      ∙ ap (λ page. word_of_page page j) new_page
+      ∙ word_of_page-page_with_word_other (page_at pages granule) i word whole index j ne lt
+      ∙ ap (λ (k : ℕ). word_at pages k j) (sym same))
+      (λ beside. ap (λ page. word_of_page page j) (get_or-set_other pages granule other _ [] beside))
+      (cases_eq other granule)
 
 -- another page, and how many pages there are
 pub page_at-with_word_other : (pages : List (List ℕ)) (granule i word other : ℕ) → other ≢ granule → page_at (with_word pages granule i word) other ≡ page_at pages other

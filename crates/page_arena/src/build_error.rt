@@ -2,10 +2,9 @@
 use std::alloc::AllocError;
 use thiserror::Error;
 
-/// Why a store is not built.
+/// Why a store is not built: a machine has 1 to 4,096 pages, or there is no memory for them.
 #[derive(Clone, Copy, Debug, PartialEq, Eq, Error)]
 pub enum BuildError {
-    /// A machine has 1 to 4,096 pages.
     #[error("a machine has 1 to 4096 pages")]
     BadSize,
     #[error("out of memory")]

@@ -12,3 +12,6 @@ mod store;
 pub use build_error::BuildError;
 pub use plain::PlainStore;
 pub use store::PageStore;
+
+#[cfg(test)]
+mod tests;

@@ -99,7 +99,8 @@ impl PageStore for PlainStore {
     }
 
     fn set_word(&mut self, granule: Gran, index: u16, word: u64) {
-        set_word_in(&mut self.pages[granule.number() as usize], index as usize, word);
+        let page = &mut self.pages[granule.number() as usize];
+        set_word_in(page, index as usize, word);
     }
 
     ghost sized = { λ store. store.sized };

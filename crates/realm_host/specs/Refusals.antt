@@ -1,5 +1,5 @@
 -- When the host refuses: the checks of each step, in the order of the refusals' numbers.
-use Rattle.std.specs.Prelude.{ℕ, ◌+◌, nat_lt, nat_le, List, [], ◌∷◌, length, Bool, true, false, not, ◌&&◌, cond, Option, Some, None, is_none, Ok, Err}
+use Rattle.std.specs.Prelude.{ℕ, ◌+◌, nat_lt, nat_le, List, [], ◌∷◌, length, Bool, true, false, not, ◌&&◌, cond, Option, Some, None, is_none, Result, Ok, Err}
 use Rattle.std.specs.List.{list_any, list_all, range_with_len}
 use Rattle.realm_model.specs.Machine.{Seen, seen}
 use Rattle.realm_model.specs.Update.{Outcome}
@@ -84,3 +84,7 @@ first_that_holds (check ∷ checks) = cond check.0 (Some check.1) (first_that_ho
 -- The refusal of a step: of those that apply to it and hold, the one with the lowest number.
 unfoldable pub refusal_of : HostView → ℕ → Step → Option Refusal
 refusal_of host build step = first_that_holds (checks_of host build step)
+
+-- a check that holds refuses
+abbrev pub checked : Check → Result (Unit {0}) Refusal
+checked check = cond check.0 (Err check.1) (Ok tt)

@@ -1,5 +1,6 @@
 -- What a contract sees of a host, and what follows from it.
 use Rattle.std.specs.Prelude.{ℕ, List, [], ◌∷◌, ◌++◌, Option, unwrap_or, slice_get}
+use Rattle.realm_host.specs.declared.settings.Settings.{Settings}
 use Rattle.realm_model.specs.declared.act.Act.{Act}
 use Rattle.realm_model.specs.declared.act.Event.{Event}
 use Rattle.realm_model.specs.Machine.{Limits, Cell, cell_at}
@@ -39,3 +40,11 @@ event_by build act = record { build = build; act = act }
 -- the host with one more event
 abbrev pub with_event : HostView → ℕ → Act → HostView
 with_event host build act = record host { history = host.history ++ event_by build act ∷ [] }
+
+-- a host that has just been booted over so many pages
+abbrev pub booted : Settings → ℕ → HostView
+booted settings pages = record {
+  limits = record { pages = pages; vmids = settings.vmids; aux = settings.aux; builds = settings.builds };
+  capacity = settings.history;
+  history = [];
+}

@@ -5,11 +5,20 @@
 //! build's pages.
 #![tactic(auto)]
 
+mod books;
+mod checks;
+mod command;
+mod build;
+mod host;
 mod refusal;
 mod reply;
+mod settings;
 mod step;
+mod undo;
 
-pub use refusal::Refusal;
 pub use build_journal::Kind;
+pub use host::Host;
+pub use refusal::Refusal;
 pub use reply::{Answer, Reply, Undone};
+pub use settings::Settings;
 pub use step::{Cmd, Step};

@@ -1,5 +1,5 @@
 -- The steps of blocks: a block is taken, or given back.
-use Rattle.std.proofs.Common.{◌≡◌, ◌≢◌, ℕ, ◌<◌, ◌≤◌, Bool, true, false, ◌&&◌, List, [], ◌∷◌, map, set, length, Option, Some, None, Ok, refl, sym, ap, ◌∙◌}
+use Rattle.std.proofs.Common.{◌≡◌, ℕ, ◌<◌, true, false, List, [], ◌∷◌, map, set, Some, None, Ok, refl, sym, ap, ◌∙◌}
 use Rattle.std.specs.Prelude.{slice_get}
 use Rattle.std.specs.List.{All, list_all}
 use Rattle.std.proofs.lemmas.Bool.{and_from}
@@ -7,16 +7,16 @@ use Rattle.std.proofs.lemmas.List.{set-get_or}
 use Rattle.std.proofs.lemmas.List.Elements.{All-head, All-tail}
 use Rattle.realm_model.specs.declared.states.GranuleState.TheVariants.{Undelegated}
 use Rattle.realm_model.specs.declared.act.Act.TheVariants.{Take, UnTake}
-use Rattle.realm_model.specs.Machine.{Limits, Cell, Machine, blank, cell_at, seen}
+use Rattle.realm_model.specs.Machine.{Limits, Machine, blank, cell_at, seen}
 use Rattle.realm_model.specs.Update.{machine_after_all}
 use Rattle.realm_model.specs.Command.Check.{is_undelegated}
 use Rattle.realm_model.specs.Act.{block, named}
 use Rattle.realm_model.specs.Outcome.{outcome_of, fits, is_block_start}
-use Rattle.realm_model.specs.World.{World, realm_of}
+use Rattle.realm_model.specs.World.{World}
 use Rattle.realm_model.specs.Step.{step}
-use Rattle.realm_model.specs.StepLaw.{set_each, IsStep}
+use Rattle.realm_model.specs.StepLaw.{set_each}
 use Rattle.realm_model.specs.Undoing.{by}
-use Rattle.realm_model.proofs.PairLaws.{takes, frees, seen_takes, seen_frees}
+use Rattle.realm_model.proofs.Written.{takes, seen_takes, seen_frees, frees}
 use Rattle.realm_model.proofs.StepSays.{step_says}
 
 pub machine_after_all-takes : (gs : List ℕ) (machine : Machine) → machine_after_all (takes gs) machine ≡ machine
@@ -64,4 +64,4 @@ module _ (limits : Limits) (w : World) (b order first : ℕ) (below : b < limits
       all_undelegated [] h = refl
       all_undelegated (g ∷ gs) h =
           and_from _ _ (ap (λ s. elim s [ Undelegated ↦ true | _ ↦ false ]) (All-head (λ g. (cell_at w.machine g).state ≡ Undelegated) g gs h))
-            (all_undelegated gs (All-tail (λ g. (cell_at w.machine g).state ≡ Undelegated) g gs h))
+          (all_undelegated gs (All-tail (λ g. (cell_at w.machine g).state ≡ Undelegated) g gs h))

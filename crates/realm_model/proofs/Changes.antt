@@ -1,78 +1,68 @@
 -- What a command changes is what its act names, and the realm of its build.
-use Rattle.std.proofs.Common.{◌≡◌, ◌≢◌, ℕ, zero, suc, ◌+◌, ◌-◌, ◌≤◌, Bool, true, false, cond, ◌&&◌, not, List, [], ◌∷◌, ◌++◌, length, map, Option, Some, None, Result, Ok, Err, refl, sym, ap, ◌∙◌, subst, arith}
-use Rattle.std.specs.Prelude.{is_some, slice_get, ◌==◌, nat_eq}
+use Rattle.std.proofs.Common.{◌≡◌, ℕ, ◌<◌, Bool, true, false, cond, ◌&&◌, List, [], ◌∷◌, ◌++◌, map, set, Option, Some, None, Ok, refl, sym, ap, ◌∙◌, ◌-◌}
+use Rattle.std.specs.Prelude.{◌==◌, nat_eq}
 use Rattle.std.specs.List.{list_all}
 use Rattle.std.specs.Option.{option_eq}
 use Rattle.std.specs.FinMap.{get}
 use Rattle.std.specs.Str.{bytes_eq}
 use Rattle.std.specs.Cmp.Lexicographic.{bytes_decides}
-use Rattle.std.proofs.lemmas.Bool.{and_parts, and_from, eqb-true, ltb-true}
+use Rattle.std.proofs.lemmas.Bool.{eqb-true, and_parts, and_from, lt-ltb, ltb-true}
 use Rattle.std.proofs.lemmas.Option.{same_Some}
-use Rattle.std.proofs.lemmas.List.{length-append, append_assoc}
 use Rattle.realm_model.specs.declared.act.Act.{Act}
 use Rattle.realm_model.specs.declared.act.Act.TheVariants.{Take, UnTake, Fill, Peek, Delegate, Undelegate, Realm, UnRealm, Activate, Rtt, UnRtt, Ripas, Data, Unknown, UnData, Rec, UnRec, Enter, Exit, Poke}
 use Rattle.realm_model.specs.declared.states.GranuleState.TheVariants.{RecAux}
-use Rattle.realm_model.proofs.Leases.{lease_is, leased_from}
-use Rattle.realm_model.proofs.Growth.{is_change, step-command}
-use Rattle.realm_model.proofs.Unpaired.{IsAt, IsAt-realm_of}
-use Rattle.realm_model.proofs.Owned.{Yields, Yields-Ok, Yields-Err, Yields-check, Yields-with_realm, Yields-with_rec, Yields-with_end, Yields-with_granule}
-use Rattle.realm_model.specs.Rows.{Row, Rows, Walk, walk, row_at, is_assigned}
-use Rattle.realm_model.specs.Machine.{Limits, RecRow, RealmRow, Cell, Machine, Seen, blank, cell_at, seen, held as held_cell, left}
+use Rattle.realm_model.specs.Machine.{Limits, Seen, seen, RecRow, RealmRow, Cell, cell_at, held as held_cell, left}
+use Rattle.realm_model.specs.Update.{Update, Put, PutByte, Lease, Free, granule_of, lease_before, lease_after, machine_after, machine_after_all}
 use Rattle.realm_model.specs.Act.{named, holder}
-use Rattle.realm_model.specs.Update.{Outcome, Update, Put, PutByte, machine_after_all}
 use Rattle.realm_model.specs.Outcome.{outcome_of, fits, leads_to, realm_is}
-use Rattle.realm_model.specs.World.{World, is_leased_to, is_lease, realm_from, realm_of}
-use Rattle.realm_model.specs.Step.{step, is_allowed}
+use Rattle.realm_model.specs.World.{World, is_leased_to, realm_of, updated, updated_all}
+use Rattle.realm_model.specs.Step.{step, is_allowed, is_vmid_free, after_outcome}
+use Rattle.realm_model.specs.Rows.{Rows, Walk, walk, row_at, is_assigned}
+use Rattle.realm_model.proofs.Leases.{set_lease, leased}
+use Rattle.realm_model.proofs.RealmOf.{IsAt, realm_test, IsHeld, IsAt-realm_of, IsHeld-realm_of}
+use Rattle.realm_model.proofs.Outcomes.{Yields, Yields-Ok, Yields-with_rec, Yields-with_realm, Yields-with_end, Yields-check, Yields-Err, Yields-with_granule}
+use Rattle.realm_model.proofs.Walks.{walk_at}
+use Rattle.realm_model.proofs.Puts.{is_of_block}
 
--- ---- the realm of a build is at a granule that it leases
+-- updates that change granules that the build leases, and no lease
+abbrev pub is_change : ℕ → List (Option ℕ) → Update → Bool
+is_change build leases (Put granule cell) = is_leased_to (Some build) leases granule
+is_change build leases (PutByte granule offset value) = is_leased_to (Some build) leases granule
+is_change build leases (Lease granule) = false
+is_change build leases (Free granule) = false
 
-abbrev pub IsHeld : ℕ → List (Option ℕ) → Option Seen → Type 0
-IsHeld b leases None = Unit {0}
-IsHeld b leases (Some rd) = is_leased_to (Some b) leases rd.number ≡ true
+change_kept : (build : ℕ) (leases : List (Option ℕ)) (u : Update) → is_change build leases u ≡ true
+    → (is_leased_to (lease_before build u) leases (granule_of u) ≡ true) × (set leases (granule_of u) (lease_after build u) ≡ leases)
+change_kept build leases (Put g cell) h = (h, set_lease leases g (Some build) (leased (Some build) leases g h))
+change_kept build leases (PutByte g o v) h = (h, set_lease leases g (Some build) (leased (Some build) leases g h))
+change_kept build leases (Lease g) h = cc
+change_kept build leases (Free g) h = cc
 
-slice_get_at : (front : List (Option ℕ)) (l : Option ℕ) (rest : List (Option ℕ)) → slice_get (front ++ l ∷ rest) (length front) ≡ Some l
-slice_get_at [] l rest = refl
-slice_get_at (x ∷ front) l rest = slice_get_at front l rest
+updated_all-changes : (build : ℕ) (us : List Update) (w : World) → list_all (is_change build w.leases) us ≡ true
+    → updated_all build us w ≡ Some (record { machine = machine_after_all us w.machine; leases = w.leases })
+unfolding updated_all machine_after_all
+updated_all-changes build [] w h = refl
+updated_all-changes build (u ∷ us) w h =
+    let both = and_parts _ _ h in
+    let kept = change_kept build w.leases u both.0 in
+    let changed = machine_after u w.machine in
+    ap (λ t. cond t (updated_all build us (updated build u w)) None) kept.0
+    ∙ ap (λ ls. updated_all build us (record { machine = changed; leases = ls })) kept.1
+    ∙ updated_all-changes build us (record { machine = changed; leases = w.leases }) both.1
 
-IsHeld-realm_from : (b : ℕ) (front leases : List (Option ℕ)) (machine : Machine) → IsHeld b (front ++ leases) (realm_from b (length front) leases machine)
-unfolding realm_from
-IsHeld-realm_from b front [] machine = tt
-IsHeld-realm_from b front (l ∷ leases) [] = tt
-IsHeld-realm_from b front (l ∷ leases) (c ∷ machine) =
-    elim (is_lease l (Some b) && is_some c.descriptor) as (λ t. (is_lease l (Some b) && is_some c.descriptor) ≡ t → IsHeld b (front ++ l ∷ leases) (cond t (Some (record { number = length front; cell = c })) (realm_from b (suc (length front)) leases machine))) [
-      | true ↦ λ e. leased_from (Some b) (front ++ l ∷ leases) (length front) (slice_get_at front l leases ∙ ap Some (lease_is l (Some b) (and_parts _ _ e).0))
-      | false ↦ λ e.
-          let long : length (front ++ l ∷ []) ≡ suc (length front) = simp length-append (omega arith) in
-          subst (λ n. IsHeld b (front ++ l ∷ leases) (realm_from b n leases machine)) long
-            (subst (λ ls. IsHeld b ls (realm_from b (length (front ++ l ∷ [])) leases machine)) (append_assoc front (l ∷ []) leases) (IsHeld-realm_from b (front ++ l ∷ []) leases machine))
-    ] refl
-
-pub IsHeld-realm_of : (b : ℕ) (w : World) → IsHeld b w.leases (realm_of b w)
-IsHeld-realm_of b w = IsHeld-realm_from b [] w.leases w.machine
-
--- ---- where a walk ends
-
-pub walk_within : (rows : Rows) (ipa level : ℕ) (end : Walk) → walk rows ipa level ≡ Some end → end.level ≤ level
-unfolding walk
-walk_within rows ipa zero end e = cc
-walk_within rows ipa (suc level) end e =
-    elim (row_at rows (suc level) ipa) as (λ o. elim o [ Some row ↦ Some (record { level = suc level; row = row }) | None ↦ walk rows ipa level ] ≡ Some end → end.level ≤ suc level) [
-      | Some row ↦ λ e. let same : suc level ≡ end.level = ap (λ (x : Walk). x.level) (same_Some _ _ e) in omega arith
-      | None ↦ λ e. let less : end.level ≤ level = walk_within rows ipa level end e in omega arith
-    ] e
-
-pub walk_at : (rows : Rows) (ipa level : ℕ) (end : Walk) → walk rows ipa level ≡ Some end → end.level ≡ level → row_at rows level ipa ≡ Some end.row
-unfolding walk
-walk_at rows ipa zero end e same = cc
-walk_at rows ipa (suc level) end e same =
-    elim (row_at rows (suc level) ipa) as (λ o. elim o [ Some row ↦ Some (record { level = suc level; row = row }) | None ↦ walk rows ipa level ] ≡ Some end → o ≡ Some end.row) [
-      | Some row ↦ λ e. ap (λ (x : Walk). Some x.row) (same_Some _ _ e)
-      | None ↦ λ e. let less : end.level ≤ level = walk_within rows ipa level end e in absurd (omega arith)
-    ] e
-
--- a test of the realm of a build, where its row is known
-pub realm_test : (rd : Seen) (d : RealmRow) (test : Seen → RealmRow → Bool) → realm_is (Some rd) test ≡ true → rd.cell.descriptor ≡ Some d → test rd d ≡ true
-realm_test rd d test fit is = sym (ap (λ o. elim o [ Some realm ↦ test rd realm | None ↦ false ]) is) ∙ fit
+-- the command of an act is not refused: then the step is made
+pub step-command : (limits : Limits) (w : World) (build : ℕ) (act : Act) (us : List Update) → build < limits.builds
+    → list_all (is_leased_to (holder build act) w.leases) (named act) ≡ true → is_vmid_free w.machine act ≡ true
+    → fits act (realm_of build w) (map (seen w.machine) (named act)) ≡ true
+    → outcome_of limits act (realm_of build w) (map (seen w.machine) (named act)) ≡ Ok us
+    → list_all (is_change build w.leases) us ≡ true
+    → step limits w (record { build = build; act = act }) ≡ Some (record { machine = machine_after_all us w.machine; leases = w.leases })
+unfolding step
+step-command limits w build act us below leases vmid fit planned changes =
+    ap (λ t. cond t (after_outcome build (outcome_of limits act (realm_of build w) (map (seen w.machine) (named act))) w) None)
+    (and_from _ _ (and_from _ _ (and_from _ _ (lt-ltb build limits.builds below) leases) vmid) fit)
+    ∙ ap (λ o. after_outcome build o w) planned
+    ∙ updated_all-changes build us w changes
 
 -- the row where the walk ends points to the granule that the act names
 pub pointed : (rows : Rows) (ipa level g pa : ℕ) (end : Walk) → leads_to (row_at rows level ipa) g ≡ true → walk rows ipa level ≡ Some end → (end.level == level) ≡ true → end.row.granule ≡ Some pa → pa ≡ g
@@ -80,11 +70,6 @@ pointed rows ipa level g pa end fit e last there =
     eqb-true pa g (sym (ap (λ o. option_eq nat_eq o (Some g)) there) ∙ sym (ap (λ o. leads_to o g) (walk_at rows ipa level end e (eqb-true end.level level last))) ∙ fit)
 
 -- ---- acts
-
-abbrev pub is_of_block : Act → Bool
-is_of_block (Take order first) = true
-is_of_block (UnTake order first) = true
-is_of_block _ = false
 
 module _ (limits : Limits) (b : ℕ) (w : World) where
   abbrev L : ℕ → Bool
@@ -148,7 +133,7 @@ module _ (limits : Limits) (b : ℕ) (w : World) where
   changes (UnRtt g ipa level) None k reach h at held fit = Yields-Err C _
   changes (UnRtt g ipa level) (Some rd) k reach h at held fit = Yields-with_realm C _ _ (λ d is. Yields-check C _ _ _ (λ _. Yields-with_end C _ _ _ _ (λ end e. Yields-check C _ _ _ (λ last. Yields-check C _ _ _ (λ _. Yields-check C _ _ _ (λ _. Yields-with_granule C _ _ (λ pa there.
       Yields-Ok C _ (two pa rd.number
-        (ap L (pointed d.rows ipa (level - 1) g pa end (realm_test rd d (λ x r. leads_to (row_at r.rows (level - 1) ipa) g) fit is) e last there) ∙ (and_parts _ _ h).0) held))))))))
+      (ap L (pointed d.rows ipa (level - 1) g pa end (realm_test rd d (λ x r. leads_to (row_at r.rows (level - 1) ipa) g) fit is) e last there) ∙ (and_parts _ _ h).0) held))))))))
   changes (Ripas ipa n) None k reach h at held fit = Yields-Err C _
   changes (Ripas ipa n) (Some rd) k reach h at held fit = Yields-with_realm C _ _ (λ d is. Yields-check C _ _ _ (λ _. Yields-check C _ _ _ (λ _. Yields-with_end C _ _ _ _ (λ end e. Yields-check C _ _ _ (λ _. Yields-check C _ _ _ (λ _.
       Yields-Ok C _ (one rd.number held)))))))
@@ -161,16 +146,16 @@ module _ (limits : Limits) (b : ℕ) (w : World) where
   changes (UnData g ipa) None k reach h at held fit = Yields-Err C _
   changes (UnData g ipa) (Some rd) k reach h at held fit = Yields-with_realm C _ _ (λ d is. Yields-check C _ _ _ (λ _. Yields-with_end C _ _ _ _ (λ end e. Yields-check C _ _ _ (λ last. Yields-check C _ _ _ (λ _. Yields-with_granule C _ _ (λ pa there.
       Yields-Ok C _ (two pa rd.number
-        (ap L (pointed d.rows ipa 3 g pa end (realm_test rd d (λ x r. leads_to (row_at r.rows 3 ipa) g) fit is) e last there) ∙ (and_parts _ _ h).0) held)))))))
+      (ap L (pointed d.rows ipa 3 g pa end (realm_test rd d (λ x r. leads_to (row_at r.rows 3 ipa) g) fit is) e last there) ∙ (and_parts _ _ h).0) held)))))))
   changes (Rec g aux n) None k reach h at held fit = Yields-Err C _
   changes (Rec g aux n) (Some rd) k reach h at held fit = Yields-with_realm C _ _ (λ d is. Yields-check C _ _ _ (λ _. Yields-check C _ _ _ (λ _. Yields-Ok C _
       (let both = and_parts _ _ h in and_from _ _ both.0 (seen_puts (held_cell RecAux rd.number) aux.items _ both.1 (one rd.number held))))))
   changes (UnRec g aux n) None k reach h at held fit = Yields-Err C _
   changes (UnRec g aux n) (Some rd) k reach h at held fit = Yields-with_realm C _ _ (λ d is. Yields-with_rec C _ _ _ (λ rec there. Yields-check C _ _ _ (λ _. Yields-Ok C _
       (let both = and_parts _ _ h in
-       let known = and_parts _ _ (rec_test rd d n rec (λ r. r.granule == g && bytes_eq r.auxiliaries aux.items) fit is there) in
-       and_from _ _ (ap L (eqb-true rec.granule g known.0) ∙ both.0)
-         (named_puts left rec.auxiliaries _ (ap (list_all L) ((bytes_decides rec.auxiliaries aux.items).0 known.1) ∙ both.1) (one rd.number held))))))
+      let known = and_parts _ _ (rec_test rd d n rec (λ r. r.granule == g && bytes_eq r.auxiliaries aux.items) fit is there) in
+      and_from _ _ (ap L (eqb-true rec.granule g known.0) ∙ both.0)
+      (named_puts left rec.auxiliaries _ (ap (list_all L) ((bytes_decides rec.auxiliaries aux.items).0 known.1) ∙ both.1) (one rd.number held))))))
   changes (Enter n) None k reach h at held fit = Yields-Err C _
   changes (Enter n) (Some rd) k reach h at held fit = Yields-with_realm C _ _ (λ d is. Yields-with_rec C _ _ _ (λ rec there. Yields-check C _ _ _ (λ _. Yields-check C _ _ _ (λ _. Yields-Ok C _ (one rd.number held)))))
   changes (Exit n) None k reach h at held fit = Yields-Err C _
@@ -181,7 +166,7 @@ module _ (limits : Limits) (b : ℕ) (w : World) where
   changes (Take order first) realm k reach h at held fit = cc
   changes (UnTake order first) realm k reach h at held fit = cc
 
-holder_is : (build : ℕ) (act : Act) → is_of_block act ≡ false → holder build act ≡ Some build
+pub holder_is : (build : ℕ) (act : Act) → is_of_block act ≡ false → holder build act ≡ Some build
 holder_is build (Take order first) k = cc
 holder_is build _ k = refl
 
@@ -196,4 +181,4 @@ step_exact limits w build act us k reach opened planned =
     let first = and_parts _ _ inner.0 in
     let mine : list_all (is_leased_to (Some build) w.leases) (named act) ≡ true = ap (λ l. list_all (is_leased_to l w.leases) (named act)) (sym (holder_is build act k)) ∙ first.1 in
     step-command limits w build act us (ltb-true build limits.builds first.0) first.1 inner.1 outer.1 planned
-      ((changes limits build w act (realm_of build w) k reach mine (IsAt-realm_of build w) (IsHeld-realm_of build w) outer.1).where_ok us planned)
+    ((changes limits build w act (realm_of build w) k reach mine (IsAt-realm_of build w) (IsHeld-realm_of build w) outer.1).where_ok us planned)

@@ -1,19 +1,16 @@
 -- Once nothing of a build is open, the world is that of the history without it.
-use Rattle.std.proofs.Common.{◌≡◌, ◌≢◌, ℕ, zero, suc, Bool, true, false, cond, eqb, not, ◌&&◌, List, [], ◌∷◌, map, Option, Some, None, refl, sym, ap, ◌∙◌, subst}
+use Rattle.std.proofs.Common.{◌≡◌, ℕ, zero, suc, Bool, true, false, cond, not, List, [], ◌∷◌, map, Option, Some, None, refl, sym, ap, ◌∙◌}
 use Rattle.std.specs.Prelude.{◌==◌, option_map, replicate}
 use Rattle.realm_model.specs.declared.act.Event.{Event}
-use Rattle.realm_model.proofs.Updates.{IsClean, scrubbed}
-use Rattle.realm_model.proofs.Histories.{leaves_no_trace}
-use Rattle.realm_model.proofs.Undoing.{kept, nothing_open}
-use Rattle.realm_model.proofs.OwnLaws.{SameFor, laws}
-use Rattle.realm_model.proofs.PartSound.{IsSound}
-use Rattle.realm_model.specs.Machine.{Cell, Machine, Limits, blank}
-use Rattle.realm_model.specs.World.{World, each, hidden, unleased, is_of, is_of_other, without, part_of, opening}
+use Rattle.realm_model.specs.Machine.{Machine, Limits, blank}
+use Rattle.realm_model.specs.World.{World, each, hidden, unleased, is_of, is_of_other, without, opening}
 use Rattle.realm_model.specs.History.{erase, open_entries, replay, IsLegal}
-
-abbrev rest_of : {A : Type 0} → List A → List A
-rest_of [] = []
-rest_of (l ∷ ls) = ls
+use Rattle.realm_model.proofs.SoundParts.{IsSound}
+use Rattle.realm_model.proofs.Clean.{IsClean, scrubbed}
+use Rattle.realm_model.proofs.OwnLaws.{laws, SameFor}
+use Rattle.realm_model.proofs.Chain.{nothing_open, kept}
+use Rattle.realm_model.proofs.LeftOut.{leaves_no_trace}
+use Rattle.realm_model.proofs.Lists.{head_or, tail}
 
 -- a lease that is not the build's, since the build's part has none
 not_of : (b : ℕ) (lease : Option ℕ) → unleased (is_of_other b) lease ≡ None → is_of b lease ≡ false
@@ -32,7 +29,7 @@ NoneLeased b (l ∷ ls) = (is_of b l ≡ false) × NoneLeased b ls
 none_leased : (b n : ℕ) (leases : List (Option ℕ)) → map (unleased (is_of_other b)) leases ≡ replicate n None → NoneLeased b leases
 none_leased b n [] e = tt
 none_leased b zero (l ∷ leases) e = cc
-none_leased b (suc n) (l ∷ leases) e = (not_of b l (ap head_of e), none_leased b n leases (ap rest_of e))
+none_leased b (suc n) (l ∷ leases) e = (not_of b l (ap (head_or None) e), none_leased b n leases (ap tail e))
 
 leases_kept : (b : ℕ) (leases : List (Option ℕ)) → NoneLeased b leases → map (unleased (is_of b)) leases ≡ leases
 leases_kept b [] h = refl
@@ -41,7 +38,7 @@ leases_kept b (l ∷ leases) h = λ i. ap (λ t. cond t None l) h.0 i ∷ leases
 cells_kept : (b : ℕ) (leases : List (Option ℕ)) (machine : Machine) → NoneLeased b leases → each scrubbed leases machine ≡ machine → each (hidden (is_of b)) leases machine ≡ machine
 cells_kept b [] machine h clean = clean
 cells_kept b (l ∷ leases) [] h clean = refl
-cells_kept b (l ∷ leases) (c ∷ machine) h clean = λ i. ap (λ t. cond t blank c) h.0 i ∷ cells_kept b leases machine h.1 (ap rest_of clean) i
+cells_kept b (l ∷ leases) (c ∷ machine) h clean = λ i. ap (λ t. cond t blank c) h.0 i ∷ cells_kept b leases machine h.1 (ap tail clean) i
 
 none_at_first : (b n : ℕ) → map (unleased (is_of_other b)) (replicate n None) ≡ replicate n None
 none_at_first b zero = refl

@@ -1,12 +1,15 @@
 -- Lists of leases and of cells, read and changed at one granule.
-use Rattle.std.proofs.Common.{◌≡◌, ◌≢◌, ℕ, zero, suc, Bool, true, false, cond, eqb, ◌&&◌, List, [], ◌∷◌, map, set, get_or, Option, Some, None, refl, sym, ap, ◌∙◌}
-use Rattle.std.specs.Prelude.{slice_get, option_map, is_some}
+use Rattle.std.proofs.Common.{◌≡◌, ℕ, zero, suc, true, false, List, [], ◌∷◌, map, set, Option, Some, None, refl, sym, ap, ◌∙◌, ◌||◌}
+use Rattle.std.specs.Prelude.{slice_get, option_map, ◌==◌}
 use Rattle.std.specs.Option.{option_eq}
-use Rattle.std.proofs.lemmas.Bool.{eqb-true, eq-eqb, ne_eqb}
+use Rattle.std.specs.List.{All, list_all}
+use Rattle.std.proofs.lemmas.Bool.{eqb-true, eq-eqb, and_parts, and_from}
 use Rattle.std.proofs.lemmas.Option.{slice_get-map, get_or_from_slice_get}
 use Rattle.std.proofs.lemmas.List.{set-get_or}
+use Rattle.std.proofs.lemmas.List.Elements.{All-nil, All-cons, All-head, All-tail}
 use Rattle.realm_model.specs.Machine.{Cell, Machine, blank, cell_at}
 use Rattle.realm_model.specs.World.{is_lease, is_leased_to, each}
+use Rattle.realm_model.proofs.Lists.{is_in}
 
 pub lease_is : (a b : Option ℕ) → is_lease a b ≡ true → a ≡ b
 lease_is None None e = refl
@@ -57,3 +60,25 @@ cell_at-each f (l ∷ ls) (c ∷ cells) (suc g) lease none e = cell_at-each f ls
 -- a write of what stands there
 pub set_cell : (cells : Machine) (g : ℕ) (c : Cell) → cell_at cells g ≡ c → set cells g c ≡ cells
 set_cell cells g c e = ap (set cells g) (sym e) ∙ set-get_or cells g blank
+
+-- ---- granules that are leased so
+
+pub all_leased : (lease : Option ℕ) (leases : List (Option ℕ)) (gs : List ℕ) → list_all (is_leased_to lease leases) gs ≡ true → All (λ g. slice_get leases g ≡ Some lease) gs
+all_leased lease leases [] h = All-nil (λ g. slice_get leases g ≡ Some lease)
+all_leased lease leases (g ∷ gs) h =
+    let parts = and_parts _ _ h in
+    All-cons (λ g. slice_get leases g ≡ Some lease) g gs (leased lease leases g parts.0) (all_leased lease leases gs parts.1)
+
+pub leased_all : (lease : Option ℕ) (leases : List (Option ℕ)) (gs : List ℕ) → All (λ g. slice_get leases g ≡ Some lease) gs → list_all (is_leased_to lease leases) gs ≡ true
+leased_all lease leases [] h = refl
+leased_all lease leases (g ∷ gs) h =
+    and_from _ _ (leased_from lease leases g (All-head (λ g. slice_get leases g ≡ Some lease) g gs h)) (leased_all lease leases gs (All-tail (λ g. slice_get leases g ≡ Some lease) g gs h))
+
+pub in_leased : (lease : Option ℕ) (leases : List (Option ℕ)) (gs : List ℕ) → list_all (is_leased_to lease leases) gs ≡ true → (k : ℕ) → is_in k gs ≡ true → slice_get leases k ≡ Some lease
+in_leased lease leases [] h k e = cc
+in_leased lease leases (g ∷ gs) h k e =
+    let parts = and_parts _ _ h in
+    elim (k == g) as (λ t. (k == g) ≡ t → (t || is_in k gs) ≡ true → slice_get leases k ≡ Some lease) [
+      | true ↦ λ same e. ap (slice_get leases) (eqb-true k g same) ∙ leased lease leases g parts.0
+      | false ↦ λ same e. in_leased lease leases gs parts.1 k e
+    ] refl e

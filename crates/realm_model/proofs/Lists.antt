@@ -1,8 +1,7 @@
 -- Lists in general: the last element and the rest, look-ups after a write, membership, and lists with no element twice.
-use Rattle.std.proofs.Common.{◌≡◌, ◌≢◌, ℕ, zero, suc, ◌+◌, ◌-◌, ◌<◌, ◌≤◌, Bool, true, false, cond, eqb, ◌||◌, not, List, [], ◌∷◌, ◌++◌, length, set, get_or, take, reverse, map, Option, Some, None, refl, sym, ap, ◌∙◌, arith}
-use native.Mathlib.Numerals.{unary_clauses}
+use Rattle.std.proofs.Common.{◌≡◌, ◌≢◌, ℕ, zero, suc, ◌+◌, ◌-◌, ◌<◌, ◌≤◌, Bool, true, false, cond, ◌||◌, List, [], ◌∷◌, ◌++◌, length, set, take, reverse, Option, Some, None, refl, sym, ap, ◌∙◌, arith}
 use Rattle.std.specs.Prelude.{slice_get, ◌==◌}
-use Rattle.std.specs.List.{last_or, list_any, list_all, range_with_len, Contains, AllPairs, IsDistinct}
+use Rattle.std.specs.List.{last_or, list_any, list_all, range_with_len, Contains, AllPairs}
 use Rattle.std.proofs.lemmas.Bool.{eqb-true, eqb-false, eq-eqb, ne_eqb, and_parts, and_from}
 use Rattle.std.proofs.lemmas.Option.{same_Some, slice_get_within, get_or_from_slice_get, slice_get-get_or}
 use Rattle.std.proofs.lemmas.List.{reverse-append}
@@ -10,6 +9,7 @@ use Rattle.std.proofs.lemmas.List.Folds.{list_any-append}
 use Rattle.std.proofs.lemmas.Bool.Decides.{Decides-eqb}
 use Rattle.std.proofs.lemmas.Map.Made.{IsDistinct-from_AllPairs}
 use Rattle.std.proofs.lemmas.Map.Steps.{length-le_from_distinct_below}
+use native.Mathlib.Numerals.{unary_clauses}
 use Rattle.realm_model.proofs.Tests.{or_parts, true_false}
 
 -- ---- the last element and the rest
@@ -22,6 +22,10 @@ front (x ∷ y ∷ ys) = x ∷ front (y ∷ ys)
 abbrev pub tail : {A : Type 0} → List A → List A
 tail [] = []
 tail (x ∷ xs) = xs
+
+abbrev pub head_or : {A : Type 0} → A → List A → A
+head_or d [] = d
+head_or d (x ∷ xs) = x
 
 module _ {A : Type 0} where
   pub take-front : (xs : List A) → take (length xs - 1) xs ≡ front xs
@@ -154,12 +158,13 @@ pub AllDistinct_parts : (xs ys : List ℕ) → AllDistinct (xs ++ ys) → AllDis
 AllDistinct_parts [] ys h = (tt, λ k e. refl)
 AllDistinct_parts (x ∷ xs) ys h =
     let rest = AllDistinct_parts xs ys h.1 in
-    let out = or_parts (is_in x xs) (is_in x ys) (sym (is_in-append x xs ys) ∙ h.0) in
-    ((out.0, rest.0),
-     λ k e. elim (k == x) as (λ t. (k == x) ≡ t → (t || is_in k xs) ≡ false) [
-       | true ↦ λ same. absurd (true_false (is_in x ys) (ap (λ j. is_in j ys) (sym (eqb-true k x same)) ∙ e) out.1)
-       | false ↦ λ other. rest.1 k e
-     ] refl)
+    let out = or_parts (is_in x xs) (is_in x ys) (sym (is_in-append x xs ys) ∙ h.0) in (
+      (out.0, rest.0),
+      λ k e. elim (k == x) as (λ t. (k == x) ≡ t → (t || is_in k xs) ≡ false) [
+        | true ↦ λ same. absurd (true_false (is_in x ys) (ap (λ j. is_in j ys) (sym (eqb-true k x same)) ∙ e) out.1)
+        | false ↦ λ other. rest.1 k e
+      ] refl,
+    )
 
 -- in the words of std
 pub AllPairs-from_distinct : (xs : List ℕ) → AllDistinct xs → AllPairs (λ a b. a ≢ b) xs

@@ -1,31 +1,15 @@
 -- The laws of single steps, for what a world owns to one build.
-use Rattle.std.proofs.Common.{◌≡◌, ◌≢◌, ℕ, Bool, true, false, cond, List, map, Option, Some, None, Result, Ok, Err, refl, sym, ap, ◌∙◌, subst}
-use Rattle.realm_model.specs.declared.act.Act.{Act}
-use Rattle.realm_model.specs.declared.act.Event.{Event}
-use Rattle.realm_model.proofs.Steps.{part_of-other_step, step-part_of}
-use Rattle.realm_model.proofs.PartSound.{IsSound, IsSound-opening, IsSound-step}
-use Rattle.realm_model.proofs.PairLaws.{pair_back}
-use Rattle.realm_model.proofs.Owned.{OwnsSame, own_itself, own_chain, Yields}
-use Rattle.realm_model.proofs.Unpaired.{mild, AreMild, own_updated_all, IsAt-realm_of}
-use Rattle.realm_model.proofs.Undoing.{Laws}
-use Rattle.realm_model.specs.Machine.{Limits, Seen, seen}
-use Rattle.realm_model.specs.Update.{Outcome, Update}
-use Rattle.realm_model.specs.Act.{named, reverse_of, is_reverse, is_paired}
-use Rattle.realm_model.specs.Outcome.{outcome_of}
-use Rattle.realm_model.specs.World.{World, part_of, realm_of, opening}
-use Rattle.realm_model.specs.Step.{step, after_outcome, is_allowed}
-use Rattle.realm_model.proofs.Tests.{guarded}
+use Rattle.std.proofs.Common.{ℕ, refl, sym, subst}
+use Rattle.realm_model.specs.Machine.{Limits}
+use Rattle.realm_model.specs.World.{World, part_of}
 use Rattle.realm_model.specs.Undoing.{by}
-
-after_mild : (b : ℕ) (o : Outcome) (w v : World) → Yields (AreMild w) o → after_outcome b o w ≡ Some v → OwnsSame w v
-after_mild b (Ok us) w v yields e = own_updated_all b us w v (yields.where_ok us refl) e
-after_mild b (Err rmi) w v yields e = cc
-
-own_step : (limits : Limits) (b : ℕ) (w v : World) (act : Act) → is_paired act ≡ false → is_reverse act ≡ false → step limits w (by b act) ≡ Some v → OwnsSame w v
-unfolding step
-own_step limits b w v act p r s =
-    after_mild b (outcome_of limits act (realm_of b w) (map (seen w.machine) (named act))) w v
-      (mild limits w act (realm_of b w) p r (IsAt-realm_of b w)) (guarded (is_allowed limits w (by b act)) _ v s).1
+use Rattle.realm_model.proofs.HiddenSteps.{step-part_of, part_of-other_step}
+use Rattle.realm_model.proofs.Chain.{Laws}
+use Rattle.realm_model.proofs.SoundParts.{IsSound-step, IsSound, IsSound-opening}
+use Rattle.realm_model.proofs.OwnsSame.{own_itself, own_chain}
+use Rattle.realm_model.proofs.PairBack.{pair_back}
+use Rattle.realm_model.proofs.Unpaired.{own_step}
+use Rattle.realm_model.specs.Ownership.{OwnsSame}
 
 -- what both worlds own to the build is the same
 abbrev pub SameFor : ℕ → World → World → Type 0

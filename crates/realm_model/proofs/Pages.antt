@@ -1,38 +1,34 @@
 -- The pages of a build: how they grow, and that they are the granules that it leases.
-use Rattle.std.proofs.Common.{◌≡◌, ◌≢◌, ℕ, zero, suc, ◌+◌, ◌^◌, ◌<◌, ◌≤◌, Bool, true, false, cond, eqb, ◌||◌, not, List, [], ◌∷◌, ◌++◌, length, map, set, get_or, Option, Some, None, refl, sym, ap, ◌∙◌, subst, arith}
-use Rattle.std.specs.Prelude.{slice_get, ◌==◌, option_map, option_and_then, is_some, replicate}
+use Rattle.std.proofs.Common.{◌≡◌, ◌≢◌, ℕ, zero, suc, ◌^◌, ◌<◌, Bool, true, false, cond, ◌||◌, List, [], ◌∷◌, ◌++◌, get_or, Option, Some, None, refl, sym, ap, ◌∙◌, subst}
+use Rattle.std.specs.Prelude.{slice_get, ◌==◌, replicate}
 use Rattle.std.specs.Option.{option_eq}
-use Rattle.std.specs.List.{All, AllPairs, Contains, flat_map, last_or, list_all, range_with_len}
-use Rattle.std.proofs.lemmas.Bool.{and_parts, and_from, eqb-true, eqb-false, eq-eqb, ne_eqb}
-use Rattle.std.proofs.lemmas.Option.{same_Some, slice_get-map, slice_get_within, slice_get-get_or, get_or_from_slice_get}
-use Rattle.std.proofs.lemmas.List.{append-nil, length-set}
+use Rattle.std.specs.List.{flat_map}
+use Rattle.std.proofs.lemmas.Bool.{eqb-true, eqb-false}
+use Rattle.std.proofs.lemmas.Option.{same_Some, slice_get_within, slice_get-get_or}
+use Rattle.std.proofs.lemmas.List.{append-nil}
 use Rattle.std.proofs.lemmas.List.Concat.{flat_map-append}
 use Rattle.realm_model.specs.declared.act.Act.{Act}
-use Rattle.realm_model.specs.declared.act.Act.TheVariants.{Take, UnTake, Fill, Peek, Delegate, Undelegate, Realm, UnRealm, Activate, Rtt, UnRtt, Ripas, Data, Unknown, UnData, Rec, UnRec, Enter, Exit, Poke}
+use Rattle.realm_model.specs.declared.act.Act.TheVariants.{Take, UnTake, Delegate, Realm, Rtt, Data, Unknown, Rec}
 use Rattle.realm_model.specs.declared.act.Event.{Event}
-use Rattle.realm_model.specs.Machine.{Limits, Cell, blank}
-use Rattle.realm_model.specs.Act.{block, named, reverse_of, is_paired, is_reverse}
-use Rattle.realm_model.specs.World.{World, is_lease, is_leased_to, opening, part_of, unleased, is_of_other}
+use Rattle.realm_model.specs.Machine.{Limits}
+use Rattle.realm_model.specs.Act.{block, named, reverse_of, is_reverse}
+use Rattle.realm_model.specs.World.{World, is_lease, is_leased_to}
 use Rattle.realm_model.specs.Step.{step}
 use Rattle.realm_model.specs.StepLaw.{leases_after, IsStep}
 use Rattle.realm_model.specs.History.{open_entries, pages_held, pages_of, IsInTurn, replay, IsLegal}
-use Rattle.realm_model.specs.Stack.{pushed}
 use Rattle.realm_model.specs.Pages.{PagesAreLeased}
 use Rattle.realm_model.specs.Undoing.{by}
+use Rattle.realm_model.proofs.Leases.{lease_same, leased_from, in_leased, leased_all, leased}
+use Rattle.realm_model.proofs.Reached.{sized_reached, of_legal, clean_reached}
+use Rattle.realm_model.proofs.Lists.{is_in_at, is_in, in_from_Contains, AllPairs-from_distinct, AllDistinct-append, AllDistinct, Contains-from_in, AllDistinct-range, length-le_distinct, AllDistinct_parts, is_in-append}
+use Rattle.realm_model.proofs.Stack.{paired, pushed_other, back, kind, pushed_paired, other}
+use Rattle.realm_model.proofs.Growth.{takes_away, TakesAway, open_entries-own, open_entries-other}
+use Rattle.realm_model.proofs.StepSays.{step_is}
+use Rattle.realm_model.proofs.Clean.{IsClean}
+use Rattle.realm_model.proofs.Tests.{or_none, or_true, true_false}
+use Rattle.realm_model.proofs.HiddenSteps.{leased_in_part, part_of-other_step}
 use Rattle.realm_model.proofs.SetEach.{slice_get-set_each}
-use Rattle.realm_model.proofs.Lists.{front, front_last, is_in, is_in-append, is_in_head, is_in_more, is_in_at, slice_get-set, Contains-from_in, in_from_Contains, AllDistinct, AllDistinct-range, AllDistinct-append, AllDistinct_parts, AllPairs-from_distinct, length-le_distinct}
-use Rattle.realm_model.proofs.Leases.{leased, leased_from, lease_same}
-use Rattle.realm_model.proofs.Stack.{pushed_paired, pushed_back, pushed_other, Kind, kind, paired, back, other}
-use Rattle.realm_model.proofs.Growth.{open_entries-own, open_entries-other}
-use Rattle.realm_model.proofs.Legal.{of_legal}
-use Rattle.realm_model.proofs.Updates.{IsClean}
-use Rattle.realm_model.proofs.Steps.{part_of-other_step}
-use Rattle.realm_model.proofs.Changes.{is_of_block}
-use Rattle.realm_model.proofs.PairLaws.{in_leased}
-use Rattle.realm_model.proofs.Steps.{leased_in_part}
-use Rattle.realm_model.proofs.StepSays.{step_is, leased_all}
-use Rattle.realm_model.proofs.Reached.{clean_reached, sized_reached}
-use Rattle.realm_model.proofs.Tests.{or_true, or_none, true_false, cond_or}
+use Rattle.realm_model.proofs.Puts.{is_of_block}
 
 -- ---- how they grow
 
@@ -47,27 +43,6 @@ unfolding reverse_of
 pages_of-take b history order first =
     ap (flat_map pages_held) (open_entries-own history (by b (Take order first)) ∙ pushed_paired (open_entries b history) (Take order first) refl)
     ∙ pages_push b history (Take order first)
-
--- the newest open act, which a reverse act in turn takes away
-pub record TakesAway (b : ℕ) (history : List Event) (act : Act) : Type 0 where
-  pub newest : Act
-  pub pairs : reverse_of newest ≡ Some act
-  pub open_is : open_entries b history ≡ open_entries b (history ++ by b act ∷ []) ++ newest ∷ []
-
--- the act before the reverse of an option that has one
-reversed_some : (o : Option Act) (act : Act) → option_and_then reverse_of o ≡ Some act → (newest : Act) × (o ≡ Some newest) × (reverse_of newest ≡ Some act)
-reversed_some None act e = cc
-reversed_some (Some a) act e = (a, refl, e)
-
-pub takes_away : (b : ℕ) (history : List Event) (act : Act) → is_paired act ≡ false → is_reverse act ≡ true → IsInTurn history (by b act) → TakesAway b history act
-takes_away b history act p r turn =
-    let top = reversed_some (last_or None (open_entries b history)) act (turn r) in
-    record {
-      newest = top.0;
-      pairs = top.2;
-      open_is = sym (front_last (open_entries b history) top.0 top.1)
-          ∙ ap (λ xs. xs ++ top.0 ∷ []) (sym (open_entries-own history (by b act) ∙ pushed_back (open_entries b history) act p r));
-    }
 
 pages_less : (b : ℕ) (history : List Event) (act : Act) (away : TakesAway b history act) → pages_of b history ≡ pages_of b (history ++ by b act ∷ []) ++ pages_held away.newest
 pages_less b history act away = ap (flat_map pages_held) away.open_is ∙ pages_push b (history ++ by b act ∷ []) away.newest
@@ -139,7 +114,7 @@ module _ (limits : Limits) (b : ℕ) (history : List Event) (w v : World) (h : P
       let gs = block order first in
       let free : (g : ℕ) → is_in g gs ≡ true → slice_get w.leases g ≡ Some None = in_leased None w.leases gs (leased_all None w.leases gs s.granules) in
       let then : (g : ℕ) → slice_get v.leases g ≡ cond (is_in g gs) (Some (Some b)) (slice_get w.leases g) = λ g.
-          ap (λ ls. slice_get ls g) s.leases ∙ slice_get-set_each (Some b) gs w.leases g (λ g e. slice_get_within w.leases g None (free g e)) in
+      ap (λ ls. slice_get ls g) s.leases ∙ slice_get-set_each (Some b) gs w.leases g (λ g e. slice_get_within w.leases g None (free g e)) in
       record {
         same = λ g. ap (is_in g) (pages_of-take b history order first) ∙ is_in-append g (pages_of b history) gs ∙ ap (λ t. t || is_in g gs) (h.same g)
             ∙ by_test (is_in g gs) (slice_get w.leases g) ∙ ap (is_of_build b) (sym (then g));
@@ -162,7 +137,7 @@ module _ (limits : Limits) (b : ℕ) (history : List Event) (w v : World) (h : P
       let was : pages_of b history ≡ left ++ gs = pages_of-untake b history order first turn in
       let held : (g : ℕ) → is_in g gs ≡ true → slice_get w.leases g ≡ Some (Some b) = in_leased (Some b) w.leases gs (leased_all (Some b) w.leases gs s.granules) in
       let then : (g : ℕ) → slice_get v.leases g ≡ cond (is_in g gs) (Some None) (slice_get w.leases g) = λ g.
-          ap (λ ls. slice_get ls g) s.leases ∙ slice_get-set_each nobody gs w.leases g (λ g e. slice_get_within w.leases g (Some b) (held g e)) in
+      ap (λ ls. slice_get ls g) s.leases ∙ slice_get-set_each nobody gs w.leases g (λ g e. slice_get_within w.leases g (Some b) (held g e)) in
       let parts = AllDistinct_parts left gs (subst AllDistinct was h.distinct) in
       record {
         same = λ g. elim (is_in g gs) as (λ t. is_in g gs ≡ t → is_in g left ≡ is_of_build b (cond t (Some None) (slice_get w.leases g))) [
@@ -193,14 +168,14 @@ paged : (limits : Limits) (b : ℕ) (history : List Event) (w : World) → IsLeg
 unfolding open_entries
 paged limits b history w legal at_w =
     of_legal limits (Paged b) (λ before w v e legal at_w h turn s.
-        elim (e.build == b) as (λ t. (e.build == b) ≡ t → Paged b (before ++ e ∷ []) v) [
-          | true ↦ λ own.
-              let same : e ≡ by b e.act = λ i. record { build = eqb-true e.build b own i; act = e.act } in
-              subst (λ d. Paged b (before ++ d ∷ []) v) (sym same)
-                (paged_own limits b before w v h e.act (step_is limits w v (by b e.act) (subst (λ d. step limits w d ≡ Some v) same s)) (subst (IsInTurn before) same turn))
-          | false ↦ λ other. paged_other limits b before w v h e (eqb-false e.build b other) (clean_reached limits before w at_w) s
-        ] refl)
-      (record { same = λ g. sym (none_leased g limits.pages); distinct = tt }) history w legal at_w
+    elim (e.build == b) as (λ t. (e.build == b) ≡ t → Paged b (before ++ e ∷ []) v) [
+      | true ↦ λ own.
+          let same : e ≡ by b e.act = λ i. record { build = eqb-true e.build b own i; act = e.act } in
+          subst (λ d. Paged b (before ++ d ∷ []) v) (sym same)
+          (paged_own limits b before w v h e.act (step_is limits w v (by b e.act) (subst (λ d. step limits w d ≡ Some v) same s)) (subst (IsInTurn before) same turn))
+      | false ↦ λ other. paged_other limits b before w v h e (eqb-false e.build b other) (clean_reached limits before w at_w) s
+    ] refl)
+    (record { same = λ g. sym (none_leased g limits.pages); distinct = tt }) history w legal at_w
   where
     none_leased : (g n : ℕ) → is_leased_to (Some b) (replicate n None) g ≡ false
     none_leased g zero = refl

@@ -1,39 +1,40 @@
 -- The newest open act of a build can be undone.
-use Rattle.std.proofs.Common.{◌≡◌, ◌≢◌, ℕ, zero, suc, pred, ◌+◌, ◌-◌, ◌^◌, ◌<◌, ◌≤◌, Bool, true, false, cond, eqb, ◌&&◌, ◌||◌, not, ◌⊎◌, inl, inr, List, [], ◌∷◌, ◌++◌, map, set, length, Option, Some, None, Result, Ok, Err, refl, sym, ap, ◌∙◌, subst, arith}
-use Rattle.std.specs.Prelude.{is_some, ◌==◌, slice_get, nat_lt, IsSome, option_and_then, option_map}
-use Rattle.std.specs.List.{list_any, list_all, range_with_len, last_or}
-use Rattle.std.proofs.lemmas.Bool.{and_parts, and_from, eqb-true, eqb-false, eq-eqb, ne_eqb}
+use Rattle.std.proofs.Common.{◌≡◌, ℕ, ◌^◌, Bool, true, false, cond, ◌||◌, not, List, [], ◌∷◌, map, Option, Some, None, Ok, refl, sym, ap, ◌∙◌}
+use Rattle.std.specs.Prelude.{is_some, ◌==◌, slice_get, option_and_then, option_map}
+use Rattle.std.specs.List.{list_all, range_with_len, last_or}
+use Rattle.std.proofs.lemmas.Bool.{and_parts, and_from, eq-eqb}
 use Rattle.std.proofs.lemmas.Option.{same_Some, slice_get-map}
-use Rattle.realm_model.specs.declared.states.GranuleState.{GranuleState}
 use Rattle.realm_model.specs.declared.states.GranuleState.TheVariants.{Undelegated}
 use Rattle.realm_model.specs.declared.act.Act.{Act}
 use Rattle.realm_model.specs.declared.act.Act.TheVariants.{Take, UnTake, Fill, Peek, Delegate, Undelegate, Realm, UnRealm, Activate, Rtt, UnRtt, Ripas, Data, Unknown, UnData, Rec, UnRec, Enter, Exit, Poke}
 use Rattle.realm_model.specs.declared.act.Event.{Event}
-use Rattle.realm_model.proofs.Leases.{leased, leased_from, lease_same}
-use Rattle.realm_model.proofs.Updates.{IsClean, clean_at}
-use Rattle.realm_model.proofs.Steps.{step-part_of, named_seen}
-use Rattle.realm_model.proofs.Growth.{Grows, grows, open_entries-own}
-use Rattle.realm_model.proofs.Changes.{is_of_block, step_exact, ReachesOwn}
-use Rattle.realm_model.proofs.Undoing.{newest, Newest}
-use Rattle.realm_model.proofs.PartSound.{IsSquare, IsSound, IsClean-part_of, IsSquare-part_of, realm_of-part_of}
-use Rattle.realm_model.proofs.Writes.{check_true}
-use Rattle.realm_model.proofs.Reversal.{Reversal, rev, reverse_is}
-use Rattle.realm_model.proofs.PairLaws.{Asked, asked, holder_is, reversed, same_leases, back_of_block, in_leased, leases_taken, seen_frees, take_did, were_free, taken_cells, frees}
-use Rattle.realm_model.proofs.OwnLaws.{SameFor, laws}
-use Rattle.realm_model.specs.Machine.{Limits, Cell, Machine, Seen, RealmRow, blank, left, cell_at, seen, held}
-use Rattle.realm_model.specs.Update.{Outcome, Update, Put, PutByte, Lease, Free, granule_of, lease_before, lease_after}
-use Rattle.realm_model.specs.Command.Check.{check, is_undelegated}
+use Rattle.realm_model.specs.Machine.{Limits, Cell, Seen, cell_at, seen}
+use Rattle.realm_model.specs.Update.{Free}
+use Rattle.realm_model.specs.Command.Check.{is_undelegated}
 use Rattle.realm_model.specs.Act.{named, holder, reverse_of, is_reverse, is_paired}
 use Rattle.realm_model.specs.Outcome.{outcome_of, fits}
-use Rattle.realm_model.specs.World.{World, is_lease, is_leased_to, realm_of, updated, updated_all, part_of, unleased, is_of_other}
-use Rattle.realm_model.specs.Step.{step, after_outcome, is_allowed, is_vmid_free}
+use Rattle.realm_model.specs.World.{World, is_leased_to, realm_of, updated_all, part_of, unleased, is_of_other}
+use Rattle.realm_model.specs.Step.{step, is_allowed, is_vmid_free}
 use Rattle.realm_model.specs.History.{open_entries, IsInTurn, replay, IsLegal}
-use Rattle.realm_model.specs.Ownership.{SameCell, OwnsSame}
-use Rattle.realm_model.specs.Sound.{IsSoundPart}
+use Rattle.realm_model.specs.Ownership.{OwnsSame}
 use Rattle.realm_model.specs.Undoing.{is_running, by}
-use Rattle.realm_model.proofs.Tests.{guarded}
-use Rattle.realm_model.proofs.Lists.{is_in, slice_get_set_other, all_from_in}
+use Rattle.realm_model.proofs.Lists.{all_from_in, is_in}
+use Rattle.realm_model.proofs.Clean.{clean_at}
+use Rattle.realm_model.proofs.Written.{leases_taken, seen_frees}
+use Rattle.realm_model.proofs.PairBack.{same_leases, were_free, reversed, back_of_block, take_did, taken_cells}
+use Rattle.realm_model.proofs.HiddenSteps.{named_seen, step-part_of}
 use Rattle.realm_model.proofs.StepSays.{row_goes}
+use Rattle.realm_model.proofs.Leases.{leased_from, in_leased, leased}
+use Rattle.realm_model.proofs.SoundParts.{IsSound, IsClean-part_of, IsSquare-part_of}
+use Rattle.realm_model.proofs.Changes.{step_exact, holder_is, ReachesOwn}
+use Rattle.realm_model.proofs.RealmOf.{realm_of-part_of}
+use Rattle.realm_model.proofs.Outcomes.{check_true}
+use Rattle.realm_model.proofs.Growth.{grows, Grows}
+use Rattle.realm_model.proofs.OwnLaws.{laws, SameFor}
+use Rattle.realm_model.proofs.Reversal.{rev, reverse_is}
+use Rattle.realm_model.proofs.StepBack.{asked}
+use Rattle.realm_model.proofs.Chain.{newest}
+use Rattle.realm_model.proofs.Puts.{is_of_block}
 
 -- ---- a part is part of its world
 
@@ -120,17 +121,17 @@ module _ (limits : Limits) (b : ℕ) (u v w : World) (act : Act) (su : IsSound b
       let part_leases : W.leases ≡ U.leases = same_leases limits b U (part_of v b) W act su.part sw.part (IsSquare-part_of u b su.square) k p part_stepped same in
       let info = reverses limits b w act p in
       let named_part : list_all (is_leased_to (Some b) W.leases) (named r) ≡ true =
-          named_back (is_leased_to (Some b) W.leases) act (ap (λ ls. list_all (is_leased_to (Some b) ls) (named act)) part_leases ∙ ap (λ l. list_all (is_leased_to l U.leases) (named act)) (sym (holder_is b act k)) ∙ a.leases) in
+      named_back (is_leased_to (Some b) W.leases) act (ap (λ ls. list_all (is_leased_to (Some b) ls) (named act)) part_leases ∙ ap (λ l. list_all (is_leased_to l U.leases) (named act)) (sym (holder_is b act k)) ∙ a.leases) in
       let named_here : list_all (is_leased_to (Some b) w.leases) (named r) ≡ true = all_part_leased b w (named r) named_part in
       let realm : realm_of b W ≡ realm_of b w = realm_of-part_of b w in
       let granules : map (seen W.machine) (named r) ≡ map (seen w.machine) (named r) =
-          named_seen (is_of_other b) (Some b) (ap not (eq-eqb b b refl)) w.leases w.machine (named r) named_here in
+      named_seen (is_of_other b) (Some b) (ap not (eq-eqb b b refl)) w.leases w.machine (named r) named_here in
       let ready : back.ready ≡ true = back.ready_if (ap (λ o. is_running o act) realm ∙ rest) in
       let planned : outcome_of limits r (realm_of b w) (map (seen w.machine) (named r)) ≡ Ok back.updates =
-          (λ i. outcome_of limits r (sym realm i) (sym granules i)) ∙ back.planned ∙ check_true back.ready back.refusal (Ok back.updates) ready in
+      (λ i. outcome_of limits r (sym realm i) (sym granules i)) ∙ back.planned ∙ check_true back.ready back.refusal (Ok back.updates) ready in
       let opened : is_allowed limits w (by b r) ≡ true =
-          and_from _ _ (and_from _ _ (and_from _ _ a.below (ap (λ l. list_all (is_leased_to l w.leases) (named r)) info.holds ∙ named_here)) info.vmid)
-            ((λ i. fits r (sym realm i) (sym granules i)) ∙ back.fitting) in
+      and_from _ _ (and_from _ _ (and_from _ _ a.below (ap (λ l. list_all (is_leased_to l w.leases) (named r)) info.holds ∙ named_here)) info.vmid)
+      ((λ i. fits r (sym realm i) (sym granules i)) ∙ back.fitting) in
       (_, step_exact limits w b r back.updates (back_of_block limits b U (part_of v b) W act su.part sw.part (IsSquare-part_of u b su.square) k p part_stepped same act k) info.reach opened planned)
 
 -- ---- blocks
@@ -146,8 +147,8 @@ module _ (limits : Limits) (b : ℕ) (u v w : World) (order first : ℕ) (su : I
   block_held : list_all (is_leased_to (Some b) w.leases) block ≡ true
   block_held = all_part_leased b w block (all_from_in (is_leased_to (Some b) (part_of w b).leases) block (λ g i. leased_from (Some b) (part_of w b).leases g
       (ap (λ ls. slice_get ls g) (sym same.leases)
-       ∙ leases_taken b block (part_of u b) (part_of v b) (take_did limits b (part_of u b) (part_of v b) (part_of w b) order first (IsClean-part_of u b su.clean) (IsSquare-part_of u b su.square) block_stepped same) g
-       ∙ ap (λ t. cond t (Some (Some b)) (slice_get (part_of u b).leases g)) i)))
+      ∙ leases_taken b block (part_of u b) (part_of v b) (take_did limits b (part_of u b) (part_of v b) (part_of w b) order first (IsClean-part_of u b su.clean) (IsSquare-part_of u b su.square) block_stepped same) g
+      ∙ ap (λ t. cond t (Some (Some b)) (slice_get (part_of u b).leases g)) i)))
 
   block_blank : list_all is_undelegated (map (seen (part_of w b).machine) block) ≡ true
   block_blank = all_seen block (λ g i.
@@ -161,19 +162,20 @@ module _ (limits : Limits) (b : ℕ) (u v w : World) (order first : ℕ) (su : I
       all_seen [] h = refl
       all_seen (g ∷ gs) h =
           and_from _ _ (ap (λ s. elim s [ Undelegated ↦ true | _ ↦ false ]) (h g (ap (λ t. t || is_in g gs) (eq-eqb g g refl))))
-            (all_seen gs (λ k i. h k (elim (k == g) as (λ t. (t || is_in k gs) ≡ true) [ true ↦ refl | false ↦ i ])))
+          (all_seen gs (λ k i. h k (elim (k == g) as (λ t. (t || is_in k gs) ≡ true) [ true ↦ refl | false ↦ i ])))
 
   block_undone : (x : World) × (step limits w (by b (UnTake order first)) ≡ Some x)
   unfolding step outcome_of named fits
   block_undone =
       let a = asked limits b (part_of u b) (part_of v b) (Take order first) block_stepped in
       let granules : map (seen (part_of w b).machine) block ≡ map (seen w.machine) block =
-          named_seen (is_of_other b) (Some b) (ap not (eq-eqb b b refl)) w.leases w.machine block block_held in
-      let gone = row_goes b (Some b) None (λ g. Free g) (λ g. refl) (λ g. refl) (λ g. refl) first (2 ^ order) w block_held in
-      (gone.0,
+      named_seen (is_of_other b) (Some b) (ap not (eq-eqb b b refl)) w.leases w.machine block block_held in
+      let gone = row_goes b (Some b) None (λ g. Free g) (λ g. refl) (λ g. refl) (λ g. refl) first (2 ^ order) w block_held in (
+        gone.0,
         ap (λ t. cond t (updated_all b (map (λ (g : Seen). Free g.number) (map (seen w.machine) block)) w) None)
-          (and_from _ _ (and_from _ _ (and_from _ _ a.below block_held) refl) (and_from _ _ a.fit (ap (list_all is_undelegated) (sym granules) ∙ block_blank)))
-        ∙ ap (λ us. updated_all b us w) (seen_frees w.machine block) ∙ gone.1)
+            (and_from _ _ (and_from _ _ (and_from _ _ a.below block_held) refl) (and_from _ _ a.fit (ap (list_all is_undelegated) (sym granules) ∙ block_blank)))
+            ∙ ap (λ us. updated_all b us w) (seen_frees w.machine block) ∙ gone.1,
+      )
 
 -- ---- the newest open act
 

@@ -1,17 +1,18 @@
--- Worlds that histories lead to: a free granule is blank, and there is a cell and a lease for each page.
-use Rattle.std.proofs.Common.{◌≡◌, ℕ, zero, suc, List, [], ◌∷◌, length, set, Option, Some, None, Ok, Err, refl, sym, ap, ◌∙◌, subst}
+-- What holds of every history and of every world that one leads to, by their events.
+use Rattle.std.proofs.Common.{◌≡◌, ℕ, List, [], ◌∷◌, length, Option, Some, None, Ok, Err, refl, sym, ◌∙◌, subst, ◌++◌}
 use Rattle.std.proofs.lemmas.Option.{same_Some, option_and_then_some}
-use Rattle.std.proofs.lemmas.List.{length-set, length-replicate}
+use Rattle.std.proofs.lemmas.List.{length-set, length-replicate, append_assoc, append-nil}
 use Rattle.realm_model.specs.declared.act.Event.{Event}
 use Rattle.realm_model.specs.Machine.{Limits, blank, cell_at}
 use Rattle.realm_model.specs.Update.{Update, Outcome, granule_of, cell_after, lease_after}
 use Rattle.realm_model.specs.World.{World, updated, updated_all, opening}
 use Rattle.realm_model.specs.Step.{step, is_allowed, after_outcome}
-use Rattle.realm_model.specs.History.{after, replay}
-use Rattle.realm_model.proofs.Updates.{IsClean}
-use Rattle.realm_model.proofs.Steps.{IsClean-step}
-use Rattle.realm_model.proofs.Histories.{IsClean-opening}
+use Rattle.realm_model.specs.History.{after, replay, IsInTurn, AllInTurn, IsLegal}
 use Rattle.realm_model.proofs.Tests.{guarded}
+use Rattle.realm_model.proofs.LeftOut.{IsClean-opening}
+use Rattle.realm_model.proofs.Clean.{IsClean}
+use Rattle.realm_model.proofs.Growth.{grows, Grows}
+use Rattle.realm_model.proofs.HiddenSteps.{IsClean-step}
 
 module _ (limits : Limits) (P : World → Type 0) (kept : (w v : World) (e : Event) → P w → step limits w e ≡ Some v → P v) where
   kept_after : (es : List Event) (w v : World) → P w → after limits es w ≡ Some v → P v
@@ -53,3 +54,20 @@ nobody = None
 pub sized_reached : (limits : Limits) (history : List Event) (w : World) → replay limits history ≡ Some w → IsSized limits w
 sized_reached limits = of_reached limits (IsSized limits) (λ w v e h s. sized_step limits w v e h s)
     (record { machine = length-replicate limits.pages blank; leases = length-replicate limits.pages nobody })
+
+module _ (limits : Limits) (P : List Event → World → Type 0)
+    (kept : (before : List Event) (w v : World) (e : Event) → IsLegal limits before → replay limits before ≡ Some w → P before w → IsInTurn before e → step limits w e ≡ Some v → P (before ++ e ∷ []) v) where
+  kept_legal : (before es : List Event) (w v : World) → IsLegal limits before → replay limits before ≡ Some w → P before w → AllInTurn before es → after limits es w ≡ Some v → P (before ++ es) v
+  unfolding after
+  kept_legal before [] w v legal at_w h turns done = subst (λ es. P es v) (sym (append-nil before)) (subst (P before) (same_Some _ _ done) h)
+  kept_legal before (e ∷ es) w v legal at_w h turns done =
+      option_and_then_some (after limits es) (step limits w e) v done (λ x stepped rest.
+      let grown : Grows limits before e x = grows limits before e w x legal at_w stepped turns.0 in
+      subst (λ es. P es v) (append_assoc before (e ∷ []) es)
+      (kept_legal (before ++ e ∷ []) es x v grown.legal grown.world_is (kept before w x e legal at_w h turns.0 stepped) turns.1 rest))
+
+  -- what holds at first, and is kept by each event in turn, holds of every legal history and its world
+  pub of_legal : P [] (opening limits) → (history : List Event) (w : World) → IsLegal limits history → replay limits history ≡ Some w → P history w
+  unfolding after
+  of_legal first history w legal at_w =
+      kept_legal [] history (opening limits) w (record { steps = refl; in_turn = tt }) refl first legal.in_turn at_w

@@ -1,39 +1,31 @@
 -- A reverse act, after its pair and whatever else the build owns the same through: its command, and where that leads.
-use Rattle.std.proofs.Common.{◌≡◌, ◌≢◌, ℕ, zero, suc, ◌+◌, ◌-◌, ◌*◌, ◌<◌, ◌≤◌, Bool, true, false, cond, eqb, ◌&&◌, ◌||◌, not, ◌⊎◌, inl, inr, List, [], ◌∷◌, ◌++◌, map, length, Option, Some, None, Result, Ok, Err, refl, sym, ap, ◌∙◌, subst, arith, lit≤}
-use Rattle.std.specs.Prelude.{option_map, is_some, is_none, ◌==◌, slice_get, nat_eq}
-use Rattle.std.specs.List.{list_any, list_all}
+use Rattle.std.proofs.Common.{◌≡◌, ℕ, ◌+◌, ◌-◌, ◌*◌, ◌<◌, ◌≤◌, Bool, true, false, cond, ◌&&◌, ◌||◌, not, List, [], ◌∷◌, ◌++◌, map, Option, Some, None, Ok, refl, sym, ap, ◌∙◌, subst, arith, lit≤}
+use Rattle.std.specs.Prelude.{option_map, ◌==◌, nat_eq}
+use Rattle.std.specs.List.{list_all}
 use Rattle.std.specs.Option.{option_eq}
 use Rattle.std.specs.Ordering.{nat_cmp, eq_by_cmp}
 use Rattle.std.specs.Cmp.{nat_cmp_total, eq_by_cmp_equiv}
 use Rattle.std.specs.FinMap.{FinMap, get, insert, remove, empty, len, get-insert, get-remove, get-empty, len-empty, same_map, nat_cmp-IsAntisymmetric}
 use Rattle.std.specs.Str.{bytes_eq}
 use Rattle.std.specs.Cmp.Lexicographic.{bytes_decides}
-use Rattle.std.proofs.lemmas.Bool.{and_parts, and_from, eqb-true, eqb-false, eq-eqb, ne_eqb}
+use Rattle.std.proofs.lemmas.Bool.{and_parts, and_from, eqb-true, eq-eqb}
 use Rattle.std.proofs.lemmas.Option.{same_Some}
+use Rattle.std.proofs.lemmas.List.Folds.{list_any-append}
+use Rattle.arrayvec.specs.declared.array_vec.ArrayVec.{ArrayVec}
+use Rattle.granule_addr.specs.Ipa.{covered_count, first_covered}
 use Rattle.realm_model.specs.declared.states.GranuleState.{GranuleState}
 use Rattle.realm_model.specs.declared.states.GranuleState.TheVariants.{Undelegated, Delegated, Rd, Rec as InRec, RecAux, Data as InData, Rtt as InRtt}
-use Rattle.realm_model.specs.declared.states.RecState.TheVariants.{Ready, Running}
+use Rattle.realm_model.specs.declared.states.RecState.TheVariants.{Ready}
 use Rattle.realm_model.specs.declared.states.Hipas.{Hipas}
-use Rattle.realm_model.specs.declared.states.Hipas.TheVariants.{Unassigned, Assigned, Table}
+use Rattle.realm_model.specs.declared.states.Hipas.TheVariants.{Assigned, Table}
 use Rattle.realm_model.specs.declared.states.Ripas.{Ripas}
 use Rattle.realm_model.specs.declared.states.Ripas.TheVariants.{Ram, Empty}
 use Rattle.realm_model.specs.declared.rmi.Rmi.{Rmi}
-use Rattle.realm_model.specs.declared.rmi.Status.TheVariants.{Rec as OfRec}
-use Rattle.arrayvec.specs.declared.array_vec.ArrayVec.{ArrayVec}
 use Rattle.realm_model.specs.declared.act.Act.{Act}
 use Rattle.realm_model.specs.declared.act.Act.TheVariants.{Take, UnTake, Fill, Peek, Delegate, Undelegate, Realm, UnRealm, Activate, Rtt, UnRtt, Ripas as ToRam, Data, Unknown, UnData, Rec, UnRec, Enter, Exit, Poke}
-use Rattle.realm_model.proofs.Owned.{Yields, Yields-Ok, Yields-Err, Yields-check, Yields-with_realm, Yields-with_rec, Yields-with_end, Yields-with_granule}
-use Rattle.realm_model.proofs.Unpaired.{IsAt}
-use Rattle.realm_model.proofs.Changes.{IsHeld, walk_at, realm_test, is_of_block}
-use Rattle.realm_model.proofs.StepBack.{undelegated_state}
-use Rattle.realm_model.proofs.RowLaws.{table_back, same_place}
-use Rattle.realm_model.proofs.RowsSound.{look-insert, look-with_table, look-with_table_below, none_among, table_place, put_there, place_self, IsTablePlace}
-use Rattle.realm_model.proofs.PartSound.{delegated_state, nat_place}
-use Rattle.realm_model.proofs.Writes.{put_at, put_last, lefts, Leaves, back_left, tail_one, same_bare, bare, delegated_leaves, descriptor_none, descriptor_some, check_true, realm_there, rec_there, granule_there, end_there, walk_there, realm_of_there}
-use Rattle.realm_model.specs.Rows.{Row, Rows, Walk, walk, row_at, all_rows, put_row, assigned, unassigned, unmapped_ripas, with_table, without_table, root_rows, is_unassigned, is_assigned, is_table, is_table_unused, place_cmp, is_table_place, has_root_table}
-use Rattle.granule_addr.specs.Ipa.{covered_count, first_covered}
-use Rattle.realm_model.specs.Machine.{Limits, RecRow, RealmRow, Cell, Machine, Seen, blank, left, held, held as held_cell, zero_page, cell_at, seen}
-use Rattle.realm_model.specs.Update.{Outcome, Update, Put, PutByte, Lease, Free, granule_of}
+use Rattle.realm_model.specs.Rows.{Row, row_at, put_row, assigned, unassigned, unmapped_ripas, with_table, without_table, root_rows, is_unassigned, is_assigned, is_table, is_table_unused, place_cmp, is_table_place, has_root_table}
+use Rattle.realm_model.specs.Machine.{Limits, RecRow, RealmRow, Cell, Machine, Seen, left, held, held as held_cell, zero_page, cell_at, seen}
+use Rattle.realm_model.specs.Update.{Update, Put, granule_of}
 use Rattle.realm_model.specs.Command.Check.{error_input, check, is_undelegated, is_delegated, is_ready, is_protected, error_rec}
 use Rattle.realm_model.specs.Measurement.{measurement_after, data_event, rec_event}
 use Rattle.realm_model.specs.Command.Realm.{new_realm}
@@ -41,10 +33,23 @@ use Rattle.realm_model.specs.Act.{named, reverse_of, is_paired}
 use Rattle.realm_model.specs.Outcome.{outcome_of, fits, leads_to, realm_is}
 use Rattle.realm_model.specs.World.{World, is_leased_to, realm_of}
 use Rattle.realm_model.specs.Ownership.{mapping_of_row, granules_of_rec, SameRealm, SameDescriptor, SameCell}
-use Rattle.realm_model.specs.Sound.{look, IsKind, IsShaped, is_table_kind, is_host_state, is_rd_state, IsSoundRows, IsSoundRealm, IsSoundCell, IsSoundPart}
+use Rattle.realm_model.specs.Sound.{look, is_host_state, is_rd_state, IsSoundRealm, IsSoundCell, IsSoundPart}
 use Rattle.realm_model.specs.Undoing.{is_running}
-use Rattle.realm_model.proofs.Tests.{true_false, not_true, none_from, not_false, none_map}
+use Rattle.realm_model.proofs.Written.{lefts, put_more, put_at, put_lefts, put_other, put_last}
+use Rattle.realm_model.proofs.Outcomes.{granule_there, realm_there, rec_there, Yields-Ok, check_true, Yields-with_realm, Yields-Err, Yields, Yields-check, end_there, Yields-with_end}
+use Rattle.realm_model.proofs.Maps.{same_place, nat_place}
+use Rattle.realm_model.proofs.SoundRows.{none_among, look-with_table, look-with_table_below}
+use Rattle.realm_model.proofs.RealmOf.{IsHeld, realm_test, realm_of_there, IsAt}
+use Rattle.realm_model.proofs.Rows.{place_self, put_there, look-insert, all_rows_from}
+use Rattle.realm_model.proofs.OwnsSame.{descriptor_some, same_bare, descriptor_none}
+use Rattle.realm_model.proofs.Tests.{none_from, not_true, none_map, not_false}
+use Rattle.realm_model.proofs.SoundCells.{undelegated_state, delegated_state}
 use Rattle.realm_model.proofs.Lists.{is_in}
+use Rattle.realm_model.proofs.TableBack.{table_back}
+use Rattle.realm_model.proofs.TablePlaces.{IsTablePlace, table_place}
+use Rattle.realm_model.proofs.Puts.{is_of_block}
+use Rattle.realm_model.proofs.Walks.{walk_at, walk_there}
+use Rattle.realm_model.proofs.RowKinds.{kind_unassigned, kind_assigned, kind_table, free_unassigned, free_above, shape_of, Vacant, look_get}
 
 pub record Reversal (limits : Limits) (b : ℕ) (u w : World) (act r : Act) : Type 0 where
   pub ready : Bool
@@ -55,46 +60,50 @@ pub record Reversal (limits : Limits) (b : ℕ) (u w : World) (act r : Act) : Ty
   pub back : (k : ℕ) → SameCell (cell_at u.machine k) (put_at updates k (cell_at w.machine k))
   pub ready_if : is_running (realm_of b w) act ≡ false → ready ≡ true
 
--- ---- rows that look so
+-- ---- what leaves
 
-pub look_get : (o : Option Row) (p : Hipas × Option ℕ) → option_map mapping_of_row o ≡ Some p → (row : Row) × (o ≡ Some row) × (mapping_of_row row ≡ p)
-look_get None p e = cc
-look_get (Some row) p e = (row, refl, same_Some _ _ e)
+abbrev pub Leaves : World → ℕ → Type 0
+Leaves u g = SameCell (cell_at u.machine g) left
 
-abbrev kind_unassigned : Hipas × Option ℕ → Bool
-kind_unassigned p = elim p.0 [ Unassigned ↦ true | Assigned ↦ false | Table ↦ false ]
+-- updates whose granules leave, and last what the tail writes
+pub back_left : (u w : World) (us tail : List Update) (gs : List ℕ) → map granule_of us ≡ gs ++ map granule_of tail
+    → ((g : ℕ) → is_in g gs ≡ true → Leaves u g)
+    → ((k : ℕ) (c : Cell) → is_in k (map granule_of tail) ≡ true → SameCell (cell_at u.machine k) (put_at tail k c))
+    → ((k : ℕ) → SameCell (put_at us k (cell_at u.machine k)) (cell_at w.machine k))
+    → (k : ℕ) → SameCell (cell_at u.machine k) (put_at (lefts gs ++ tail) k (cell_at w.machine k))
+back_left u w us tail gs granules leave tailed same k =
+    subst (SameCell (cell_at u.machine k)) (sym (put_more (lefts gs) tail k (cell_at w.machine k) ∙ ap (put_at tail k) (put_lefts gs k (cell_at w.machine k))))
+    (elim (is_in k (map granule_of tail)) as (λ t. is_in k (map granule_of tail) ≡ t → SameCell (cell_at u.machine k) (put_at tail k (cond (is_in k gs) left (cell_at w.machine k)))) [
+      | true ↦ λ e. tailed k (cond (is_in k gs) left (cell_at w.machine k)) e
+      | false ↦ λ e. subst (SameCell (cell_at u.machine k)) (sym (put_other tail k (cond (is_in k gs) left (cell_at w.machine k)) e))
+          (elim (is_in k gs) as (λ t. is_in k gs ≡ t → SameCell (cell_at u.machine k) (cond t left (cell_at w.machine k))) [
+            | true ↦ λ i. leave k i
+            | false ↦ λ i.
+                let out : is_in k (map granule_of us) ≡ false = ap (is_in k) granules ∙ list_any-append (λ g. k == g) gs (map granule_of tail) ∙ (λ j. i j || e j) in
+                subst (λ c. SameCell c (cell_at w.machine k)) (put_other us k (cell_at u.machine k) out) (same k)
+          ] refl)
+    ] refl)
 
-abbrev kind_assigned : Hipas × Option ℕ → Bool
-kind_assigned p = elim p.0 [ Unassigned ↦ false | Assigned ↦ true | Table ↦ false ]
+-- one write at the end
+pub tail_one : (u : World) (n : ℕ) (x : Cell) → SameCell (cell_at u.machine n) x → (k : ℕ) (c : Cell) → is_in k (n ∷ []) ≡ true → SameCell (cell_at u.machine k) (put_at (Put n x ∷ []) k c)
+tail_one u n x h k c e =
+    let here : (k == n) ≡ true = at_one (k == n) e in
+    subst (λ t. SameCell (cell_at u.machine k) (cond t x c)) (sym here) (subst (λ j. SameCell (cell_at u.machine j) x) (sym (eqb-true k n here)) h)
+  where
+    at_one : (t : Bool) → (t || false) ≡ true → t ≡ true
+    at_one true e = refl
+    at_one false e = cc
 
-abbrev kind_table : Hipas × Option ℕ → Bool
-kind_table p = elim p.0 [ Unassigned ↦ false | Assigned ↦ false | Table ↦ true ]
+pub bare : (o g : ℕ) (c : Cell) (s : GranuleState) → IsSoundCell o g c → c.state ≡ s → is_host_state s ≡ true → is_rd_state s ≡ false → (c.realm ≡ None) × (c.descriptor ≡ None)
+bare o g c s sound is host rd = (sound.realm (ap is_host_state is ∙ host), none_from c.descriptor (sound.descriptor ∙ ap is_rd_state is ∙ rd))
 
-abbrev Vacant : Hipas × Option ℕ
-Vacant = (Unassigned, None)
+pub delegated_leaves : (o : ℕ) (u : World) (g : ℕ) → IsSoundCell o g (cell_at u.machine g) → is_delegated (seen u.machine g) ≡ true → Leaves u g
+delegated_leaves o u g sound e =
+    let is = delegated_state (cell_at u.machine g) g e in
+    let b = bare o g (cell_at u.machine g) Delegated sound is refl refl in
+    same_bare (cell_at u.machine g) left is b.0 refl b.1 refl
 
-free_unassigned : (level : ℕ) (h : Hipas) (g : Option ℕ) → IsKind level h g → kind_unassigned (h, g) ≡ true → ◌≡◌ {A = Hipas × Option ℕ} (h, g) Vacant
-free_unassigned level Unassigned g k e = λ i. (Unassigned, k i)
-free_unassigned level Assigned g k e = cc
-free_unassigned level Table g k e = cc
-
-free_above : (level : ℕ) (h : Hipas) (g : Option ℕ) → level ≤ 2 → IsKind level h g → kind_table (h, g) ≡ false → ◌≡◌ {A = Hipas × Option ℕ} (h, g) Vacant
-free_above level Unassigned g low k e = λ i. (Unassigned, k i)
-free_above level Assigned g low k e = let three : level ≡ 3 = k.0 in absurd (omega arith)
-free_above level Table g low k e = cc
-
--- the row at a place of sound rows
-shape_of : (rows : Rows) (place : ℕ × ℕ) (row : Row) → IsSoundRows (look rows) → get rows place ≡ Some row → IsKind place.0 row.hipas row.granule
-shape_of rows place row sound there = subst (IsShaped place.0) (ap (option_map mapping_of_row) there) (sound.shaped place)
-
-all_rows_from : (test : Row → Bool) → ((row : Row) → mapping_of_row row ≡ Vacant → test row ≡ true) → (rows : Rows) (level first n : ℕ)
-    → ((k : ℕ) → k < n → look rows (level, first + k * covered_count level) ≡ Some Vacant) → all_rows test rows level first n ≡ true
-unfolding all_rows
-all_rows_from test passes rows level first zero h = refl
-all_rows_from test passes rows level first (suc n) h =
-    let found = look_get (get rows (level, first + n * covered_count level)) Vacant (h n (omega arith)) in
-    and_from _ _ (ap (λ o. elim o [ Some row ↦ test row | None ↦ false ]) found.1 ∙ passes found.0 found.2)
-      (all_rows_from test passes rows level first n (λ k less. h k (omega arith)))
+-- ---- lists and maps
 
 no_recs : (m : FinMap nat_cmp RecRow) → ((n : ℕ) → get m n ≡ None) → len m ≡ 0
 no_recs m h = ap len (same_map nat_cmp_total nat_cmp-IsAntisymmetric m empty (λ n. h n ∙ sym (get-empty nat_cmp n))) ∙ len-empty nat_cmp RecRow
@@ -102,6 +111,8 @@ no_recs m h = ap len (same_map nat_cmp_total nat_cmp-IsAntisymmetric m empty (λ
 pub seen_numbers : (m : Machine) (gs : List ℕ) → map (λ (a : Seen). a.number) (map (seen m) gs) ≡ gs
 seen_numbers m [] = refl
 seen_numbers m (g ∷ gs) = ap (λ r. g ∷ r) (seen_numbers m gs)
+
+-- ---- reverses
 
 abbrev pub rev : Act → Act
 rev (Take order first) = UnTake order first
@@ -146,7 +157,7 @@ module _ (limits : Limits) (b : ℕ) (u w : World) (su : IsSoundPart u) (sw : Is
         planned = refl;
         fitting = refl;
         back = back_left u w (Put g left ∷ []) (Put g (record (cell_at w.machine g) { state = Undelegated }) ∷ []) [] refl (λ k e. cc)
-          (tail_one u g _ (same_bare (cell_at u.machine g) (record (cell_at w.machine g) { state = Undelegated }) was clear.0 (sym at_g.realm) clear.1 (descriptor_none _ at_g.descriptor))) leads;
+            (tail_one u g _ (same_bare (cell_at u.machine g) (record (cell_at w.machine g) { state = Undelegated }) was clear.0 (sym at_g.realm) clear.1 (descriptor_none _ at_g.descriptor))) leads;
         ready_if = λ r. ap (λ s. elim s [ Delegated ↦ true | _ ↦ false ]) (sym at_g.state);
       }
 
@@ -187,7 +198,7 @@ module _ (limits : Limits) (b : ℕ) (u w : World) (su : IsSoundPart u) (sw : Is
   unfolding new_realm root_rows
   new_rows_free v root d2 same =
       ap (λ t. not (not t)) (all_rows_from (λ row. not (is_table row)) no_table_free d2.rows 1 0 512
-        (λ k less. sym (same.rows (1, 0 + k * covered_count 1)) ∙ put_there (unassigned Empty) empty 1 0 512 k less))
+      (λ k less. sym (same.rows (1, 0 + k * covered_count 1)) ∙ put_there (unassigned Empty) empty 1 0 512 k less))
 
   new_recs_none : (v root : ℕ) (d2 : RealmRow) → SameRealm (new_realm v root) d2 → len d2.recs ≡ 0
   unfolding new_realm
@@ -205,7 +216,7 @@ module _ (limits : Limits) (b : ℕ) (u w : World) (su : IsSoundPart u) (sw : Is
       let z : Cell = record { state = Rd; realm = Some rd; bytes = zero_page; descriptor = Some (new_realm v root) } in
       let us : List Update = Put rd z ∷ Put root (held InRtt rd) ∷ [] in
       let written : put_at us rd (cell_at u.machine rd) ≡ z =
-          ap (λ t. cond t (held InRtt rd) (cond (rd == rd) z (cell_at u.machine rd))) (not_true _ differ) ∙ ap (λ t. cond t z (cell_at u.machine rd)) (eq-eqb rd rd refl) in
+      ap (λ t. cond t (held InRtt rd) (cond (rd == rd) z (cell_at u.machine rd))) (not_true _ differ) ∙ ap (λ t. cond t z (cell_at u.machine rd)) (eq-eqb rd rd refl) in
       let both = in_both rd z (new_realm v root) refl held_rd (subst (λ c. SameCell c (cell_at w.machine rd)) written (leads rd)) in
       let d2 : RealmRow = both.realm in
       let roots = new_root v root d2 both.same in
@@ -234,7 +245,7 @@ module _ (limits : Limits) (b : ℕ) (u w : World) (su : IsSoundPart u) (sw : Is
   planned_rtt : (d2 : RealmRow) (n ipa g level : ℕ) (row : Row) → (cell_at w.machine n).descriptor ≡ Some d2 → get d2.rows (level - 1, first_covered (level - 1) ipa) ≡ Some row → is_table row ≡ true → row.granule ≡ Some g
       → is_table_place ipa level ≡ true → is_protected ipa ≡ true → 1 ≤ level - 1 → is_table_unused d2.rows level ipa ≡ true → realm_of b w ≡ Some (seen w.machine n)
       → outcome_of limits (UnRtt g ipa level) (realm_of b w) (map (seen w.machine) (named (UnRtt g ipa level)))
-        ≡ check true error_input (Ok (Put g left ∷ Put n (record (cell_at w.machine n) { descriptor = Some (record d2 { rows = without_table d2.rows level ipa }) }) ∷ []))
+      ≡ check true error_input (Ok (Put g left ∷ Put n (record (cell_at w.machine n) { descriptor = Some (record d2 { rows = without_table d2.rows level ipa }) }) ∷ []))
   unfolding outcome_of named
   planned_rtt d2 n ipa g level row there at table granule place protected low unused found =
       ap (λ o. outcome_of limits (UnRtt g ipa level) o (map (seen w.machine) (named (UnRtt g ipa level)))) found
@@ -265,7 +276,7 @@ module _ (limits : Limits) (b : ℕ) (u w : World) (su : IsSoundPart u) (sw : Is
       let up : ℕ × ℕ = (level - 1, first_covered (level - 1) ipa) in
       let row = look_get (get d2.rows up) (Table, Some g) (sym (both.same.rows up) ∙ look-with_table d.rows level ipa above sound.rows spot there g above.ripas plain) in
       let unused : is_table_unused d2.rows level ipa ≡ true = all_rows_from is_unassigned (λ r e. ap kind_unassigned e) d2.rows level ipa 512
-          (λ k less. sym (both.same.rows (level, ipa + k * covered_count level)) ∙ look-with_table_below d.rows level ipa above sound.rows spot there g above.ripas k less) in
+      (λ k less. sym (both.same.rows (level, ipa + k * covered_count level)) ∙ look-with_table_below d.rows level ipa above sound.rows spot there g above.ripas k less) in
       let d3 : RealmRow = record d2 { rows = without_table d2.rows level ipa } in
       let tail : List Update = Put n (record (cell_at w.machine n) { descriptor = Some d3 }) ∷ [] in
       let was_free : mapping_of_row above ≡ Vacant = free_above (level - 1) above.hipas above.granule spot.low.1 (shape_of d.rows up above sound.rows there) plain in
@@ -289,7 +300,7 @@ module _ (limits : Limits) (b : ℕ) (u w : World) (su : IsSoundPart u) (sw : Is
   planned_data : (d2 : RealmRow) (c : Cell) (n ipa g : ℕ) (row : Row) → (cell_at w.machine n).descriptor ≡ Some d2 → get d2.rows (3, first_covered 3 ipa) ≡ Some row → is_assigned row ≡ true → row.granule ≡ Some g
       → is_protected ipa ≡ true → realm_of b w ≡ Some (seen w.machine n)
       → outcome_of limits (UnData g ipa) (realm_of b w) (map (seen w.machine) (named (UnData g ipa)))
-        ≡ check true error_input (Ok (Put g left ∷ Put n (record (cell_at w.machine n) { descriptor = Some (record d2 { rows = put_row d2.rows 3 ipa (unassigned (unmapped_ripas row.ripas)) }) }) ∷ []))
+      ≡ check true error_input (Ok (Put g left ∷ Put n (record (cell_at w.machine n) { descriptor = Some (record d2 { rows = put_row d2.rows 3 ipa (unassigned (unmapped_ripas row.ripas)) }) }) ∷ []))
   unfolding outcome_of named
   planned_data d2 c n ipa g row there at assigned granule protected found =
       ap (λ o. outcome_of limits (UnData g ipa) o (map (seen w.machine) (named (UnData g ipa)))) found
@@ -322,10 +333,10 @@ module _ (limits : Limits) (b : ℕ) (u w : World) (su : IsSoundPart u) (sw : Is
       let sound : IsSoundRealm d = (subst (IsSoundCell su.rd n) at (su.cells n)).row d is in
       let was_free : mapping_of_row old ≡ Vacant = free_unassigned 3 old.hipas old.granule (shape_of d.rows place old sound.rows there) free in
       let rows_back : (q : ℕ × ℕ) → look d.rows q ≡ look d3.rows q = λ q.
-          elim (eq_by_cmp place_cmp q place) as (λ t. eq_by_cmp place_cmp q place ≡ t → look d.rows q ≡ cond t (Some Vacant) (look d2.rows q)) [
-            | true ↦ λ e. ap (look d.rows) (same_place q place e) ∙ ap (option_map mapping_of_row) there ∙ ap Some was_free
-            | false ↦ λ e. sym (look-insert d.rows place q (assigned ripas g) ∙ ap (λ t. cond t (Some (mapping_of_row (assigned ripas g))) (look d.rows q)) e) ∙ both.same.rows q
-          ] refl ∙ sym (look-insert d2.rows place q (unassigned (unmapped_ripas row.0.ripas))) in
+      elim (eq_by_cmp place_cmp q place) as (λ t. eq_by_cmp place_cmp q place ≡ t → look d.rows q ≡ cond t (Some Vacant) (look d2.rows q)) [
+        | true ↦ λ e. ap (look d.rows) (same_place q place e) ∙ ap (option_map mapping_of_row) there ∙ ap Some was_free
+        | false ↦ λ e. sym (look-insert d.rows place q (assigned ripas g) ∙ ap (λ t. cond t (Some (mapping_of_row (assigned ripas g))) (look d.rows q)) e) ∙ both.same.rows q
+      ] refl ∙ sym (look-insert d2.rows place q (unassigned (unmapped_ripas row.0.ripas))) in
       let granule : row.0.granule ≡ Some g = ap (λ (p : Hipas × Option ℕ). p.1) row.2 in
       record {
         ready = true;
@@ -367,7 +378,7 @@ module _ (limits : Limits) (b : ℕ) (u w : World) (su : IsSoundPart u) (sw : Is
 
   planned_rec : (d2 : RealmRow) (k g : ℕ) (aux : ArrayVec ℕ 16 (Unit {0})) (n : ℕ) (rec : RecRow) → (cell_at w.machine k).descriptor ≡ Some d2 → get d2.recs n ≡ Some rec → granules_of_rec rec ≡ (g, aux.items) → realm_of b w ≡ Some (seen w.machine k)
       → outcome_of limits (UnRec g aux n) (realm_of b w) (map (seen w.machine) (named (UnRec g aux n)))
-        ≡ check (is_ready rec) error_rec (Ok (lefts (g ∷ aux.items) ++ Put k (record (cell_at w.machine k) { descriptor = Some (record d2 { recs = remove d2.recs n }) }) ∷ []))
+      ≡ check (is_ready rec) error_rec (Ok (lefts (g ∷ aux.items) ++ Put k (record (cell_at w.machine k) { descriptor = Some (record d2 { recs = remove d2.recs n }) }) ∷ []))
   unfolding outcome_of named
   planned_rec d2 k g aux n rec there at own found =
       ap (λ o. outcome_of limits (UnRec g aux n) o (map (seen w.machine) (named (UnRec g aux n)))) found
@@ -387,11 +398,13 @@ module _ (limits : Limits) (b : ℕ) (u w : World) (su : IsSoundPart u) (sw : Is
       → cell_at u.machine rd.number ≡ rd.cell → rd.cell.descriptor ≡ Some d → is_leased_to (Some b) u.leases rd.number ≡ true
       → list_all is_delegated (map (seen u.machine) (g ∷ aux.items)) ≡ true → n ≡ d.next
       → Leads ((Put g (held InRec rd.number) ∷ auxes rd.number aux.items)
-          ++ Put rd.number (record rd.cell { descriptor = Some (record d {
-            recs = insert d.recs d.next (record { granule = g; auxiliaries = map (λ (a : Seen). a.number) (map (seen u.machine) aux.items); state = Ready });
-            next = d.next + 1;
-            measurement = m;
-          }) }) ∷ [])
+      ++ Put rd.number (record rd.cell {
+        descriptor = Some (record d {
+          recs = insert d.recs d.next (record { granule = g; auxiliaries = map (λ (a : Seen). a.number) (map (seen u.machine) aux.items); state = Ready });
+          next = d.next + 1;
+          measurement = m;
+        });
+      }) ∷ [])
       → Reversal limits b u w (Rec g aux n) (UnRec g aux n)
   unfolding outcome_of named fits
   undone_rec rd d m g aux n at is held_rd frees number leads =
@@ -410,10 +423,10 @@ module _ (limits : Limits) (b : ℕ) (u w : World) (su : IsSoundPart u) (sw : Is
       let d3 : RealmRow = record d2 { recs = remove d2.recs n } in
       let tail : List Update = Put k (record (cell_at w.machine k) { descriptor = Some d3 }) ∷ [] in
       let recs_back : (q : ℕ) → option_map granules_of_rec (get d.recs q) ≡ option_map granules_of_rec (get d3.recs q) = λ q.
-          elim (eq_by_cmp nat_cmp q n) as (λ t. eq_by_cmp nat_cmp q n ≡ t → option_map granules_of_rec (get d.recs q) ≡ option_map granules_of_rec (cond t None (get d2.recs q))) [
-            | true ↦ λ e. ap (option_map granules_of_rec) (unnumbered d q sound (nat_place q n e ∙ number))
-            | false ↦ λ e. sym (ap (option_map granules_of_rec) (get-insert nat_cmp_total d.recs d.next rec1 q ∙ ap (λ t. cond t (Some rec1) (get d.recs q)) (ap (eq_by_cmp nat_cmp q) (sym number) ∙ e))) ∙ both.same.recs q
-          ] refl ∙ sym (ap (option_map granules_of_rec) (get-remove nat_cmp_total d2.recs n q)) in
+      elim (eq_by_cmp nat_cmp q n) as (λ t. eq_by_cmp nat_cmp q n ≡ t → option_map granules_of_rec (get d.recs q) ≡ option_map granules_of_rec (cond t None (get d2.recs q))) [
+        | true ↦ λ e. ap (option_map granules_of_rec) (unnumbered d q sound (nat_place q n e ∙ number))
+        | false ↦ λ e. sym (ap (option_map granules_of_rec) (get-insert nat_cmp_total d.recs d.next rec1 q ∙ ap (λ t. cond t (Some rec1) (get d.recs q)) (ap (eq_by_cmp nat_cmp q) (sym number) ∙ e))) ∙ both.same.recs q
+      ] refl ∙ sym (ap (option_map granules_of_rec) (get-remove nat_cmp_total d2.recs n q)) in
       record {
         ready = is_ready rec.0;
         refusal = error_rec;
@@ -426,7 +439,7 @@ module _ (limits : Limits) (b : ℕ) (u w : World) (su : IsSoundPart u) (sw : Is
         back = back_left u w (us ++ Put k z ∷ []) tail (g ∷ aux.items) (rec_granules g k (held InRec k) z aux.items) (in_all (g ∷ aux.items) frees)
             (tail_one u k _ (realm_tail rd d d1 d3 at is at_k (record { vmid = both.same.vmid; root = both.same.root; recs = recs_back; rows = both.same.rows }))) leads;
         ready_if = λ r. not_false (is_ready rec.0)
-          (sym (ap (λ o. realm_is o (λ x y. runs (get y.recs n))) both.found ∙ ap (λ o. elim o [ Some y ↦ runs (get y.recs n) | None ↦ false ]) both.there ∙ ap runs there) ∙ r);
+            (sym (ap (λ o. realm_is o (λ x y. runs (get y.recs n))) both.found ∙ ap (λ o. elim o [ Some y ↦ runs (get y.recs n) | None ↦ false ]) both.there ∙ ap runs there) ∙ r);
       }
     where
       unnumbered : (d : RealmRow) (q : ℕ) → IsSoundRealm d → q ≡ d.next → get d.recs q ≡ None
@@ -448,39 +461,39 @@ module _ (limits : Limits) (b : ℕ) (u w : World) (su : IsSoundPart u) (sw : Is
   undone (Realm rd root v) realm k p h at held fit =
       let P = Y (Realm rd root v) in
       Yields-check P _ _ _ (λ all.
-        let three = and_parts _ _ (and_parts _ _ (and_parts _ _ all).0).0 in
-        let two = and_parts _ _ three.0 in
-        Yields-Ok P _ (λ leads. undone_realm rd root v two.0 two.1 three.1 (and_parts _ _ h).0 leads (Realm rd root v)))
+      let three = and_parts _ _ (and_parts _ _ (and_parts _ _ all).0).0 in
+      let two = and_parts _ _ three.0 in
+      Yields-Ok P _ (λ leads. undone_realm rd root v two.0 two.1 three.1 (and_parts _ _ h).0 leads (Realm rd root v)))
   undone (Rtt g ipa level) None k p h at held fit = Yields-Err (Y (Rtt g ipa level)) _
   undone (Rtt g ipa level) (Some rd) k p h at held fit =
       let P = Y (Rtt g ipa level) in
       Yields-with_realm P _ _ (λ d is. Yields-check P _ _ _ (λ all. Yields-with_end P _ _ _ _ (λ end e. Yields-check P _ _ _ (λ last. Yields-check P _ _ _ (λ plain.
-        let outer = and_parts _ _ all in
-        let inner = and_parts _ _ outer.0 in
-        Yields-Ok P _ (λ leads. undone_rtt (Rtt g ipa level) rd d g ipa level (held_cell InRtt rd.number) end.row at is held inner.0 inner.1 outer.1
-          (walk_at d.rows ipa (level - 1) end e (eqb-true end.level (level - 1) last)) (not_true _ plain) leads))))))
+      let outer = and_parts _ _ all in
+      let inner = and_parts _ _ outer.0 in
+      Yields-Ok P _ (λ leads. undone_rtt (Rtt g ipa level) rd d g ipa level (held_cell InRtt rd.number) end.row at is held inner.0 inner.1 outer.1
+      (walk_at d.rows ipa (level - 1) end e (eqb-true end.level (level - 1) last)) (not_true _ plain) leads))))))
   undone (Data g ipa source) None k p h at held fit = Yields-Err (Y (Data g ipa source)) _
   undone (Data g ipa source) (Some rd) k p h at held fit =
       let P = Y (Data g ipa source) in
       Yields-with_realm P _ _ (λ d is. Yields-check P _ _ _ (λ all. Yields-check P _ _ _ (λ _. Yields-with_end P _ _ _ _ (λ end e. Yields-check P _ _ _ (λ last. Yields-check P _ _ _ (λ free.
-        let outer = and_parts _ _ all in
-        let inner = and_parts _ _ outer.0 in
-        let bytes = (cell_at u.machine source).bytes in
-        Yields-Ok P _ (λ leads. undone_data (Data g ipa source) rd d (measurement_after d.measurement (data_event ipa bytes)) g ipa Ram end.row (record (held_cell InData rd.number) { bytes = bytes }) refl at is held inner.0 outer.1
-          (walk_at d.rows ipa 3 end e (eqb-true end.level 3 last)) free leads)))))))
+      let outer = and_parts _ _ all in
+      let inner = and_parts _ _ outer.0 in
+      let bytes = (cell_at u.machine source).bytes in
+      Yields-Ok P _ (λ leads. undone_data (Data g ipa source) rd d (measurement_after d.measurement (data_event ipa bytes)) g ipa Ram end.row (record (held_cell InData rd.number) { bytes = bytes }) refl at is held inner.0 outer.1
+      (walk_at d.rows ipa 3 end e (eqb-true end.level 3 last)) free leads)))))))
   undone (Unknown g ipa) None k p h at held fit = Yields-Err (Y (Unknown g ipa)) _
   undone (Unknown g ipa) (Some rd) k p h at held fit =
       let P = Y (Unknown g ipa) in
       Yields-with_realm P _ _ (λ d is. Yields-check P _ _ _ (λ all. Yields-with_end P _ _ _ _ (λ end e. Yields-check P _ _ _ (λ last. Yields-check P _ _ _ (λ free.
-        let outer = and_parts _ _ all in
-        Yields-Ok P _ (λ leads. undone_data (Unknown g ipa) rd d d.measurement g ipa end.row.ripas end.row (held_cell InData rd.number) refl at is held outer.0 outer.1
-          (walk_at d.rows ipa 3 end e (eqb-true end.level 3 last)) free leads))))))
+      let outer = and_parts _ _ all in
+      Yields-Ok P _ (λ leads. undone_data (Unknown g ipa) rd d d.measurement g ipa end.row.ripas end.row (held_cell InData rd.number) refl at is held outer.0 outer.1
+      (walk_at d.rows ipa 3 end e (eqb-true end.level 3 last)) free leads))))))
   undone (Rec g aux n) None k p h at held fit = Yields-Err (Y (Rec g aux n)) _
   undone (Rec g aux n) (Some rd) k p h at held fit =
       let P = Y (Rec g aux n) in
       Yields-with_realm P _ _ (λ d is. Yields-check P _ _ _ (λ all. Yields-check P _ _ _ (λ _.
-        Yields-Ok P _ (λ leads. undone_rec rd d (measurement_after d.measurement (rec_event d.next)) g aux n at is held (and_parts _ _ (and_parts _ _ all).0).0
-          (eqb-true n d.next (realm_test rd d (λ x y. n == y.next) fit is)) leads))))
+      Yields-Ok P _ (λ leads. undone_rec rd d (measurement_after d.measurement (rec_event d.next)) g aux n at is held (and_parts _ _ (and_parts _ _ all).0).0
+      (eqb-true n d.next (realm_test rd d (λ x y. n == y.next) fit is)) leads))))
   undone (Take order first) realm k p h at held fit = cc
   undone (UnTake order first) realm k p h at held fit = cc
   undone (Fill g v) realm k p h at held fit = cc

@@ -1,15 +1,15 @@
 -- What is unmatched is what a stack holds that grows by a paired act and loses its top by a reverse one.
-use Rattle.std.proofs.Common.{◌≡◌, ◌≢◌, ℕ, zero, suc, pred, ◌+◌, ◌-◌, ◌<◌, ◌≤◌, Bool, true, false, cond, eqb, ltb, not, ◌&&◌, ◌||◌, List, [], ◌∷◌, ◌++◌, length, take, map, Option, Some, None, refl, sym, ap, ◌∙◌, subst, arith}
-use Rattle.std.specs.Prelude.{filter, fold, is_some, ◌==◌}
-use Rattle.std.proofs.lemmas.Bool.{eqb-true, eqb-false, eq-eqb, ne_eqb}
+use Rattle.std.proofs.Common.{◌≡◌, ℕ, zero, suc, pred, ◌+◌, ◌-◌, ◌≤◌, Bool, true, false, cond, not, ◌&&◌, ◌||◌, List, [], ◌∷◌, ◌++◌, length, take, refl, sym, ap, ◌∙◌, arith}
+use Rattle.std.specs.Prelude.{filter, fold, ◌==◌}
+use Rattle.std.proofs.lemmas.Bool.{eq-eqb, ne_eqb}
 use Rattle.std.proofs.lemmas.List.Elements.{filter-append}
 use Rattle.std.proofs.lemmas.List.{length-append, append-nil, append_assoc}
 use Rattle.realm_model.specs.declared.act.Act.{Act}
-use Rattle.realm_model.specs.declared.act.Act.TheVariants.{Take, UnTake, Fill, Peek, Delegate, Undelegate, Realm, UnRealm, Activate, Rtt, UnRtt, Ripas, Data, Unknown, UnData, Rec, UnRec, Enter, Exit, Poke}
+use Rattle.realm_model.specs.declared.act.Act.TheVariants.{UnTake, Undelegate, UnRealm, UnRtt, UnData, UnRec}
 use Rattle.realm_model.specs.Stack.{pushed}
-use Rattle.realm_model.proofs.Lists.{front, take-front}
 use Rattle.realm_model.specs.Act.{reverse_of, is_reverse, is_paired}
 use Rattle.realm_model.specs.History.{is_balanced, has_nearer, is_matched, unmatched}
+use Rattle.realm_model.proofs.Lists.{front, take-front}
 
 -- no act is both
 paired_apart : (act : Act) → is_paired act ≡ true → is_reverse act ≡ false
@@ -120,8 +120,8 @@ near : (k : ℕ) (xs : List Act) → need xs ≤ k → k + pairs xs ≡ backs xs
 near k [] h c = refl
 near k (x ∷ xs) h c =
     near_step (is_paired x) (is_reverse x) (pairs xs) (backs xs) k (need xs) (has_nearer xs) (paired_apart x) h
-      (ap (λ n. k + n) (sym (length_if (is_paired x) x (filter is_paired xs))) ∙ c ∙ length_if (is_reverse x) x (filter is_reverse xs))
-      (λ j n e. near j xs n e)
+    (ap (λ n. k + n) (sym (length_if (is_paired x) x (filter is_paired xs))) ∙ c ∙ length_if (is_reverse x) x (filter is_reverse xs))
+    (λ j n e. near j xs n e)
 
 need_other : (xs : List Act) (a : Act) → is_reverse a ≡ false → need (xs ++ a ∷ []) ≡ need xs
 need_other [] a h = ap (λ r. need_step (is_paired a) r 0) h ∙ need_step_other (is_paired a)

@@ -1,24 +1,32 @@
--- What a step did, read back from its command: the start of the law of a pair.
-use Rattle.std.proofs.Common.{◌≡◌, ◌≢◌, ℕ, zero, suc, Bool, true, false, cond, eqb, ◌&&◌, List, [], ◌∷◌, map, set, Option, Some, None, Result, Ok, Err, refl, sym, ap, ◌∙◌, subst}
-use Rattle.std.specs.Prelude.{◌==◌, slice_get}
-use Rattle.std.proofs.lemmas.Bool.{eqb-true, eqb-false}
-use Rattle.std.proofs.lemmas.Option.{same_Some}
-use Rattle.realm_model.specs.declared.states.GranuleState.{GranuleState}
-use Rattle.realm_model.specs.declared.states.GranuleState.TheVariants.{Undelegated, Delegated}
+-- What a step asked for and did, read back from its command.
+use Rattle.std.proofs.Common.{◌≡◌, ℕ, true, List, map, Some, Ok, Err, refl, sym, ap, ◌∙◌}
+use Rattle.std.specs.Prelude.{nat_lt}
+use Rattle.std.specs.List.{list_all}
+use Rattle.std.proofs.lemmas.Bool.{and_parts}
 use Rattle.realm_model.specs.declared.act.Act.{Act}
-use Rattle.realm_model.specs.declared.act.Act.TheVariants.{Delegate, Undelegate}
-use Rattle.realm_model.specs.declared.act.Event.{Event}
-use Rattle.realm_model.proofs.Leases.{leased, set_lease}
-use Rattle.realm_model.proofs.Owned.{SameCell, SameDescriptor, OwnsSame, cell_itself, own_itself, own_chain, Yields, Yields-Ok, Yields-check}
-use Rattle.realm_model.specs.Machine.{Cell, Machine, Limits, Seen, blank, cell_at, seen, left}
-use Rattle.realm_model.specs.Act.{named}
-use Rattle.realm_model.specs.Update.{Outcome, Update, Put, granule_of, lease_before, lease_after}
-use Rattle.realm_model.specs.Command.Check.{is_undelegated}
-use Rattle.realm_model.specs.Outcome.{outcome_of}
-use Rattle.realm_model.specs.World.{World, is_leased_to, updated, updated_all, realm_of}
+use Rattle.realm_model.specs.Machine.{Limits, seen}
+use Rattle.realm_model.specs.Update.{Outcome, Update}
+use Rattle.realm_model.specs.Act.{named, holder}
+use Rattle.realm_model.specs.Outcome.{outcome_of, fits}
+use Rattle.realm_model.specs.World.{World, is_leased_to, realm_of, updated_all}
 use Rattle.realm_model.specs.Step.{step, after_outcome, is_allowed}
-use Rattle.realm_model.proofs.Tests.{guarded}
 use Rattle.realm_model.specs.Undoing.{by}
+use Rattle.realm_model.proofs.Tests.{guarded}
+use Rattle.realm_model.proofs.Outcomes.{Yields}
+
+-- what a step asked for
+pub record Asked (limits : Limits) (b : ℕ) (w : World) (act : Act) : Type 0 where
+  pub below : nat_lt b limits.builds ≡ true
+  pub leases : list_all (is_leased_to (holder b act) w.leases) (named act) ≡ true
+  pub fit : fits act (realm_of b w) (map (seen w.machine) (named act)) ≡ true
+
+pub asked : (limits : Limits) (b : ℕ) (w v : World) (act : Act) → step limits w (by b act) ≡ Some v → Asked limits b w act
+unfolding step
+asked limits b w v act s =
+    let outer = and_parts _ _ (guarded (is_allowed limits w (by b act)) _ v s).0 in
+    let inner = and_parts _ _ outer.0 in
+    let first = and_parts _ _ inner.0 in
+    record { below = first.0; leases = first.1; fit = outer.1 }
 
 -- what a step did, where its command yields P
 pub done : (limits : Limits) (b : ℕ) (w v : World) (act : Act) (P : List Update → Type 0)
@@ -30,13 +38,7 @@ done limits b w v act P yields s = of_plan (outcome_of limits act (realm_of b w)
     of_plan (Ok us) yields e = (us, yields.where_ok us refl, e)
     of_plan (Err rmi) yields e = cc
 
--- a single write of a granule that the build leases
-pub one_put : (b : ℕ) (w v : World) (g : ℕ) (x : Cell) → updated_all b (Put g x ∷ []) w ≡ Some v → (v.leases ≡ w.leases) × (v.machine ≡ set w.machine g x)
-unfolding updated_all
-one_put b w v g x e =
-    let both = guarded _ _ _ e in
-    let same : updated b (Put g x) w ≡ v = same_Some _ _ both.1 in
-    (sym (ap (λ (z : World). z.leases) same) ∙ set_lease w.leases g (Some b) (leased (Some b) w.leases g both.0), sym (ap (λ (z : World). z.machine) same))
-
-pub undelegated_state : (c : Cell) (g : ℕ) → is_undelegated (record { number = g; cell = c }) ≡ true → c.state ≡ Undelegated
-undelegated_state c g e = elim c.state as (λ s. elim s [ Undelegated ↦ true | _ ↦ false ] ≡ true → s ≡ Undelegated) [ Undelegated ↦ λ e. refl | _ ↦ λ e. cc ] e
+-- what a step did, by the list of updates that its outcome_of is
+pub planned : (limits : Limits) (b : ℕ) (w v : World) (act : Act) (us : List Update) → outcome_of limits act (realm_of b w) (map (seen w.machine) (named act)) ≡ Ok us → step limits w (by b act) ≡ Some v → updated_all b us w ≡ Some v
+unfolding step
+planned limits b w v act us e s = ap (λ o. after_outcome b o w) (sym e) ∙ (guarded (is_allowed limits w (by b act)) _ v s).1

@@ -1,42 +1,26 @@
 -- A step is what it says: the guards in its updates add nothing.
-use Rattle.std.proofs.Common.{◌≡◌, ◌≢◌, ℕ, zero, suc, ◌+◌, ◌^◌, ◌<◌, ◌≤◌, Bool, true, false, cond, ◌&&◌, List, [], ◌∷◌, length, map, set, Option, Some, None, Result, Ok, Err, refl, sym, ap, ◌∙◌, subst, arith}
-use Rattle.std.specs.Prelude.{slice_get, ◌==◌, nat_lt, ◌↔◌}
+use Rattle.std.proofs.Common.{◌≡◌, ◌≢◌, ℕ, zero, suc, ◌+◌, ◌^◌, ◌<◌, true, cond, List, [], ◌∷◌, map, set, Option, Some, None, Ok, Err, refl, sym, ap, ◌∙◌, arith}
+use Rattle.std.specs.Prelude.{slice_get}
 use Rattle.std.specs.List.{All, list_all, range_with_len}
 use Rattle.std.proofs.lemmas.Bool.{and_parts, and_from, ltb-true, lt-ltb}
-use Rattle.std.proofs.lemmas.Option.{same_Some, slice_get_within}
-use Rattle.std.proofs.lemmas.List.{set-get_or, get_or-set_same, get_or-set_other, get_or_past, set_past}
-use Rattle.std.proofs.lemmas.List.Elements.{All-nil, All-cons, All-head, All-tail}
+use Rattle.std.proofs.lemmas.Option.{same_Some}
 use Rattle.realm_model.specs.declared.act.Act.{Act}
 use Rattle.realm_model.specs.declared.act.Act.TheVariants.{Take, UnTake}
 use Rattle.realm_model.specs.declared.act.Event.{Event}
-use Rattle.realm_model.specs.Machine.{Limits, Seen, Cell, Machine, blank, cell_at, seen}
+use Rattle.realm_model.specs.Machine.{Limits, Seen, seen}
 use Rattle.realm_model.specs.Update.{Update, Outcome, Lease, Free, granule_of, lease_before, lease_after, machine_after_all}
 use Rattle.realm_model.specs.Act.{block, named, holder}
-use Rattle.realm_model.specs.Outcome.{outcome_of, fits, is_block_start}
-use Rattle.realm_model.specs.Command.Check.{is_undelegated}
+use Rattle.realm_model.specs.Outcome.{outcome_of, fits}
 use Rattle.realm_model.specs.World.{World, is_leased_to, realm_of, updated, updated_all}
 use Rattle.realm_model.specs.Step.{step, is_allowed, is_vmid_free, after_outcome, named_cells, outcome_in}
 use Rattle.realm_model.specs.StepLaw.{set_each, leases_after, IsStep, StepIsWhatItSays}
 use Rattle.realm_model.specs.Undoing.{by}
-use Rattle.realm_model.proofs.Lists.{is_in, slice_get-set, slice_get_set_other}
-use Rattle.realm_model.proofs.Leases.{leased, leased_from}
-use Rattle.realm_model.proofs.Changes.{is_of_block, ReachesOwn, step_exact}
-use Rattle.realm_model.proofs.PairLaws.{puts, takes, frees, seen_takes, seen_frees, put_frees}
-use Rattle.realm_model.proofs.Writes.{puts_leases, put_at}
 use Rattle.realm_model.proofs.Tests.{guarded}
-
--- ---- granules that are leased so
-
-pub all_leased : (lease : Option ℕ) (leases : List (Option ℕ)) (gs : List ℕ) → list_all (is_leased_to lease leases) gs ≡ true → All (λ g. slice_get leases g ≡ Some lease) gs
-all_leased lease leases [] h = All-nil (λ g. slice_get leases g ≡ Some lease)
-all_leased lease leases (g ∷ gs) h =
-    let parts = and_parts _ _ h in
-    All-cons (λ g. slice_get leases g ≡ Some lease) g gs (leased lease leases g parts.0) (all_leased lease leases gs parts.1)
-
-pub leased_all : (lease : Option ℕ) (leases : List (Option ℕ)) (gs : List ℕ) → All (λ g. slice_get leases g ≡ Some lease) gs → list_all (is_leased_to lease leases) gs ≡ true
-leased_all lease leases [] h = refl
-leased_all lease leases (g ∷ gs) h =
-    and_from _ _ (leased_from lease leases g (All-head (λ g. slice_get leases g ≡ Some lease) g gs h)) (leased_all lease leases gs (All-tail (λ g. slice_get leases g ≡ Some lease) g gs h))
+use Rattle.realm_model.proofs.Written.{takes, puts_leases, seen_takes, seen_frees, frees}
+use Rattle.realm_model.proofs.Puts.{puts}
+use Rattle.realm_model.proofs.Leases.{leased_from, all_leased, leased_all, leased}
+use Rattle.realm_model.proofs.Changes.{step_exact, ReachesOwn}
+use Rattle.realm_model.proofs.Lists.{slice_get_set_other}
 
 -- ---- updates read back
 
@@ -82,7 +66,7 @@ step_is limits w v event s =
     let inner = and_parts _ _ outer.0 in
     let first = and_parts _ _ inner.0 in
     of_outcome (outcome_in limits w event) refl both.1 (ltb-true event.build limits.builds first.0)
-      (all_leased (holder event.build event.act) w.leases (named event.act) first.1) inner.1 outer.1
+    (all_leased (holder event.build event.act) w.leases (named event.act) first.1) inner.1 outer.1
   where
     of_outcome : (o : Outcome) → outcome_in limits w event ≡ o → after_outcome event.build o w ≡ Some v → event.build < limits.builds
         → All (λ granule. slice_get w.leases granule ≡ Some (holder event.build event.act)) (named event.act)
@@ -109,7 +93,7 @@ module _ (b : ℕ) (lease next : Option ℕ) (change : ℕ → Update) (granule 
       let parts : (is_leased_to lease leases a ≡ true) × (list_all (is_leased_to lease leases) (range_with_len (a + 1) n) ≡ true) = and_parts _ _ h in
       let other : a ≢ first = λ e. absurd (omega arith) in
       and_from _ _ (leased_from lease (set leases first next) a (slice_get_set_other leases first a next other ∙ leased lease leases a parts.0))
-        (rest_leased leases first (a + 1) n (omega arith) parts.1)
+      (rest_leased leases first (a + 1) n (omega arith) parts.1)
 
   pub row_goes : (first n : ℕ) (w : World) → list_all (is_leased_to lease w.leases) (range_with_len first n) ≡ true → (v : World) × (updated_all b (map change (range_with_len first n)) w ≡ Some v)
   unfolding updated_all
@@ -119,9 +103,10 @@ module _ (b : ℕ) (lease next : Option ℕ) (change : ℕ → Update) (granule 
       let after : List (Option ℕ) = (updated b (change first) w).leases in
       let after_is : after ≡ set w.leases first next = λ i. set w.leases (granule first i) (then first i) in
       let rest = row_goes (first + 1) n (updated b (change first) w)
-          (ap (λ ls. list_all (is_leased_to lease ls) (range_with_len (first + 1) n)) after_is ∙ rest_leased w.leases first (first + 1) n (omega arith) parts.1) in
-      (rest.0,
-        ap (λ t. cond t (updated_all b (map change (range_with_len (first + 1) n)) (updated b (change first) w)) None) ((λ i. is_leased_to (before first i) w.leases (granule first i)) ∙ parts.0) ∙ rest.1)
+      (ap (λ ls. list_all (is_leased_to lease ls) (range_with_len (first + 1) n)) after_is ∙ rest_leased w.leases first (first + 1) n (omega arith) parts.1) in (
+        rest.0,
+        ap (λ t. cond t (updated_all b (map change (range_with_len (first + 1) n)) (updated b (change first) w)) None) ((λ i. is_leased_to (before first i) w.leases (granule first i)) ∙ parts.0) ∙ rest.1,
+      )
 
 allowed : (limits : Limits) (w v : World) (event : Event) → IsStep limits w event v → is_allowed limits w event ≡ true
 allowed limits w v event h =
@@ -130,15 +115,17 @@ allowed limits w v event h =
 step_goes : (limits : Limits) (w v : World) (b : ℕ) (act : Act) → ReachesOwn limits b w act (realm_of b w) → IsStep limits w (by b act) v → (x : World) × (step limits w (by b act) ≡ Some x)
 unfolding step outcome_of named
 step_goes limits w v b (Take order first) reach h =
-    let gone = row_goes b None (Some b) (λ g. Lease g) (λ g. refl) (λ g. refl) (λ g. refl) first (2 ^ order) w (leased_all None w.leases (block order first) h.granules) in
-    (gone.0,
+    let gone = row_goes b None (Some b) (λ g. Lease g) (λ g. refl) (λ g. refl) (λ g. refl) first (2 ^ order) w (leased_all None w.leases (block order first) h.granules) in (
+      gone.0,
       ap (λ t. cond t (updated_all b (map (λ (g : Seen). Lease g.number) (map (seen w.machine) (block order first))) w) None) (allowed limits w v (by b (Take order first)) h)
-      ∙ ap (λ us. updated_all b us w) (seen_takes w.machine (block order first)) ∙ gone.1)
+          ∙ ap (λ us. updated_all b us w) (seen_takes w.machine (block order first)) ∙ gone.1,
+    )
 step_goes limits w v b (UnTake order first) reach h =
-    let gone = row_goes b (Some b) None (λ g. Free g) (λ g. refl) (λ g. refl) (λ g. refl) first (2 ^ order) w (leased_all (Some b) w.leases (block order first) h.granules) in
-    (gone.0,
+    let gone = row_goes b (Some b) None (λ g. Free g) (λ g. refl) (λ g. refl) (λ g. refl) first (2 ^ order) w (leased_all (Some b) w.leases (block order first) h.granules) in (
+      gone.0,
       ap (λ t. cond t (updated_all b (map (λ (g : Seen). Free g.number) (map (seen w.machine) (block order first))) w) None) (allowed limits w v (by b (UnTake order first)) h)
-      ∙ ap (λ us. updated_all b us w) (seen_frees w.machine (block order first)) ∙ gone.1)
+          ∙ ap (λ us. updated_all b us w) (seen_frees w.machine (block order first)) ∙ gone.1,
+    )
 step_goes limits w v b act reach h = (_, step_exact limits w b act h.updates refl reach (allowed limits w v (by b act) h) h.outcome)
 
 same_step : (limits : Limits) (w x y : World) (event : Event) → IsStep limits w event x → IsStep limits w event y → x ≡ y
@@ -150,6 +137,7 @@ same_step limits w x y event h k =
 
 -- where a guest's write reaches a granule of its build
 pub step_says : (limits : Limits) (w : World) (event : Event) → ReachesOwn limits event.build w event.act (realm_of event.build w) → StepIsWhatItSays limits w event
-step_says limits w event reach v =
-    (step_is limits w v event,
-     λ h. let gone = step_goes limits w v event.build event.act reach h in gone.1 ∙ ap Some (same_step limits w gone.0 v event (step_is limits w gone.0 event gone.1) h))
+step_says limits w event reach v = (
+  step_is limits w v event,
+  λ h. let gone = step_goes limits w v event.build event.act reach h in gone.1 ∙ ap Some (same_step limits w gone.0 v event (step_is limits w gone.0 event gone.1) h),
+)

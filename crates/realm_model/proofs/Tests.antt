@@ -1,5 +1,5 @@
 -- Tests that hold or fail, and options that have a value or none.
-use Rattle.std.proofs.Common.{◌≡◌, Bool, true, false, cond, ◌||◌, not, Option, Some, None, refl, sym, ap}
+use Rattle.std.proofs.Common.{◌≡◌, Bool, true, false, cond, ◌||◌, not, Option, Some, None, refl}
 use Rattle.std.specs.Prelude.{is_some, is_none, option_map}
 
 pub or_parts : (s t : Bool) → (s || t) ≡ false → (s ≡ false) × (t ≡ false)

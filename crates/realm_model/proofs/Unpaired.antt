@@ -1,91 +1,28 @@
--- An act that has no reverse, and is none, changes nothing that the build owns.
-use Rattle.std.proofs.Common.{◌≡◌, ◌≢◌, ℕ, zero, suc, ◌+◌, ◌*◌, Bool, true, false, cond, ◌&&◌, not, List, [], ◌∷◌, ◌++◌, length, map, set, Option, Some, None, Result, Ok, Err, Ordering, refl, sym, ap, ◌∙◌, subst, arith}
-use Rattle.std.specs.Prelude.{option_map, is_some, slice_get, ◌==◌}
-use Rattle.std.specs.declared.cmp.Ordering.TheVariants.{Less, Equal, Greater}
-use Rattle.std.specs.Ordering.{nat_cmp, is_eq, eq_by_cmp}
-use Rattle.std.specs.Cmp.{IsTotalOrder, nat_cmp_total, then_total, on_total}
-use Rattle.std.specs.FinMap.{FinMap, get, insert, get-insert, get_tied}
-use Rattle.std.proofs.lemmas.Bool.{and_parts}
+-- An act that has no reverse, and is none, leads to a world that owns the same.
+use Rattle.std.proofs.Common.{◌≡◌, ℕ, false, List, [], ◌∷◌, map, Option, Some, None, Ok, Err, refl, sym, ap, ◌∙◌, subst}
+use Rattle.std.specs.Cmp.{nat_cmp_total}
+use Rattle.std.specs.FinMap.{get, insert}
 use Rattle.std.proofs.lemmas.Option.{same_Some}
-use Rattle.std.proofs.lemmas.List.{get_or_at, length-append, append_assoc}
 use Rattle.realm_model.specs.declared.act.Act.{Act}
 use Rattle.realm_model.specs.declared.act.Act.TheVariants.{Take, UnTake, Fill, Peek, Delegate, Undelegate, Realm, UnRealm, Activate, Rtt, UnRtt, Ripas, Data, Unknown, UnData, Rec, UnRec, Enter, Exit, Poke}
 use Rattle.realm_model.specs.declared.states.RealmState.TheVariants.{Active}
 use Rattle.realm_model.specs.declared.states.RecState.TheVariants.{Ready, Running}
-use Rattle.realm_model.proofs.Owned.{SameRealm, SameDescriptor, SameCell, OwnsSame, granules_of_rec, mapping_of_row, own_itself, descriptor_itself, cell_itself, IsMild, own_updated, Yields, Yields-Ok, Yields-Err, Yields-check, Yields-with_realm, Yields-with_rec, Yields-with_end, Yields-with_granule}
-use Rattle.realm_model.specs.Rows.{Row, Rows, Walk, walk, place_cmp, all_rows, put_rows, with_ram, as_ram, is_unassigned, is_assigned}
-use Rattle.granule_addr.specs.Ipa.{covered_count}
-use Rattle.realm_model.specs.Machine.{Limits, RecRow, RealmRow, Cell, Machine, Seen, blank, cell_at, seen, page_of}
+use Rattle.realm_model.specs.Rows.{with_ram}
+use Rattle.realm_model.specs.Machine.{Limits, RecRow, RealmRow, Cell, Seen, cell_at, seen, page_of}
 use Rattle.realm_model.specs.Act.{named, reverse_of, is_reverse, is_paired}
-use Rattle.realm_model.specs.Update.{Outcome, Update, Put, PutByte}
+use Rattle.realm_model.specs.Update.{Outcome, Update}
 use Rattle.realm_model.specs.Measurement.{measurement_after, ripas_event}
 use Rattle.realm_model.specs.Outcome.{outcome_of}
-use Rattle.realm_model.specs.World.{World, is_leased_to, is_lease, updated, updated_all, realm_from, realm_of}
+use Rattle.realm_model.specs.World.{World, updated, updated_all, realm_of}
+use Rattle.realm_model.specs.Step.{step, after_outcome, is_allowed}
+use Rattle.realm_model.specs.Undoing.{by}
 use Rattle.realm_model.proofs.Tests.{guarded}
-
--- ---- finite maps
-
-pub equal : (o : Ordering) → is_eq o ≡ true → o ≡ Equal
-equal Less e = cc
-equal Equal e = refl
-equal Greater e = cc
-
-pub place_total : IsTotalOrder place_cmp
-place_total = then_total (on_total (λ p. p.0) nat_cmp_total) (on_total (λ p. p.1) nat_cmp_total)
-
-module _ {K X Y : Type 0} {R : K → K → Ordering} (total : IsTotalOrder R) (f : X → Y) where
-  -- a value that looks the same, put in its place
-  pub same_insert : (m n : FinMap R X) (k : K) (x y : X) → get m k ≡ Some x → f x ≡ f y → ((q : K) → option_map f (get m q) ≡ option_map f (get n q))
-      → (q : K) → option_map f (get m q) ≡ option_map f (get (insert n k y) q)
-  same_insert m n k x y there alike same q =
-      elim (eq_by_cmp R q k) as (λ t. eq_by_cmp R q k ≡ t → option_map f (get m q) ≡ option_map f (cond t (Some y) (get n q))) [
-        | true ↦ λ e. ap (option_map f) (sym (get_tied total m q k (equal (R q k) e)) ∙ there) ∙ ap Some alike
-        | false ↦ λ e. same q
-      ] refl ∙ sym (ap (option_map f) (get-insert total n k y q))
-
--- ---- rows that become RAM
-
-pub same_rows : (rows : Rows) (ipa n : ℕ) → all_rows is_unassigned rows 3 ipa n ≡ true → (q : ℕ × ℕ) → option_map mapping_of_row (get rows q) ≡ option_map mapping_of_row (get (put_rows as_ram rows 3 ipa n) q)
-unfolding all_rows put_rows
-same_rows rows ipa zero h q = refl
-same_rows rows ipa (suc n) h q =
-    let both = and_parts _ _ h in
-    let place : ℕ × ℕ = (3, ipa + n * covered_count 3) in
-    row_put place both.0 (same_rows rows ipa n both.1)
-  where
-    row_put : (place : ℕ × ℕ) → elim (get rows place) [ Some row ↦ is_unassigned row | None ↦ false ] ≡ true
-        → ((q : ℕ × ℕ) → option_map mapping_of_row (get rows q) ≡ option_map mapping_of_row (get (put_rows as_ram rows 3 ipa n) q))
-        → option_map mapping_of_row (get rows q) ≡ option_map mapping_of_row (get (insert (put_rows as_ram rows 3 ipa n) place (as_ram (get rows place))) q)
-    row_put place there same =
-        elim (get rows place) as (λ o. get rows place ≡ o → elim o [ Some row ↦ is_unassigned row | None ↦ false ] ≡ true
-            → option_map mapping_of_row (get rows q) ≡ option_map mapping_of_row (get (insert (put_rows as_ram rows 3 ipa n) place (as_ram (get rows place))) q)) [
-          | Some row ↦ λ e t. same_insert place_total mapping_of_row rows (put_rows as_ram rows 3 ipa n) place row (as_ram (get rows place)) e (ap (λ o. mapping_of_row (as_ram o)) (sym e)) same q
-          | None ↦ λ e t. cc
-        ] refl there
-
--- ---- the realm of a build, in its place
-
-abbrev pub IsAt : Machine → Option Seen → Type 0
-IsAt m None = Unit {0}
-IsAt m (Some rd) = cell_at m rd.number ≡ rd.cell
-
-IsAt-realm_from : (b : ℕ) (leases : List (Option ℕ)) (front machine : Machine) → IsAt (front ++ machine) (realm_from b (length front) leases machine)
-unfolding realm_from
-IsAt-realm_from b [] front machine = tt
-IsAt-realm_from b (l ∷ leases) front [] = tt
-IsAt-realm_from b (l ∷ leases) front (c ∷ machine) =
-    elim (is_lease l (Some b) && is_some c.descriptor) as (λ t. IsAt (front ++ c ∷ machine) (cond t (Some (record { number = length front; cell = c })) (realm_from b (suc (length front)) leases machine))) [
-      | true ↦ get_or_at front c machine blank (length front) refl
-      | false ↦
-          let long : length (front ++ c ∷ []) ≡ suc (length front) = simp length-append (omega arith) in
-          subst (λ n. IsAt (front ++ c ∷ machine) (realm_from b n leases machine)) long
-            (subst (λ m. IsAt m (realm_from b (length (front ++ c ∷ [])) leases machine)) (append_assoc front (c ∷ []) machine) (IsAt-realm_from b leases (front ++ c ∷ []) machine))
-    ]
-
-pub IsAt-realm_of : (b : ℕ) (w : World) → IsAt w.machine (realm_of b w)
-IsAt-realm_of b w = IsAt-realm_from b w.leases [] w.machine
-
--- ---- acts
+use Rattle.realm_model.proofs.RealmOf.{IsAt, IsAt-realm_of}
+use Rattle.realm_model.proofs.Outcomes.{Yields, Yields-Ok, Yields-with_rec, Yields-with_realm, Yields-with_end, Yields-check, Yields-Err, Yields-with_granule}
+use Rattle.realm_model.proofs.OwnsSame.{own_updated, descriptor_itself, IsMild, own_itself}
+use Rattle.realm_model.proofs.Rows.{same_rows}
+use Rattle.realm_model.proofs.Maps.{same_insert}
+use Rattle.realm_model.specs.Ownership.{OwnsSame, SameRealm, SameCell, SameDescriptor, granules_of_rec}
 
 abbrev pub AreMild : World → List Update → Type 0
 AreMild w [] = Unit {0}
@@ -114,7 +51,7 @@ module _ (limits : Limits) (w : World) where
       → SameCell (cell_at w.machine rd.number) (record rd.cell { descriptor = Some (record r { recs = insert r.recs n new }) })
   rec_put rd r n rec new at is there alike =
       realm_put rd r (record r { recs = insert r.recs n new }) at is
-        (record { vmid = refl; root = refl; recs = same_insert nat_cmp_total granules_of_rec r.recs r.recs n rec new there alike (λ q. refl); rows = λ q. refl })
+      (record { vmid = refl; root = refl; recs = same_insert nat_cmp_total granules_of_rec r.recs r.recs n rec new there alike (λ q. refl); rows = λ q. refl })
 
   bytes_put : (c : Cell) (bytes : List ℕ) → SameCell c (record c { bytes = bytes })
   bytes_put c bytes = record { state = refl; realm = refl; descriptor = descriptor_itself c.descriptor }
@@ -153,3 +90,13 @@ module _ (limits : Limits) (w : World) where
   mild (UnData g ipa) realm p r at = cc
   mild (Rec g aux n) realm p r at = cc
   mild (UnRec g aux n) realm p r at = cc
+
+after_mild : (b : ℕ) (o : Outcome) (w v : World) → Yields (AreMild w) o → after_outcome b o w ≡ Some v → OwnsSame w v
+after_mild b (Ok us) w v yields e = own_updated_all b us w v (yields.where_ok us refl) e
+after_mild b (Err rmi) w v yields e = cc
+
+pub own_step : (limits : Limits) (b : ℕ) (w v : World) (act : Act) → is_paired act ≡ false → is_reverse act ≡ false → step limits w (by b act) ≡ Some v → OwnsSame w v
+unfolding step
+own_step limits b w v act p r s =
+    after_mild b (outcome_of limits act (realm_of b w) (map (seen w.machine) (named act))) w v
+    (mild limits w act (realm_of b w) p r (IsAt-realm_of b w)) (guarded (is_allowed limits w (by b act)) _ v s).1

@@ -1,15 +1,17 @@
--- What a realm points to: each granule by one pointer, and in the state that goes with it.
-use Rattle.std.specs.Prelude.{◌≡◌, ℕ, List, Option, Some, None, option_map, slice_get}
+-- How a realm names its granules, and that both sides agree: each granule that it names is in the state that goes with
+-- that and belongs to it, none is named twice, and no other granule is in such a state.
+use Rattle.std.specs.Prelude.{◌≡◌, ℕ, List, Bool, true, false, Option, Some, None, option_map, slice_get}
 use Rattle.std.specs.FinMap.{get}
 use Rattle.realm_model.specs.declared.states.GranuleState.{GranuleState}
-use Rattle.realm_model.specs.declared.states.GranuleState.TheVariants.{Rec as InRec, RecAux, Data as InData, Rtt as InRtt}
+use Rattle.realm_model.specs.declared.states.GranuleState.TheVariants.{Undelegated, Delegated, Rd, Rec as InRec, RecAux, Data as InData, Rtt as InRtt}
 use Rattle.realm_model.specs.declared.states.Hipas.{Hipas}
 use Rattle.realm_model.specs.declared.states.Hipas.TheVariants.{Unassigned, Assigned, Table}
-use Rattle.realm_model.specs.Machine.{RecRow, RealmRow, Cell, cell_at}
+use Rattle.realm_model.specs.Machine.{RealmRow, Cell, cell_at}
 use Rattle.realm_model.specs.Ownership.{granules_of_rec}
 use Rattle.realm_model.specs.Sound.{look}
 use Rattle.realm_model.specs.World.{World, part_of}
 
+-- A role that a granule can have in a realm: its root table, what a row leads to, a REC, or an auxiliary of a REC.
 pub data Role : Type 0 where
   AsRoot : Role
   AtRow : (place : ℕ × ℕ) → Role
@@ -29,17 +31,34 @@ abbrev pub aux_target : Option (ℕ × List ℕ) → ℕ → Option (ℕ × Gran
 aux_target None index = None
 aux_target (Some rec) index = option_map (λ g. (g, RecAux)) (slice_get rec.1 index)
 
--- the granule that a pointer of the realm names, and the state that the granule is in
+-- the granule that a realm has in a role, and the state that goes with the role
 abbrev pub target : RealmRow → Role → Option (ℕ × GranuleState)
 target realm AsRoot = Some (realm.root, InRtt)
 target realm (AtRow place) = row_target (look realm.rows place)
 target realm (AsRec number) = option_map (λ rec. (rec.0, InRec)) (option_map granules_of_rec (get realm.recs number))
 target realm (AsAux number index) = aux_target (option_map granules_of_rec (get realm.recs number)) index
 
-pub record IsPointed (cells : ℕ → Cell) : Type 0 where
-  pub roles : ℕ → Role
-  pub points : (rd : ℕ) (realm : RealmRow) → (cells rd).descriptor ≡ Some realm → (p : Role) (to : ℕ × GranuleState) → target realm p ≡ Some to
-      → ((cells to.0).state ≡ to.1) × (roles to.0 ≡ p)
+-- the states that go with roles
+abbrev pub is_role_state : GranuleState → Bool
+is_role_state Undelegated = false
+is_role_state Delegated = false
+is_role_state Rd = false
+is_role_state _ = true
 
-abbrev pub IsPointedFor : ℕ → World → Type 0
-IsPointedFor build world = IsPointed (λ granule. cell_at (part_of world build).machine granule)
+-- the granule has a role in a realm
+pub record HasRole (cells : ℕ → Cell) (granule : ℕ) : Type 0 where
+  pub rd : ℕ
+  pub realm : RealmRow
+  pub there : (cells rd).descriptor ≡ Some realm
+  pub role : Role
+  pub named : target realm role ≡ Some (granule, (cells granule).state)
+
+pub record IsLinked (cells : ℕ → Cell) : Type 0 where
+  pub roles : ℕ → Role
+  pub names : (rd : ℕ) (realm : RealmRow) → (cells rd).descriptor ≡ Some realm → (role : Role) (to : ℕ × GranuleState) → target realm role ≡ Some to
+      → ((cells to.0).state ≡ to.1) × ((cells to.0).realm ≡ Some rd) × (roles to.0 ≡ role)
+  pub named : (granule : ℕ) → is_role_state (cells granule).state ≡ true → HasRole cells granule
+
+-- of the part of a build
+abbrev pub IsLinkedFor : ℕ → World → Type 0
+IsLinkedFor build world = IsLinked (λ granule. cell_at (part_of world build).machine granule)

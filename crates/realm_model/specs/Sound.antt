@@ -1,11 +1,11 @@
 -- What every reached world keeps of the part of a build.
-use Rattle.std.specs.Prelude.{◌≡◌, ℕ, ◌-◌, ◌<◌, ◌≤◌, ◌==◌, ◌||◌, Bool, true, false, Option, Some, None, is_some, option_map}
+use Rattle.std.specs.Prelude.{◌≡◌, ℕ, ◌-◌, ◌^◌, ◌<◌, ◌≤◌, ◌==◌, ◌||◌, Bool, true, false, Option, Some, None, is_some, option_map}
 use Rattle.std.specs.FinMap.{get}
 use Rattle.realm_model.specs.declared.states.GranuleState.{GranuleState}
 use Rattle.realm_model.specs.declared.states.GranuleState.TheVariants.{Undelegated, Delegated, Rd}
 use Rattle.realm_model.specs.declared.states.Hipas.{Hipas}
 use Rattle.realm_model.specs.declared.states.Hipas.TheVariants.{Unassigned, Assigned, Table}
-use Rattle.realm_model.specs.Rows.{Row, Rows}
+use Rattle.realm_model.specs.Rows.{Rows}
 use Rattle.granule_addr.specs.Ipa.{first_covered}
 use Rattle.realm_model.specs.Machine.{RecRow, RealmRow, Cell, cell_at}
 use Rattle.realm_model.specs.Ownership.{mapping_of_row}
@@ -32,8 +32,16 @@ is_table_kind (Some row) = elim row.0 [ Unassigned ↦ false | Assigned ↦ fals
 abbrev pub has_table : (ℕ × ℕ → Option (Hipas × Option ℕ)) → ℕ × ℕ → Bool
 has_table rows place = place.0 == 1 || is_table_kind (rows (place.0 - 1, first_covered (place.0 - 1) place.1))
 
+-- the place of a row: of level 1 to 3, at the first IPA granule that it covers, inside an address space of 39 bits
+pub record IsPlace (place : ℕ × ℕ) : Type 0 where
+  pub least : 1 ≤ place.0
+  pub most : place.0 ≤ 3
+  pub first : first_covered place.0 place.1 ≡ place.1
+  pub inside : place.1 < 2 ^ 27
+
 -- an UNASSIGNED row has no granule, an ASSIGNED one is of level 3, and above each row but the root's is a table
 pub record IsSoundRows (rows : ℕ × ℕ → Option (Hipas × Option ℕ)) : Type 0 where
+  pub placed : (place : ℕ × ℕ) → is_some (rows place) ≡ true → IsPlace place
   pub shaped : (place : ℕ × ℕ) → IsShaped place.0 (rows place)
   pub below : (place : ℕ × ℕ) → is_some (rows place) ≡ true → has_table rows place ≡ true
 

@@ -1,15 +1,14 @@
 -- What can be undone, and all of it undone.
-use Rattle.std.specs.Prelude.{◌≡◌, ℕ, List, [], ◌∷◌, ◌++◌, map, reverse, Bool, true, false, not, Option, Some, None}
+use Rattle.std.specs.Prelude.{◌≡◌, ℕ, List, [], ◌∷◌, ◌++◌, map, reverse, Bool, false, Option, Some, None}
 use Rattle.std.specs.List.{last_or}
 use Rattle.std.specs.FinMap.{get}
 use Rattle.realm_model.specs.declared.act.Act.{Act}
 use Rattle.realm_model.specs.declared.act.Act.TheVariants.{Rec}
 use Rattle.realm_model.specs.declared.act.Event.{Event}
-use Rattle.realm_model.specs.Machine.{Limits, Seen, RecRow}
-use Rattle.realm_model.specs.Command.Check.{is_ready}
+use Rattle.realm_model.specs.Machine.{Limits, Seen}
 use Rattle.realm_model.specs.Outcome.{realm_is}
 use Rattle.realm_model.specs.Act.{reverse_of}
-use Rattle.realm_model.specs.World.{World, realm_of, without}
+use Rattle.realm_model.specs.World.{World, realm_of}
 use Rattle.realm_model.specs.Step.{step}
 use Rattle.realm_model.specs.Room.{is_rec_running}
 use Rattle.realm_model.specs.Ownership.{OwnsSame}

@@ -1,4 +1,6 @@
 //! Events: what the accepted commands of builds did.
+ghost use Rattle.std.specs.Prelude.{◌≡◌};
+
 use arrayvec::ArrayVec;
 use granule_addr::{BuildId, Gran, IpaGran, Level, Order, PageOff, RecNo, Vmid};
 
@@ -7,45 +9,108 @@ use granule_addr::{BuildId, Gran, IpaGran, Level, Order, PageOff, RecNo, Vmid};
 #[derive(Debug, PartialEq, Eq, Drop)]
 pub enum Act {
     /// A block of free pages is leased.
-    Take { order: Order, first: Gran },
+    Take {
+        order: Order,
+        first: Gran,
+    },
     /// The block is given back, cleared.
-    UnTake { order: Order, first: Gran },
+    UnTake {
+        order: Order,
+        first: Gran,
+    },
     /// The host writes one value to all bytes of a page.
-    Fill { granule: Gran, value: u8 },
+    Fill {
+        granule: Gran,
+        value: u8,
+    },
     /// The host reads a byte.
-    Peek { granule: Gran, offset: PageOff, byte: u8 },
+    Peek {
+        granule: Gran,
+        offset: PageOff,
+        byte: u8,
+    },
     /// RMI_GRANULE_DELEGATE
-    Delegate { granule: Gran },
+    Delegate {
+        granule: Gran,
+    },
     /// RMI_GRANULE_UNDELEGATE
-    Undelegate { granule: Gran },
+    Undelegate {
+        granule: Gran,
+    },
     /// RMI_REALM_CREATE
-    Realm { rd: Gran, root: Gran, vmid: Vmid },
+    Realm {
+        rd: Gran,
+        root: Gran,
+        vmid: Vmid,
+    },
     /// RMI_REALM_DESTROY
-    UnRealm { rd: Gran, root: Gran, vmid: Vmid },
+    UnRealm {
+        rd: Gran,
+        root: Gran,
+        vmid: Vmid,
+    },
     /// RMI_REALM_ACTIVATE
     Activate,
     /// RMI_RTT_CREATE
-    Rtt { granule: Gran, ipa: IpaGran, level: Level },
+    Rtt {
+        granule: Gran,
+        ipa: IpaGran,
+        level: Level,
+    },
     /// RMI_RTT_DESTROY
-    UnRtt { granule: Gran, ipa: IpaGran, level: Level },
+    UnRtt {
+        granule: Gran,
+        ipa: IpaGran,
+        level: Level,
+    },
     /// RMI_RTT_INIT_RIPAS, of a number of pages
-    Ripas { ipa: IpaGran, count: u16 },
+    Ripas {
+        ipa: IpaGran,
+        count: u16,
+    },
     /// RMI_DATA_CREATE
-    Data { granule: Gran, ipa: IpaGran, source: Gran },
+    Data {
+        granule: Gran,
+        ipa: IpaGran,
+        source: Gran,
+    },
     /// RMI_DATA_CREATE_UNKNOWN
-    Unknown { granule: Gran, ipa: IpaGran },
+    Unknown {
+        granule: Gran,
+        ipa: IpaGran,
+    },
     /// RMI_DATA_DESTROY
-    UnData { granule: Gran, ipa: IpaGran },
+    UnData {
+        granule: Gran,
+        ipa: IpaGran,
+    },
     /// RMI_REC_CREATE
-    Rec { granule: Gran, auxiliaries: ArrayVec<Gran, 16>, number: RecNo },
+    Rec {
+        granule: Gran,
+        auxiliaries: ArrayVec<Gran, 16>,
+        number: RecNo,
+    },
     /// RMI_REC_DESTROY
-    UnRec { granule: Gran, auxiliaries: ArrayVec<Gran, 16>, number: RecNo },
+    UnRec {
+        granule: Gran,
+        auxiliaries: ArrayVec<Gran, 16>,
+        number: RecNo,
+    },
     /// RMI_REC_ENTER, up to where the REC runs
-    Enter { number: RecNo },
+    Enter {
+        number: RecNo,
+    },
     /// The REC stops running.
-    Exit { number: RecNo },
+    Exit {
+        number: RecNo,
+    },
     /// A running REC writes a byte of its realm's memory.
-    Poke { number: RecNo, ipa: IpaGran, offset: PageOff, value: u8 },
+    Poke {
+        number: RecNo,
+        ipa: IpaGran,
+        offset: PageOff,
+        value: u8,
+    },
 }
 
 /// An act of a build.
@@ -53,4 +118,164 @@ pub enum Act {
 pub struct Event {
     pub build: BuildId,
     pub act: Act,
+}
+
+/// The same granules again. No memory is taken.
+pub fn granules_again(granules: &ArrayVec<Gran, 16>) -> ArrayVec<Gran, 16>
+    ensures { result ≡ granules.now }
+{
+    let mut again = ArrayVec::new();
+    for granule in granules.as_slice() {
+        again.push(*granule);
+    }
+    again
+}
+
+impl Act {
+    ghost use Rattle.realm_model.specs.Act as acts;
+
+    /// The same act again. No memory is taken.
+    pub fn again(&self) -> Act
+        ensures { result ≡ self.now }
+    {
+        match self {
+            Act::Take { order, first } => Act::Take {
+                order: *order,
+                first: *first,
+            },
+            Act::UnTake { order, first } => Act::UnTake {
+                order: *order,
+                first: *first,
+            },
+            Act::Fill { granule, value } => Act::Fill {
+                granule: *granule,
+                value: *value,
+            },
+            Act::Peek {
+                granule,
+                offset,
+                byte,
+            } => Act::Peek {
+                granule: *granule,
+                offset: *offset,
+                byte: *byte,
+            },
+            Act::Delegate { granule } => Act::Delegate { granule: *granule },
+            Act::Undelegate { granule } => Act::Undelegate { granule: *granule },
+            Act::Realm { rd, root, vmid } => Act::Realm {
+                rd: *rd,
+                root: *root,
+                vmid: *vmid,
+            },
+            Act::UnRealm { rd, root, vmid } => Act::UnRealm {
+                rd: *rd,
+                root: *root,
+                vmid: *vmid,
+            },
+            Act::Activate => Act::Activate,
+            Act::Rtt {
+                granule,
+                ipa,
+                level,
+            } => Act::Rtt {
+                granule: *granule,
+                ipa: *ipa,
+                level: *level,
+            },
+            Act::UnRtt {
+                granule,
+                ipa,
+                level,
+            } => Act::UnRtt {
+                granule: *granule,
+                ipa: *ipa,
+                level: *level,
+            },
+            Act::Ripas { ipa, count } => Act::Ripas {
+                ipa: *ipa,
+                count: *count,
+            },
+            Act::Data {
+                granule,
+                ipa,
+                source,
+            } => Act::Data {
+                granule: *granule,
+                ipa: *ipa,
+                source: *source,
+            },
+            Act::Unknown { granule, ipa } => Act::Unknown {
+                granule: *granule,
+                ipa: *ipa,
+            },
+            Act::UnData { granule, ipa } => Act::UnData {
+                granule: *granule,
+                ipa: *ipa,
+            },
+            Act::Rec {
+                granule,
+                auxiliaries,
+                number,
+            } => Act::Rec {
+                granule: *granule,
+                auxiliaries: granules_again(auxiliaries),
+                number: *number,
+            },
+            Act::UnRec {
+                granule,
+                auxiliaries,
+                number,
+            } => Act::UnRec {
+                granule: *granule,
+                auxiliaries: granules_again(auxiliaries),
+                number: *number,
+            },
+            Act::Enter { number } => Act::Enter { number: *number },
+            Act::Exit { number } => Act::Exit { number: *number },
+            Act::Poke {
+                number,
+                ipa,
+                offset,
+                value,
+            } => Act::Poke {
+                number: *number,
+                ipa: *ipa,
+                offset: *offset,
+                value: *value,
+            },
+        }
+    }
+
+    /// Whether the act has a reverse.
+    #[tactic(auto, unfolding(crate::specs::Act::reverse_of))]
+    pub fn is_paired(&self) -> bool
+        ensures { result ≡ acts.is_paired self.now }
+    {
+        matches!(
+            self,
+            Act::Take { .. }
+                | Act::Delegate { .. }
+                | Act::Realm { .. }
+                | Act::Rtt { .. }
+                | Act::Data { .. }
+                | Act::Unknown { .. }
+                | Act::Rec { .. }
+        )
+    }
+
+    /// Whether the act is the reverse of another.
+    #[tactic(auto, unfolding(crate::specs::Act::is_reverse))]
+    pub fn is_reverse(&self) -> bool
+        ensures { result ≡ acts.is_reverse self.now }
+    {
+        matches!(
+            self,
+            Act::UnTake { .. }
+                | Act::Undelegate { .. }
+                | Act::UnRealm { .. }
+                | Act::UnRtt { .. }
+                | Act::UnData { .. }
+                | Act::UnRec { .. }
+        )
+    }
 }

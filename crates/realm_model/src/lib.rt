@@ -10,6 +10,6 @@ pub mod law;
 mod rmi;
 mod states;
 
-pub use act::{Act, Event};
+pub use act::{Act, Event, granules_again};
 pub use rmi::{Rmi, Status};
 pub use states::{GranuleState, Hipas, RealmState, RecState, Ripas};

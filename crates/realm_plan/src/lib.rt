@@ -1,13 +1,22 @@
-// A library with one function.
+//! The plan of builds and the text of their turns: from bytes to a plan, and from answers to lines.
+//!
+//! Values to values: nothing here reads or writes a device. `Plan::from_bytes` gives the plan that the bytes are, or
+//! the one fault that `plan_of` names, and each line is appended exactly as `specs/Text.antt` has it.
 #![tactic(auto)]
 
-ghost use Rattle.std.specs.Prelude.{◌≡◌};
-ghost use Rattle.realm_plan.specs.Echo.{echo_of};
+mod answer;
+mod contents;
+mod fault;
+mod limits;
+mod lines;
+mod number;
+mod plan;
+mod step;
+#[cfg(test)]
+mod tests;
+mod turns;
 
-// The `ensures` clause is the contract: what `echo` returns is `echo_of` of its argument, a definition
-// in `specs/Echo.antt`, which a caller's clause can cite too.
-pub fn echo(x: usize) -> usize
-    ensures { result ≡ echo_of x }
-{
-    x
-}
+pub use fault::{PlanError, PlanFault};
+pub use lines::{push_free, push_idle, push_page, push_turn};
+pub use plan::Plan;
+pub use step::step_from_text;

@@ -3,3 +3,4 @@ pub mod Machines
 pub mod Checks
 pub mod Granules
 pub mod Blocks
+pub mod Sums

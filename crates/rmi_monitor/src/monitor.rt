@@ -1,5 +1,5 @@
 //! The monitor, its memory, and blocks of pages.
-ghost use Rattle.std.specs.Prelude.{◌≡◌, ◌<◌, ◌≤◌, ◌↔◌, ℕ, Bool, true, List, length, filter, replicate, IsTrue, IfOk, IfErr, IfSome, IfNone};
+ghost use Rattle.std.specs.Prelude.{◌≡◌, ◌<◌, ◌≤◌, ◌↔◌, ℕ, Bool, true, List, length, filter, replicate, sum, IsTrue, IfOk, IfErr, IfSome, IfNone};
 ghost use Rattle.std.specs.Bool.{OnTrue, OnFalse};
 ghost use Rattle.page_arena.specs.Block.{IsFreeBlock};
 ghost use Rattle.page_arena.specs.Page.{zero_page};
@@ -114,4 +114,23 @@ impl<S: PageStore> Monitor<S> {
     {
         self.store.bytes(granule)
     }
+
+    /// The sum of the bytes of a granule; that of a table is 0.
+    pub fn byte_sum(&self, granule: Gran) -> u32
+        requires { granule < length self.now.machine }
+        ensures { result ≡ sum (cell_at self.now.machine granule).bytes }
+    {
+        match self.granules.state(granule) {
+            GranuleState::Rtt => 0,
+            _ => sum_of(self.store.bytes(granule)),
+        }
+    }
+}
+
+// The sum of the bytes of a page.
+fn sum_of(page: &[u8]) -> u32
+    requires { length page.now ≤ 4096 }
+    ensures { result ≡ sum page.now }
+{
+    page.iter().map(|byte| u32::from(*byte)).sum()
 }

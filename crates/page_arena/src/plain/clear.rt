@@ -10,7 +10,7 @@ pub fn zero_pages(alloc: Global, count: usize) -> Result<Vec<[u8; 4096]>, AllocE
     ensures { IfOk result (λ pages. pages.items ≡ replicate count zero_page) }
 {
     let mut pages = Vec::with_capacity(alloc, count)?;
-    for i in 0..count {
+    for _i in 0..count {
         pages.push([0; 4096])?;
     }
     Ok(pages)

@@ -12,7 +12,13 @@ use Rattle.realm_model.specs.Command.Check.{check, error_input, error_realm, is_
 -- a realm that has just been made
 unfoldable pub new_realm : ℕ → ℕ → RealmRow
 new_realm vmid root = record {
-  state = New; vmid = vmid; root = root; next = 0; measurement = zero_measurement; recs = empty; rows = root_rows
+  state = New;
+  vmid = vmid;
+  root = root;
+  next = 0;
+  measurement = zero_measurement;
+  recs = empty;
+  rows = root_rows;
 }
 
 -- Two DELEGATED granules become the RD and the root table of a new realm. RMM 1.0, RMI_REALM_CREATE.
@@ -21,18 +27,18 @@ abbrev pub realm_create : Limits → Seen → Seen → ℕ → Outcome
 realm_create limits rd root vmid =
     check (is_delegated rd && is_delegated root && not (rd.number == root.number) && nat_le 1 vmid && nat_le vmid limits.vmids) error_input
     (Ok (Put rd.number (record { state = Rd; realm = Some rd.number; bytes = zero_page; descriptor = Some (new_realm vmid root.number) })
-      ∷ Put root.number (held Rtt rd.number) ∷ []))
+    ∷ Put root.number (held Rtt rd.number) ∷ []))
 
 -- A NEW realm becomes ACTIVE. RMM 1.0, RMI_REALM_ACTIVATE.
 abbrev pub realm_activate : Seen → Outcome
 realm_activate rd =
     with_realm rd (λ realm.
-      check (is_new realm) error_realm
-      (Ok (put_realm rd (record realm { state = Active }) ∷ [])))
+    check (is_new realm) error_realm
+    (Ok (put_realm rd (record realm { state = Active }) ∷ [])))
 
 -- A realm with no REC and no table below its root is gone; its RD and root are DELEGATED. RMM 1.0, RMI_REALM_DESTROY.
 abbrev pub realm_destroy : Seen → Outcome
 realm_destroy rd =
     with_realm rd (λ realm.
-      check (len realm.recs == 0 && not (has_root_table realm.rows)) error_realm
-      (Ok (Put rd.number left ∷ Put realm.root left ∷ [])))
+    check (len realm.recs == 0 && not (has_root_table realm.rows)) error_realm
+    (Ok (Put rd.number left ∷ Put realm.root left ∷ [])))

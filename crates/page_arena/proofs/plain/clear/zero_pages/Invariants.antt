@@ -3,4 +3,4 @@ use Rattle.page_arena.specs.Page.{zero_page}
 use Rattle.page_arena.proofs.plain.clear.zero_pages.Given as goal
 
 abbrev pub invariant-loop-i : goal.invariant-loop-i
-invariant-loop-i l = l.pages.items ≡ replicate l.i zero_page
+invariant-loop-i l = l.pages.items ≡ replicate l._i zero_page

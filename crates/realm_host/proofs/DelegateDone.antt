@@ -1,0 +1,119 @@
+-- A Delegate that passed its checks.
+use Rattle.std.proofs.Common.{◌≡◌, ℕ, ◌<◌, ◌≤◌, Bool, true, false, List, [], ◌∷◌, ◌++◌, length, Option, Some, None, Ok, Err, refl, sym, ap, ◌∙◌, subst}
+use Rattle.std.specs.Prelude.{slice_get}
+use Rattle.std.proofs.lemmas.List.Elements.{All-nil, All-cons}
+use Rattle.realm_model.specs.declared.act.Act.{Act}
+use Rattle.realm_model.specs.declared.act.Act.TheVariants.{Delegate}
+use Rattle.realm_model.specs.declared.rmi.Rmi.{Rmi as RmiAnswer}
+use Rattle.realm_model.specs.Machine.{Cell, Machine, Seen, seen, left}
+use Rattle.realm_model.specs.Update.{Update, Outcome, Put, machine_after_all, machine_after_command}
+use Rattle.realm_model.specs.Command.Check.{check, error_input, is_undelegated}
+use Rattle.realm_model.specs.Command.Granule.{granule_delegate}
+use Rattle.realm_model.specs.Act.{named, is_paired, is_reverse, reverse_of}
+use Rattle.realm_model.specs.Outcome.{outcome_of, fits}
+use Rattle.realm_model.specs.World.{World}
+use Rattle.realm_model.specs.Step.{step}
+use Rattle.realm_model.specs.History.{IsInTurn}
+use Rattle.realm_model.proofs.StepSays.{step_says}
+use Rattle.rmi_monitor.specs.View.{MonitorView, Answers, seen_in, after_command}
+use Rattle.realm_host.specs.declared.refusal.Refusal.TheVariants.{Rmi}
+use Rattle.realm_host.specs.declared.step.Cmd.TheVariants as cmd
+use Rattle.realm_host.specs.declared.step.Step.TheVariants.{Ask}
+use Rattle.realm_host.specs.View.{HostView, world_of, granule_of_page, event_by}
+use Rattle.realm_host.specs.Books.{BooksView, CanRecord, with_entry}
+use Rattle.realm_host.specs.Whole.{host_of, is_served, IsWhole}
+use Rattle.realm_host.specs.Refusals.{checked, no_build, journal_full, history_full, refusal_of}
+use Rattle.realm_host.specs.Answer.{IsAccepted}
+use Rattle.realm_host.proofs.Refused.{refused_with, IsDone, done_with}
+use Rattle.realm_host.proofs.Rooms.{in_turn, room_paired}
+use Rattle.realm_host.proofs.PageRefused.{delegate_by_monitor, delegate_not_refused}
+use Rattle.realm_host.proofs.PageDone.{check_done, there, is_leased, seen_same, pages_fit_after, whole_put, legal_put, grows_put}
+
+paired : (granule : ℕ) → is_paired (Delegate granule) ≡ true
+unfolding reverse_of
+paired granule = refl
+
+forward : (granule : ℕ) → is_reverse (Delegate granule) ≡ false
+unfolding is_reverse
+forward granule = refl
+
+module _ (monitor : MonitorView) (books : BooksView) (old : HostView) (view_is : host_of monitor books ≡ old) (whole : IsWhole monitor books)
+    (build page granule : ℕ) (there_ok : Ok tt ≡ checked (no_build old build)) (some_old : granule_of_page old build page ≡ Some granule)
+    (open_ok : Ok tt ≡ checked (journal_full old build)) (room_ok : Ok tt ≡ checked (history_full old build 2)) where
+  abbrev host : HostView
+  host = host_of monitor books
+
+  abbrev world : World
+  world = world_of host
+
+  abbrev outcome : Outcome
+  outcome = granule_delegate (seen_in monitor granule)
+
+  abbrev cell : Cell
+  cell = left
+
+  abbrev act : Act
+  act = Delegate granule
+
+  same_outcome : outcome ≡ granule_delegate (seen (world_of old).machine granule)
+  same_outcome =
+      ap granule_delegate (seen_same monitor books old view_is whole build page granule there_ok some_old)
+      ∙ ap (λ (h : HostView). granule_delegate (seen (world_of h).machine granule)) view_is
+
+  -- the monitor refuses
+  pub refused : (rmi : RmiAnswer) → Answers {A = Unit {0}} (Err rmi) outcome → refusal_of old build (Ask (cmd.Delegate page)) ≡ Some (Rmi rmi)
+  refused rmi answer =
+      delegate_by_monitor old build page there_ok granule some_old open_ok room_ok rmi (sym same_outcome ∙ refused_with (Unit {0}) rmi outcome answer)
+
+  pub same_after : (rmi : RmiAnswer) → Answers {A = Unit {0}} (Err rmi) outcome → (new : MonitorView) → new ≡ after_command outcome monitor → new ≡ monitor
+  same_after rmi answer new new_is = new_is ∙ ap (λ o. after_command o monitor) (refused_with (Unit {0}) rmi outcome answer)
+
+  -- the page is delegated
+  module _ (answer : Answers {A = Unit {0}} (Ok tt) outcome) where
+    done : outcome ≡ Ok (Put granule cell ∷ [])
+    done =
+        let told = done_with {A = Unit {0}} tt outcome answer in
+        told.outcome_is ∙ ap Ok (sym (check_done (is_undelegated (seen_in monitor granule)) error_input (Put granule cell ∷ []) told.updates told.outcome_is))
+
+    pub turn : IsInTurn books.history (event_by build act)
+    turn = in_turn books.history build act (forward granule)
+
+    stepped : step host.limits world (event_by build act) ≡ Some (record { machine = machine_after_command outcome monitor.machine; leases = world.leases })
+    unfolding named fits outcome_of
+    stepped = (step_says host.limits world (event_by build act) tt _).1 (record {
+      build = there monitor books old view_is whole build page granule there_ok some_old;
+      granules = All-cons (λ g. slice_get world.leases g ≡ Some (Some build)) granule []
+        (is_leased monitor books old view_is whole build page granule there_ok some_old) (All-nil (λ g. slice_get world.leases g ≡ Some (Some build)));
+      vmid = refl;
+      fields = refl;
+      updates = Put granule cell ∷ [];
+      outcome = ap granule_delegate (sym (seen_same monitor books old view_is whole build page granule there_ok some_old)) ∙ done;
+      machine = ap (λ o. machine_after_command o monitor.machine) done ∙ ap (machine_after_all (Put granule cell ∷ [])) whole.machine;
+      leases = refl;
+    })
+
+    bare : cell.descriptor ≡ None
+    bare = refl
+
+    serves : is_paired act ≡ true → is_served act ≡ true
+    serves is = refl
+
+    pub room : CanRecord books build act
+    room =
+        room_paired monitor books whole build act (paired granule)
+          (subst (λ (h : HostView). Ok tt ≡ checked (journal_full h build)) (sym view_is) open_ok)
+          (subst (λ (h : HostView). Ok tt ≡ checked (history_full h build 2)) (sym view_is) room_ok)
+          (pages_fit_after monitor books old view_is whole build page granule there_ok some_old act turn serves cell bare outcome done stepped)
+
+    module _ (new : MonitorView) (new_books : BooksView) (new_is : new ≡ after_command outcome monitor) (recorded : new_books ≡ with_entry books build act) where
+      pub whole_delegated : IsWhole new new_books
+      whole_delegated = whole_put monitor books old view_is whole build page granule there_ok some_old act turn serves cell bare outcome done stepped new new_books new_is recorded
+
+      pub accepted : IsAccepted old build (Ask (cmd.Delegate page)) (host_of new new_books)
+      accepted = record {
+        not_refused = delegate_not_refused old build page there_ok granule some_old open_ok room_ok (Put granule cell ∷ []) (sym same_outcome ∙ done);
+        act = act;
+        act_of = (granule, some_old, refl);
+        legal = legal_put monitor books old view_is whole build page granule there_ok some_old act turn serves cell bare outcome done stepped new new_books new_is recorded;
+        grows = grows_put monitor books old view_is whole build page granule there_ok some_old act turn serves cell bare outcome done stepped new new_books new_is recorded;
+      }

@@ -1,0 +1,31 @@
+-- One element at each place of a block.
+use Rattle.std.proofs.Common.{◌≡◌, ℕ, zero, suc, ◌+◌, ◌^◌, ◌<◌, ◌≤◌, ◌⊎◌, Bool, true, false, cond, List, [], ◌∷◌, length, map, set, get_or, refl, sym, ap, ◌∙◌, subst, arith, ⊎_elim}
+use Rattle.std.proofs.lemmas.List.{ext_get_or, map-set}
+use Rattle.page_arena.specs.Block.{with_run}
+use Rattle.page_arena.specs.Runs.{inside_or_outside, length-with_run, get_or-with_run_inside, get_or-with_run_outside}
+use Rattle.std.specs.List.{range_with_len}
+use Rattle.realm_model.proofs.Tests.{false_from}
+use Rattle.realm_model.specs.Act.{block}
+use Rattle.realm_model.specs.StepLaw.{set_each}
+use Rattle.realm_model.proofs.Lists.{is_in}
+use Rattle.realm_model.proofs.SetEach.{length-set_each, get_or-set_each}
+use Rattle.realm_host.proofs.Ranges.{in_range_from, range_in}
+
+out_of : (first count i : ℕ) → (i < first) ⊎ (first + count ≤ i) → is_in i (range_with_len first count) ≡ false
+out_of first count i outside = false_from (is_in i (range_with_len first count)) (λ here.
+    let between = range_in first count i here in
+    ⊎_elim (λ below. absurd (omega (arith, between.low))) (λ above. absurd (omega (arith, between.high))) outside)
+
+pub map-set_each : {X Y : Type 0} (f : X → Y) (x : X) (places : List ℕ) (xs : List X) → map f (set_each x places xs) ≡ set_each (f x) places (map f xs)
+unfolding set_each
+map-set_each f x [] xs = refl
+map-set_each f x (p ∷ places) xs = map-set_each f x places (set xs p x) ∙ ap (set_each (f x) places) (map-set f xs p x)
+
+pub set_each-block : {X : Type 0} (x : X) (order first : ℕ) (xs : List X) → first + 2 ^ order ≤ length xs → set_each x (block order first) xs ≡ with_run xs first (2 ^ order) x
+set_each-block x order first xs fits =
+    ext_get_or x _ _ (length-set_each x (block order first) xs ∙ sym (length-with_run xs first (2 ^ order) x fits)) (λ i lt.
+      get_or-set_each x (block order first) xs i
+      ∙ ⊎_elim
+        (λ h. ap (λ t. cond t x (get_or xs i x)) (in_range_from first (2 ^ order) i h.0 h.1) ∙ sym (get_or-with_run_inside xs first (2 ^ order) x fits i x h.0 h.1))
+        (λ h. ap (λ t. cond t x (get_or xs i x)) (out_of first (2 ^ order) i h) ∙ sym (get_or-with_run_outside xs first (2 ^ order) x fits i x h))
+        (inside_or_outside first (2 ^ order) i))

@@ -1,0 +1,111 @@
+//! The host, its memory, and what can be read of it.
+ghost use Rattle.std.specs.Prelude.{◌≡◌, ◌<◌, ℕ, [], length, replicate, true, IfOk, IfErr, IfSome, option_map, sum};
+ghost use Rattle.page_arena.specs.Page.{zero_page};
+ghost use Rattle.realm_model.specs.Machine.{cell_at};
+ghost use Rattle.realm_model.specs.World.{free_set};
+ghost use Rattle.realm_model.specs.History.{LeavesNoTrace};
+ghost use Rattle.realm_host.specs.View.{booted, world_of, pages_of_build, granule_of_page};
+
+use crate::Settings;
+use crate::books::Books;
+use granule_addr::{BuildId, Gran};
+use page_arena::PageStore;
+use realm_model::{Event, GranuleState};
+use rmi_monitor::Monitor;
+use std::alloc::{AllocError, Global};
+use std::marker::Model;
+
+/// A host of builds over any store of pages. All its memory is taken when it is booted.
+#[derive(Drop)]
+pub struct Host<S: PageStore> {
+    pub(crate) monitor: Monitor<S>,
+    pub(crate) books: Books,
+}
+
+impl<S: PageStore> Model for Host<S> {
+    ghost use Rattle.realm_host.specs.View.{HostView};
+    ghost use Rattle.realm_host.specs.Codes.{host_code};
+    ghost use Rattle.realm_host.specs.Whole.{host_of, IsWhole};
+
+    ghost Value = { HostView };
+
+    ghost coded = { host_code };
+
+    ghost view = { λ h. host_of h.monitor h.books };
+
+    ghost invariant = { λ h. IsWhole h.monitor h.books };
+}
+
+impl<S: PageStore> Host<S> {
+    /// A host over a store whose pages are all free and zero. Where there is no memory, the store comes back.
+    pub fn boot(alloc: Global, settings: Settings, store: S) -> Result<Host<S>, (AllocError, S)>
+        requires zero { S.page_bytes store ≡ replicate (length (S.page_bytes store)) zero_page }
+        requires free { S.free_flags store ≡ replicate (length (S.page_bytes store)) true }
+        ensures ok { IfOk result (λ h. h ≡ booted settings (length (S.page_bytes store))) }
+        ensures err { IfErr result (λ e. e.1 ≡ store) }
+    {
+        let books = match Books::build(alloc, settings.builds, store.pages(), settings.history) {
+            Ok(books) => books,
+            Err(error) => return Err((error, store)),
+        };
+        match Monitor::build(alloc, settings.vmids, settings.aux, store) {
+            Ok(monitor) => Ok(Host { monitor, books }),
+            Err(handed_back) => Err(handed_back),
+        }
+    }
+
+    /// The accepted commands of all builds, in their order. Each build can be left out of them: what is left is a legal
+    /// history too, and leads to the world without that build.
+    pub fn history(&self) -> &[Event]
+        ensures events { result.now ≡ self.now.history }
+        ensures no_trace { (build : ℕ) → LeavesNoTrace self.now.limits self.now.history build }
+    {
+        self.books.history()
+    }
+
+    /// How many pages a build has; 0 where there is no such build.
+    pub fn page_count(&self, build: BuildId) -> u16
+        ensures { result ≡ length (pages_of_build self.now build) }
+    {
+        if self.books.has_build(build) {
+            self.books.page_count(build)
+        } else {
+            0
+        }
+    }
+
+    /// The state of a build's page; None where there is no such page.
+    pub fn page_state(&self, build: BuildId, page: u16) -> Option<GranuleState>
+        ensures { result ≡ option_map (λ g. (cell_at (world_of self.now).machine g).state) (granule_of_page self.now build page) }
+    {
+        let granule = self.granule(build, page)?;
+        Some(self.monitor.state(granule))
+    }
+
+    /// The sum of the bytes of a build's page; None where there is no such page. A table counts as zero.
+    pub fn page_sum(&self, build: BuildId, page: u16) -> Option<u32>
+        ensures { result ≡ option_map (λ g. sum (cell_at (world_of self.now).machine g).bytes) (granule_of_page self.now build page) }
+    {
+        let granule = self.granule(build, page)?;
+        Some(self.monitor.byte_sum(granule))
+    }
+
+    /// How many pages nobody leases.
+    pub fn free_count(&self) -> u16
+        ensures { result ≡ length (free_set (world_of self.now)) }
+    {
+        self.monitor.free_count()
+    }
+
+    // The granule of a build's page.
+    fn granule(&self, build: BuildId, page: u16) -> Option<Gran>
+        ensures value { result ≡ granule_of_page self.now build page }
+        ensures inside { IfSome result (λ g. g < self.now.limits.pages) }
+    {
+        if self.books.has_build(build) {
+            self.books.page(build, page)
+        } else {
+            None
+        }
+    }
+}

@@ -1,0 +1,36 @@
+//! How large a host is.
+ghost use Rattle.std.specs.Prelude.{◌≡◌, ◌≤◌, ◌↔◌, IsSome, IfSome};
+
+/// The numbers that a host is booted with: VMIDs, auxiliary granules of each REC, events of each build in the history,
+/// and builds.
+#[derive(Clone, Copy, Debug, PartialEq, Eq)]
+pub struct Settings {
+    pub vmids: u8,
+    pub aux: u8,
+    pub history: u16,
+    pub builds: u8,
+    ghost some_vmid: { 1 ≤ vmids },
+    ghost few_auxiliaries: { aux ≤ 16 },
+    ghost some_history: { 16 ≤ history },
+    ghost short_history: { history ≤ 16384 },
+    ghost some_build: { 1 ≤ builds },
+    ghost few_builds: { builds ≤ 8 },
+}
+
+impl Settings {
+    ghost use Rattle.realm_host.specs.Settings.{AreSettings};
+
+    /// The settings of these numbers, where each is in its range: 1 to 255 VMIDs, 0 to 16 auxiliaries, 16 to 16,384
+    /// events, 1 to 8 builds.
+    pub fn new(vmids: u8, aux: u8, history: u16, builds: u8) -> Option<Settings>
+        ensures valid { IsSome result ↔ AreSettings vmids aux history builds }
+        ensures value { IfSome result (λ s. (s.vmids ≡ vmids) × (s.aux ≡ aux) × (s.history ≡ history) × (s.builds ≡ builds)) }
+    {
+        let are_settings = vmids >= 1 && aux <= 16 && history >= 16 && history <= 16_384 && builds >= 1 && builds <= 8;
+        if are_settings {
+            Some(Settings { vmids, aux, history, builds })
+        } else {
+            None
+        }
+    }
+}

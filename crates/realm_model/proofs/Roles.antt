@@ -1,0 +1,109 @@
+-- Realms and the granules that they name, when cells change.
+use Rattle.std.proofs.Common.{◌≡◌, ℕ, true, false, ◌⊎◌, inl, inr, List, Option, Some, None, refl, sym, ap, ◌∙◌}
+use Rattle.std.specs.Prelude.{option_map, slice_get}
+use Rattle.std.specs.FinMap.{get}
+use Rattle.std.proofs.lemmas.Option.{same_Some}
+use Rattle.realm_model.specs.declared.states.GranuleState.{GranuleState}
+use Rattle.realm_model.specs.declared.states.GranuleState.TheVariants.{Undelegated, Delegated, Rd, Rec as InRec, RecAux, Data as InData, Rtt as InRtt}
+use Rattle.realm_model.specs.declared.states.Hipas.{Hipas}
+use Rattle.realm_model.specs.declared.states.Hipas.TheVariants.{Unassigned, Assigned, Table}
+use Rattle.realm_model.specs.Machine.{RealmRow, Cell}
+use Rattle.realm_model.specs.Ownership.{granules_of_rec}
+use Rattle.realm_model.specs.Sound.{look, is_host_state, is_rd_state}
+use Rattle.realm_model.specs.Roles.{Role, AsRoot, AtRow, AsRec, AsAux, kind_target, row_target, aux_target, target, is_role_state, HasRole, IsLinked}
+use Rattle.realm_model.proofs.Tests.{true_false}
+
+-- ---- states
+
+pub role_no_host : (s : GranuleState) → is_role_state s ≡ true → is_host_state s ≡ false
+role_no_host Undelegated h = cc
+role_no_host Delegated h = cc
+role_no_host Rd h = cc
+role_no_host _ h = refl
+
+pub host_no_role : (s : GranuleState) → is_host_state s ≡ true → is_role_state s ≡ false
+host_no_role Undelegated h = refl
+host_no_role Delegated h = refl
+host_no_role Rd h = cc
+host_no_role InRec h = cc
+host_no_role RecAux h = cc
+host_no_role InData h = cc
+host_no_role InRtt h = cc
+
+pub host_no_rd : (s : GranuleState) → is_host_state s ≡ true → is_rd_state s ≡ false
+host_no_rd Undelegated h = refl
+host_no_rd Delegated h = refl
+host_no_rd Rd h = cc
+host_no_rd InRec h = cc
+host_no_rd RecAux h = cc
+host_no_rd InData h = cc
+host_no_rd InRtt h = cc
+
+-- ---- what is named is in the state of a role
+
+abbrev pub rec_target : Option (ℕ × List ℕ) → Option (ℕ × GranuleState)
+rec_target o = option_map (λ rec. (rec.0, InRec)) o
+
+state_of : (g : ℕ) (s : GranuleState) (to : ℕ × GranuleState) → ◌≡◌ {A = Option (ℕ × GranuleState)} (Some (g, s)) (Some to) → is_role_state s ≡ true → is_role_state to.1 ≡ true
+state_of g s to e h = ap (λ (t : ℕ × GranuleState). is_role_state t.1) (sym (same_Some _ _ e)) ∙ h
+
+kind_state : (h : Hipas) (g : Option ℕ) (to : ℕ × GranuleState) → kind_target h g ≡ Some to → is_role_state to.1 ≡ true
+kind_state Unassigned g to e = cc
+kind_state Assigned None to e = cc
+kind_state Assigned (Some g) to e = state_of g InData to e refl
+kind_state Table None to e = cc
+kind_state Table (Some g) to e = state_of g InRtt to e refl
+
+row_state : (o : Option (Hipas × Option ℕ)) (to : ℕ × GranuleState) → row_target o ≡ Some to → is_role_state to.1 ≡ true
+row_state None to e = cc
+row_state (Some row) to e = kind_state row.0 row.1 to e
+
+rec_state : (o : Option (ℕ × List ℕ)) (to : ℕ × GranuleState) → rec_target o ≡ Some to → is_role_state to.1 ≡ true
+rec_state None to e = cc
+rec_state (Some rec) to e = state_of rec.0 InRec to e refl
+
+one_aux_state : (o : Option ℕ) (to : ℕ × GranuleState) → option_map (λ g. (g, RecAux)) o ≡ Some to → is_role_state to.1 ≡ true
+one_aux_state None to e = cc
+one_aux_state (Some g) to e = state_of g RecAux to e refl
+
+aux_state : (o : Option (ℕ × List ℕ)) (i : ℕ) (to : ℕ × GranuleState) → aux_target o i ≡ Some to → is_role_state to.1 ≡ true
+aux_state None i to e = cc
+aux_state (Some rec) i to e = one_aux_state (slice_get rec.1 i) to e
+
+pub target_state : (d : RealmRow) (p : Role) (to : ℕ × GranuleState) → target d p ≡ Some to → is_role_state to.1 ≡ true
+target_state d AsRoot to e = state_of d.root InRtt to e refl
+target_state d (AtRow place) to e = row_state (look d.rows place) to e
+target_state d (AsRec n) to e = rec_state (option_map granules_of_rec (get d.recs n)) to e
+target_state d (AsAux n i) to e = aux_state (option_map granules_of_rec (get d.recs n)) i to e
+
+-- ---- cells that change
+
+abbrev pub SameHead : Cell → Cell → Type 0
+SameHead c d = (c.state ≡ d.state) × (c.realm ≡ d.realm)
+
+module _ (cells after : ℕ → Cell) (old : IsLinked cells) where
+  -- What each realm names is what it named, and unchanged, or it is fresh and was the host's. What has a role is named.
+  pub linked_after : (fresh : ℕ → Option Role) → ((k : ℕ) (q : Role) → fresh k ≡ Some q → is_role_state (cells k).state ≡ false)
+      → ((k : ℕ) (e : RealmRow) → (after k).descriptor ≡ Some e → (d : RealmRow) × ((cells k).descriptor ≡ Some d) × ((p : Role) (to : ℕ × GranuleState) → target e p ≡ Some to →
+      ((target d p ≡ Some to) × (fresh to.0 ≡ None → old.roles to.0 ≡ p → SameHead (after to.0) (cells to.0)))
+      ⊎ ((fresh to.0 ≡ Some p) × ((after to.0).state ≡ to.1) × ((after to.0).realm ≡ Some k))))
+      → ((g : ℕ) → is_role_state (after g).state ≡ true → HasRole after g)
+      → IsLinked after
+  linked_after fresh host names named = record {
+    roles = λ k. elim (fresh k) [ Some q ↦ q | None ↦ old.roles k ];
+    names = λ rd e is p to there.
+        let was = names rd e is in
+        elim (was.2 p to there) [
+          | inl same ↦
+              let before = old.names rd was.0 was.1 p to same.0 in
+              let plain : fresh to.0 ≡ None = not_fresh (fresh to.0) (λ q f. true_false _ (ap is_role_state before.0 ∙ target_state was.0 p to same.0) (host to.0 q f)) in
+              let head = same.1 plain before.2 in
+              (head.0 ∙ before.0, head.1 ∙ before.1, ap (λ o. elim o [ Some q ↦ q | None ↦ old.roles to.0 ]) plain ∙ before.2)
+          | inr new ↦ (new.1, new.2, ap (λ o. elim o [ Some q ↦ q | None ↦ old.roles to.0 ]) new.0)
+        ];
+    named = named;
+  }
+    where
+      not_fresh : (o : Option Role) → ((q : Role) → o ≡ Some q → ⊥) → o ≡ None
+      not_fresh None h = refl
+      not_fresh (Some q) h = absurd (h q refl)

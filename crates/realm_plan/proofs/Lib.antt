@@ -1,0 +1,11 @@
+pub mod AsWritten
+pub mod Cuts
+pub mod Decimals
+pub mod Documents
+pub mod Fields
+pub mod Fronts
+pub mod Maxima
+pub mod StepLaws
+pub mod StepOf
+pub mod StepTexts
+pub mod Views

@@ -1,0 +1,5 @@
+-- Lists seen item by item.
+use Rattle.std.proofs.lemmas.List.{length-map}
+use Rattle.std.proofs.lemmas.List.Folds.{list_all-map}
+
+pub ruleset item_views = (length-map, list_all-map)

@@ -1,0 +1,69 @@
+-- What the keys of a plan hold, before any limit is looked at.
+use Rattle.std.specs.Prelude.{ℕ, ℤ, pos, Bool, true, ◌&&◌, List, [], ◌∷◌, codes, if◌then◌else◌, Option, Some, None, option_map, option_and_then}
+use Rattle.std.specs.List.{list_any}
+use Rattle.std.specs.Str.{bytes_eq}
+use Rattle.toml.specs.Data.{Data, Items, no_items, item, Members, no_members, member, get_member, as_integer, as_str, as_array, as_table}
+
+infixl 10 ◌>>=◌
+abbrev pub ◌>>=◌ : {A B : Type 0} → Option A → (A → Option B) → Option B
+o >>= f = option_and_then f o
+
+-- the members have no key but these
+abbrev pub has_only : List (List ℕ) → Members → Bool
+has_only names no_members = true
+has_only names (member key value more) = list_any (bytes_eq key) names && has_only names more
+
+-- the whole number, or the default where there is no value
+abbrev pub whole_of : Option ℤ → Option Data → Option ℤ
+whole_of default None = default
+whole_of default (Some value) = as_integer value
+
+-- whole numbers and no other items
+abbrev pub wholes_of : Items → Option (List ℤ)
+wholes_of no_items = Some []
+wholes_of (item value more) = as_integer value >>= (λ z. option_map (λ zs. z ∷ zs) (wholes_of more))
+
+-- texts and no other items
+abbrev pub texts_of : Items → Option (List (List ℕ))
+texts_of no_items = Some []
+texts_of (item value more) = as_str value >>= (λ t. option_map (λ ts. t ∷ ts) (texts_of more))
+
+abbrev pub plan_keys : List (List ℕ)
+plan_keys = codes "pages" ∷ codes "vmids" ∷ codes "aux" ∷ codes "history" ∷ codes "order" ∷ codes "build" ∷ []
+
+abbrev pub build_keys : List (List ℕ)
+build_keys = codes "steps" ∷ []
+
+-- the texts of the steps of a build, which is a table with the one key `steps`, an array of texts
+abbrev pub steps_of : Data → Option (List (List ℕ))
+steps_of value = as_table value >>= (λ ms. if has_only build_keys ms then get_member (codes "steps") ms >>= as_array >>= texts_of else None)
+
+abbrev pub builds_of : Items → Option (List (List (List ℕ)))
+builds_of no_items = Some []
+builds_of (item value more) = steps_of value >>= (λ b. option_map (λ bs. b ∷ bs) (builds_of more))
+
+-- no order is the empty one
+abbrev pub order_of : Option Data → Option (List ℤ)
+order_of None = Some []
+order_of (Some value) = as_array value >>= wholes_of
+
+pub record Contents : Type 0 where
+  pub pages : ℤ
+  pub vmids : ℤ
+  pub aux : ℤ
+  pub history : ℤ
+  pub order : List ℤ
+  pub builds : List (List (List ℕ))
+
+-- What a document holds: nothing where a key is missing, unknown or of the wrong kind.
+unfoldable pub contents_of : Members → Option Contents
+contents_of ms =
+    if has_only plan_keys ms then
+    whole_of None (get_member (codes "pages") ms) >>= (λ pages.
+    whole_of (Some (pos 8)) (get_member (codes "vmids") ms) >>= (λ vmids.
+    whole_of (Some (pos 0)) (get_member (codes "aux") ms) >>= (λ aux.
+    whole_of (Some (pos 1024)) (get_member (codes "history") ms) >>= (λ history.
+    order_of (get_member (codes "order") ms) >>= (λ order.
+    get_member (codes "build") ms >>= as_array >>= builds_of >>= (λ builds.
+    Some (record { pages = pages; vmids = vmids; aux = aux; history = history; order = order; builds = builds })))))))
+    else None

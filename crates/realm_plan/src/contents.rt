@@ -1,0 +1,180 @@
+//! What the keys of a plan hold, before any limit is looked at.
+ghost use Rattle.std.specs.Prelude.{◌≡◌, List, map, Some, None, IfOk, option_map};
+ghost use Rattle.std.specs.List.{list_any};
+ghost use Rattle.std.specs.Str.{bytes_eq};
+ghost use Rattle.toml.specs.Data.{get_member};
+ghost use Rattle.toml.specs.View.{view, array_view, table_view};
+ghost use Rattle.realm_plan.specs.Contents.{has_only, whole_of, wholes_of, texts_of, steps_of, builds_of, order_of};
+
+use std::alloc::{AllocError, Global};
+use toml::value::Array;
+use toml::{Table, Value};
+
+fn value_at<'a>(table: &'a Table, key: &str) -> Option<&'a Value>
+    ensures { option_map (λ v. view v.now) result ≡ get_member key.now (table_view table.now) }
+{
+    table.get(key)
+}
+
+/// The whole number at the key, or the default where the key is missing.
+fn whole_at(table: &Table, key: &str, default: Option<i64>) -> Option<i64>
+    ensures { result ≡ whole_of default (get_member key.now (table_view table.now)) }
+{
+    match value_at(table, key) {
+        Some(value) => value.as_integer(),
+        None => default,
+    }
+}
+
+fn wholes_of(alloc: Global, array: &Array) -> Result<Option<Vec<i64>>, AllocError>
+    ensures { IfOk result (λ r. option_map (λ v. v.items) r ≡ wholes_of (array_view array.now)) }
+{
+    let mut found = Vec::new(alloc);
+    for value in array {
+        let Some(whole) = value.as_integer() else {
+            return Ok(None);
+        };
+        found.push(whole)?;
+    }
+    Ok(Some(found))
+}
+
+fn texts_of<'a>(alloc: Global, array: &'a Array) -> Result<Option<Vec<&'a str>>, AllocError>
+    ensures { IfOk result (λ r. option_map (λ v. map (λ t. t.now) v.items) r ≡ texts_of (array_view array.now)) }
+{
+    let mut found = Vec::new(alloc);
+    for value in array {
+        let Some(text) = value.as_str() else {
+            return Ok(None);
+        };
+        found.push(text)?;
+    }
+    Ok(Some(found))
+}
+
+fn is_among(names: &[&str], key: &str) -> bool
+    ensures { result ≡ list_any (bytes_eq key.now) (map (λ n. n.now) names.now) }
+{
+    for name in names {
+        if key == *name {
+            return true;
+        }
+    }
+    false
+}
+
+fn has_only_keys(table: &Table, names: &[&str]) -> bool
+    ensures { result ≡ has_only (map (λ n. n.now) names.now) (table_view table.now) }
+{
+    for key in table.keys() {
+        if !is_among(names, key.as_str()) {
+            return false;
+        }
+    }
+    true
+}
+
+/// The texts of the steps of a build.
+fn steps_of<'a>(alloc: Global, value: &'a Value) -> Result<Option<Vec<&'a str>>, AllocError>
+    ensures { IfOk result (λ r. option_map (λ v. map (λ t. t.now) v.items) r ≡ steps_of (view value.now)) }
+{
+    let Some(table) = value.as_table() else {
+        return Ok(None);
+    };
+    if !has_only_keys(table, &["steps"]) {
+        return Ok(None);
+    }
+    let Some(steps) = value_at(table, "steps") else {
+        return Ok(None);
+    };
+    let Some(array) = steps.as_array() else {
+        return Ok(None);
+    };
+    texts_of(alloc, array)
+}
+
+fn builds_of<'a>(alloc: Global, array: &'a Array) -> Result<Option<Vec<Vec<&'a str>>>, AllocError>
+    ensures { IfOk result (λ r. option_map (λ v. map (λ b. map (λ t. t.now) b.items) v.items) r ≡ builds_of (array_view array.now)) }
+{
+    let mut found = Vec::new(alloc);
+    for value in array {
+        let Some(steps) = steps_of(alloc, value)? else {
+            return Ok(None);
+        };
+        found.push(steps)?;
+    }
+    Ok(Some(found))
+}
+
+fn order_of(alloc: Global, value: Option<&Value>) -> Result<Option<Vec<i64>>, AllocError>
+    ensures { IfOk result (λ r. option_map (λ v. v.items) r ≡ order_of (option_map (λ v. view v.now) value.entry)) }
+{
+    let Some(value) = value else {
+        return Ok(Some(Vec::new(alloc)));
+    };
+    let Some(array) = value.as_array() else {
+        return Ok(None);
+    };
+    wholes_of(alloc, array)
+}
+
+/// What a plan holds, before any limit is looked at.
+#[derive(Drop)]
+pub struct Contents<'a> {
+    pub pages: i64,
+    pub vmids: i64,
+    pub aux: i64,
+    pub history: i64,
+    pub order: Vec<i64>,
+    pub builds: Vec<Vec<&'a str>>,
+}
+
+impl<'a> Contents<'a> {
+    ghost use Rattle.realm_plan.specs.Contents.{contents_of};
+    ghost use Rattle.realm_plan.specs.ContentsView.{contents_view};
+
+    #[tactic(auto, unfolding(crate::specs::Contents::contents_of))]
+    /// What the document holds, or nothing where a key is missing, unknown or of the wrong kind.
+    pub fn of(alloc: Global, table: &'a Table) -> Result<Option<Contents<'a>>, AllocError>
+        ensures { IfOk result (λ r. option_map contents_view r ≡ contents_of (table_view table.now)) }
+    {
+        if !has_only_keys(
+            table,
+            &["pages", "vmids", "aux", "history", "order", "build"],
+        ) {
+            return Ok(None);
+        }
+        let Some(pages) = whole_at(table, "pages", None) else {
+            return Ok(None);
+        };
+        let Some(vmids) = whole_at(table, "vmids", Some(8)) else {
+            return Ok(None);
+        };
+        let Some(aux) = whole_at(table, "aux", Some(0)) else {
+            return Ok(None);
+        };
+        let Some(history) = whole_at(table, "history", Some(1024)) else {
+            return Ok(None);
+        };
+        let Some(order) = order_of(alloc, value_at(table, "order"))? else {
+            return Ok(None);
+        };
+        let Some(build) = value_at(table, "build") else {
+            return Ok(None);
+        };
+        let Some(array) = build.as_array() else {
+            return Ok(None);
+        };
+        let Some(builds) = builds_of(alloc, array)? else {
+            return Ok(None);
+        };
+        Ok(Some(Contents {
+            pages,
+            vmids,
+            aux,
+            history,
+            order,
+            builds,
+        }))
+    }
+}

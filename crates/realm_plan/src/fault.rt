@@ -1,0 +1,52 @@
+//! Why bytes are no plan.
+ghost use Rattle.std.specs.Prelude.{◌≡◌};
+ghost use Rattle.realm_plan.specs.declared.fault.PlanError.TheVariants.{Memory};
+
+use std::alloc::{AllocError, AllocFailed};
+use thiserror::Error;
+
+/// The fault of the bytes. Of several that they have, the one that stands first here is given.
+#[derive(Clone, Copy, Debug, PartialEq, Eq, Error)]
+pub enum PlanFault {
+    /// The bytes are no UTF-8, or no TOML.
+    #[error("plan 20 syntax")]
+    Syntax,
+    /// A key is missing, unknown or of the wrong kind.
+    #[error("plan 21 key")]
+    Key,
+    /// A text is no step: the first one of the lowest build, both counted from 0.
+    #[error("plan 22 step {build} {step}")]
+    Step { build: usize, step: usize },
+    /// An entry of `order` names no build: the first one, counted from 0.
+    #[error("plan 23 order {place}")]
+    Order { place: usize },
+    /// A number or a length is outside its limits. Given before all others where there are too many bytes.
+    #[error("plan 24 limit")]
+    Limit,
+}
+
+/// Why no plan is given.
+#[derive(Clone, Copy, Debug, PartialEq, Eq, Error)]
+pub enum PlanError {
+    /// A growth was refused.
+    #[error("memory")]
+    Memory,
+    #[error(transparent)]
+    Fault(PlanFault),
+}
+
+impl From<AllocError> for PlanError {
+    ghost from_gives = { λ _ e. e ≡ Memory };
+
+    fn from(_e: AllocError) -> PlanError {
+        PlanError::Memory
+    }
+}
+
+impl<T: Drop> From<AllocFailed<T>> for PlanError {
+    ghost from_gives = { λ _ e. e ≡ Memory };
+
+    fn from(_e: AllocFailed<T>) -> PlanError {
+        PlanError::Memory
+    }
+}

@@ -1,0 +1,98 @@
+//! What is to be run.
+ghost use Rattle.std.specs.Prelude.{◌≡◌, ◌<◌, ◌≤◌, map, All, IfOk, vec_len};
+
+use crate::contents::Contents;
+use crate::fault::{PlanError, PlanFault};
+use crate::limits::{lengths_of, numbers_of};
+use crate::turns::{builds_of, order_of};
+use realm_host::Step;
+use std::alloc::Global;
+use toml::Table;
+
+/// The most bytes of a plan.
+pub const MOST_BYTES: usize = 1_048_576;
+
+/// A machine, the builds on it, and their turns.
+#[derive(Debug, Drop)]
+pub struct Plan {
+    pub pages: u16,
+    pub vmids: u8,
+    /// The auxiliary granules of a REC.
+    pub aux: u8,
+    /// The events that the history holds for each build.
+    pub history: u16,
+    /// The steps of each build.
+    pub builds: Vec<Vec<Step>>,
+    /// The build of each turn.
+    pub order: Vec<usize>,
+    pub ghost pages_in_limits: { (1 ≤ pages) × (pages ≤ 4096) },
+    pub ghost vmids_in_limits: { 1 ≤ vmids },
+    pub ghost aux_in_limits: { aux ≤ 16 },
+    pub ghost history_in_limits: { (16 ≤ history) × (history ≤ 16384) },
+    pub ghost builds_in_limits: { (1 ≤ vec_len builds) × (vec_len builds ≤ 8) },
+    pub ghost steps_in_limits: { All (λ steps. vec_len steps ≤ 1024) builds.items },
+    pub ghost order_in_limits: { vec_len order ≤ 16384 },
+    pub ghost turns_of_builds: { All (λ build. build < vec_len builds) order.items },
+}
+
+impl Plan {
+    ghost use Rattle.toml.specs.View.{table_view};
+    ghost use Rattle.realm_plan.specs.declared.fault.PlanFault.TheVariants.{Syntax};
+    ghost use Rattle.realm_plan.specs.ContentsView.{contents_view};
+    ghost use Rattle.realm_plan.specs.Outcome.{Gives, or_fault};
+    ghost use Rattle.realm_plan.specs.Plan.{document_of, plan_of_contents, plan_of};
+    ghost use Rattle.realm_plan.specs.PlanView.{plan_view};
+    ghost use Rattle.realm_plan.specs.Step.{spelling};
+    ghost use Rattle.realm_plan.specs.Written.{written_steps};
+
+    /// The document that the bytes are.
+    fn document_of(alloc: Global, bytes: &[u8]) -> Result<Table, PlanError>
+        ensures { Gives table_view result (or_fault Syntax (document_of bytes.now)) }
+    {
+        match toml::table_from_slice(alloc, bytes) {
+            Ok(table) => Ok(table),
+            Err(error) => {
+                if error.is_memory() {
+                    Err(PlanError::Memory)
+                } else {
+                    Err(PlanError::Fault(PlanFault::Syntax))
+                }
+            }
+        }
+    }
+
+    #[tactic(auto, unfolding(crate::specs::Plan::plan_of_contents))]
+    fn from_contents(alloc: Global, contents: &Contents<'_>) -> Result<Plan, PlanError>
+        ensures { Gives plan_view result (plan_of_contents (contents_view contents.now)) }
+    {
+        let builds = builds_of(alloc, &contents.builds)?;
+        let order = order_of(alloc, builds.len(), &contents.order)?;
+        let numbers = numbers_of(contents)?;
+        lengths_of(&builds, &order)?;
+        Ok(Plan {
+            pages: numbers.pages,
+            vmids: numbers.vmids,
+            aux: numbers.aux,
+            history: numbers.history,
+            builds,
+            order,
+        })
+    }
+
+    /// The plan that the bytes are, or their one fault. `Memory` is given only where a growth was refused.
+    #[tactic(auto, unfolding(crate::specs::Plan::plan_of))]
+    pub fn from_bytes(alloc: Global, bytes: &[u8]) -> Result<Plan, PlanError>
+        ensures value { Gives plan_view result (plan_of bytes.now) }
+        // Its steps are spelled as they stand in the document.
+        ensures as_written { IfOk result (λ plan. written_steps bytes.now ≡ Some (map (map spelling) (plan_view plan).builds)) }
+    {
+        if bytes.len() > MOST_BYTES {
+            return Err(PlanError::Fault(PlanFault::Limit));
+        }
+        let table = Plan::document_of(alloc, bytes)?;
+        let Some(contents) = Contents::of(alloc, &table)? else {
+            return Err(PlanError::Fault(PlanFault::Key));
+        };
+        Plan::from_contents(alloc, &contents)
+    }
+}

@@ -1,0 +1,58 @@
+//! The steps of builds, and their turns.
+ghost use Rattle.std.specs.Prelude.{◌≡◌, ◌<◌, map, All, IfOk};
+ghost use Rattle.realm_plan.specs.Outcome.{Gives};
+ghost use Rattle.realm_plan.specs.Plan.{steps_of, builds_of, build_named as build_named_at, order_of};
+
+use crate::fault::{PlanError, PlanFault};
+use crate::step::step_from_text;
+use realm_host::Step;
+use std::alloc::Global;
+
+/// The steps of one build.
+fn steps_of(alloc: Global, build: usize, texts: &[&str]) -> Result<Vec<Step>, PlanError>
+    ensures { Gives (λ v. v.items) result (steps_of build 0 (map (λ t. t.now) texts.now)) }
+{
+    let mut found = Vec::new(alloc);
+    for (k, text) in texts.iter().enumerate() {
+        let Some(step) = step_from_text(text) else {
+            return Err(PlanError::Fault(PlanFault::Step { build, step: k }));
+        };
+        found.push(step)?;
+    }
+    Ok(found)
+}
+
+pub fn builds_of(alloc: Global, texts: &[Vec<&str>]) -> Result<Vec<Vec<Step>>, PlanError>
+    ensures { Gives (λ v. map (λ b. b.items) v.items) result (builds_of 0 (map (λ b. map (λ t. t.now) b.items) texts.now)) }
+{
+    let mut found = Vec::new(alloc);
+    for (k, build) in texts.iter().enumerate() {
+        let steps = steps_of(alloc, k, build)?;
+        found.push(steps)?;
+    }
+    Ok(found)
+}
+
+/// The build that an entry of the order names, among so many.
+fn build_named(count: usize, entry: i64) -> Option<usize>
+    ensures { result ≡ build_named_at count entry }
+{
+    match usize::try_from(entry) {
+        Ok(build) if build < count => Some(build),
+        _ => None,
+    }
+}
+
+pub fn order_of(alloc: Global, count: usize, entries: &[i64]) -> Result<Vec<usize>, PlanError>
+    ensures value { Gives (λ v. v.items) result (order_of count 0 entries.now) }
+    ensures below { IfOk result (λ v. All (λ build. build < count) v.items) }
+{
+    let mut found = Vec::new(alloc);
+    for (place, entry) in entries.iter().enumerate() {
+        let Some(build) = build_named(count, *entry) else {
+            return Err(PlanError::Fault(PlanFault::Order { place }));
+        };
+        found.push(build)?;
+    }
+    Ok(found)
+}

@@ -1,0 +1,21 @@
+-- Faults, and the exit status of each.
+use Rattle.std.specs.Prelude.{ℕ}
+use Rattle.realm_plan.specs.declared.fault.PlanError.{PlanError}
+use Rattle.realm_plan.specs.declared.fault.PlanError.TheVariants as plan_error
+use Rattle.realmhost.specs.declared.fault.Fault.{Fault}
+use Rattle.realmhost.specs.declared.fault.Fault.TheVariants.{Plan, Memory, Device}
+use Rattle.realmhost.specs.declared.told.ReadError.{ReadError}
+use Rattle.realmhost.specs.declared.told.ReadError.TheVariants as read_error
+
+abbrev pub status_of : Fault → ℕ
+status_of (Plan fault) = 1
+status_of Memory = 3
+status_of Device = 5
+
+abbrev pub fault_of_plan : PlanError → Fault
+fault_of_plan plan_error.Memory = Memory
+fault_of_plan (plan_error.Fault fault) = Plan fault
+
+abbrev pub fault_of_read : ReadError → Fault
+fault_of_read read_error.Memory = Memory
+fault_of_read read_error.Device = Device

@@ -1,0 +1,4 @@
+pub mod Fault
+pub mod Line
+pub mod Program
+pub mod Whole

@@ -1,0 +1,13 @@
+-- What the command line's reader is told of the program.
+use Rattle.std.specs.Prelude.{codes, true}
+use Rattle.clap.specs.Words.{App, new_app, with_subcommand}
+
+abbrev pub replay : App
+replay = new_app (codes "replay")
+
+-- a subcommand is required, and there is none called `help`
+abbrev pub program : App
+program = let a = new_app (codes "realmhost") in record a { top = record a.top { subcommand_required = true; disable_help_subcommand = true } }
+
+abbrev pub realmhost : App
+realmhost = with_subcommand program replay.top
