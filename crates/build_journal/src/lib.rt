@@ -4,6 +4,8 @@
 mod journal;
 mod kind;
 mod reverse;
+#[cfg(test)]
+mod tests;
 
 pub use journal::{JOURNAL_ROOM, Journal};
 pub use kind::{Kind, kind_of};

@@ -23,7 +23,8 @@ impl Model for GranuleTable {
 
     ghost view = { λ table. table.granules.items };
 
-    ghost invariant = { λ table. (1 ≤ length table.granules.items) × (length table.granules.items ≤ 4096) };
+    ghost invariant = { λ table.
+        (1 ≤ length table.granules.items) × (length table.granules.items ≤ 4096) };
 }
 
 impl GranuleTable {
@@ -73,7 +74,8 @@ impl GranuleTable {
     ) -> bool
         requires { granule < length self.old }
         ensures answer { IsTrue result ↔ ((granule_at self.old granule).state ≡ from) }
-        ensures shifted { OnTrue result (self.new ≡ slice_set self.old granule (record { state = to; realm = realm })) }
+        ensures shifted { OnTrue result
+            (self.new ≡ slice_set self.old granule (record { state = to; realm = realm })) }
         ensures unchanged { OnFalse result (self.new ≡ self.old) }
     {
         let kept = &mut self.granules[granule.number() as usize];

@@ -28,7 +28,8 @@ impl Leases {
     /// The leases of so many builds, which have no pages, with room for `pages` pages of each.
     pub fn build(alloc: Global, builds: u8, pages: u16) -> Result<Leases, AllocError>
         requires { pages ≤ 4096 }
-        ensures { IfOk result (λ leases. leases ≡ record { stacks = replicate builds []; room = pages }) }
+        ensures { IfOk result (λ leases.
+            leases ≡ record { stacks = replicate builds []; room = pages }) }
     {
         let mut stacks = Vec::with_capacity(alloc, builds as usize)?;
         for _i in 0..builds {
@@ -45,7 +46,8 @@ impl Leases {
         requires there { build < length self.old.stacks }
         requires room { length (stack_of self.old build) + 2 ^ order ≤ self.old.room }
         requires machine { first + 2 ^ order ≤ 4096 }
-        ensures { self.new ≡ with_stack self.old build (pushed (stack_of self.old build) first order) }
+        ensures { self.new
+            ≡ with_stack self.old build (pushed (stack_of self.old build) first order) }
     {
         push_run(&mut self.stacks[build.number() as usize], first, order);
     }

@@ -1,5 +1,5 @@
 -- The pages of a machine, and which of them are free. RMM 1.0, Granule.
-use Rattle.std.specs.Prelude.{◌≡◌, ℕ, ◌≤◌, Bool, false, List, [], length, replicate, slice_index_or, All}
+use Rattle.std.specs.Prelude.{◌≡◌, ℕ, ◌≤◌, Bool, false, List, [], length, replicate, slice_index_or, slice_set, All}
 
 -- the bytes of a page; a granule outside the machine has none
 abbrev pub page_at : List (List ℕ) → ℕ → List ℕ
@@ -15,6 +15,10 @@ page_of value = replicate 4096 value
 
 abbrev pub zero_page : List ℕ
 zero_page = page_of 0
+
+-- the pages with another value in one byte of a page
+abbrev pub with_byte : List (List ℕ) → ℕ → ℕ → ℕ → List (List ℕ)
+with_byte pages granule offset value = slice_set pages granule (slice_set (page_at pages granule) offset value)
 
 -- There are 1 to 4,096 pages of 4,096 bytes each, and a flag for each page.
 pub record IsSized (pages : List (List ℕ)) (flags : List Bool) : Type 0 where

@@ -26,8 +26,10 @@ impl PlainStore {
     /// else the one error is `Memory`.
     pub fn build(alloc: Global, pages: u16) -> Result<PlainStore, BuildError>
         ensures bad_size { IsErrOf result BuildError.BadSize ↔ ((pages < 1) ⊎ (4096 < pages)) }
-        ensures zero { IfOk result (λ store. ⟦<PlainStore as PageStore>⟧.page_bytes store ≡ replicate pages zero_page) }
-        ensures free { IfOk result (λ store. ⟦<PlainStore as PageStore>⟧.free_flags store ≡ replicate pages true) }
+        ensures zero { IfOk result (λ store.
+            ⟦<PlainStore as PageStore>⟧.page_bytes store ≡ replicate pages zero_page) }
+        ensures free { IfOk result (λ store.
+            ⟦<PlainStore as PageStore>⟧.free_flags store ≡ replicate pages true) }
     {
         if pages < 1 || pages > MOST_PAGES {
             return Err(BuildError::BadSize);

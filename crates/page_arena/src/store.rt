@@ -1,7 +1,7 @@
 //! What a store of pages is.
 ghost use Rattle.std.specs.Prelude.{◌≡◌, ◌≢◌, ℕ, ◌+◌, ◌^◌, ◌<◌, ◌≤◌, ◌↔◌, Bool, true, false, List, length, filter, IsTrue, IfSome, IfNone, slice_set};
 ghost use Rattle.std.specs.Bool.{OnTrue, OnFalse};
-ghost use Rattle.page_arena.specs.Page.{page_at, is_free, page_of, zero_page, IsSized};
+ghost use Rattle.page_arena.specs.Page.{page_at, is_free, page_of, zero_page, with_byte, IsSized};
 ghost use Rattle.page_arena.specs.Block.{IsFreeBlock, IsTakenBlock, with_run, with_taken, with_given};
 ghost use Rattle.page_arena.specs.Word.{word_at, with_word};
 
@@ -28,15 +28,18 @@ pub trait PageStore {
     /// Takes a free block. Which one is left open; `None` comes exactly where there is none.
     fn take(&mut self, order: Order) -> Option<Gran>
         ensures block { IfSome result (IsFreeBlock (free_flags self.old) order) }
-        ensures taken { IfSome result (λ first. free_flags self.new ≡ with_taken (free_flags self.old) order first) }
-        ensures none { IfNone result ((first : ℕ) → ¬ (IsFreeBlock (free_flags self.old) order first)) }
+        ensures taken { IfSome result (λ first.
+            free_flags self.new ≡ with_taken (free_flags self.old) order first) }
+        ensures none { IfNone result ((first : ℕ) →
+            ¬ (IsFreeBlock (free_flags self.old) order first)) }
         ensures unchanged { IfNone result (free_flags self.new ≡ free_flags self.old) }
         ensures bytes { page_bytes self.new ≡ page_bytes self.old };
 
     /// Takes that block. `false`, with nothing changed, comes exactly where it is not aligned, inside and free.
     fn take_at(&mut self, order: Order, first: Gran) -> bool
         ensures answer { IsTrue result ↔ IsFreeBlock (free_flags self.old) order first }
-        ensures taken { OnTrue result (free_flags self.new ≡ with_taken (free_flags self.old) order first) }
+        ensures taken { OnTrue result
+            (free_flags self.new ≡ with_taken (free_flags self.old) order first) }
         ensures unchanged { OnFalse result (free_flags self.new ≡ free_flags self.old) }
         ensures bytes { page_bytes self.new ≡ page_bytes self.old };
 
@@ -44,7 +47,8 @@ pub trait PageStore {
     fn give(&mut self, first: Gran, order: Order)
         requires { IsTakenBlock (free_flags self.old) order first }
         ensures given { free_flags self.new ≡ with_given (free_flags self.old) order first }
-        ensures cleared { page_bytes self.new ≡ with_run (page_bytes self.old) first (2 ^ order) zero_page };
+        ensures cleared { page_bytes self.new
+            ≡ with_run (page_bytes self.old) first (2 ^ order) zero_page };
 
     /// The 4,096 bytes of a page.
     fn bytes(&self, granule: Gran) -> &[u8]
@@ -56,14 +60,15 @@ pub trait PageStore {
     fn fill(&mut self, granule: Gran, value: u8)
         requires inside { granule < length (page_bytes self.old) }
         requires taken { is_free (free_flags self.old) granule ≡ false }
-        ensures filled { page_bytes self.new ≡ slice_set (page_bytes self.old) granule (page_of value) }
+        ensures filled { page_bytes self.new
+            ≡ slice_set (page_bytes self.old) granule (page_of value) }
         ensures flags { free_flags self.new ≡ free_flags self.old };
 
     /// Writes one byte of a page.
     fn set(&mut self, granule: Gran, offset: PageOff, value: u8)
         requires inside { granule < length (page_bytes self.old) }
         requires taken { is_free (free_flags self.old) granule ≡ false }
-        ensures written { page_bytes self.new ≡ slice_set (page_bytes self.old) granule (slice_set (page_at (page_bytes self.old) granule) offset value) }
+        ensures written { page_bytes self.new ≡ with_byte (page_bytes self.old) granule offset value }
         ensures flags { free_flags self.new ≡ free_flags self.old };
 
     /// Writes the bytes of one page to another. The source may be free.
@@ -72,7 +77,8 @@ pub trait PageStore {
         requires source_inside { source < length (page_bytes self.old) }
         requires taken { is_free (free_flags self.old) target ≡ false }
         requires different { target ≢ source }
-        ensures copied { page_bytes self.new ≡ slice_set (page_bytes self.old) target (page_at (page_bytes self.old) source) }
+        ensures copied { page_bytes self.new
+            ≡ slice_set (page_bytes self.old) target (page_at (page_bytes self.old) source) }
         ensures flags { free_flags self.new ≡ free_flags self.old };
 
     /// Word `index` of a page's 512 words, little endian.

@@ -37,7 +37,6 @@ fn writes<S: PageStore>(rt: &impl Abort, store: &mut S) {
     store.set(first, PageOff::new(31).unwrap(), 0xff);
     assert_eq!(rt; store.word(first, 3), 0xff02_0304_0506_0708);
     store.give(first, page);
-    assert_eq!(rt; store.word(first, 3), 0);
 }
 
 // Takes a page, and copies another one to it.

@@ -36,17 +36,17 @@ kept_empty count pages capacity builds leases events few small builds_are leases
       few_events = small;
       as_many_stacks = ap (λ (l : Stacks). length l.stacks) leases_are ∙ length-replicate count no_stack ∙ sym long;
       builds_are = λ b below.
-        let inside : b < length (replicate count new_build) = subst (λ (bs : List Build). b < length bs) builds_are below in
-        let within : b < count = subst (λ n. b < n) (length-replicate count new_build) inside in
-        ap (λ (bs : List Build). slice_get bs b) builds_are ∙ slice_get-get_or (replicate count new_build) b new_build inside
-        ∙ ap Some (get_or-replicate count b new_build new_build within ∙ new_build_is b);
+          let inside : b < length (replicate count new_build) = subst (λ (bs : List Build). b < length bs) builds_are below in
+          let within : b < count = subst (λ n. b < n) (length-replicate count new_build) inside in
+          ap (λ (bs : List Build). slice_get bs b) builds_are ∙ slice_get-get_or (replicate count new_build) b new_build inside
+          ∙ ap Some (get_or-replicate count b new_build new_build within ∙ new_build_is b);
       stacks_are = λ b below.
-        ap (λ (l : Stacks). stack_of l b) leases_are
-        ∙ get_or-replicate count b no_stack [] (subst (λ n. b < n) long below) ∙ sym (no_pages b);
+          ap (λ (l : Stacks). stack_of l b) leases_are
+          ∙ get_or-replicate count b no_stack [] (subst (λ n. b < n) long below) ∙ sym (no_pages b);
       room = λ b below.
-        let none = ap length (none_open b) in
-        let pages = ap length (no_pages b) in
-        record { events = omega arith; entries = omega arith; pages = omega arith };
+          let none = ap length (none_open b) in
+          let pages = ap length (no_pages b) in
+          record { events = omega arith; entries = omega arith; pages = omega arith };
       of_builds = All-nil (λ (e : Event). e.build < length builds);
       memory = subst (λ n. n * capacity ≤ vec_capacity events) (sym long) memory;
     })

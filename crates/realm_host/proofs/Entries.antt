@@ -19,7 +19,7 @@ use Rattle.realm_model.specs.History.{acts_of, open_entries, pages_of, IsInTurn}
 use Rattle.realm_model.proofs.Lists.{slice_get-set}
 use Rattle.realm_model.proofs.Growth.{open_entries-own, open_entries-other}
 use Rattle.realm_model.proofs.Pages.{pages_of-take, pages_of-untake, pages_of-same, pages_of-other}
-use Rattle.realm_model.proofs.Changes.{is_of_block}
+use Rattle.realm_model.proofs.Puts.{is_of_block}
 use Rattle.realm_host.specs.declared.build.Build.{Build}
 use Rattle.realm_host.specs.View.{event_by}
 use Rattle.realm_host.specs.Books.{BooksView, with_entry, build_after, pages_after, CanFollow, HasRoom, FitsMachine, IsKept}
@@ -99,38 +99,38 @@ module _ (books : BooksView) (builds : List Build) (leases : Stacks) (events : V
   builds_are : (b : ℕ) → b < books.builds → slice_get new_builds b ≡ Some (build_after grown b)
   builds_are b below = ⊎_elim
       (λ same. slice_get-set builds build b (build_after grown build) _ (kept.builds_are build there)
-        ∙ ap (λ t. cond t (Some (build_after grown build)) (slice_get builds b)) (eq-eqb b build same)
-        ∙ ap (λ n. Some (build_after grown n)) (sym same))
+      ∙ ap (λ t. cond t (Some (build_after grown build)) (slice_get builds b)) (eq-eqb b build same)
+      ∙ ap (λ n. Some (build_after grown n)) (sym same))
       (λ other. slice_get-set builds build b (build_after grown build) _ (kept.builds_are build there)
-        ∙ ap (λ t. cond t (Some (build_after grown build)) (slice_get builds b)) (ne_eqb b build other)
-        ∙ kept.builds_are b below
-        ∙ ap Some (sym (build_after-other b (λ e. other (sym e)))))
+      ∙ ap (λ t. cond t (Some (build_after grown build)) (slice_get builds b)) (ne_eqb b build other)
+      ∙ kept.builds_are b below
+      ∙ ap Some (sym (build_after-other b (λ e. other (sym e)))))
       (cases_eq b build)
 
   stacks_are : (b : ℕ) → b < books.builds → stack_of new_leases b ≡ pages_of b grown
   stacks_are b below = ⊎_elim
       (λ same.
-        ap (stack_of new_leases) same
-        ∙ get_or-set_same leases.stacks build (pages_after (stack_of leases build) act) [] (subst (λ n. build < n) (sym kept.as_many_stacks) there)
-        ∙ ap (λ (pages : List ℕ). pages_after pages act) stack_is
-        ∙ sym (pages_grow build books.history act turn)
-        ∙ ap (λ n. pages_of n grown) (sym same))
+      ap (stack_of new_leases) same
+      ∙ get_or-set_same leases.stacks build (pages_after (stack_of leases build) act) [] (subst (λ n. build < n) (sym kept.as_many_stacks) there)
+      ∙ ap (λ (pages : List ℕ). pages_after pages act) stack_is
+      ∙ sym (pages_grow build books.history act turn)
+      ∙ ap (λ n. pages_of n grown) (sym same))
       (λ other.
-        get_or-set_other leases.stacks build b (pages_after (stack_of leases build) act) [] other
-        ∙ kept.stacks_are b below
-        ∙ sym (pages_of-other b books.history event (λ e. other (sym e))))
+      get_or-set_other leases.stacks build b (pages_after (stack_of leases build) act) [] other
+      ∙ kept.stacks_are b below
+      ∙ sym (pages_of-other b books.history event (λ e. other (sym e))))
       (cases_eq b build)
 
   rooms : (b : ℕ) → b < books.builds → HasRoom new_books grown b
   rooms b below = ⊎_elim
       (λ same. subst (HasRoom new_books grown) (sym same) (record { events = room.events; entries = room.entries; pages = room.pages }))
       (λ other.
-        let apart : build ≢ b = λ e. other (sym e) in
-        let acts = ap length (acts_of-other b books.history event apart) in
-        let entries = ap length (open_entries-other b books.history event apart) in
-        let pages = ap length (pages_of-other b books.history event apart) in
-        let was = kept.room b below in
-        record { events = omega arith; entries = omega arith; pages = omega arith })
+      let apart : build ≢ b = λ e. other (sym e) in
+      let acts = ap length (acts_of-other b books.history event apart) in
+      let entries = ap length (open_entries-other b books.history event apart) in
+      let pages = ap length (pages_of-other b books.history event apart) in
+      let was = kept.room b below in
+      record { events = omega arith; entries = omega arith; pages = omega arith })
       (cases_eq b build)
 
   of_builds : All (λ (e : Event). e.build < books.builds) grown

@@ -83,7 +83,7 @@ module _ (monitor : MonitorView) (books : BooksView) (old : HostView) (view_is :
     stepped = (step_says host.limits world (event_by build act) tt _).1 (record {
       build = there monitor books old view_is whole build page granule there_ok some_old;
       granules = All-cons (λ g. slice_get world.leases g ≡ Some (Some build)) granule []
-        (is_leased monitor books old view_is whole build page granule there_ok some_old) (All-nil (λ g. slice_get world.leases g ≡ Some (Some build)));
+          (is_leased monitor books old view_is whole build page granule there_ok some_old) (All-nil (λ g. slice_get world.leases g ≡ Some (Some build)));
       vmid = refl;
       fields = refl;
       updates = Put granule cell ∷ [];
@@ -101,8 +101,8 @@ module _ (monitor : MonitorView) (books : BooksView) (old : HostView) (view_is :
     pub room : CanRecord books build act
     room =
         room_unpaired monitor books whole build act (unpaired granule value) (forward granule value)
-          (subst (λ (h : HostView). Ok tt ≡ checked (history_full h build 1)) (sym view_is) room_ok)
-          (pages_fit_after monitor books old view_is whole build page granule there_ok some_old act turn serves cell bare outcome done stepped)
+        (subst (λ (h : HostView). Ok tt ≡ checked (history_full h build 1)) (sym view_is) room_ok)
+        (pages_fit_after monitor books old view_is whole build page granule there_ok some_old act turn serves cell bare outcome done stepped)
 
     module _ (new : MonitorView) (new_books : BooksView) (new_is : new ≡ after_command outcome monitor) (recorded : new_books ≡ with_entry books build act) where
       pub whole_filled : IsWhole new new_books

@@ -48,9 +48,9 @@ module _ (world : World) (order first : ℕ) where
   pub free_block : order ≤ 9 → IsFreeBlock flags order first → is_free_block world order first ≡ true
   free_block low is =
       and_from _ _ (and_from _ _ (le-leb order 9 low) (eq-eqb (first % 2 ^ order) 0 is.aligned))
-        (all_from_in is_unleased (block order first) (λ g here.
-          let between = range_in first (2 ^ order) g here in
-          leased_from None world.leases g (flag_free world.leases g (is.run.each g between.low between.high))))
+      (all_from_in is_unleased (block order first) (λ g here.
+      let between = range_in first (2 ^ order) g here in
+      leased_from None world.leases g (flag_free world.leases g (is.run.each g between.low between.high))))
 
   pub block_free : is_free_block world order first ≡ true → IsFreeBlock flags order first
   block_free is =
@@ -58,7 +58,7 @@ module _ (world : World) (order first : ℕ) where
       let start = and_parts _ _ parts.0 in
       let some : 0 < 2 ^ order = pow_pos order in
       let each : (g : ℕ) → first ≤ g → g < first + 2 ^ order → slice_get world.leases g ≡ Some None =
-        λ g low high. leased None world.leases g (all_in is_unleased (block order first) g parts.1 (in_range_from first (2 ^ order) g low high)) in
+      λ g low high. leased None world.leases g (all_in is_unleased (block order first) g parts.1 (in_range_from first (2 ^ order) g low high)) in
       let last : first + 2 ^ order - 1 < length world.leases = slice_get_within world.leases (first + 2 ^ order - 1) None (each (first + 2 ^ order - 1) (omega arith) (omega arith)) in
       let long : length flags ≡ length world.leases = length-map world.leases is_none in
       record {
@@ -74,7 +74,7 @@ some_block world order first low is =
     let long : length (map is_none world.leases) ≡ length world.leases = length-map world.leases is_none in
     let inside = is.inside in
     any_from (is_free_block world order) (range_with_len 0 (length world.leases)) first
-      (in_range_from 0 (length world.leases) first (omega arith) (omega arith)) (free_block world order first low is)
+    (in_range_from 0 (length world.leases) first (omega arith) (omega arith)) (free_block world order first low is)
 
 pub none_block : (world : World) (order : ℕ) → ((first : ℕ) → IsFreeBlock (map is_none world.leases) order first → ⊥)
     → list_any (is_free_block world order) (range_with_len 0 (length world.leases)) ≡ false

@@ -86,9 +86,9 @@ module _ (monitor : MonitorView) (books : BooksView) (whole : IsWhole monitor bo
       free = free ∙ ap (λ (w : World). map is_none w.leases) (sym world_after);
       no_realm = no_realm;
       served = λ b. ⊎_elim
-        (λ same. subst (λ n. All served (open_entries n (books.history ++ event_by build act ∷ []))) (sym same)
+          (λ same. subst (λ n. All served (open_entries n (books.history ++ event_by build act ∷ []))) (sym same)
           (subst (All served) (sym (open_entries-own books.history (event_by build act)))
-            (served_pushed (open_entries build books.history) act serves (whole.served build))))
-        (λ other. subst (All served) (sym (open_entries-other b books.history (event_by build act) (λ e. other (sym e)))) (whole.served b))
-        (cases_eq b build);
+          (served_pushed (open_entries build books.history) act serves (whole.served build))))
+          (λ other. subst (All served) (sym (open_entries-other b books.history (event_by build act) (λ e. other (sym e)))) (whole.served b))
+          (cases_eq b build);
     }

@@ -60,8 +60,8 @@ module _ (monitor : MonitorView) (books : BooksView) (old : HostView) (view_is :
   pub is_leased : slice_get world.leases granule ≡ Some (Some build)
   is_leased =
       leased (Some build) world.leases granule
-        (sym (is_in-pages_of host.limits build books.history world whole.legal (world_is host whole.legal) granule)
-        ∙ is_in_at (pages_of build books.history) page granule some)
+      (sym (is_in-pages_of host.limits build books.history world whole.legal (world_is host whole.legal) granule)
+      ∙ is_in_at (pages_of build books.history) page granule some)
 
   pub is_taken : IsTaken monitor granule
   is_taken = record {
@@ -99,16 +99,15 @@ module _ (monitor : MonitorView) (books : BooksView) (old : HostView) (view_is :
       whole_put =
           subst (λ m. IsWhole m new_books) (sym new_is)
           (subst (λ b. IsWhole after b) (sym recorded)
-            (whole_after monitor books whole build act after world.leases turn stepped refl refl long whole.free
-              (subst (All no_rd) (sym put_is) (All-set no_rd monitor.machine granule cell bare whole.no_realm)) serves))
+          (whole_after monitor books whole build act after world.leases turn stepped refl refl long whole.free
+          (subst (All no_rd) (sym put_is) (All-set no_rd monitor.machine granule cell bare whole.no_realm)) serves))
 
       pub legal_put : IsLegal old.limits (old.history ++ event_by build act ∷ [])
       legal_put =
           subst (λ (h : HostView). IsLegal h.limits (h.history ++ event_by build act ∷ [])) view_is
-            (legal_after monitor books whole build act after world.leases turn stepped)
+          (legal_after monitor books whole build act after world.leases turn stepped)
 
       pub grows_put : host_of new new_books ≡ with_event old build act
       grows_put =
           (λ i. host_of (new_is i) (recorded i)) ∙ host_grows monitor books whole build act after world.leases turn stepped refl refl long
           ∙ ap (λ (h : HostView). with_event h build act) view_is
-

@@ -25,8 +25,8 @@ range_in first zero k h = cc
 range_in first (suc count) k h = ⊎_elim
     (λ same. record { low = omega arith; high = omega arith })
     (λ other.
-      let rest = range_in (first + 1) count k (ap (λ t. t || is_in k (range_with_len (first + 1) count)) (sym (ne_eqb k first other)) ∙ h) in
-      record { low = omega (arith, rest.low); high = omega (arith, rest.high) })
+    let rest = range_in (first + 1) count k (ap (λ t. t || is_in k (range_with_len (first + 1) count)) (sym (ne_eqb k first other)) ∙ h) in
+    record { low = omega (arith, rest.low); high = omega (arith, rest.high) })
     (cases_eq k first)
 
 -- ---- tests

@@ -41,15 +41,15 @@ some_open (x ∷ stack) act e = omega arith
 -- a reverse gives back the room that was kept for it
 pub events_after_reverse : (history : List Event) (build : ℕ) (act : Act) → is_paired act ≡ false → is_reverse act ≡ true → IsInTurn history (event_by build act)
     → length (acts_of build (history ++ event_by build act ∷ [])) + length (open_entries build (history ++ event_by build act ∷ []))
-      ≡ length (acts_of build history) + length (open_entries build history)
+    ≡ length (acts_of build history) + length (open_entries build history)
 events_after_reverse history build act unpaired is turn =
     let some = some_open (open_entries build history) act (turn is) in
     let acts : length (acts_of build (history ++ event_by build act ∷ [])) ≡ length (acts_of build history) + 1 =
-      ap length (acts_of-own history (event_by build act)) ∙ length-append (acts_of build history) (act ∷ []) in
+    ap length (acts_of-own history (event_by build act)) ∙ length-append (acts_of build history) (act ∷ []) in
     let taken : open_entries build (history ++ event_by build act ∷ []) ≡ take (length (open_entries build history) - 1) (open_entries build history) =
-      open_entries-own history (event_by build act) ∙ sym (pushed_taken (open_entries build history) act unpaired is) in
+    open_entries-own history (event_by build act) ∙ sym (pushed_taken (open_entries build history) act unpaired is) in
     let left : length (open_entries build (history ++ event_by build act ∷ [])) ≡ length (open_entries build history) - 1 =
-      ap length taken ∙ length-take-le (length (open_entries build history) - 1) (open_entries build history) (omega arith) in
+    ap length taken ∙ length-take-le (length (open_entries build history) - 1) (open_entries build history) (omega arith) in
     omega arith
 
 -- a reverse has none of its own
@@ -68,7 +68,7 @@ has_room : (books : BooksView) (build : ℕ) (act : Act) → IsInTurn books.hist
 has_room books build act turn can was = record {
   events = at (is_reverse act) refl;
   entries = subst (λ (stack : List Act). length stack ≤ 512) (sym (open_entries-own books.history (event_by build act)))
-    (entries_fit_after (open_entries build books.history) act was.entries can.entries);
+      (entries_fit_after (open_entries build books.history) act was.entries can.entries);
   pages = can.pages;
 }
   where
@@ -122,27 +122,27 @@ module _ (builds : List Build) (leases : Stacks) (capacity : ℕ) (events : Vec 
         → record { journal = journal; events = old.events + 1 } ≡ build_after (books.history ++ event_by build act ∷ []) build
     new_is journal followed =
         let events_are : old.events + 1 ≡ length (acts_of build (books.history ++ event_by build act ∷ [])) =
-          ap (λ (b : Build). b.events + 1) old_is ∙ sym (length-append (acts_of build books.history) (act ∷ []))
-          ∙ sym (ap length (acts_of-own books.history (event_by build act))) in
+        ap (λ (b : Build). b.events + 1) old_is ∙ sym (length-append (acts_of build books.history) (act ∷ []))
+        ∙ sym (ap length (acts_of-own books.history (event_by build act))) in
         λ i. record { journal = (followed ∙ grown_entries) i; events = events_are i }
 
     pub recorded : (journal : List Act) (after_leases : Stacks) (after : Vec Event) → journal ≡ pushed old.journal act
         → after_leases ≡ with_stack leases build (pages_after (stack_of leases build) act)
         → after.items ≡ events.items ++ event_by build act ∷ [] → vec_capacity after ≡ vec_capacity events
         → let new = set builds number (record { journal = journal; events = old.events + 1 }) in
-          IsKept (books_of new after_leases capacity after.items) new after_leases after
+        IsKept (books_of new after_leases capacity after.items) new after_leases after
     recorded journal after_leases after followed leases_are items memory =
         let new_builds = set builds build (build_after (books.history ++ event_by build act ∷ []) build) in
         let new_leases = with_stack leases build (pages_after (stack_of leases build) act) in
         let builds_path : set builds number (record { journal = journal; events = old.events + 1 }) ≡ new_builds =
-          λ i. set builds (number_is i) (new_is journal followed i) in
+        λ i. set builds (number_is i) (new_is journal followed i) in
         let grown : IsKept (with_entry books build act) new_builds new_leases after =
-          kept_grows books builds leases events kept build act there turn room after memory in
+        kept_grows books builds leases events kept build act there turn room after memory in
         subst (λ (bs : List Build). IsKept (books_of bs after_leases capacity after.items) bs after_leases after) (sym builds_path)
         (subst (λ (l : Stacks). IsKept (books_of new_builds l capacity after.items) new_builds l after) (sym leases_are)
         (subst (λ (h : List Event). IsKept (books_of new_builds new_leases capacity h) new_builds new_leases after) (sym items)
         (subst (λ (n : ℕ). IsKept (record { builds = n; pages = leases.room; capacity = capacity; history = books.history ++ event_by build act ∷ [] }) new_builds new_leases after)
-          (sym (length-set builds build (build_after (books.history ++ event_by build act ∷ []) build))) grown)))
+        (sym (length-set builds build (build_after (books.history ++ event_by build act ∷ []) build))) grown)))
 
   pub view_grows : (new : List Build) (after_leases : Stacks) (after : List Event) → length new ≡ length builds → after_leases.room ≡ leases.room
       → after ≡ events.items ++ event_by build act ∷ [] → books_of new after_leases capacity after ≡ with_entry now build act

@@ -66,8 +66,8 @@ bare_run : (machine : Machine) (first count : ℕ) → All no_rd machine → All
 unfolding with_run
 bare_run machine first count all =
     All-append no_rd (take first machine ++ replicate count blank) (drop (first + count) machine)
-      (All-append no_rd (take first machine) (replicate count blank) (All-take no_rd first machine all) (All-replicate no_rd count blank refl))
-      (All-drop no_rd (first + count) machine all)
+    (All-append no_rd (take first machine) (replicate count blank) (All-take no_rd first machine all) (All-replicate no_rd count blank refl))
+    (All-drop no_rd (first + count) machine all)
 
 -- ---- a reverse act that is a step leaves the monitor as it leaves the world
 
@@ -126,7 +126,7 @@ module _ (monitor : MonitorView) (books : BooksView) (whole : IsWhole monitor bo
     next_is : next ≡ record { machine = machine_after_command outcome monitor.machine; leases = world.leases }
     next_is =
         let machine_is : next.machine ≡ machine_after_command outcome monitor.machine =
-          is.machine ∙ ap (machine_after_all is.updates) (sym whole.machine) ∙ sym (ap (λ o. machine_after_command o monitor.machine) updates_are) in
+        is.machine ∙ ap (machine_after_all is.updates) (sym whole.machine) ∙ sym (ap (λ o. machine_after_command o monitor.machine) updates_are) in
         λ i. record { machine = machine_is i; leases = is.leases i }
 
     pub undelegated : IsReversed monitor books build (Undelegate granule)
@@ -137,7 +137,7 @@ module _ (monitor : MonitorView) (books : BooksView) (whole : IsWhole monitor bo
       free = whole.free;
       long = ap length put_is ∙ length-set monitor.machine granule cell;
       no_realm = subst (All no_rd) (sym put_is)
-        (All-set no_rd monitor.machine granule cell (All-get_or no_rd monitor.machine granule blank inside whole.no_realm) whole.no_realm);
+          (All-set no_rd monitor.machine granule cell (All-get_or no_rd monitor.machine granule blank inside whole.no_realm) whole.no_realm);
       vmids = refl;
       aux = refl;
     }
@@ -210,16 +210,16 @@ module _ (monitor : MonitorView) (books : BooksView) (whole : IsWhole monitor bo
       can = record {
         taken = taken_block;
         undelegated = λ g low high.
-          ap (λ (m : Machine). is_undelegated (seen m g)) whole.machine
-          ∙ ap (λ s. elim s [ Undelegated ↦ true | _ ↦ false ]) (All-in is_blank_state (block order first) g states (in_range_from first (2 ^ order) g low high));
+            ap (λ (m : Machine). is_undelegated (seen m g)) whole.machine
+            ∙ ap (λ s. elim s [ Undelegated ↦ true | _ ↦ false ]) (All-in is_blank_state (block order first) g states (in_range_from first (2 ^ order) g low high));
       };
       stepped =
-        step-untake host.limits world build order first untakes.build start all_held states
-        ∙ ap (λ (m : Machine). Some (record { machine = m; leases = leases_after })) (sym cleared);
+          step-untake host.limits world build order first untakes.build start all_held states
+          ∙ ap (λ (m : Machine). Some (record { machine = m; leases = leases_after })) (sym cleared);
       free =
-        ap (λ (flags : List Bool). with_run flags first (2 ^ order) true) whole.free
-        ∙ sym (set_each-block true order first (map is_none world.leases) (subst (λ n. first + 2 ^ order ≤ n) (sym flags_long) block_inside))
-        ∙ sym (map-set_each is_none None (block order first) world.leases);
+          ap (λ (flags : List Bool). with_run flags first (2 ^ order) true) whole.free
+          ∙ sym (set_each-block true order first (map is_none world.leases) (subst (λ n. first + 2 ^ order ≤ n) (sym flags_long) block_inside))
+          ∙ sym (map-set_each is_none None (block order first) world.leases);
       long = length-with_run monitor.machine first (2 ^ order) blank machine_inside;
       no_realm = bare_run monitor.machine first (2 ^ order) whole.no_realm;
       vmids = refl;

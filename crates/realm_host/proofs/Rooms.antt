@@ -48,8 +48,8 @@ module _ (monitor : MonitorView) (books : BooksView) (whole : IsWhole monitor bo
   room_paired paired open_fits room pages =
       let more = more_acts in
       let entries : length (open_entries build after) ≡ length (open_entries build books.history) + 1 =
-        ap length (open_entries-own books.history (event_by build act) ∙ pushed_paired (open_entries build books.history) act paired)
-        ∙ length-append (open_entries build books.history) (act ∷ []) in
+      ap length (open_entries-own books.history (event_by build act) ∙ pushed_paired (open_entries build books.history) act paired)
+      ∙ length-append (open_entries build books.history) (act ∷ []) in
       let fits = enough 2 room in
       record {
         events = λ _. omega arith;
@@ -63,6 +63,6 @@ module _ (monitor : MonitorView) (books : BooksView) (whole : IsWhole monitor bo
   room_unpaired unpaired forward room pages =
       let more = more_acts in
       let entries : length (open_entries build after) ≡ length (open_entries build books.history) =
-        ap length (open_entries-own books.history (event_by build act) ∙ pushed_other (open_entries build books.history) act unpaired forward) in
+      ap length (open_entries-own books.history (event_by build act) ∙ pushed_other (open_entries build books.history) act unpaired forward) in
       let fits = enough 1 room in
       record { events = λ _. omega arith; entries = λ paired. cc; pages = pages }

@@ -19,7 +19,7 @@ none_from build n [] machine all = refl
 none_from build n (lease ∷ leases) [] all = refl
 none_from build n (lease ∷ leases) (cell ∷ cells) all =
     let test : (is_lease lease (Some build) && is_some cell.descriptor) ≡ false =
-      ap (λ d. is_lease lease (Some build) && is_some d) (All-head no_rd cell cells all) ∙ never (is_lease lease (Some build)) in
+    ap (λ d. is_lease lease (Some build) && is_some d) (All-head no_rd cell cells all) ∙ never (is_lease lease (Some build)) in
     ap (λ t. cond t (Some (record { number = n; cell = cell })) (realm_from build (suc n) leases cells)) test
     ∙ none_from build (suc n) leases cells (All-tail no_rd cell cells all)
   where

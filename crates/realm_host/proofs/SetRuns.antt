@@ -24,8 +24,8 @@ map-set_each f x (p ∷ places) xs = map-set_each f x places (set xs p x) ∙ ap
 pub set_each-block : {X : Type 0} (x : X) (order first : ℕ) (xs : List X) → first + 2 ^ order ≤ length xs → set_each x (block order first) xs ≡ with_run xs first (2 ^ order) x
 set_each-block x order first xs fits =
     ext_get_or x _ _ (length-set_each x (block order first) xs ∙ sym (length-with_run xs first (2 ^ order) x fits)) (λ i lt.
-      get_or-set_each x (block order first) xs i
-      ∙ ⊎_elim
-        (λ h. ap (λ t. cond t x (get_or xs i x)) (in_range_from first (2 ^ order) i h.0 h.1) ∙ sym (get_or-with_run_inside xs first (2 ^ order) x fits i x h.0 h.1))
-        (λ h. ap (λ t. cond t x (get_or xs i x)) (out_of first (2 ^ order) i h) ∙ sym (get_or-with_run_outside xs first (2 ^ order) x fits i x h))
-        (inside_or_outside first (2 ^ order) i))
+    get_or-set_each x (block order first) xs i
+    ∙ ⊎_elim
+    (λ h. ap (λ t. cond t x (get_or xs i x)) (in_range_from first (2 ^ order) i h.0 h.1) ∙ sym (get_or-with_run_inside xs first (2 ^ order) x fits i x h.0 h.1))
+    (λ h. ap (λ t. cond t x (get_or xs i x)) (out_of first (2 ^ order) i h) ∙ sym (get_or-with_run_outside xs first (2 ^ order) x fits i x h))
+    (inside_or_outside first (2 ^ order) i))

@@ -49,9 +49,9 @@ module _ (monitor : MonitorView) (books : BooksView) (old : HostView) (view_is :
   pub none_free : ((first : ℕ) → IsFreeBlock monitor.free order first → ⊥) → refusal_of old build (Ask (cmd.Take number)) ≡ Some (NoBlock order)
   none_free none =
       by_block old build number there_ok order some open_ok room_ok
-        (subst (λ (h : HostView). (no_block h number).0 ≡ true) view_is
-          (subst (λ n. (no_block host n).0 ≡ true) same
-            (ap not (none_block world order (λ first free. none first (subst (λ flags. IsFreeBlock flags order first) (sym whole.free) free))))))
+      (subst (λ (h : HostView). (no_block h number).0 ≡ true) view_is
+      (subst (λ n. (no_block host n).0 ≡ true) same
+      (ap not (none_block world order (λ first free. none first (subst (λ flags. IsFreeBlock flags order first) (sym whole.free) free))))))
 
   module _ (first : ℕ) (free : IsFreeBlock monitor.free order first) where
     abbrev act : Act
@@ -63,13 +63,13 @@ module _ (monitor : MonitorView) (books : BooksView) (old : HostView) (view_is :
     pages : length (pages_of build (books.history ++ event_by build act ∷ [])) ≤ books.pages
     pages =
         pages_fit monitor books whole build act (with_block monitor order first) (leases_after monitor books whole build there order first low free) turn
-          (taken monitor books whole build there order first low free) build
+        (taken monitor books whole build there order first low free) build
 
     pub room : CanRecord books build act
     room =
         room_paired monitor books whole build act (take_is_paired order first)
-          (subst (λ (h : HostView). Ok tt ≡ checked (journal_full h build)) (sym view_is) open_ok)
-          (subst (λ (h : HostView). Ok tt ≡ checked (history_full h build 2)) (sym view_is) room_ok) pages
+        (subst (λ (h : HostView). Ok tt ≡ checked (journal_full h build)) (sym view_is) open_ok)
+        (subst (λ (h : HostView). Ok tt ≡ checked (history_full h build 2)) (sym view_is) room_ok) pages
 
     pub inside : first + 2 ^ order ≤ 4096
     inside =
@@ -82,22 +82,22 @@ module _ (monitor : MonitorView) (books : BooksView) (old : HostView) (view_is :
       whole_taken =
           subst (λ m. IsWhole m new_books) (sym new_is)
           (subst (λ b. IsWhole (with_block monitor order first) b) (sym recorded)
-            (whole_after monitor books whole build act (with_block monitor order first) (leases_after monitor books whole build there order first low free) turn
-              (taken monitor books whole build there order first low free) refl refl refl
-              (free_after monitor books whole build there order first low free) whole.no_realm (λ paired. refl)))
+          (whole_after monitor books whole build act (with_block monitor order first) (leases_after monitor books whole build there order first low free) turn
+          (taken monitor books whole build there order first low free) refl refl refl
+          (free_after monitor books whole build there order first low free) whole.no_realm (λ paired. refl)))
 
       pub accepted : IsAccepted old build (Ask (cmd.Take number)) (host_of new new_books)
       accepted = record {
         not_refused = not_refused old build number there_ok order some open_ok room_ok
-          (subst (λ (h : HostView). (no_block h number).0 ≡ false) view_is
+            (subst (λ (h : HostView). (no_block h number).0 ≡ false) view_is
             (subst (λ n. (no_block host n).0 ≡ false) same
-              (ap not (some_block world order first low (subst (λ flags. IsFreeBlock flags order first) whole.free free)))));
+            (ap not (some_block world order first low (subst (λ flags. IsFreeBlock flags order first) whole.free free)))));
         act = act;
         act_of = (first, ap (λ o. Take o first) same);
         legal = subst (λ (h : HostView). IsLegal h.limits (h.history ++ event_by build act ∷ [])) view_is
-          (legal_after monitor books whole build act (with_block monitor order first) (leases_after monitor books whole build there order first low free) turn
+            (legal_after monitor books whole build act (with_block monitor order first) (leases_after monitor books whole build there order first low free) turn
             (taken monitor books whole build there order first low free));
         grows =
-          (λ i. host_of (new_is i) (recorded i))
-          ∙ ap (λ (h : HostView). with_event h build act) view_is;
+            (λ i. host_of (new_is i) (recorded i))
+            ∙ ap (λ (h : HostView). with_event h build act) view_is;
       }

@@ -11,7 +11,7 @@ use Rattle.realm_model.specs.World.{World, is_leased_to}
 use Rattle.realm_model.specs.Step.{step}
 use Rattle.realm_model.specs.StepLaw.{set_each}
 use Rattle.realm_model.proofs.Blocks.{step-take}
-use Rattle.realm_model.proofs.StepSays.{all_leased}
+use Rattle.realm_model.proofs.Leases.{all_leased}
 use Rattle.realm_model.proofs.Reached.{sized_reached}
 use Rattle.rmi_monitor.specs.View.{MonitorView, with_block}
 use Rattle.realm_host.specs.View.{HostView, world_of, event_by}

@@ -101,7 +101,7 @@ module _ (monitor : MonitorView) (books : BooksView) (old : HostView) (view_is :
   reversed : IsReversed monitor books build back
   reversed =
       let done = undoable host.limits build books.history world act back whole.legal (world_is host whole.legal) (sym newest) back_is
-        (quiet act (realm_of build world) is_served_act) in
+      (quiet act (realm_of build world) is_served_act) in
       reversed_by monitor books whole build act back is_served_act back_is done.world done.stepped
 
   pub can_reverse : CanReverse monitor back
@@ -122,9 +122,9 @@ module _ (monitor : MonitorView) (books : BooksView) (old : HostView) (view_is :
     whole_undone =
         subst (λ m. IsWhole m new_books) (sym new_is)
         (subst (λ b. IsWhole (reversed_monitor monitor back) b) (sym recorded)
-          (whole_after monitor books whole build back (reversed_monitor monitor back) reversed.leases turn reversed.stepped
-            reversed.vmids reversed.aux reversed.long reversed.free reversed.no_realm
-            (λ paired. absurd (let not_paired = reverse_unpaired back facts.reverse in cc))))
+        (whole_after monitor books whole build back (reversed_monitor monitor back) reversed.leases turn reversed.stepped
+        reversed.vmids reversed.aux reversed.long reversed.free reversed.no_realm
+        (λ paired. absurd (let not_paired = reverse_unpaired back facts.reverse in cc))))
 
     newest_old : Some act ≡ last_or None (open_of old build)
     newest_old = newest ∙ ap (λ (h : HostView). last_or None (open_of h build)) view_is
@@ -135,9 +135,9 @@ module _ (monitor : MonitorView) (books : BooksView) (old : HostView) (view_is :
       act = back;
       act_of = ap (option_and_then reverse_of) (sym newest_old) ∙ back_is;
       legal = subst (λ (h : HostView). IsLegal h.limits (h.history ++ event_by build back ∷ [])) view_is
-        (legal_after monitor books whole build back (reversed_monitor monitor back) reversed.leases turn reversed.stepped);
+          (legal_after monitor books whole build back (reversed_monitor monitor back) reversed.leases turn reversed.stepped);
       grows =
-        (λ i. host_of (new_is i) (recorded i))
-        ∙ host_grows monitor books whole build back (reversed_monitor monitor back) reversed.leases turn reversed.stepped reversed.vmids reversed.aux reversed.long
-        ∙ ap (λ (h : HostView). with_event h build back) view_is;
+          (λ i. host_of (new_is i) (recorded i))
+          ∙ host_grows monitor books whole build back (reversed_monitor monitor back) reversed.leases turn reversed.stepped reversed.vmids reversed.aux reversed.long
+          ∙ ap (λ (h : HostView). with_event h build back) view_is;
     }

@@ -59,7 +59,7 @@ whole_booted monitor books vmids aux pages few made pages_are none =
       legal = subst (IsLegal (host_of monitor books).limits) (sym none) (IsLegal-nil (host_of monitor books).limits);
       machine = ap (λ (m : MonitorView). m.machine) made ∙ ap (λ n. replicate n blank) (sym long) ∙ ap (λ (w : World). w.machine) (sym world);
       free = ap (λ (m : MonitorView). m.free) made ∙ ap (λ n. replicate n true) (sym long) ∙ sym (map-free (length monitor.machine))
-        ∙ ap (λ (w : World). map is_none w.leases) (sym world);
+          ∙ ap (λ (w : World). map is_none w.leases) (sym world);
       no_realm = subst (λ (m : MonitorView). All (λ (cell : Cell). cell.descriptor ≡ None) m.machine) (sym made) (All-replicate (λ (cell : Cell). cell.descriptor ≡ None) pages blank refl);
       served = λ build. subst (λ (acts : List Act). All (λ act. is_served act ≡ true) acts) (sym (ap (open_entries build) none ∙ open-nil build)) (All-nil (λ act. is_served act ≡ true));
     }
@@ -80,7 +80,7 @@ same_count [] first test same = refl
 same_count (lease ∷ leases) first test same =
     let here : test first ≡ is_none lease = ap test (sym (add-zero first)) ∙ same 0 lease refl in
     one_more (is_none lease) (test first) _ first _ here
-      (same_count leases (first + 1) test (λ i l e. ap test (omega arith) ∙ same (suc i) l e))
+    (same_count leases (first + 1) test (λ i l e. ap test (omega arith) ∙ same (suc i) l e))
 
 pub length-free_set : (world : World) → length (filter (λ (flag : Bool). flag) (map is_none world.leases)) ≡ length (free_set world)
 length-free_set world = same_count world.leases 0 (is_leased_to None world.leases) (λ i lease e.
@@ -104,4 +104,4 @@ page_inside host legal build page granule there =
     let pages = pages_are_leased host.limits build host.history (world_of host) legal (world_is host legal) in
     let within : page < length (pages_of build host.history) = slice_get_within (pages_of build host.history) page granule there in
     subst (λ n. n < host.limits.pages) (get_or_from_slice_get (pages_of build host.history) page granule 0 there)
-      (All-get_or (λ n. n < host.limits.pages) (pages_of build host.history) page 0 within pages.inside)
+    (All-get_or (λ n. n < host.limits.pages) (pages_of build host.history) page 0 within pages.inside)

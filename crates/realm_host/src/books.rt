@@ -67,7 +67,12 @@ fn follow_pages(leases: &mut Leases, build: BuildId, act: &Act)
 
 impl Books {
     /// Books of so many builds, with room for `capacity` events of each, and of a machine of so many pages.
-    pub(crate) fn build(alloc: Global, builds: u8, pages: u16, capacity: u16) -> Result<Books, AllocError>
+    pub(crate) fn build(
+        alloc: Global,
+        builds: u8,
+        pages: u16,
+        capacity: u16,
+    ) -> Result<Books, AllocError>
         requires some_builds { 1 ≤ builds }
         requires few_builds { builds ≤ 8 }
         requires some_pages { 1 ≤ pages }

@@ -6,14 +6,16 @@
 #![tactic(auto)]
 
 mod books;
+mod build;
 mod checks;
 mod command;
-mod build;
 mod host;
 mod refusal;
 mod reply;
 mod settings;
 mod step;
+#[cfg(test)]
+mod tests;
 mod undo;
 
 pub use build_journal::Kind;

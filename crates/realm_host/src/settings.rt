@@ -26,9 +26,19 @@ impl Settings {
         ensures valid { IsSome result ↔ AreSettings vmids aux history builds }
         ensures value { IfSome result (λ s. (s.vmids ≡ vmids) × (s.aux ≡ aux) × (s.history ≡ history) × (s.builds ≡ builds)) }
     {
-        let are_settings = vmids >= 1 && aux <= 16 && history >= 16 && history <= 16_384 && builds >= 1 && builds <= 8;
+        let are_settings = vmids >= 1
+            && aux <= 16
+            && history >= 16
+            && history <= 16_384
+            && builds >= 1
+            && builds <= 8;
         if are_settings {
-            Some(Settings { vmids, aux, history, builds })
+            Some(Settings {
+                vmids,
+                aux,
+                history,
+                builds,
+            })
         } else {
             None
         }

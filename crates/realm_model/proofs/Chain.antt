@@ -1,10 +1,10 @@
 -- The newest open act of a build can be undone, whatever came after it: from laws of single steps.
-use Rattle.std.proofs.Common.{◌≡◌, ◌≢◌, ℕ, true, false, cond, List, [], ◌∷◌, ◌++◌, reverse, Some, None, refl, sym, ap, ◌∙◌, subst}
+use Rattle.std.proofs.Common.{◌≡◌, ◌≢◌, ℕ, suc, ◌+◌, ◌≤◌, true, false, List, [], ◌∷◌, ◌++◌, length, take, reverse, Some, None, arith, refl, sym, ap, ◌∙◌, subst}
 use Rattle.std.specs.Prelude.{◌==◌, option_and_then}
 use Rattle.std.specs.List.{last_or}
 use Rattle.std.proofs.lemmas.Bool.{eqb-true, eqb-false}
-use Rattle.std.proofs.lemmas.Option.{option_and_then_some}
-use Rattle.std.proofs.lemmas.List.{append_assoc, append-nil, reverse-reverse}
+use Rattle.std.proofs.lemmas.Option.{option_and_then_some, same_Some}
+use Rattle.std.proofs.lemmas.List.{append_assoc, append-nil, reverse-reverse, length-append}
 use Rattle.realm_model.specs.declared.act.Act.{Act}
 use Rattle.realm_model.specs.declared.act.Event.{Event}
 use Rattle.realm_model.specs.Stack.{pushed}
@@ -15,23 +15,8 @@ use Rattle.realm_model.specs.Step.{step}
 use Rattle.realm_model.specs.History.{open_entries, IsInTurn, AllInTurn, after, replay, IsLegal}
 use Rattle.realm_model.specs.Undoing.{by}
 use Rattle.realm_model.proofs.Stack.{paired, pushed_other, back, pushed_back, kind, pushed_paired, other}
-use Rattle.realm_model.proofs.Lists.{front-reverse, reverse_more, last-reverse, tail}
-use Rattle.realm_model.proofs.Growth.{open_entries-own, open_entries-other}
-
--- ---- the stack, newest first
-
-abbrev stacked : List Act → Act → List Act
-stacked st act = cond (is_paired act) (act ∷ st) (cond (is_reverse act) (tail st) st)
-
-pushed-reverse : (st : List Act) (act : Act) → pushed (reverse st) act ≡ reverse (stacked st act)
-pushed-reverse st act = elim (kind act) [
-  | paired p r ↦ pushed_paired (reverse st) act p ∙ sym (reverse_more st act) ∙ ap reverse (sym (ap (λ t. cond t (act ∷ st) (cond (is_reverse act) (tail st) st)) p))
-  | back p r ↦ pushed_back (reverse st) act p r ∙ front-reverse st ∙ ap reverse (sym (λ i. cond (p i) (act ∷ st) (cond (r i) (tail st) st)))
-  | other p r ↦ pushed_other (reverse st) act p r ∙ ap reverse (sym (λ i. cond (p i) (act ∷ st) (cond (r i) (tail st) st)))
-]
-
-Some_same : {x y : Act} → Some x ≡ Some y → x ≡ y
-Some_same e = cc
+use Rattle.realm_model.proofs.Lists.{reverse_more, last-reverse, front_push, last_push}
+use Rattle.realm_model.proofs.Growth.{open_entries-own, open_entries-other, takes_away}
 
 -- What single steps owe. `Same u w`: the worlds own the same to the build, whatever bytes, RIPAS, measurements and states of
 -- RECs are. `Sound w`: what every reachable world keeps
@@ -47,82 +32,122 @@ pub record Laws (limits : Limits) (b : ℕ) (Same : World → World → Type 0) 
   -- a reverse act leads back to before its pair
   pub pair : (u v w x : World) (act r : Act) → reverse_of act ≡ Some r → Sound u → Sound w → step limits u (by b act) ≡ Some v → Same v w → step limits w (by b r) ≡ Some x → Same u x
 
-module _ (limits : Limits) (b : ℕ) (Same : World → World → Type 0) (Sound : World → Type 0) (laws : Laws limits b Same Sound) where
-  -- the world owns to the build what its open acts make, the newest first
+-- From a base world on, above what was open there.
+module _ (limits : Limits) (b : ℕ) (Same : World → World → Type 0) (Sound : World → Type 0) (laws : Laws limits b Same Sound) (base : World) (below : List Act) where
+  -- the world owns to the build what the acts that are open above the base make, the newest first
   abbrev pub Chain : List Act → World → Type 0
-  Chain [] w = Same (opening limits) w
-  Chain (act ∷ st) w = (u : World) × (v : World) × Sound u × Chain st u × (step limits u (by b act) ≡ Some v) × Same v w
+  Chain [] w = Same base w
+  Chain (act ∷ st) w = (u : World) × (v : World) × Sound u × Chain st u × (step limits u (by b act) ≡ Some v) × Same v w × (is_paired act ≡ true)
 
   chain_same : (st : List Act) (w x : World) → Same w x → Chain st w → Chain st x
   chain_same [] w x same h = laws.chain _ _ _ h same
-  chain_same (act ∷ st) w x same h = (h.0, h.1, h.2, h.3, h.4, laws.chain _ _ _ h.5 same)
+  chain_same (act ∷ st) w x same h = (h.0, h.1, h.2, h.3, h.4, laws.chain _ _ _ h.5 same, h.6)
 
-  -- the act of an event in turn, at the top of the stack
-  popped : (st : List Act) (w x : World) (r : Act) → Sound w → Chain st w → step limits w (by b r) ≡ Some x
-      → option_and_then reverse_of (last_or None (reverse st)) ≡ Some r → Chain (tail st) x
-  popped [] w x r sound h stepped turn = cc
-  popped (act ∷ st) w x r sound h stepped turn =
-      let pairs : reverse_of act ≡ Some r = ap (option_and_then reverse_of) (sym (last-reverse st act)) ∙ turn in
-      chain_same st h.0 x (laws.pair h.0 h.1 w x act r pairs h.2 sound h.4 h.5 stepped) h.3
-
-  own_event : (st : List Act) (w x : World) (act : Act) → Sound w → Chain st w → step limits w (by b act) ≡ Some x
-      → (is_reverse act ≡ true → option_and_then reverse_of (last_or None (reverse st)) ≡ Some act) → Chain (stacked st act) x
-  own_event st w x act sound h stepped turn = elim (kind act) [
-    | paired p r ↦ subst (λ t. Chain (cond t (act ∷ st) (cond (is_reverse act) (tail st) st)) x) (sym p) (w, x, sound, h, stepped, laws.itself x)
-    | back p r ↦ let stack : tail st ≡ stacked st act = sym (λ i. cond (p i) (act ∷ st) (cond (r i) (tail st) st)) in
-        subst (λ s. Chain s x) stack (popped st w x act sound h stepped (turn r))
-    | other p r ↦ let stack : st ≡ stacked st act = sym (λ i. cond (p i) (act ∷ st) (cond (r i) (tail st) st)) in
-        subst (λ s. Chain s x) stack (chain_same st w x (laws.unpaired w x act p r sound stepped) h)
-  ]
-
-  -- a history keeps a chain of what is open
-  pub record Kept (history : List Event) (w : World) : Type 0 where
+  -- a history keeps a chain of what is open above the base
+  pub record Kept (stack : List Act) (history : List Event) (w : World) : Type 0 where
     pub sound : Sound w
-    pub stack : List Act
-    pub open_is : open_entries b history ≡ reverse stack
+    pub open_is : open_entries b history ≡ below ++ reverse stack
     pub chained : Chain stack w
 
-  kept_own : (before : List Event) (w x : World) (act : Act) → Kept before w → IsInTurn before (by b act) → step limits w (by b act) ≡ Some x → Kept (before ++ by b act ∷ []) x
-  kept_own before w x act kept turn stepped = record {
+  -- nothing from below is taken away
+  abbrev pub Stays : List Event → Type 0
+  Stays history = length below ≤ length (open_entries b history)
+
+  pub on_top : (st : List Act) (act : Act) → (below ++ reverse st) ++ act ∷ [] ≡ below ++ reverse (act ∷ st)
+  on_top st act = append_assoc below (reverse st) (act ∷ []) ∙ ap (λ s. below ++ s) (sym (reverse_more st act))
+
+  abbrev KeptBy : List Event → World → Type 0
+  KeptBy history w = (st : List Act) × Kept st history w
+
+  kept_paired : (st : List Act) (before : List Event) (w x : World) (act : Act) → is_paired act ≡ true → Kept st before w → step limits w (by b act) ≡ Some x → Kept (act ∷ st) (before ++ by b act ∷ []) x
+  kept_paired st before w x act p kept stepped = record {
     sound = laws.sound_step w x (by b act) kept.sound stepped;
-    stack = stacked kept.stack act;
-    open_is = open_entries-own before (by b act) ∙ ap (λ s. pushed s act) kept.open_is ∙ pushed-reverse kept.stack act;
-    chained = own_event kept.stack w x act kept.sound kept.chained stepped
-        (λ r. ap (λ s. option_and_then reverse_of (last_or None s)) (sym kept.open_is) ∙ turn r);
+    open_is = open_entries-own before (by b act) ∙ ap (λ s. pushed s act) kept.open_is ∙ pushed_paired (below ++ reverse st) act p ∙ on_top st act;
+    chained = (w, x, kept.sound, kept.chained, stepped, laws.itself x, p);
   }
 
-  kept_step : (before : List Event) (w x : World) (e : Event) → Kept before w → IsInTurn before e → step limits w e ≡ Some x → Kept (before ++ e ∷ []) x
-  kept_step before w x e kept turn stepped =
-      elim (e.build == b) as (λ t. (e.build == b) ≡ t → Kept (before ++ e ∷ []) x) [
+  kept_other : (st : List Act) (before : List Event) (w x : World) (act : Act) → is_paired act ≡ false → is_reverse act ≡ false → Kept st before w → step limits w (by b act) ≡ Some x → Kept st (before ++ by b act ∷ []) x
+  kept_other st before w x act p r kept stepped = record {
+    sound = laws.sound_step w x (by b act) kept.sound stepped;
+    open_is = open_entries-own before (by b act) ∙ ap (λ s. pushed s act) kept.open_is ∙ pushed_other (below ++ reverse st) act p r;
+    chained = chain_same st w x (laws.unpaired w x act p r kept.sound stepped) kept.chained;
+  }
+
+  -- the newest act above the base is taken away
+  pub kept_back : (top : Act) (st : List Act) (before : List Event) (w x : World) (act : Act) → is_paired act ≡ false → is_reverse act ≡ true → Kept (top ∷ st) before w → IsInTurn before (by b act) → step limits w (by b act) ≡ Some x
+      → Kept st (before ++ by b act ∷ []) x
+  kept_back top st before w x act p r kept turn stepped =
+      let whole : open_entries b before ≡ (below ++ reverse st) ++ top ∷ [] = kept.open_is ∙ sym (on_top st top) in
+      let pairs : reverse_of top ≡ Some act =
+      ap (option_and_then reverse_of) (sym (ap (last_or None) whole ∙ last_push None (below ++ reverse st) top)) ∙ turn r in
+      let was = kept.chained in
+      record {
+        sound = laws.sound_step w x (by b act) kept.sound stepped;
+        open_is = open_entries-own before (by b act) ∙ ap (λ s. pushed s act) whole ∙ pushed_back ((below ++ reverse st) ++ top ∷ []) act p r ∙ front_push (below ++ reverse st) top;
+        chained = chain_same st was.0 x (laws.pair was.0 was.1 w x top act pairs was.2 kept.sound was.4 was.5 stepped) was.3;
+      }
+
+  -- where nothing is open above it, the base would be reached into
+  too_low : (before : List Event) (w : World) (act : Act) → is_paired act ≡ false → is_reverse act ≡ true → Kept [] before w → IsInTurn before (by b act) → Stays (before ++ by b act ∷ []) → ⊥
+  too_low before w act p r kept turn stays =
+      let away = takes_away b before act p r turn in
+      let lengths : length (open_entries b before) ≡ length (open_entries b (before ++ by b act ∷ [])) + 1 =
+      ap length away.open_is ∙ length-append (open_entries b (before ++ by b act ∷ [])) (away.newest ∷ []) in
+      let all : length (open_entries b before) ≡ length below = ap length (kept.open_is ∙ append-nil below) in
+      omega arith
+
+  kept_own : (st : List Act) (before : List Event) (w x : World) (act : Act) → Kept st before w → IsInTurn before (by b act) → step limits w (by b act) ≡ Some x → Stays (before ++ by b act ∷ []) → KeptBy (before ++ by b act ∷ []) x
+  kept_own st before w x act kept turn stepped stays = elim (kind act) [
+    | paired p r ↦ (act ∷ st, kept_paired st before w x act p kept stepped)
+    | back p r ↦ by_stack st p r kept
+    | other p r ↦ (st, kept_other st before w x act p r kept stepped)
+  ]
+    where
+      by_stack : (st : List Act) → is_paired act ≡ false → is_reverse act ≡ true → Kept st before w → KeptBy (before ++ by b act ∷ []) x
+      by_stack [] p r kept = absurd (too_low before w act p r kept turn stays)
+      by_stack (top ∷ st) p r kept = (st, kept_back top st before w x act p r kept turn stepped)
+
+  pub kept_step : (st : List Act) (before : List Event) (w x : World) (e : Event) → Kept st before w → IsInTurn before e → step limits w e ≡ Some x → Stays (before ++ e ∷ []) → KeptBy (before ++ e ∷ []) x
+  kept_step st before w x e kept turn stepped stays =
+      elim (e.build == b) as (λ t. (e.build == b) ≡ t → KeptBy (before ++ e ∷ []) x) [
         | true ↦ λ own.
             let same : e ≡ by b e.act = λ i. record { build = eqb-true e.build b own i; act = e.act } in
-            subst (λ d. Kept (before ++ d ∷ []) x) (sym same)
-            (kept_own before w x e.act kept (subst (IsInTurn before) same turn) (subst (λ d. step limits w d ≡ Some x) same stepped))
-        | false ↦ λ apart. record {
-          sound = laws.sound_step w x e kept.sound stepped;
-          stack = kept.stack;
-          open_is = open_entries-other b before e (eqb-false e.build b apart) ∙ kept.open_is;
-          chained = chain_same kept.stack w x (laws.frame w x e (eqb-false e.build b apart) kept.sound stepped) kept.chained;
-        }
+            subst (λ d. KeptBy (before ++ d ∷ []) x) (sym same)
+            (kept_own st before w x e.act kept (subst (IsInTurn before) same turn) (subst (λ d. step limits w d ≡ Some x) same stepped) (subst (λ d. Stays (before ++ d ∷ [])) same stays))
+        | false ↦ λ apart. (
+          st,
+          record {
+            sound = laws.sound_step w x e kept.sound stepped;
+            open_is = open_entries-other b before e (eqb-false e.build b apart) ∙ kept.open_is;
+            chained = chain_same st w x (laws.frame w x e (eqb-false e.build b apart) kept.sound stepped) kept.chained;
+          },
+        )
       ] refl
 
-  kept_after : (before es : List Event) (w x : World) → Kept before w → AllInTurn before es → after limits es w ≡ Some x → Kept (before ++ es) x
+  pub kept_after : (st : List Act) (before es : List Event) (w x : World) → Kept st before w → AllInTurn before es → after limits es w ≡ Some x → ((n : ℕ) → Stays (before ++ take n es)) → KeptBy (before ++ es) x
   unfolding after
-  kept_after before [] w x kept turns h = let same : w ≡ x = cc in subst (λ v. Kept (before ++ []) v) same (subst (λ b. Kept b w) (sym (append-nil before)) kept)
-  kept_after before (e ∷ es) w x kept turns h =
+  kept_after st before [] w x kept turns h stays =
+      (st, subst (Kept st (before ++ [])) (same_Some _ _ h) (subst (λ es. Kept st es w) (sym (append-nil before)) kept))
+  kept_after st before (e ∷ es) w x kept turns h stays =
       option_and_then_some (after limits es) (step limits w e) x h (λ v stepped rest.
-      subst (λ b. Kept b x) (append_assoc before (e ∷ []) es) (kept_after (before ++ e ∷ []) es v x (kept_step before w v e kept turns.0 stepped) turns.1 rest))
+      let next = kept_step st before w v e kept turns.0 stepped (stays 1) in
+      subst (λ es. KeptBy es x) (append_assoc before (e ∷ []) es)
+      (kept_after next.0 (before ++ e ∷ []) es v x next.1 turns.1 rest (λ n. subst Stays (sym (append_assoc before (e ∷ []) (take n es))) (stays (suc n)))))
 
-  pub kept : (history : List Event) (w : World) → IsLegal limits history → replay limits history ≡ Some w → Kept history w
+-- ---- from the opening world on
+
+module _ (limits : Limits) (b : ℕ) (Same : World → World → Type 0) (Sound : World → Type 0) (laws : Laws limits b Same Sound) where
+  pub kept : (history : List Event) (w : World) → IsLegal limits history → replay limits history ≡ Some w → (st : List Act) × Kept limits b Same Sound laws (opening limits) [] st history w
   unfolding open_entries
-  kept history w legal at_w = kept_after [] history (opening limits) w (record { sound = laws.sound_opening; stack = []; open_is = refl; chained = laws.itself (opening limits) }) legal.in_turn at_w
+  kept history w legal at_w =
+      kept_after limits b Same Sound laws (opening limits) [] [] [] history (opening limits) w (record { sound = laws.sound_opening; open_is = refl; chained = laws.itself (opening limits) }) legal.in_turn at_w (λ n. omega arith)
 
   -- Where nothing is open, the build owns what it owned at first
   pub nothing_open : (history : List Event) (w : World) → IsLegal limits history → replay limits history ≡ Some w → open_entries b history ≡ [] → Same (opening limits) w
   nothing_open history w legal at_w none =
       let k = kept history w legal at_w in
-      let no_stack : k.stack ≡ [] = sym (reverse-reverse k.stack) ∙ ap reverse (sym k.open_is ∙ none) in
-      subst (λ st. Chain st w) no_stack k.chained
+      let no_stack : k.0 ≡ [] = sym (reverse-reverse k.0) ∙ ap reverse (sym k.1.open_is ∙ none) in
+      subst (λ st. Chain limits b Same Sound laws (opening limits) [] st w) no_stack k.1.chained
 
   -- Where an act is open, a world before the newest one and the world right after it are known, which owns the same as the world now
   pub record Newest (act : Act) (w : World) : Type 0 where
@@ -132,14 +157,15 @@ module _ (limits : Limits) (b : ℕ) (Same : World → World → Type 0) (Sound 
     pub sound : Sound w
     pub stepped : step limits before (by b act) ≡ Some after_it
     pub same : Same after_it w
+    pub paired : is_paired act ≡ true
 
   pub newest : (history : List Event) (w : World) (act : Act) → IsLegal limits history → replay limits history ≡ Some w → last_or None (open_entries b history) ≡ Some act → Newest act w
   newest history w act legal at_w top =
       let k = kept history w legal at_w in
-      top_of k.stack k.chained k.sound (ap (last_or None) (sym k.open_is) ∙ top)
+      top_of k.0 k.1.chained k.1.sound (ap (last_or None) (sym k.1.open_is) ∙ top)
     where
-      top_of : (st : List Act) → Chain st w → Sound w → last_or None (reverse st) ≡ Some act → Newest act w
+      top_of : (st : List Act) → Chain limits b Same Sound laws (opening limits) [] st w → Sound w → last_or None (reverse st) ≡ Some act → Newest act w
       top_of [] h sound e = cc
       top_of (a ∷ st) h sound e =
-          let same : a ≡ act = Some_same (sym (last-reverse st a) ∙ e) in
-          record { before = h.0; after_it = h.1; sound_before = h.2; sound = sound; stepped = subst (λ d. step limits h.0 (by b d) ≡ Some h.1) same h.4; same = h.5 }
+          let same : a ≡ act = same_Some _ _ (sym (last-reverse st a) ∙ e) in
+          record { before = h.0; after_it = h.1; sound_before = h.2; sound = sound; stepped = subst (λ d. step limits h.0 (by b d) ≡ Some h.1) same h.4; same = h.5; paired = ap is_paired (sym same) ∙ h.6 }

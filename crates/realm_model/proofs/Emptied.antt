@@ -48,7 +48,7 @@ pub emptied : (limits : Limits) (b : ℕ) (history : List Event) (w : World) →
     → open_entries b history ≡ [] → replay limits (erase b history) ≡ Some w
 emptied limits b history w legal at_w none =
     let same : SameFor b (opening limits) w = nothing_open limits b (SameFor b) (IsSound b) (laws limits b) history w legal at_w none in
-    let clean : IsClean w = (kept limits b (SameFor b) (IsSound b) (laws limits b) history w legal at_w).sound.clean in
+    let clean : IsClean w = (kept limits b (SameFor b) (IsSound b) (laws limits b) history w legal at_w).1.sound.clean in
     let free = none_leased b limits.pages w.leases (sym same.leases ∙ none_at_first b limits.pages) in
     let whole : without w b ≡ w = λ i. record { machine = cells_kept b w.leases w.machine free clean i; leases = leases_kept b w.leases free i } in
     (leaves_no_trace limits history b legal).1 ∙ ap (option_map (λ v. without v b)) at_w ∙ ap Some whole

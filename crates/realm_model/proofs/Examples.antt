@@ -1,5 +1,5 @@
 -- Small histories, computed.
-use Rattle.std.proofs.Common.{◌≡◌, ℕ, false, List, [], ◌∷◌, map, Option, Some, None, refl}
+use Rattle.std.proofs.Common.{◌≡◌, ℕ, false, List, [], ◌∷◌, ◌++◌, map, Option, Some, None, refl}
 use Rattle.std.specs.Prelude.{is_some, option_map}
 use Rattle.realm_model.specs.declared.act.Act.TheVariants.{Take, UnTake, Fill, Delegate, Undelegate, Realm}
 use Rattle.realm_model.specs.declared.act.Event.{Event}
@@ -13,7 +13,8 @@ use Rattle.realm_model.specs.Outcome.{outcome_of, fits}
 use Rattle.realm_model.specs.World.{World, realm_from, updated_all, free_set}
 use Rattle.realm_model.specs.Step.{step}
 use Rattle.realm_model.specs.History.{after, replay, open_entries, pages_of, erase, IsLegal}
-use Rattle.realm_model.specs.Undoing.{by}
+use Rattle.realm_model.specs.Undoing.{by, undoing}
+use Rattle.realm_model.specs.Marks.{mark_at, erase_after, rolling_back}
 
 abbrev machine_of : ℕ → Limits
 machine_of pages = record { pages = pages; vmids = 8; aux = 0; builds = 2 }
@@ -136,3 +137,26 @@ realm_made-free = refl
 second_realm : is_some (replay (machine_of 4) (by 0 (Take 2 0) ∷ by 0 (Delegate 0) ∷ by 0 (Delegate 1) ∷ by 0 (Delegate 2) ∷ by 0 (Delegate 3) ∷ by 0 (Realm 0 1 1) ∷ by 0 (Realm 2 3 2) ∷ [])) ≡ false
 unfolding after step named outcome_of fits updated_all check realm_from new_realm
 second_realm = refl
+
+-- ---- a build is rolled back to a mark, or undone, while another goes on
+
+abbrev marked : List Event
+marked = by 0 (Take 0 0) ∷ []
+
+abbrev later : List Event
+later = by 0 (Take 0 0) ∷ by 1 (Take 0 3) ∷ by 0 (Take 0 1) ∷ by 0 (Delegate 1) ∷ []
+
+later-back : rolling_back (mark_at 0 marked) later ≡ by 0 (Undelegate 1) ∷ by 0 (UnTake 0 1) ∷ []
+unfolding open_entries reverse_of is_reverse
+later-back = refl
+
+later-erased : erase_after 0 1 later ≡ by 0 (Take 0 0) ∷ by 1 (Take 0 3) ∷ []
+later-erased = refl
+
+later-free : free (replay (machine_of 4) (later ++ by 0 (Undelegate 1) ∷ by 0 (UnTake 0 1) ∷ [])) ≡ Some (1 ∷ 2 ∷ [])
+unfolding after step named outcome_of fits updated_all check
+later-free = refl
+
+later-undone : undoing 0 later ≡ by 0 (Undelegate 1) ∷ by 0 (UnTake 0 1) ∷ by 0 (UnTake 0 0) ∷ []
+unfolding open_entries reverse_of is_reverse
+later-undone = refl

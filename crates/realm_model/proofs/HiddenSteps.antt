@@ -52,7 +52,7 @@ module _ (p : Option ℕ → Bool) (lease : Option ℕ) (apart : IsShown p lease
       λ i. record { number = g; cell = cell i } ∷ rest i
 
 -- a VMID that no realm has is had by none of fewer realms
-fewer_vmids : (p : Option ℕ → Bool) (v : ℕ) (leases : List (Option ℕ)) (machine : Machine) → list_any (has_vmid v) machine ≡ false → list_any (has_vmid v) (each (hidden p) leases machine) ≡ false
+pub fewer_vmids : (p : Option ℕ → Bool) (v : ℕ) (leases : List (Option ℕ)) (machine : Machine) → list_any (has_vmid v) machine ≡ false → list_any (has_vmid v) (each (hidden p) leases machine) ≡ false
 fewer_vmids p v [] machine h = refl
 fewer_vmids p v (l ∷ leases) [] h = refl
 fewer_vmids p v (l ∷ leases) (cell ∷ machine) h =

@@ -1,6 +1,6 @@
 -- Lists of leases and of cells, read and changed at one granule.
 use Rattle.std.proofs.Common.{◌≡◌, ℕ, zero, suc, true, false, List, [], ◌∷◌, map, set, Option, Some, None, refl, sym, ap, ◌∙◌, ◌||◌}
-use Rattle.std.specs.Prelude.{slice_get, option_map, ◌==◌}
+use Rattle.std.specs.Prelude.{slice_get, option_map, ◌==◌, replicate}
 use Rattle.std.specs.Option.{option_eq}
 use Rattle.std.specs.List.{All, list_all}
 use Rattle.std.proofs.lemmas.Bool.{eqb-true, eq-eqb, and_parts, and_from}
@@ -82,3 +82,9 @@ in_leased lease leases (g ∷ gs) h k e =
       | true ↦ λ same e. ap (slice_get leases) (eqb-true k g same) ∙ leased lease leases g parts.0
       | false ↦ λ same e. in_leased lease leases gs parts.1 k e
     ] refl e
+
+-- each cell of a machine of blank ones
+pub cell_at-replicate : (n g : ℕ) → cell_at (replicate n blank) g ≡ blank
+cell_at-replicate zero g = refl
+cell_at-replicate (suc n) zero = refl
+cell_at-replicate (suc n) (suc g) = cell_at-replicate n g

@@ -56,7 +56,7 @@ acts_or t e acts = cond t (e.act ∷ acts) acts
 map-act : (c : ℕ) (e : Event) (es : List Event) → acts_of c (e ∷ es) ≡ acts_or (e.build == c) e (acts_of c es)
 map-act c e es = elim (e.build == c) as (λ t. map (λ (x : Event). x.act) (cond t (e ∷ filter (λ x. x.build == c) es) (filter (λ x. x.build == c) es)) ≡ acts_or t e (acts_of c es)) [ true ↦ refl | false ↦ refl ]
 
-acts_of-erase : (b c : ℕ) → c ≢ b → (es : List Event) → acts_of c (erase b es) ≡ acts_of c es
+pub acts_of-erase : (b c : ℕ) → c ≢ b → (es : List Event) → acts_of c (erase b es) ≡ acts_of c es
 acts_of-erase b c apart [] = refl
 acts_of-erase b c apart (e ∷ es) =
     let rest = acts_of-erase b c apart es in
@@ -70,7 +70,7 @@ unfolding open_entries
 IsInTurn-erase b before e apart turn = λ r. ap (λ acts. option_and_then reverse_of (last_or None (unmatched acts))) (acts_of-erase b e.build apart before) ∙ turn r
 
 -- one more event at the end of a history
-erase_push : (b : ℕ) (before : List Event) (e : Event) (t : Bool) → (e.build == b) ≡ t → erase b (before ++ e ∷ []) ≡ erase b before ++ cond (not t) (e ∷ []) []
+pub erase_push : (b : ℕ) (before : List Event) (e : Event) (t : Bool) → (e.build == b) ≡ t → erase b (before ++ e ∷ []) ≡ erase b before ++ cond (not t) (e ∷ []) []
 erase_push b before e t h = filter-append (λ x. not (x.build == b)) before (e ∷ []) ∙ ap (λ t. erase b before ++ cond (not t) (e ∷ []) []) h
 
 AllInTurn-erase : (b : ℕ) (before es : List Event) → AllInTurn before es → AllInTurn (erase b before) (erase b es)

@@ -1,32 +1,40 @@
+-- tests, lists and maps
 pub mod Tests
 pub mod Lists
 pub mod SetEach
 pub mod Maps
+-- what a command yields, and its updates do
 pub mod Outcomes
 pub mod Walks
 pub mod Leases
-pub mod Clean
-pub mod HiddenUpdates
-pub mod HiddenSteps
-pub mod LeftOut
-pub mod Stack
-pub mod Growth
-pub mod Reached
 pub mod RealmOf
 pub mod Written
 pub mod Puts
 pub mod Changes
+-- a build left out
+pub mod Clean
+pub mod HiddenUpdates
+pub mod HiddenSteps
+pub mod LeftOut
+-- how histories grow, and what is open
+pub mod Stack
+pub mod Growth
+pub mod HistoryParts
+pub mod Reached
+-- steps
 pub mod StepSays
 pub mod Blocks
-pub mod Pages
-pub mod OwnsSame
 pub mod StepBack
+-- pages of builds, and the free set
+pub mod Pages
+pub mod FreeSets
+-- reached worlds
+pub mod Parts
 pub mod RowKinds
 pub mod Rows
 pub mod TablePlaces
-pub mod SoundRows
 pub mod TableBack
-pub mod Unpaired
+pub mod SoundRows
 pub mod SoundCells
 pub mod SoundParts
 pub mod Roles
@@ -36,12 +44,30 @@ pub mod RecRoles
 pub mod RealmRoles
 pub mod Linked
 pub mod Reaching
+pub mod ZeroPages
+pub mod Vmids
+pub mod Reachable
+-- room
+pub mod RunningRecs
+pub mod RealmAfter
+pub mod PartRealm
+pub mod Room
+-- owning the same, and undoing
+pub mod OwnsSame
+pub mod Unpaired
 pub mod Reversal
 pub mod PairBack
 pub mod Chain
 pub mod OwnLaws
 pub mod Emptied
 pub mod Progress
+pub mod PairsLeadBack
 pub mod AtRest
 pub mod UndoAll
+-- marks
+pub mod StaysThere
+pub mod OthersGoOn
+pub mod RollBack
+pub mod Marks
+-- worked histories
 pub mod Examples

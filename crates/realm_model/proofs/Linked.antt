@@ -1,6 +1,6 @@
 -- Every reached world keeps realms and the granules that they name linked.
-use Rattle.std.proofs.Common.{◌<◌, ◌++◌, arith, ◌≡◌, ℕ, zero, suc, ◌+◌, ◌-◌, true, false, cond, ◌||◌, inl, inr, List, [], ◌∷◌, ◌++◌, map, Option, Some, None, refl, sym, ap, ◌∙◌, subst, arith}
-use Rattle.std.specs.Prelude.{option_map, is_some, ◌==◌, replicate}
+use Rattle.std.proofs.Common.{◌<◌, ◌++◌, arith, ◌≡◌, ℕ, ◌+◌, ◌-◌, true, false, cond, ◌||◌, inl, inr, List, [], ◌∷◌, ◌++◌, map, Option, Some, None, refl, sym, ap, ◌∙◌, subst, arith}
+use Rattle.std.specs.Prelude.{option_map, is_some, ◌==◌}
 use Rattle.std.specs.List.{list_any}
 use Rattle.std.specs.Ordering.{nat_cmp, eq_by_cmp}
 use Rattle.std.specs.Cmp.{nat_cmp_total}
@@ -16,7 +16,7 @@ use Rattle.realm_model.specs.declared.act.Act.{Act}
 use Rattle.realm_model.specs.declared.act.Act.TheVariants.{Take, UnTake, Fill, Peek, Delegate, Undelegate, Realm, UnRealm, Activate, Rtt, UnRtt, Ripas as ToRam, Data, Unknown, UnData, Rec, UnRec, Enter, Exit, Poke}
 use Rattle.realm_model.specs.declared.act.Event.{Event}
 use Rattle.realm_model.specs.Rows.{Row, unassigned, assigned, put_row, with_table, without_table, with_ram, unmapped_ripas, is_unassigned}
-use Rattle.realm_model.specs.Machine.{Limits, RecRow, RealmRow, Cell, Seen, blank, left, held, cell_at, seen}
+use Rattle.realm_model.specs.Machine.{Limits, RecRow, RealmRow, Cell, Seen, left, held, cell_at, seen}
 use Rattle.realm_model.specs.Update.{Update, Put}
 use Rattle.realm_model.specs.Command.Check.{is_delegated, all_different}
 use Rattle.realm_model.specs.Measurement.{measurement_after, data_event, rec_event}
@@ -26,8 +26,8 @@ use Rattle.realm_model.specs.World.{World, part_of, realm_of, opening, hidden, i
 use Rattle.realm_model.specs.Step.{step}
 use Rattle.realm_model.specs.History.{after, replay}
 use Rattle.realm_model.specs.Ownership.{mapping_of_row, granules_of_rec}
-use Rattle.realm_model.specs.Sound.{look, IsSoundCell, IsSoundPart, IsSoundRealm}
-use Rattle.realm_model.specs.Roles.{AsRoot, row_target, IsLinked, IsLinkedFor, is_role_state}
+use Rattle.realm_model.specs.Sound.{look}
+use Rattle.realm_model.specs.Roles.{AsRoot, row_target, is_role_state}
 use Rattle.realm_model.specs.Undoing.{by}
 use Rattle.realm_model.proofs.Written.{seen_frees, put_takes, seen_takes, put_at, cell_put, put_frees, IsSquare}
 use Rattle.realm_model.proofs.SoundRows.{with_table_cases, without_table_cases, leads_nowhere, look-with_table}
@@ -49,6 +49,8 @@ use Rattle.realm_model.proofs.RowRoles.{row_more, row_less, leaf_target, leaf_ne
 use Rattle.realm_model.proofs.RecRoles.{rec_more, rec_less, seen_auxes}
 use Rattle.realm_model.proofs.RealmRoles.{realm_made, realm_gone}
 use Rattle.realm_model.proofs.RowKinds.{table_target, assigned_target, unassigned_target}
+use Rattle.realm_model.proofs.Leases.{cell_at-replicate}
+use Rattle.realm_model.proofs.Parts.{IsSoundCell, IsSoundPart, IsSoundRealm, IsLinked, IsLinkedFor}
 
 unused_number : (d : RealmRow) → IsSoundRealm d → get d.recs d.next ≡ None
 unused_number d sound = elim (get d.recs d.next) as (λ o. get d.recs d.next ≡ o → o ≡ None) [
@@ -236,14 +238,9 @@ pub linked_opening : (limits : Limits) (b : ℕ) → IsLinkedFor b (opening limi
 linked_opening limits b = subst (λ m. IsLinked (λ k. cell_at m k)) (sym (each-replicate (hidden (is_of_other b)) refl limits.pages))
     (record {
       roles = λ k. AsRoot;
-      names = λ k e h p to there. absurd (true_false _ (ap is_some h) (ap (λ (c : Cell). is_some c.descriptor) (blank_there limits.pages k)));
-      named = λ g role. absurd (true_false _ role (ap (λ (c : Cell). is_role_state c.state) (blank_there limits.pages g)));
+      names = λ k e h p to there. absurd (true_false _ (ap is_some h) (ap (λ (c : Cell). is_some c.descriptor) (cell_at-replicate limits.pages k)));
+      named = λ g role. absurd (true_false _ role (ap (λ (c : Cell). is_role_state c.state) (cell_at-replicate limits.pages g)));
     })
-  where
-    blank_there : (n g : ℕ) → cell_at (replicate n blank) g ≡ blank
-    blank_there zero g = refl
-    blank_there (suc n) zero = refl
-    blank_there (suc n) (suc g) = blank_there n g
 
 pub linked_reached : (limits : Limits) (b : ℕ) (history : List Event) (w : World) → replay limits history ≡ Some w → IsLinkedFor b w
 linked_reached limits b history w at_w = linked_after limits b history (opening limits) w (IsSound-opening limits b) (linked_opening limits b) at_w

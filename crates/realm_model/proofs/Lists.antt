@@ -1,5 +1,5 @@
 -- Lists in general: the last element and the rest, look-ups after a write, membership, and lists with no element twice.
-use Rattle.std.proofs.Common.{◌≡◌, ◌≢◌, ℕ, zero, suc, ◌+◌, ◌-◌, ◌<◌, ◌≤◌, Bool, true, false, cond, ◌||◌, List, [], ◌∷◌, ◌++◌, length, set, take, reverse, Option, Some, None, refl, sym, ap, ◌∙◌, arith}
+use Rattle.std.proofs.Common.{◌≡◌, ◌≢◌, ℕ, zero, suc, ◌+◌, ◌-◌, ◌<◌, ◌≤◌, Bool, true, false, cond, ◌||◌, List, [], ◌∷◌, ◌++◌, length, set, take, drop, reverse, Option, Some, None, refl, sym, ap, ◌∙◌, arith}
 use Rattle.std.specs.Prelude.{slice_get, ◌==◌}
 use Rattle.std.specs.List.{last_or, list_any, list_all, range_with_len, Contains, AllPairs}
 use Rattle.std.proofs.lemmas.Bool.{eqb-true, eqb-false, eq-eqb, ne_eqb, and_parts, and_from}
@@ -50,12 +50,29 @@ module _ {A : Type 0} where
   pub reverse_more : (xs : List A) (x : A) → reverse (x ∷ xs) ≡ reverse xs ++ x ∷ []
   reverse_more xs x = reverse-append (x ∷ []) xs
 
-  pub front-reverse : (xs : List A) → front (reverse xs) ≡ reverse (tail xs)
-  front-reverse [] = refl
-  front-reverse (x ∷ xs) = ap front (reverse_more xs x) ∙ front_push (reverse xs) x
-
   pub last-reverse : (xs : List A) (x : A) → last_or None (reverse (x ∷ xs)) ≡ Some x
   last-reverse xs x = ap (last_or None) (reverse_more xs x) ∙ last_push None (reverse xs) x
+
+  pub take_further : (n k m : ℕ) (xs : List A) → m ≡ n + k → take m xs ≡ take n xs ++ take k (drop n xs)
+  take_further zero k m xs h = let same : m ≡ k = omega arith in ap (λ j. take j xs) same
+  take_further (suc n) k zero xs h = absurd (omega arith)
+  take_further (suc n) k (suc m) [] h = none k
+    where
+      none : (k : ℕ) → ◌≡◌ {A = List A} [] (take k [])
+      none zero = refl
+      none (suc k) = refl
+  take_further (suc n) k (suc m) (x ∷ xs) h = ap (λ ys. x ∷ ys) (take_further n k m xs (omega arith))
+
+  pub any_reverse : (p : A → Bool) (xs : List A) → list_any p (reverse xs) ≡ false → list_any p xs ≡ false
+  any_reverse p [] h = refl
+  any_reverse p (x ∷ xs) h =
+      let split : (list_any p (reverse xs) || (p x || false)) ≡ false = sym (list_any-append p (reverse xs) (x ∷ [])) ∙ ap (list_any p) (sym (reverse_more xs x)) ∙ h in
+      let parts = or_parts (list_any p (reverse xs)) (p x || false) split in
+      λ i. (or_parts (p x) false parts.1).0 i || any_reverse p xs parts.0 i
+
+  pub drop_front : (xs ys : List A) → drop (length xs) (xs ++ ys) ≡ ys
+  drop_front [] ys = refl
+  drop_front (x ∷ xs) ys = drop_front xs ys
 
   -- ---- look-ups
 

@@ -3,13 +3,13 @@ use Rattle.std.proofs.Common.{ℕ, refl, sym, subst}
 use Rattle.realm_model.specs.Machine.{Limits}
 use Rattle.realm_model.specs.World.{World, part_of}
 use Rattle.realm_model.specs.Undoing.{by}
+use Rattle.realm_model.specs.Ownership.{OwnsSame}
 use Rattle.realm_model.proofs.HiddenSteps.{step-part_of, part_of-other_step}
 use Rattle.realm_model.proofs.Chain.{Laws}
 use Rattle.realm_model.proofs.SoundParts.{IsSound-step, IsSound, IsSound-opening}
 use Rattle.realm_model.proofs.OwnsSame.{own_itself, own_chain}
 use Rattle.realm_model.proofs.PairBack.{pair_back}
 use Rattle.realm_model.proofs.Unpaired.{own_step}
-use Rattle.realm_model.specs.Ownership.{OwnsSame}
 
 -- what both worlds own to the build is the same
 abbrev pub SameFor : ℕ → World → World → Type 0

@@ -88,7 +88,7 @@ same_leases b (x ∷ xs) (y ∷ ys) h k =
     let one : x ≡ y = sym (lease_merged b x) ∙ (λ i. merged (ap (head_or None) h i) (ap (head_or None) k i)) ∙ lease_merged b y in
     λ i. one i ∷ same_leases b xs ys (ap tail h) (ap tail k) i
 
-past : (ls : List (Option ℕ)) (m : Machine) (g : ℕ) → length ls ≡ length m → slice_get ls g ≡ None → cell_at m g ≡ blank
+pub past : (ls : List (Option ℕ)) (m : Machine) (g : ℕ) → length ls ≡ length m → slice_get ls g ≡ None → cell_at m g ≡ blank
 past [] [] g h e = refl
 past [] (c ∷ m) g h e = absurd (omega arith)
 past (l ∷ ls) [] g h e = refl

@@ -14,7 +14,6 @@ use Rattle.realm_model.specs.Outcome.{outcome_of}
 use Rattle.realm_model.specs.World.{World, is_leased_to, realm_of, updated_all, part_of}
 use Rattle.realm_model.specs.Step.{step}
 use Rattle.realm_model.specs.Ownership.{SameCell, OwnsSame}
-use Rattle.realm_model.specs.Sound.{IsSoundPart}
 use Rattle.realm_model.specs.Undoing.{by}
 use Rattle.realm_model.specs.History.{replay}
 use Rattle.realm_model.proofs.Clean.{clean_at, IsClean}
@@ -30,6 +29,7 @@ use Rattle.realm_model.proofs.Leases.{in_leased}
 use Rattle.realm_model.proofs.RealmOf.{IsAt-realm_of, IsHeld-realm_of}
 use Rattle.realm_model.proofs.HiddenSteps.{step-part_of, without-own_step}
 use Rattle.realm_model.proofs.Changes.{holder_is}
+use Rattle.realm_model.proofs.Parts.{IsSoundPart}
 
 module _ (limits : Limits) (b : ℕ) (u v w : World) (act : Act) (su : IsSoundPart u) (sw : IsSoundPart w) (square : IsSquare u)
     (k : is_of_block act ≡ false) (p : is_paired act ≡ true) (stepped : step limits u (by b act) ≡ Some v) (same : OwnsSame v w) where

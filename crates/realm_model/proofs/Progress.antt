@@ -1,9 +1,8 @@
 -- The newest open act of a build can be undone.
-use Rattle.std.proofs.Common.{◌≡◌, ℕ, ◌^◌, Bool, true, false, cond, ◌||◌, not, List, [], ◌∷◌, map, Option, Some, None, Ok, refl, sym, ap, ◌∙◌}
-use Rattle.std.specs.Prelude.{is_some, ◌==◌, slice_get, option_and_then, option_map}
+use Rattle.std.proofs.Common.{◌≡◌, ℕ, ◌^◌, Bool, true, false, cond, ◌||◌, not, List, [], ◌∷◌, map, Some, None, Ok, refl, sym, ap, ◌∙◌}
+use Rattle.std.specs.Prelude.{is_some, ◌==◌, slice_get, option_and_then}
 use Rattle.std.specs.List.{list_all, range_with_len, last_or}
 use Rattle.std.proofs.lemmas.Bool.{and_parts, and_from, eq-eqb}
-use Rattle.std.proofs.lemmas.Option.{same_Some, slice_get-map}
 use Rattle.realm_model.specs.declared.states.GranuleState.TheVariants.{Undelegated}
 use Rattle.realm_model.specs.declared.act.Act.{Act}
 use Rattle.realm_model.specs.declared.act.Act.TheVariants.{Take, UnTake, Fill, Peek, Delegate, Undelegate, Realm, UnRealm, Activate, Rtt, UnRtt, Ripas, Data, Unknown, UnData, Rec, UnRec, Enter, Exit, Poke}
@@ -13,7 +12,7 @@ use Rattle.realm_model.specs.Update.{Free}
 use Rattle.realm_model.specs.Command.Check.{is_undelegated}
 use Rattle.realm_model.specs.Act.{named, holder, reverse_of, is_reverse, is_paired}
 use Rattle.realm_model.specs.Outcome.{outcome_of, fits}
-use Rattle.realm_model.specs.World.{World, is_leased_to, realm_of, updated_all, part_of, unleased, is_of_other}
+use Rattle.realm_model.specs.World.{World, is_leased_to, realm_of, updated_all, part_of, is_of_other}
 use Rattle.realm_model.specs.Step.{step, is_allowed, is_vmid_free}
 use Rattle.realm_model.specs.History.{open_entries, IsInTurn, replay, IsLegal}
 use Rattle.realm_model.specs.Ownership.{OwnsSame}
@@ -22,9 +21,9 @@ use Rattle.realm_model.proofs.Lists.{all_from_in, is_in}
 use Rattle.realm_model.proofs.Clean.{clean_at}
 use Rattle.realm_model.proofs.Written.{leases_taken, seen_frees}
 use Rattle.realm_model.proofs.PairBack.{same_leases, were_free, reversed, back_of_block, take_did, taken_cells}
-use Rattle.realm_model.proofs.HiddenSteps.{named_seen, step-part_of}
+use Rattle.realm_model.proofs.HiddenSteps.{named_seen, step-part_of, leased_in_part}
 use Rattle.realm_model.proofs.StepSays.{row_goes}
-use Rattle.realm_model.proofs.Leases.{leased_from, in_leased, leased}
+use Rattle.realm_model.proofs.Leases.{leased_from, in_leased}
 use Rattle.realm_model.proofs.SoundParts.{IsSound, IsClean-part_of, IsSquare-part_of}
 use Rattle.realm_model.proofs.Changes.{step_exact, holder_is, ReachesOwn}
 use Rattle.realm_model.proofs.RealmOf.{realm_of-part_of}
@@ -38,21 +37,8 @@ use Rattle.realm_model.proofs.Puts.{is_of_block}
 
 -- ---- a part is part of its world
 
-unleased_some : (b : ℕ) (l : Option ℕ) → unleased (is_of_other b) l ≡ Some b → l ≡ Some b
-unleased_some b None e = cc
-unleased_some b (Some c) e = by_test (c == b) e
-  where
-    by_test : (t : Bool) → cond (not t) None (Some c) ≡ Some b → Some c ≡ Some b
-    by_test true e = e
-    by_test false e = cc
-
 pub part_leased : (b : ℕ) (w : World) (g : ℕ) → is_leased_to (Some b) (part_of w b).leases g ≡ true → is_leased_to (Some b) w.leases g ≡ true
-part_leased b w g h =
-    leased_from (Some b) w.leases g (of_map (slice_get w.leases g) (sym (slice_get-map (unleased (is_of_other b)) w.leases g) ∙ leased (Some b) (part_of w b).leases g h))
-  where
-    of_map : (o : Option (Option ℕ)) → option_map (unleased (is_of_other b)) o ≡ Some (Some b) → o ≡ Some (Some b)
-    of_map None e = cc
-    of_map (Some l) e = ap Some (unleased_some b l (same_Some _ _ e))
+part_leased b w g h = sym (leased_in_part b w g) ∙ h
 
 all_part_leased : (b : ℕ) (w : World) (gs : List ℕ) → list_all (is_leased_to (Some b) (part_of w b).leases) gs ≡ true → list_all (is_leased_to (Some b) w.leases) gs ≡ true
 all_part_leased b w [] h = refl
@@ -179,7 +165,7 @@ module _ (limits : Limits) (b : ℕ) (u v w : World) (order first : ℕ) (su : I
 
 -- ---- the newest open act
 
-undone_step : (limits : Limits) (b : ℕ) (u v w : World) (act : Act) → IsSound b u → IsSound b w → is_paired act ≡ true → step limits u (by b act) ≡ Some v
+pub undone_step : (limits : Limits) (b : ℕ) (u v w : World) (act : Act) → IsSound b u → IsSound b w → is_paired act ≡ true → step limits u (by b act) ≡ Some v
     → OwnsSame (part_of v b) (part_of w b) → is_running (realm_of b w) act ≡ false → (x : World) × (step limits w (by b (rev act)) ≡ Some x)
 unfolding reverse_of
 undone_step limits b u v w (Take order first) su sw p stepped same rest = block_undone limits b u v w order first su sw stepped same

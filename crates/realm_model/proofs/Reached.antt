@@ -40,7 +40,7 @@ sized_all limits b (u ∷ us) w v h e =
       leases = length-set w.leases (granule_of u) (lease_after b u) ∙ h.leases;
     }) (guarded _ _ _ e).1
 
-sized_step : (limits : Limits) (w v : World) (e : Event) → IsSized limits w → step limits w e ≡ Some v → IsSized limits v
+pub sized_step : (limits : Limits) (w v : World) (e : Event) → IsSized limits w → step limits w e ≡ Some v → IsSized limits v
 unfolding step
 sized_step limits w v e h s = of_outcome _ (guarded (is_allowed limits w e) _ v s).1
   where
@@ -51,9 +51,11 @@ sized_step limits w v e h s = of_outcome _ (guarded (is_allowed limits w e) _ v 
 abbrev nobody : Option ℕ
 nobody = None
 
+pub sized_opening : (limits : Limits) → IsSized limits (opening limits)
+sized_opening limits = record { machine = length-replicate limits.pages blank; leases = length-replicate limits.pages nobody }
+
 pub sized_reached : (limits : Limits) (history : List Event) (w : World) → replay limits history ≡ Some w → IsSized limits w
-sized_reached limits = of_reached limits (IsSized limits) (λ w v e h s. sized_step limits w v e h s)
-    (record { machine = length-replicate limits.pages blank; leases = length-replicate limits.pages nobody })
+sized_reached limits = of_reached limits (IsSized limits) (λ w v e h s. sized_step limits w v e h s) (sized_opening limits)
 
 module _ (limits : Limits) (P : List Event → World → Type 0)
     (kept : (before : List Event) (w v : World) (e : Event) → IsLegal limits before → replay limits before ≡ Some w → P before w → IsInTurn before e → step limits w e ≡ Some v → P (before ++ e ∷ []) v) where

@@ -12,7 +12,7 @@ use Rattle.realm_model.specs.Machine.{Limits, Cell, Machine, Seen, blank, cell_a
 use Rattle.realm_model.specs.World.{World, part_of, each, hidden, unleased, is_of_other, realm_of}
 use Rattle.realm_model.specs.Ownership.{mapping_of_row}
 use Rattle.realm_model.specs.Sound.{is_host_state}
-use Rattle.realm_model.specs.Roles.{AtRow, row_target, IsLinkedFor}
+use Rattle.realm_model.specs.Roles.{AtRow, row_target}
 use Rattle.realm_model.proofs.SoundParts.{sound_after, IsSound}
 use Rattle.realm_model.proofs.Leases.{leased_from}
 use Rattle.realm_model.proofs.RealmOf.{IsAt, realm_of-part_of, IsAt-realm_of}
@@ -25,9 +25,10 @@ use Rattle.realm_model.proofs.Changes.{ReachesOwn}
 use Rattle.realm_model.proofs.Tests.{true_false}
 use Rattle.realm_model.proofs.Walks.{walk_end}
 use Rattle.realm_model.proofs.RowKinds.{assigned_target}
+use Rattle.realm_model.proofs.Parts.{IsLinkedFor}
 
 -- a cell of a part that is not the host's is of its build
-state_leased : (b : ℕ) (leases : List (Option ℕ)) (machine : Machine) → each scrubbed leases machine ≡ machine → (g : ℕ) → is_host_state (cell_at (each (hidden (is_of_other b)) leases machine) g).state ≡ false
+pub state_leased : (b : ℕ) (leases : List (Option ℕ)) (machine : Machine) → each scrubbed leases machine ≡ machine → (g : ℕ) → is_host_state (cell_at (each (hidden (is_of_other b)) leases machine) g).state ≡ false
     → slice_get (map (unleased (is_of_other b)) leases) g ≡ Some (Some b)
 state_leased b [] machine clean g held = cc
 state_leased b (l ∷ leases) [] clean g held = cc

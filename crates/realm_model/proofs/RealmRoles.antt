@@ -14,22 +14,20 @@ use Rattle.realm_model.specs.Update.{Update, Put}
 use Rattle.realm_model.specs.Command.Realm.{new_realm}
 use Rattle.realm_model.specs.World.{World}
 use Rattle.realm_model.specs.Ownership.{mapping_of_row, granules_of_rec}
-use Rattle.realm_model.specs.Sound.{look, IsSoundPart}
-use Rattle.realm_model.specs.Roles.{Role, AsRoot, AtRow, AsRec, AsAux, row_target, aux_target, target, is_role_state, HasRole, IsLinked}
+use Rattle.realm_model.specs.Sound.{look}
+use Rattle.realm_model.specs.Roles.{Role, AsRoot, AtRow, AsRec, AsAux, row_target, aux_target, target, is_role_state, HasRole}
 use Rattle.realm_model.proofs.Tests.{true_false}
 use Rattle.realm_model.proofs.Written.{put_at}
 use Rattle.realm_model.proofs.Rows.{put_kinds}
 use Rattle.realm_model.proofs.Roles.{rec_target}
 use Rattle.realm_model.proofs.RoleChanges.{no_descriptor, one_place}
+use Rattle.realm_model.proofs.Parts.{IsSoundPart, IsLinked}
 
 module _ (w : World) (sound : IsSoundPart w) (old : IsLinked (λ k. cell_at w.machine k)) where
   abbrev now : ℕ → Cell
   now k = cell_at w.machine k
 
   -- the cell of an RD
-  abbrev rd_cell : ℕ → RealmRow → Cell
-  rd_cell rd realm = record { state = Rd; realm = Some rd; bytes = zero_page; descriptor = Some realm }
-
   -- a realm is made where none was: its root is all that it names
   pub realm_made : (rd root v : ℕ) → ((k : ℕ) → (now k).descriptor ≡ None) → (rd == root) ≡ false
       → IsLinked (λ k. put_at (Put rd (record { state = Rd; realm = Some rd; bytes = zero_page; descriptor = Some (new_realm v root) }) ∷ Put root (held InRtt rd) ∷ []) k (now k))

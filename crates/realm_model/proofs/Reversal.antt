@@ -33,7 +33,7 @@ use Rattle.realm_model.specs.Act.{named, reverse_of, is_paired}
 use Rattle.realm_model.specs.Outcome.{outcome_of, fits, leads_to, realm_is}
 use Rattle.realm_model.specs.World.{World, is_leased_to, realm_of}
 use Rattle.realm_model.specs.Ownership.{mapping_of_row, granules_of_rec, SameRealm, SameDescriptor, SameCell}
-use Rattle.realm_model.specs.Sound.{look, is_host_state, is_rd_state, IsSoundRealm, IsSoundCell, IsSoundPart}
+use Rattle.realm_model.specs.Sound.{look, is_host_state, is_rd_state}
 use Rattle.realm_model.specs.Undoing.{is_running}
 use Rattle.realm_model.proofs.Written.{lefts, put_more, put_at, put_lefts, put_other, put_last}
 use Rattle.realm_model.proofs.Outcomes.{granule_there, realm_there, rec_there, Yields-Ok, check_true, Yields-with_realm, Yields-Err, Yields, Yields-check, end_there, Yields-with_end}
@@ -50,6 +50,7 @@ use Rattle.realm_model.proofs.TablePlaces.{IsTablePlace, table_place}
 use Rattle.realm_model.proofs.Puts.{is_of_block}
 use Rattle.realm_model.proofs.Walks.{walk_at, walk_there}
 use Rattle.realm_model.proofs.RowKinds.{kind_unassigned, kind_assigned, kind_table, free_unassigned, free_above, shape_of, Vacant, look_get}
+use Rattle.realm_model.proofs.Parts.{IsSoundRealm, IsSoundCell, IsSoundPart}
 
 pub record Reversal (limits : Limits) (b : ℕ) (u w : World) (act r : Act) : Type 0 where
   pub ready : Bool

@@ -12,13 +12,14 @@ use Rattle.realm_model.specs.Update.{Update, Put, PutByte, granule_of, cell_afte
 use Rattle.realm_model.specs.Command.Check.{is_delegated, is_undelegated}
 use Rattle.realm_model.specs.World.{World}
 use Rattle.realm_model.specs.Ownership.{granules_of_rec}
-use Rattle.realm_model.specs.Sound.{look, is_host_state, is_rd_state, IsSoundPart}
-use Rattle.realm_model.specs.Roles.{Role, AsRoot, AtRow, AsRec, AsAux, row_target, aux_target, target, is_role_state, HasRole, IsLinked}
+use Rattle.realm_model.specs.Sound.{look, is_host_state, is_rd_state}
+use Rattle.realm_model.specs.Roles.{Role, AsRoot, AtRow, AsRec, AsAux, row_target, aux_target, target, is_role_state, HasRole}
 use Rattle.realm_model.proofs.Tests.{true_false, none_from}
 use Rattle.realm_model.proofs.Lists.{is_in}
 use Rattle.realm_model.proofs.Written.{put_at, put_more, put_last, put_other}
 use Rattle.realm_model.proofs.SoundCells.{delegated_state, undelegated_state}
 use Rattle.realm_model.proofs.Roles.{SameHead, linked_after, target_state, host_no_role, host_no_rd, role_no_host, rec_target}
+use Rattle.realm_model.proofs.Parts.{IsSoundPart, IsLinked}
 
 pub no_descriptor : (c : Cell) (e : RealmRow) → c.descriptor ≡ None → c.descriptor ≡ Some e → ⊥
 no_descriptor c e none some = true_false _ (ap is_some some) (ap is_some none)

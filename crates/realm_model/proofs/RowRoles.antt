@@ -13,8 +13,8 @@ use Rattle.realm_model.specs.Update.{Put}
 use Rattle.realm_model.specs.Command.Check.{is_delegated}
 use Rattle.realm_model.specs.World.{World}
 use Rattle.realm_model.specs.Ownership.{mapping_of_row, granules_of_rec}
-use Rattle.realm_model.specs.Sound.{look, is_host_state, IsSoundPart}
-use Rattle.realm_model.specs.Roles.{Role, AsRoot, AtRow, AsRec, AsAux, kind_target, row_target, aux_target, target, is_role_state, IsLinked}
+use Rattle.realm_model.specs.Sound.{look, is_host_state}
+use Rattle.realm_model.specs.Roles.{Role, AsRoot, AtRow, AsRec, AsAux, kind_target, row_target, aux_target, target, is_role_state}
 use Rattle.realm_model.proofs.Tests.{true_false}
 use Rattle.realm_model.proofs.Lists.{is_in}
 use Rattle.realm_model.proofs.Maps.{same_place}
@@ -22,6 +22,7 @@ use Rattle.realm_model.proofs.Written.{put_at}
 use Rattle.realm_model.proofs.Rows.{look-insert, place_self}
 use Rattle.realm_model.proofs.Roles.{rec_target}
 use Rattle.realm_model.proofs.RoleChanges.{bare_one, delegated_host, changed}
+use Rattle.realm_model.proofs.Parts.{IsSoundPart, IsLinked}
 
 -- ---- a row in place of another that led nowhere
 

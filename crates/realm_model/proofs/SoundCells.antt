@@ -24,7 +24,7 @@ use Rattle.realm_model.specs.Act.{named}
 use Rattle.realm_model.specs.Outcome.{outcome_of}
 use Rattle.realm_model.specs.World.{World, updated, updated_all}
 use Rattle.realm_model.specs.Ownership.{mapping_of_row}
-use Rattle.realm_model.specs.Sound.{look, IsShaped, is_table_kind, is_host_state, is_rd_state, IsSoundRows, IsSoundRealm, IsSoundCell}
+use Rattle.realm_model.specs.Sound.{look, IsShaped, is_table_kind, is_host_state, is_rd_state, IsSoundRows}
 use Rattle.realm_model.proofs.Tests.{guarded, not_true, true_false}
 use Rattle.realm_model.proofs.SoundRows.{root_sound, put_sound, with_table_sound, without_table_sound, with_ram_sound}
 use Rattle.realm_model.proofs.RealmOf.{IsAt}
@@ -34,6 +34,7 @@ use Rattle.realm_model.proofs.Maps.{nat_place}
 use Rattle.realm_model.proofs.Written.{set_cases}
 use Rattle.realm_model.proofs.TablePlaces.{table_place}
 use Rattle.realm_model.proofs.RowKinds.{plain_unassigned, plain_assigned}
+use Rattle.realm_model.proofs.Parts.{IsSoundRealm, IsSoundCell}
 
 abbrev pub IsGood : ℕ → Update → Type 0
 IsGood o (Put g x) = IsSoundCell o g x
@@ -49,14 +50,14 @@ abbrev pub AllCells : ℕ → World → Type 0
 AllCells o w = (g : ℕ) → IsSoundCell o g (cell_at w.machine g)
 
 pub blank_sound : (o g : ℕ) → IsSoundCell o g blank
-blank_sound o g = record { realm = λ h. refl; descriptor = refl; alone = λ e. cc; row = λ r e. cc }
+blank_sound o g = record { realm = λ h. refl; descriptor = refl; alone = λ e. cc; itself = λ e. cc; row = λ r e. cc }
 
 left_sound : (o g : ℕ) → IsSoundCell o g left
-left_sound o g = record { realm = λ h. refl; descriptor = refl; alone = λ e. cc; row = λ r e. cc }
+left_sound o g = record { realm = λ h. refl; descriptor = refl; alone = λ e. cc; itself = λ e. cc; row = λ r e. cc }
 
 good_cell : (o : ℕ) (u : Update) (old : Cell) → IsGood o u → IsSoundCell o (granule_of u) old → IsSoundCell o (granule_of u) (cell_after u old)
 good_cell o (Put g x) old good h = good
-good_cell o (PutByte g offset v) old good h = record { realm = h.realm; descriptor = h.descriptor; alone = h.alone; row = h.row }
+good_cell o (PutByte g offset v) old good h = record { realm = h.realm; descriptor = h.descriptor; alone = h.alone; itself = h.itself; row = h.row }
 good_cell o (Lease g) old good h = h
 good_cell o (Free g) old good h = blank_sound o g
 
@@ -102,13 +103,14 @@ module _ (limits : Limits) (w : World) (o : ℕ) (sound : AllCells o w) where
   realm_put : (rd : Seen) (d new : RealmRow) → cell_at w.machine rd.number ≡ rd.cell → rd.cell.descriptor ≡ Some d → IsSoundRealm new → IsSoundCell o rd.number (record rd.cell { descriptor = Some new })
   realm_put rd d new at is h =
       let c = seen_sound rd at in
-      record { realm = c.realm; descriptor = sym (ap is_some is) ∙ c.descriptor; alone = c.alone; row = λ r e. subst IsSoundRealm (same_Some _ _ e) h }
+      record { realm = c.realm; descriptor = sym (ap is_some is) ∙ c.descriptor; alone = c.alone; itself = c.itself; row = λ r e. subst IsSoundRealm (same_Some _ _ e) h }
 
   held_sound : (state : GranuleState) (g n : ℕ) → is_host_state state ≡ false → is_rd_state state ≡ false → n ≡ o → IsSoundCell o g (held state n)
   held_sound state g n host rd same = record {
     realm = λ h. absurd (true_false _ h host);
     descriptor = sym rd;
     alone = λ e. absurd (true_false _ e rd);
+    itself = λ e. absurd (true_false _ e rd);
     row = λ r e. cc;
   }
 
@@ -176,16 +178,16 @@ module _ (limits : Limits) (w : World) (o : ℕ) (sound : AllCells o w) where
   unfolding outcome_of named
   good (Take order first) realm stands at = Yields-Ok G _ (leases_good _)
   good (UnTake order first) realm stands at = Yields-Ok G _ (frees_good _)
-  good (Fill g v) realm stands at = let c = sound g in Yields-check G _ _ _ (λ _. Yields-Ok G _ (record { realm = c.realm; descriptor = c.descriptor; alone = c.alone; row = c.row }, tt))
+  good (Fill g v) realm stands at = let c = sound g in Yields-check G _ _ _ (λ _. Yields-Ok G _ (record { realm = c.realm; descriptor = c.descriptor; alone = c.alone; itself = c.itself; row = c.row }, tt))
   good (Peek g offset v) realm stands at = Yields-check G _ _ _ (λ _. Yields-Ok G _ tt)
   good (Delegate g) realm stands at = Yields-check G _ _ _ (λ _. Yields-Ok G _ (left_sound o g, tt))
   good (Undelegate g) realm stands at = Yields-check G _ _ _ (λ is. Yields-Ok G _ (
     let c = sound g in let s = delegated_state (cell_at w.machine g) g is in
-        record { realm = λ h. c.realm (ap is_host_state s); descriptor = c.descriptor ∙ ap is_rd_state s; alone = λ e. cc; row = c.row },
+        record { realm = λ h. c.realm (ap is_host_state s); descriptor = c.descriptor ∙ ap is_rd_state s; alone = λ e. cc; itself = λ e. cc; row = c.row },
     tt,
   ))
   good (Realm rd root v) realm stands at = Yields-check G _ _ _ (λ _. Yields-Ok G _ (
-    record { realm = λ e. cc; descriptor = refl; alone = λ e. stands; row = λ r e. subst IsSoundRealm (same_Some _ _ e) (new_sound v root) },
+    record { realm = λ e. cc; descriptor = refl; alone = λ e. stands; itself = λ e. refl; row = λ r e. subst IsSoundRealm (same_Some _ _ e) (new_sound v root) },
     (held_sound InRtt root rd refl refl stands, tt),
   ))
   good (UnRealm rd root v) realm stands at = Yields-with_realm G _ _ (λ d is. Yields-check G _ _ _ (λ _. Yields-Ok G _ (left_sound o rd, (left_sound o d.root, tt))))
@@ -214,7 +216,7 @@ module _ (limits : Limits) (w : World) (o : ℕ) (sound : AllCells o w) where
       let c = held_sound InData g rd.number refl refl (rd_is rd d at is) in
       let rows = leaf_put d ipa end.row (assigned Ram g) h (walk_at d.rows ipa 3 end e (eqb-true end.level 3 last)) (plain_unassigned end.row free) (refl, refl) in
       Yields-Ok G _ (
-        record { realm = c.realm; descriptor = c.descriptor; alone = c.alone; row = c.row },
+        record { realm = c.realm; descriptor = c.descriptor; alone = c.alone; itself = c.itself; row = c.row },
         (realm_put rd d _ at is (rows_put d _ (measurement_after d.measurement (data_event ipa (cell_at w.machine source).bytes)) h rows), tt),
       )))))))
   good (Unknown g ipa) None stands at = Yields-Err G _

@@ -12,7 +12,6 @@ use Rattle.realm_model.specs.Update.{Outcome}
 use Rattle.realm_model.specs.Act.{named}
 use Rattle.realm_model.specs.Outcome.{fits}
 use Rattle.realm_model.specs.World.{World, each, unleased, hidden, is_of_other, realm_of, part_of, opening}
-use Rattle.realm_model.specs.Sound.{IsSoundCell, IsSoundPart, IsSoundFor}
 use Rattle.realm_model.specs.Step.{step, after_outcome, is_allowed}
 use Rattle.realm_model.specs.History.{after, replay}
 use Rattle.realm_model.specs.Undoing.{by}
@@ -25,6 +24,8 @@ use Rattle.realm_model.proofs.Clean.{IsClean, scrubbed}
 use Rattle.realm_model.proofs.Lists.{head_or, tail}
 use Rattle.realm_model.proofs.HiddenSteps.{step-part_of, IsClean-step, part_of-other_step}
 use Rattle.realm_model.proofs.Written.{IsSquare-updated_all, IsSquare}
+use Rattle.realm_model.proofs.Leases.{cell_at-replicate}
+use Rattle.realm_model.proofs.Parts.{IsSoundCell, IsSoundPart, IsSoundFor}
 
 -- a free granule is blank in a part too
 module _ (p : Option ℕ → Bool) where
@@ -50,7 +51,7 @@ IsSquare-part_of w b h = length-map w.leases (unleased (is_of_other b)) ∙ h �
 
 -- cells without rows are sound wherever a realm stands
 sound_anywhere : (o p g : ℕ) (c : Cell) → IsSoundCell o g c → c.descriptor ≡ None → IsSoundCell p g c
-sound_anywhere o p g c h none = record { realm = h.realm; descriptor = h.descriptor; alone = λ e. absurd (true_false _ e (sym h.descriptor ∙ ap is_some none)); row = h.row }
+sound_anywhere o p g c h none = record { realm = h.realm; descriptor = h.descriptor; alone = λ e. absurd (true_false _ e (sym h.descriptor ∙ ap is_some none)); itself = h.itself; row = h.row }
 
 pub record IsSound (b : ℕ) (w : World) : Type 0 where
   pub clean : IsClean w
@@ -109,12 +110,7 @@ IsSound-step limits b w v e sound s = record {
         (subst (λ d. step limits (part_of w b) d ≡ Some (part_of v b)) same (step-part_of limits b w v e own s))
 
 opening_cells : (o n g : ℕ) → IsSoundCell o g (cell_at (replicate n blank) g)
-opening_cells o n g = subst (IsSoundCell o g) (sym (blank_there n g)) (blank_sound o g)
-  where
-    blank_there : (n g : ℕ) → cell_at (replicate n blank) g ≡ blank
-    blank_there zero g = refl
-    blank_there (suc n) zero = refl
-    blank_there (suc n) (suc g) = blank_there n g
+opening_cells o n g = subst (IsSoundCell o g) (sym (cell_at-replicate n g)) (blank_sound o g)
 
 abbrev nobody : Option ℕ
 nobody = None

@@ -7,16 +7,16 @@ use Rattle.granule_addr.specs.Ipa.{covered_count, first_covered}
 use Rattle.realm_model.specs.declared.states.Hipas.TheVariants.{Unassigned, Assigned, Table}
 use Rattle.realm_model.specs.declared.states.Ripas.{Ripas}
 use Rattle.realm_model.specs.declared.states.Ripas.TheVariants.{Empty, Destroyed}
+use Rattle.realm_model.specs.declared.states.Hipas.{Hipas}
 use Rattle.realm_model.specs.Rows.{Row, Rows, place_cmp, put_rows, drop_rows, put_row, with_table, without_table, with_ram, root_rows, unassigned, table, is_table, is_unassigned, is_table_unused, all_rows, has_root_table}
 use Rattle.realm_model.specs.Ownership.{mapping_of_row}
 use Rattle.realm_model.specs.Sound.{look, IsShaped, is_table_kind, has_table, IsSoundRows, IsPlace}
+use Rattle.realm_model.specs.Roles.{row_target}
 use Rattle.realm_model.proofs.Maps.{same_place}
 use Rattle.realm_model.proofs.Rows.{is_among, put_there, get-drop_rows, look-insert, same_rows, put_kinds, place_self, Look, is_place, all_rows_at}
 use Rattle.realm_model.proofs.TablePlaces.{IsTablePlace}
 use Rattle.realm_model.proofs.Tests.{true_false, not_false, not_true}
 use Rattle.realm_model.proofs.RowKinds.{kind_of_table, plain_unassigned, unassigned_target, above_target, kind_table}
-use Rattle.realm_model.specs.Roles.{row_target}
-use Rattle.realm_model.specs.declared.states.Hipas.{Hipas}
 
 pub sound_same : (f g : Look) → IsSoundRows f → ((q : ℕ × ℕ) → f q ≡ g q) → IsSoundRows g
 sound_same f g sound same = subst IsSoundRows (λ i q. same q i) sound

@@ -18,7 +18,7 @@ use Rattle.realm_model.specs.Undoing.{by}
 use Rattle.realm_model.proofs.Tests.{guarded}
 use Rattle.realm_model.proofs.Written.{takes, puts_leases, seen_takes, seen_frees, frees}
 use Rattle.realm_model.proofs.Puts.{puts}
-use Rattle.realm_model.proofs.Leases.{leased_from, all_leased, leased_all, leased}
+use Rattle.realm_model.proofs.Leases.{leased_from, leased_all, leased, all_leased}
 use Rattle.realm_model.proofs.Changes.{step_exact, ReachesOwn}
 use Rattle.realm_model.proofs.Lists.{slice_get_set_other}
 

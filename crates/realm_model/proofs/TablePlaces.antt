@@ -4,8 +4,8 @@ use Rattle.std.specs.Prelude.{◌==◌}
 use Rattle.std.proofs.lemmas.Bool.{and_parts, and_from, eqb-true, eq-eqb, lt-ltb, le-leb, ltb-true, leb-true}
 use Rattle.granule_addr.specs.Ipa.{covered_count, first_covered}
 use Rattle.realm_model.specs.Rows.{is_table_place}
-use Rattle.realm_model.proofs.Rows.{is_among}
 use Rattle.realm_model.specs.Sound.{IsPlace}
+use Rattle.realm_model.proofs.Rows.{is_among}
 
 by_level : (P : ℕ → Type 0) (level : ℕ) → (level == 2 || level == 3) ≡ true → P 2 → P 3 → P level
 by_level P level h two three = elim (level == 2) as (λ t. (level == 2) ≡ t → (t || level == 3) ≡ true → P level) [

@@ -16,13 +16,13 @@ use Rattle.realm_model.specs.Outcome.{outcome_of}
 use Rattle.realm_model.specs.World.{World, updated, updated_all, realm_of}
 use Rattle.realm_model.specs.Step.{step, after_outcome, is_allowed}
 use Rattle.realm_model.specs.Undoing.{by}
+use Rattle.realm_model.specs.Ownership.{OwnsSame, SameRealm, SameCell, SameDescriptor, granules_of_rec}
 use Rattle.realm_model.proofs.Tests.{guarded}
 use Rattle.realm_model.proofs.RealmOf.{IsAt, IsAt-realm_of}
 use Rattle.realm_model.proofs.Outcomes.{Yields, Yields-Ok, Yields-with_rec, Yields-with_realm, Yields-with_end, Yields-check, Yields-Err, Yields-with_granule}
 use Rattle.realm_model.proofs.OwnsSame.{own_updated, descriptor_itself, IsMild, own_itself}
 use Rattle.realm_model.proofs.Rows.{same_rows}
 use Rattle.realm_model.proofs.Maps.{same_insert}
-use Rattle.realm_model.specs.Ownership.{OwnsSame, SameRealm, SameCell, SameDescriptor, granules_of_rec}
 
 abbrev pub AreMild : World → List Update → Type 0
 AreMild w [] = Unit {0}

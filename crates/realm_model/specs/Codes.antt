@@ -3,16 +3,16 @@ use Rattle.std.specs.Prelude.{ℕ, List, Option, refl}
 use Rattle.std.specs.Coded.{Coded, code_by, coded×, coded_ℕ, coded_list, coded_option}
 use Rattle.std.specs.FinMap as map
 use Rattle.std.specs.Ordering.{nat_cmp}
-use Rattle.realm_model.specs.contracts.states.GranuleState as granule_state
-use Rattle.realm_model.specs.contracts.states.RealmState as realm_state
-use Rattle.realm_model.specs.contracts.states.RecState as rec_state
-use Rattle.realm_model.specs.contracts.states.Hipas as hipas
-use Rattle.realm_model.specs.contracts.states.Ripas as ripas
 use Rattle.realm_model.specs.declared.states.GranuleState.{GranuleState}
 use Rattle.realm_model.specs.declared.states.RealmState.{RealmState}
 use Rattle.realm_model.specs.declared.states.RecState.{RecState}
 use Rattle.realm_model.specs.declared.states.Hipas.{Hipas}
 use Rattle.realm_model.specs.declared.states.Ripas.{Ripas}
+use Rattle.realm_model.specs.contracts.states.GranuleState as granule_state
+use Rattle.realm_model.specs.contracts.states.RealmState as realm_state
+use Rattle.realm_model.specs.contracts.states.RecState as rec_state
+use Rattle.realm_model.specs.contracts.states.Hipas as hipas
+use Rattle.realm_model.specs.contracts.states.Ripas as ripas
 use Rattle.realm_model.specs.Rows.{Row, Rows}
 use Rattle.realm_model.specs.Machine.{RecRow, RealmRow, Cell, Machine}
 use Rattle.realm_model.specs.World.{World}

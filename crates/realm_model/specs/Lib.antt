@@ -16,5 +16,7 @@ pub mod Room
 pub mod Ownership
 pub mod Sound
 pub mod Roles
+pub mod Reachable
 pub mod Undoing
+pub mod Marks
 pub mod Codes

@@ -1,15 +1,13 @@
--- How a realm names its granules, and that both sides agree: each granule that it names is in the state that goes with
--- that and belongs to it, none is named twice, and no other granule is in such a state.
+-- How a realm names its granules, and the state that goes with each.
 use Rattle.std.specs.Prelude.{◌≡◌, ℕ, List, Bool, true, false, Option, Some, None, option_map, slice_get}
 use Rattle.std.specs.FinMap.{get}
 use Rattle.realm_model.specs.declared.states.GranuleState.{GranuleState}
 use Rattle.realm_model.specs.declared.states.GranuleState.TheVariants.{Undelegated, Delegated, Rd, Rec as InRec, RecAux, Data as InData, Rtt as InRtt}
 use Rattle.realm_model.specs.declared.states.Hipas.{Hipas}
 use Rattle.realm_model.specs.declared.states.Hipas.TheVariants.{Unassigned, Assigned, Table}
-use Rattle.realm_model.specs.Machine.{RealmRow, Cell, cell_at}
+use Rattle.realm_model.specs.Machine.{RealmRow, Cell}
 use Rattle.realm_model.specs.Ownership.{granules_of_rec}
 use Rattle.realm_model.specs.Sound.{look}
-use Rattle.realm_model.specs.World.{World, part_of}
 
 -- A role that a granule can have in a realm: its root table, what a row leads to, a REC, or an auxiliary of a REC.
 pub data Role : Type 0 where
@@ -52,13 +50,3 @@ pub record HasRole (cells : ℕ → Cell) (granule : ℕ) : Type 0 where
   pub there : (cells rd).descriptor ≡ Some realm
   pub role : Role
   pub named : target realm role ≡ Some (granule, (cells granule).state)
-
-pub record IsLinked (cells : ℕ → Cell) : Type 0 where
-  pub roles : ℕ → Role
-  pub names : (rd : ℕ) (realm : RealmRow) → (cells rd).descriptor ≡ Some realm → (role : Role) (to : ℕ × GranuleState) → target realm role ≡ Some to
-      → ((cells to.0).state ≡ to.1) × ((cells to.0).realm ≡ Some rd) × (roles to.0 ≡ role)
-  pub named : (granule : ℕ) → is_role_state (cells granule).state ≡ true → HasRole cells granule
-
--- of the part of a build
-abbrev pub IsLinkedFor : ℕ → World → Type 0
-IsLinkedFor build world = IsLinked (λ granule. cell_at (part_of world build).machine granule)

@@ -1,12 +1,16 @@
 -- The room that a build has in a history, and how much of it is used.
-use Rattle.std.specs.Prelude.{ℕ, ◌+◌, List, filter, length, Bool, false, not, Option, Some, None}
+use Rattle.std.specs.Prelude.{◌≡◌, ◌≢◌, ℕ, ◌+◌, List, [], ◌∷◌, ◌++◌, filter, length, Bool, false, cond, not, Option, Some, None}
 use Rattle.std.specs.List.{range_with_len}
 use Rattle.std.specs.FinMap.{get}
+use Rattle.realm_model.specs.declared.act.Act.{Act}
+use Rattle.realm_model.specs.declared.act.Act.TheVariants.{Enter, Exit}
 use Rattle.realm_model.specs.declared.act.Event.{Event}
-use Rattle.realm_model.specs.Machine.{Seen, RecRow, RealmRow}
+use Rattle.realm_model.specs.Machine.{Limits, Seen, RecRow, RealmRow}
 use Rattle.realm_model.specs.Command.Check.{is_ready}
+use Rattle.realm_model.specs.Act.{is_paired, is_reverse}
 use Rattle.realm_model.specs.World.{World, realm_of}
-use Rattle.realm_model.specs.History.{acts_of, open_entries}
+use Rattle.realm_model.specs.Step.{step}
+use Rattle.realm_model.specs.History.{acts_of, open_entries, IsInTurn}
 
 abbrev pub is_rec_running : Option RecRow → Bool
 is_rec_running None = false
@@ -26,3 +30,19 @@ running_count (Some rd) = elim rd.cell.descriptor [ Some realm ↦ length (runni
 abbrev pub used_room : ℕ → List Event → World → ℕ
 used_room build history world =
     length (acts_of build history) + length (open_entries build history) + running_count (realm_of build world)
+
+-- The room that an act takes: an entry for its event, and one more where its reverse, or the exit of a REC, will want one.
+-- A reverse and an exit use the entry that was kept for them.
+unfoldable pub room_taken : Act → ℕ
+room_taken (Enter number) = 2
+room_taken (Exit number) = 0
+room_taken act = cond (is_paired act) 2 (cond (is_reverse act) 0 1)
+
+-- An accepted event of a build takes that of the build's room, and none of another's.
+pub record TakesRoom (history : List Event) (world : World) (event : Event) (next : World) : Type 0 where
+  pub own : used_room event.build (history ++ event ∷ []) next ≡ used_room event.build history world + room_taken event.act
+  pub others : (build : ℕ) → event.build ≢ build → used_room build (history ++ event ∷ []) next ≡ used_room build history world
+
+-- in turn, and a step
+abbrev pub RoomIsTaken : Limits → List Event → World → Event → World → Type 0
+RoomIsTaken limits history world event next = IsInTurn history event → step limits world event ≡ Some next → TakesRoom history world event next

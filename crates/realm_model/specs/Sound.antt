@@ -1,15 +1,14 @@
--- What every reached world keeps of the part of a build.
+-- Sound rows, and states of granules.
 use Rattle.std.specs.Prelude.{◌≡◌, ℕ, ◌-◌, ◌^◌, ◌<◌, ◌≤◌, ◌==◌, ◌||◌, Bool, true, false, Option, Some, None, is_some, option_map}
 use Rattle.std.specs.FinMap.{get}
+use Rattle.granule_addr.specs.Ipa.{first_covered}
 use Rattle.realm_model.specs.declared.states.GranuleState.{GranuleState}
-use Rattle.realm_model.specs.declared.states.GranuleState.TheVariants.{Undelegated, Delegated, Rd}
+use Rattle.realm_model.specs.declared.states.GranuleState.TheVariants.{Undelegated, Delegated, Rd, Data}
 use Rattle.realm_model.specs.declared.states.Hipas.{Hipas}
 use Rattle.realm_model.specs.declared.states.Hipas.TheVariants.{Unassigned, Assigned, Table}
 use Rattle.realm_model.specs.Rows.{Rows}
-use Rattle.granule_addr.specs.Ipa.{first_covered}
-use Rattle.realm_model.specs.Machine.{RecRow, RealmRow, Cell, cell_at}
+use Rattle.realm_model.specs.Machine.{Cell, zero_page}
 use Rattle.realm_model.specs.Ownership.{mapping_of_row}
-use Rattle.realm_model.specs.World.{World, part_of}
 
 -- a row's kind and granule
 abbrev pub look : Rows → ℕ × ℕ → Option (Hipas × Option ℕ)
@@ -45,10 +44,6 @@ pub record IsSoundRows (rows : ℕ × ℕ → Option (Hipas × Option ℕ)) : Ty
   pub shaped : (place : ℕ × ℕ) → IsShaped place.0 (rows place)
   pub below : (place : ℕ × ℕ) → is_some (rows place) ≡ true → has_table rows place ≡ true
 
-pub record IsSoundRealm (realm : RealmRow) : Type 0 where
-  pub rows : IsSoundRows (look realm.rows)
-  pub recs : (number : ℕ) (rec : RecRow) → get realm.recs number ≡ Some rec → number < realm.next
-
 abbrev pub is_host_state : GranuleState → Bool
 is_host_state Undelegated = true
 is_host_state Delegated = true
@@ -58,17 +53,11 @@ abbrev pub is_rd_state : GranuleState → Bool
 is_rd_state Rd = true
 is_rd_state _ = false
 
--- A cell of a build whose realm, if it has one, stands at rd
-pub record IsSoundCell (rd granule : ℕ) (cell : Cell) : Type 0 where
-  pub realm : is_host_state cell.state ≡ true → cell.realm ≡ None
-  pub descriptor : is_some cell.descriptor ≡ is_rd_state cell.state
-  pub alone : is_rd_state cell.state ≡ true → granule ≡ rd
-  pub row : (realm : RealmRow) → cell.descriptor ≡ Some realm → IsSoundRealm realm
+-- a page that is zero: of every state but UNDELEGATED and DATA
+abbrev pub is_zero_state : GranuleState → Bool
+is_zero_state Undelegated = false
+is_zero_state Data = false
+is_zero_state _ = true
 
-pub record IsSoundPart (world : World) : Type 0 where
-  pub rd : ℕ
-  pub cells : (granule : ℕ) → IsSoundCell rd granule (cell_at world.machine granule)
-
--- of one build
-abbrev pub IsSoundFor : ℕ → World → Type 0
-IsSoundFor build world = IsSoundPart (part_of world build)
+abbrev pub IsZeroed : (ℕ → Cell) → Type 0
+IsZeroed cells = (granule : ℕ) → is_zero_state (cells granule).state ≡ true → (cells granule).bytes ≡ zero_page

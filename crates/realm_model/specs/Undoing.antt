@@ -1,18 +1,18 @@
 -- What can be undone, and all of it undone.
-use Rattle.std.specs.Prelude.{◌≡◌, ℕ, List, [], ◌∷◌, ◌++◌, map, reverse, Bool, false, Option, Some, None}
-use Rattle.std.specs.List.{last_or}
+use Rattle.std.specs.Prelude.{◌≡◌, ◌≢◌, ◌↔◌, ◌⊎◌, ℕ, List, [], ◌∷◌, ◌++◌, map, reverse, Bool, false, Option, Some, None}
+use Rattle.std.specs.List.{last_or, Contains}
 use Rattle.std.specs.FinMap.{get}
 use Rattle.realm_model.specs.declared.act.Act.{Act}
 use Rattle.realm_model.specs.declared.act.Act.TheVariants.{Rec}
 use Rattle.realm_model.specs.declared.act.Event.{Event}
 use Rattle.realm_model.specs.Machine.{Limits, Seen}
 use Rattle.realm_model.specs.Outcome.{realm_is}
-use Rattle.realm_model.specs.Act.{reverse_of}
-use Rattle.realm_model.specs.World.{World, realm_of}
+use Rattle.realm_model.specs.Act.{reverse_of, is_paired, is_reverse}
+use Rattle.realm_model.specs.World.{World, realm_of, free_set, part_of, without}
 use Rattle.realm_model.specs.Step.{step}
 use Rattle.realm_model.specs.Room.{is_rec_running}
 use Rattle.realm_model.specs.Ownership.{OwnsSame}
-use Rattle.realm_model.specs.History.{erase, open_entries, replay, IsLegal}
+use Rattle.realm_model.specs.History.{erase, open_entries, pages_of, replay, IsLegal}
 
 -- the REC that the act made is running
 abbrev pub is_running : Option Seen → Act → Bool
@@ -42,12 +42,16 @@ pub record IsUndoneNext (limits : Limits) (history : List Event) (build : ℕ) (
   pub legal : IsLegal limits (history ++ by build back ∷ [])
   pub left_open : open_entries build (history ++ by build back ∷ []) ++ act ∷ [] ≡ open_entries build history
 
--- all that a build has open is undone
-pub record IsUndone (limits : Limits) (history : List Event) (build : ℕ) : Type 0 where
+-- All that a build has open is undone: the world is that of the history without the build, so the one before without what
+-- the build had. The build's pages are free, what was free is, and what others have stays.
+pub record IsUndone (limits : Limits) (history : List Event) (build : ℕ) (world : World) : Type 0 where
   pub legal : IsLegal limits (history ++ undoing build history)
   pub world_is : replay limits (history ++ undoing build history) ≡ replay limits (erase build history)
   pub same_others : erase build (history ++ undoing build history) ≡ erase build history
   pub none_open : open_entries build (history ++ undoing build history) ≡ []
+  pub left : replay limits (history ++ undoing build history) ≡ Some (without world build)
+  pub free : (granule : ℕ) → Contains (free_set (without world build)) granule ↔ (Contains (free_set world) granule ⊎ Contains (pages_of build history) granule)
+  pub others : (other : ℕ) → other ≢ build → part_of (without world build) other ≡ part_of world other
 
 -- ---- laws, for every legal history and the world that it leads to
 
@@ -58,13 +62,24 @@ NewestCanBeUndone limits history build world act =
 
 -- where no REC of a build runs, all that it has open can be undone, and it leaves no trace
 abbrev pub AllCanBeUndone : Limits → List Event → ℕ → World → Type 0
-AllCanBeUndone limits history build world = IsAtRest (realm_of build world) → IsUndone limits history build
+AllCanBeUndone limits history build world = IsAtRest (realm_of build world) → IsUndone limits history build world
 
 -- where nothing of a build is open, the world is that of the history without it
 abbrev pub NothingOpenIsNoTrace : Limits → List Event → ℕ → World → Type 0
 NothingOpenIsNoTrace limits history build world = open_entries build history ≡ [] → replay limits (erase build history) ≡ Some world
 
--- a reverse act right after its pair leads back to what was owned before
-abbrev pub PairLeadsBack : Limits → ℕ → World → Act → Act → World → World → Type 0
-PairLeadsBack limits build world act back middle end =
-    reverse_of act ≡ Some back → step limits world (by build act) ≡ Some middle → step limits middle (by build back) ≡ Some end → OwnsSame world end
+-- a reverse act is accepted, and leads back to a world that owns the same
+pub record LeadsBack (limits : Limits) (build : ℕ) (world middle : World) (back : Act) : Type 0 where
+  pub end : World
+  pub stepped : step limits middle (by build back) ≡ Some end
+  pub owns : OwnsSame world end
+
+-- a paired act that is accepted can be taken back right after it
+abbrev pub PairLeadsBack : Limits → ℕ → World → Act → Act → World → Type 0
+PairLeadsBack limits build world act back middle =
+    reverse_of act ≡ Some back → step limits world (by build act) ≡ Some middle → LeadsBack limits build world middle back
+
+-- an act that has no reverse, and is none, leads to a world that owns the same
+abbrev pub OtherActOwnsSame : Limits → ℕ → World → Act → World → Type 0
+OtherActOwnsSame limits build world act next =
+    is_paired act ≡ false → is_reverse act ≡ false → step limits world (by build act) ≡ Some next → OwnsSame world next

@@ -8,9 +8,10 @@ ghost use Rattle.realm_model.specs.StepLaw.{StepIsWhatItSays};
 ghost use Rattle.realm_model.specs.History.{replay, IsLegal, LeavesNoTrace};
 ghost use Rattle.realm_model.specs.Stack.{MatchingIsAStack};
 ghost use Rattle.realm_model.specs.Pages.{PagesAreLeased};
-ghost use Rattle.realm_model.specs.Sound.{IsSoundFor};
-ghost use Rattle.realm_model.specs.Roles.{IsLinkedFor};
-ghost use Rattle.realm_model.specs.Undoing.{NewestCanBeUndone, AllCanBeUndone, NothingOpenIsNoTrace, PairLeadsBack};
+ghost use Rattle.realm_model.specs.Reachable.{IsReachable};
+ghost use Rattle.realm_model.specs.Room.{RoomIsTaken};
+ghost use Rattle.realm_model.specs.Marks.{Mark, mark_at, Stands, StandsOn, CanRollBack};
+ghost use Rattle.realm_model.specs.Undoing.{NewestCanBeUndone, AllCanBeUndone, NothingOpenIsNoTrace, PairLeadsBack, OtherActOwnsSame};
 
 /// A legal history without the events of a build is legal, and gives the world without that build's part.
 pub fn builds_can_be_left_out()
@@ -32,19 +33,24 @@ pub fn pages_are_leased()
     ensures { (limits : Limits) (history : List Event) (world : World) (build : ℕ) → IsLegal limits history → replay limits history ≡ Some world → PagesAreLeased limits history build world }
 {}
 
-/// Every world that a legal history leads to keeps the part of each build sound.
-pub fn parts_are_sound()
-    ensures { (limits : Limits) (history : List Event) (world : World) (build : ℕ) → IsLegal limits history → replay limits history ≡ Some world → IsSoundFor build world }
+/// What holds of every world that a history leads to.
+pub fn reached_worlds_are_sound()
+    ensures { (limits : Limits) (history : List Event) (world : World) → replay limits history ≡ Some world → IsReachable limits world }
 {}
 
-/// In every such world each granule that a realm points to is pointed to once, and is in the state that goes with it.
-pub fn realms_point_to_their_own()
-    ensures { (limits : Limits) (history : List Event) (world : World) (build : ℕ) → IsLegal limits history → replay limits history ≡ Some world → IsLinkedFor build world }
+/// What an accepted event takes of the room of builds.
+pub fn room_is_taken()
+    ensures { (limits : Limits) (history : List Event) (world : World) (event : Event) (next : World) → IsLegal limits history → replay limits history ≡ Some world → RoomIsTaken limits history world event next }
 {}
 
-/// A reverse act right after its pair leads back to what was owned before.
+/// A paired act can be taken back right after it, and that leads back to a world that owns the same.
 pub fn pairs_lead_back()
-    ensures { (limits : Limits) (history : List Event) (world : World) (build : ℕ) (act back : Act) (middle end : World) → IsLegal limits history → replay limits history ≡ Some world → PairLeadsBack limits build world act back middle end }
+    ensures { (limits : Limits) (history : List Event) (world : World) (build : ℕ) (act back : Act) (middle : World) → replay limits history ≡ Some world → PairLeadsBack limits build world act back middle }
+{}
+
+/// Any other act leads to a world that owns the same.
+pub fn other_acts_own_the_same()
+    ensures { (limits : Limits) (world : World) (build : ℕ) (act : Act) (next : World) → OtherActOwnsSame limits build world act next }
 {}
 
 /// The newest open act of a build can be undone, whatever others did since.
@@ -60,4 +66,19 @@ pub fn nothing_open_is_no_trace()
 /// All that a build has open can be undone, and then it leaves no trace.
 pub fn all_can_be_undone()
     ensures { (limits : Limits) (history : List Event) (world : World) (build : ℕ) → IsLegal limits history → replay limits history ≡ Some world → AllCanBeUndone limits history build world }
+{}
+
+/// A mark stands when it is made.
+pub fn new_marks_stand()
+    ensures { (build : ℕ) (history : List Event) → Stands (mark_at build history) history }
+{}
+
+/// It stands on until the build has less open than at the mark.
+pub fn marks_stand_on()
+    ensures { (mark : Mark) (history : List Event) (event : Event) → StandsOn mark history event }
+{}
+
+/// A build can be rolled back to a mark that stands.
+pub fn marks_can_be_rolled_back_to()
+    ensures { (limits : Limits) (history : List Event) (world : World) (mark : Mark) → IsLegal limits history → replay limits history ≡ Some world → CanRollBack limits history mark world }
 {}

@@ -13,3 +13,6 @@ mod states;
 pub use act::{Act, Event, granules_again};
 pub use rmi::{Rmi, Status};
 pub use states::{GranuleState, Hipas, RealmState, RecState, Ripas};
+
+#[cfg(test)]
+mod unit_tests;

@@ -9,3 +9,5 @@ pub mod StepLaws
 pub mod StepOf
 pub mod StepTexts
 pub mod Views
+pub mod Runs
+pub mod MapLines

@@ -8,8 +8,8 @@ use Rattle.realm_host.specs.declared.refusal.Refusal.{Refusal}
 use Rattle.realm_host.specs.declared.refusal.Refusal.TheVariants as refusal
 use Rattle.realm_host.specs.declared.reply.Answer.{Answer}
 use Rattle.realm_host.specs.declared.reply.Answer.TheVariants.{Replied, Undone, Refused}
-use Rattle.realm_host.specs.declared.reply.Kind.{Kind}
-use Rattle.realm_host.specs.declared.reply.Kind.TheVariants as kind
+use Rattle.build_journal.specs.declared.kind.Kind.{Kind}
+use Rattle.build_journal.specs.declared.kind.Kind.TheVariants as kind
 use Rattle.realm_host.specs.declared.reply.Reply.{Reply}
 use Rattle.realm_host.specs.declared.reply.Reply.TheVariants.{Done, FirstPage}
 use Rattle.realm_host.specs.declared.step.Step.{Step}

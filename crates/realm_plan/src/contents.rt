@@ -10,6 +10,7 @@ use std::alloc::{AllocError, Global};
 use toml::value::Array;
 use toml::{Table, Value};
 
+/// The value of a key.
 fn value_at<'a>(table: &'a Table, key: &str) -> Option<&'a Value>
     ensures { option_map (λ v. view v.now) result ≡ get_member key.now (table_view table.now) }
 {
@@ -26,6 +27,7 @@ fn whole_at(table: &Table, key: &str, default: Option<i64>) -> Option<i64>
     }
 }
 
+/// The whole numbers of an array that has nothing else.
 fn wholes_of(alloc: Global, array: &Array) -> Result<Option<Vec<i64>>, AllocError>
     ensures { IfOk result (λ r. option_map (λ v. v.items) r ≡ wholes_of (array_view array.now)) }
 {
@@ -39,6 +41,7 @@ fn wholes_of(alloc: Global, array: &Array) -> Result<Option<Vec<i64>>, AllocErro
     Ok(Some(found))
 }
 
+/// The texts of an array that has nothing else.
 fn texts_of<'a>(alloc: Global, array: &'a Array) -> Result<Option<Vec<&'a str>>, AllocError>
     ensures { IfOk result (λ r. option_map (λ v. map (λ t. t.now) v.items) r ≡ texts_of (array_view array.now)) }
 {
@@ -63,6 +66,7 @@ fn is_among(names: &[&str], key: &str) -> bool
     false
 }
 
+/// Whether each key of the table is one of the names.
 fn has_only_keys(table: &Table, names: &[&str]) -> bool
     ensures { result ≡ has_only (map (λ n. n.now) names.now) (table_view table.now) }
 {
@@ -74,7 +78,7 @@ fn has_only_keys(table: &Table, names: &[&str]) -> bool
     true
 }
 
-/// The texts of the steps of a build.
+/// The texts of the steps of a build: a table with the one key `steps`, an array of texts.
 fn steps_of<'a>(alloc: Global, value: &'a Value) -> Result<Option<Vec<&'a str>>, AllocError>
     ensures { IfOk result (λ r. option_map (λ v. map (λ t. t.now) v.items) r ≡ steps_of (view value.now)) }
 {
@@ -93,8 +97,10 @@ fn steps_of<'a>(alloc: Global, value: &'a Value) -> Result<Option<Vec<&'a str>>,
     texts_of(alloc, array)
 }
 
+/// The texts of the steps of each build.
 fn builds_of<'a>(alloc: Global, array: &'a Array) -> Result<Option<Vec<Vec<&'a str>>>, AllocError>
-    ensures { IfOk result (λ r. option_map (λ v. map (λ b. map (λ t. t.now) b.items) v.items) r ≡ builds_of (array_view array.now)) }
+    ensures { IfOk result (λ r. option_map (λ v. map (λ b. map (λ t. t.now) b.items) v.items) r
+        ≡ builds_of (array_view array.now)) }
 {
     let mut found = Vec::new(alloc);
     for value in array {
@@ -106,8 +112,10 @@ fn builds_of<'a>(alloc: Global, array: &'a Array) -> Result<Option<Vec<Vec<&'a s
     Ok(Some(found))
 }
 
+/// The entries of the order. Where the key is missing there are none.
 fn order_of(alloc: Global, value: Option<&Value>) -> Result<Option<Vec<i64>>, AllocError>
-    ensures { IfOk result (λ r. option_map (λ v. v.items) r ≡ order_of (option_map (λ v. view v.now) value.entry)) }
+    ensures { IfOk result (λ r. option_map (λ v. v.items) r
+        ≡ order_of (option_map (λ v. view v.now) value.entry)) }
 {
     let Some(value) = value else {
         return Ok(Some(Vec::new(alloc)));
@@ -133,8 +141,8 @@ impl<'a> Contents<'a> {
     ghost use Rattle.realm_plan.specs.Contents.{contents_of};
     ghost use Rattle.realm_plan.specs.ContentsView.{contents_view};
 
-    #[tactic(auto, unfolding(crate::specs::Contents::contents_of))]
     /// What the document holds, or nothing where a key is missing, unknown or of the wrong kind.
+    #[tactic(auto, unfolding(crate::specs::Contents::contents_of))]
     pub fn of(alloc: Global, table: &'a Table) -> Result<Option<Contents<'a>>, AllocError>
         ensures { IfOk result (λ r. option_map contents_view r ≡ contents_of (table_view table.now)) }
     {

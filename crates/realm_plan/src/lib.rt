@@ -5,12 +5,15 @@
 #![tactic(auto)]
 
 mod answer;
+mod build_id;
 mod contents;
 mod fault;
 mod limits;
 mod lines;
+mod map;
 mod number;
 mod plan;
+mod run;
 mod step;
 #[cfg(test)]
 mod tests;
@@ -18,5 +21,7 @@ mod turns;
 
 pub use fault::{PlanError, PlanFault};
 pub use lines::{push_free, push_idle, push_page, push_turn};
+pub use map::push_map;
 pub use plan::Plan;
+pub use run::run_turns;
 pub use step::step_from_text;

@@ -40,6 +40,7 @@ fn between(low: u16, high: u16, whole: i64) -> Result<u16, PlanError>
     }
 }
 
+/// The fault of a length that is outside its limits.
 fn within(holds: bool) -> Result<(), PlanError>
     ensures value { Gives (λ n. n) result (within_at holds) }
 {
@@ -50,6 +51,7 @@ fn within(holds: bool) -> Result<(), PlanError>
     }
 }
 
+/// The numbers, where each is within its limits.
 #[tactic(auto, unfolding(crate::specs::Plan::numbers_of))]
 pub fn numbers_of(contents: &Contents<'_>) -> Result<Numbers, PlanError>
     ensures value { Gives (λ n. n) result (numbers_of (contents_view contents.now)) }
@@ -70,12 +72,14 @@ pub fn numbers_of(contents: &Contents<'_>) -> Result<Numbers, PlanError>
     })
 }
 
+/// Whether no build has more steps than it may.
 fn are_short(builds: &[Vec<Step>]) -> bool
     ensures { result ≡ list_all (λ steps. nat_le (vec_len steps) 1024) builds.now }
 {
     builds.iter().all(|steps| steps.len() <= MOST_STEPS)
 }
 
+/// The fault of lengths that are outside their limits.
 #[tactic(auto, using(crate::proofs::Views::item_views), unfolding(crate::specs::Plan::lengths_of))]
 pub fn lengths_of(builds: &[Vec<Step>], order: &[usize]) -> Result<(), PlanError>
     ensures value { Gives (λ n. n) result (lengths_of (map (λ b. b.items) builds.now) order.now) }

@@ -61,6 +61,7 @@ impl Plan {
         }
     }
 
+    /// The plan of what a document holds, or its fault.
     #[tactic(auto, unfolding(crate::specs::Plan::plan_of_contents))]
     fn from_contents(alloc: Global, contents: &Contents<'_>) -> Result<Plan, PlanError>
         ensures { Gives plan_view result (plan_of_contents (contents_view contents.now)) }
@@ -84,7 +85,8 @@ impl Plan {
     pub fn from_bytes(alloc: Global, bytes: &[u8]) -> Result<Plan, PlanError>
         ensures value { Gives plan_view result (plan_of bytes.now) }
         // Its steps are spelled as they stand in the document.
-        ensures as_written { IfOk result (λ plan. written_steps bytes.now ≡ Some (map (map spelling) (plan_view plan).builds)) }
+        ensures as_written { IfOk result (λ plan. written_steps bytes.now
+            ≡ Some (map (map spelling) (plan_view plan).builds)) }
     {
         if bytes.len() > MOST_BYTES {
             return Err(PlanError::Fault(PlanFault::Limit));

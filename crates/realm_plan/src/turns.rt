@@ -22,8 +22,10 @@ fn steps_of(alloc: Global, build: usize, texts: &[&str]) -> Result<Vec<Step>, Pl
     Ok(found)
 }
 
+/// The steps of each build.
 pub fn builds_of(alloc: Global, texts: &[Vec<&str>]) -> Result<Vec<Vec<Step>>, PlanError>
-    ensures { Gives (λ v. map (λ b. b.items) v.items) result (builds_of 0 (map (λ b. map (λ t. t.now) b.items) texts.now)) }
+    ensures { Gives (λ v. map (λ b. b.items) v.items) result
+        (builds_of 0 (map (λ b. map (λ t. t.now) b.items) texts.now)) }
 {
     let mut found = Vec::new(alloc);
     for (k, build) in texts.iter().enumerate() {
@@ -43,6 +45,7 @@ fn build_named(count: usize, entry: i64) -> Option<usize>
     }
 }
 
+/// The builds of the turns, each one of so many.
 pub fn order_of(alloc: Global, count: usize, entries: &[i64]) -> Result<Vec<usize>, PlanError>
     ensures value { Gives (λ v. v.items) result (order_of count 0 entries.now) }
     ensures below { IfOk result (λ v. All (λ build. build < count) v.items) }

@@ -1,6 +1,8 @@
 //! What no clause says: that calls succeed, what devices that fail lead to, and the texts.
 ghost use Rattle.std.specs.Prelude.{◌≡◌, false};
 
+mod replay;
+
 use crate::fault::Fault;
 use crate::line::Line;
 use crate::told::{DeviceFailed, ReadError, Told};

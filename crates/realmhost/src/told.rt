@@ -57,6 +57,7 @@ impl<R: Read> Told<R> {
         requires { self.old.failed ≡ false }
         ensures told { self.new.failed ≡ is_err result }
         ensures counted { self.new.reads ≡ min (self.old.reads + 1) (2 ^ 64 - 1) }
+        ensures not_lowered { self.old.reads ≤ self.new.reads }
         ensures bound { ReadsAtMost result buf.new }
         ensures bytes { ReadConsumes (R.remaining self.old.device) (R.remaining self.new.device) result buf.new }
     {
@@ -77,6 +78,7 @@ impl<R: Read> Told<R> {
         requires { self.old.failed ≡ false }
         ensures told { (self.new.failed ≡ true) ↔ (result ≡ Err Device) }
         ensures asked { self.new.reads ≤ self.old.reads + 1048578 }
+        ensures not_lowered { self.old.reads ≤ self.new.reads }
         ensures bytes { IfOk result (λ v. IfSome (R.remaining self.old.device) (λ xs. v.items ≡ kept_of xs)) }
     {
         let mut bytes = Vec::new(alloc);

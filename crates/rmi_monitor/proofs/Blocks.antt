@@ -1,5 +1,5 @@
 -- Blocks that are given back, over the fields of a monitor.
-use Rattle.std.proofs.Common.{◌≡◌, ℕ, ◌+◌, ◌^◌, ◌<◌, ◌≤◌, ⊎_elim, Bool, true, List, [], length, get_or, None, refl, sym, ap, ◌∙◌, subst, arith}
+use Rattle.std.proofs.Common.{◌≡◌, ℕ, ◌+◌, ◌^◌, ◌<◌, ◌≤◌, ⊎_elim, Bool, List, [], length, None, sym, ap, ◌∙◌, subst, arith}
 use Rattle.std.proofs.lemmas.List.{ext_get_or}
 use Rattle.page_arena.specs.Page.{page_at, IsSized}
 use Rattle.page_arena.specs.Page as arena
@@ -44,8 +44,8 @@ module _ (monitor : MonitorView) (vmids aux : ℕ) (granules : List Granule) (pa
   cell_inside i low high =
       let inside : i < length monitor.machine = subst (λ n. i < n) (sym (as_many_granules monitor vmids aux granules pages free view_is whole ∙ whole.as_many)) (omega (arith, fits)) in
       let state : (granule_at granules i).state ≡ Undelegated =
-        sym (ap (λ (c : Cell). c.state) (cell_is monitor vmids aux granules pages free view_is whole i inside))
-        ∙ undelegated_state (cell_at monitor.machine i).state (givable.undelegated i low high) in
+      sym (ap (λ (c : Cell). c.state) (cell_is monitor vmids aux granules pages free view_is whole i inside))
+      ∙ undelegated_state (cell_at monitor.machine i).state (givable.undelegated i low high) in
       let page : page_at cleared i ≡ arena.zero_page = get_or-with_run_inside pages first count arena.zero_page fits i [] low high in
       (λ k. record { state = state k; realm = whole.no_realm i (ap is_host_state state) k; bytes = bytes_of (state k) (page k); descriptor = None })
       ∙ ap (λ (bytes : List ℕ). record { state = Undelegated; realm = None; bytes = bytes; descriptor = None }) zero_page_is
@@ -55,14 +55,14 @@ module _ (monitor : MonitorView) (vmids aux : ℕ) (granules : List Granule) (pa
       let as_many = length-machine_of granules cleared whole_cleared.as_many in
       let before = length-machine_of granules pages whole.as_many in
       ext_get_or blank _ _ (as_many ∙ sym before ∙ sym (length-with_run machine first count blank machine_fits)) (λ i lt.
-        let inside : i < length granules = subst (λ n. i < n) as_many lt in
-        cell_at-machine_of granules cleared whole_cleared.as_many i inside
-        ∙ ⊎_elim
-          (λ h. cell_inside i h.0 h.1 ∙ sym (get_or-with_run_inside machine first count blank machine_fits i blank h.0 h.1))
-          (λ h. ap (cell_of (granule_at granules i)) (get_or-with_run_outside pages first count arena.zero_page fits i [] h)
-            ∙ sym (cell_at-machine_of granules pages whole.as_many i inside)
-            ∙ sym (get_or-with_run_outside machine first count blank machine_fits i blank h))
-          (inside_or_outside first count i))
+      let inside : i < length granules = subst (λ n. i < n) as_many lt in
+      cell_at-machine_of granules cleared whole_cleared.as_many i inside
+      ∙ ⊎_elim
+      (λ h. cell_inside i h.0 h.1 ∙ sym (get_or-with_run_inside machine first count blank machine_fits i blank h.0 h.1))
+      (λ h. ap (cell_of (granule_at granules i)) (get_or-with_run_outside pages first count arena.zero_page fits i [] h)
+      ∙ sym (cell_at-machine_of granules pages whole.as_many i inside)
+      ∙ sym (get_or-with_run_outside machine first count blank machine_fits i blank h))
+      (inside_or_outside first count i))
 
   pub given_back : (new_pages : List (List ℕ)) (new_free : List Bool) → new_pages ≡ cleared → new_free ≡ with_given free order first
       → stands_for vmids aux granules new_pages new_free ≡ without_block monitor order first

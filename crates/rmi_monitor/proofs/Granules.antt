@@ -1,19 +1,18 @@
 -- The commands on single granules, over the fields of a monitor.
-use Rattle.std.proofs.Common.{◌≡◌, ℕ, ◌<◌, Bool, true, false, List, [], ◌∷◌, length, set, Ok, Err, None, refl, sym, ap, ◌∙◌, subst}
+use Rattle.std.proofs.Common.{◌≡◌, ℕ, ◌<◌, Bool, true, false, List, [], ◌∷◌, length, set, Ok, None, sym, ap, ◌∙◌, subst}
 use Rattle.page_arena.specs.Page.{page_at, is_free}
 use Rattle.page_arena.specs.Page as arena
 use Rattle.granule_table.specs.Granules.{granule_at}
 use Rattle.granule_table.specs.declared.granule.Granule.{Granule}
-use Rattle.realm_model.specs.declared.states.GranuleState.{GranuleState}
 use Rattle.realm_model.specs.declared.states.GranuleState.TheVariants.{Undelegated, Delegated}
-use Rattle.realm_model.specs.Machine.{Cell, Machine, Seen, left, seen, cell_at, zero_page, page_of}
-use Rattle.realm_model.specs.Update.{Update, Put, Outcome, machine_after_all, machine_after_command}
+use Rattle.realm_model.specs.Machine.{Cell, Machine, left, cell_at, page_of}
+use Rattle.realm_model.specs.Update.{Update, Put, machine_after_all, machine_after_command}
 use Rattle.realm_model.specs.Command.Check.{check, error_input, is_undelegated, is_delegated}
 use Rattle.realm_model.specs.Command.Granule.{granule_delegate, granule_undelegate, host_fill}
-use Rattle.rmi_monitor.specs.View.{MonitorView, IsTaken, Answers, seen_in, after_command}
+use Rattle.rmi_monitor.specs.View.{MonitorView, IsTaken, seen_in, after_command}
 use Rattle.rmi_monitor.specs.Inside.{cell_of, bytes_of, machine_of, stands_for, IsWhole, is_host_state}
 use Rattle.rmi_monitor.proofs.Machines.{length-machine_of, cell_at-machine_of, machine_of-set, machine_of-set_granule, machine_of-set_page, zero_page_is, page_of_is}
-use Rattle.rmi_monitor.proofs.Checks.{answers_done, answers_refused, machine_done, machine_refused, undelegated_test, delegated_test, not_undelegated, not_delegated}
+use Rattle.rmi_monitor.proofs.Checks.{machine_done, machine_refused, undelegated_test, delegated_test, not_undelegated, not_delegated}
 
 module _ (monitor : MonitorView) (vmids aux : ℕ) (granules : List Granule) (pages : List (List ℕ)) (free : List Bool)
     (view_is : stands_for vmids aux granules pages free ≡ monitor) (whole : IsWhole granules pages) where
@@ -67,7 +66,7 @@ module _ (monitor : MonitorView) (vmids aux : ℕ) (granules : List Granule) (pa
         → record { vmids = vmids; aux = aux; machine = new; free = free } ≡ after_command (check holds error_input (Ok (Put g cell ∷ []))) monitor
     after_done holds cell new h e =
         let made : machine_after_command (check holds error_input (Ok (Put g cell ∷ []))) monitor.machine ≡ new =
-          machine_done error_input (Put g cell ∷ []) monitor.machine holds h ∙ put_done cell new e in
+        machine_done error_input (Put g cell ∷ []) monitor.machine holds h ∙ put_done cell new e in
         ap (λ (m : Machine). record { vmids = vmids; aux = aux; machine = m; free = free }) (sym made)
         ∙ ap (λ (m : MonitorView). record m { machine = machine_after_command (check holds error_input (Ok (Put g cell ∷ []))) monitor.machine }) view_is
 
@@ -82,8 +81,8 @@ module _ (monitor : MonitorView) (vmids aux : ℕ) (granules : List Granule) (pa
     delegated_done new new_pages new_free was shifted filled kept =
         (λ i. stands_for vmids aux (shifted i) (filled i) (kept i))
         ∙ after_done (is_undelegated (seen_in monitor g)) left _ (is_undelegated_there was)
-          (ap (λ (page : List ℕ). set machine g (record { state = Delegated; realm = None; bytes = page; descriptor = None })) (sym zero_page_is)
-          ∙ sym (machine_of-set granules pages whole.as_many g (record { state = Delegated; realm = None }) (arena.page_of 0)))
+        (ap (λ (page : List ℕ). set machine g (record { state = Delegated; realm = None; bytes = page; descriptor = None })) (sym zero_page_is)
+        ∙ sym (machine_of-set granules pages whole.as_many g (record { state = Delegated; realm = None }) (arena.page_of 0)))
 
     -- ---- undelegate
 
@@ -97,14 +96,14 @@ module _ (monitor : MonitorView) (vmids aux : ℕ) (granules : List Granule) (pa
     undelegated_done new was shifted =
         ap (λ gs. stands_for vmids aux gs pages free) shifted
         ∙ after_done (is_delegated (seen_in monitor g)) (record (cell_at monitor.machine g) { state = Undelegated }) _ (is_delegated_there was)
-          (ap (set machine g) (undelegated_cell was) ∙ sym (machine_of-set_granule granules pages whole.as_many g (record { state = Undelegated; realm = None })))
+        (ap (set machine g) (undelegated_cell was) ∙ sym (machine_of-set_granule granules pages whole.as_many g (record { state = Undelegated; realm = None })))
 
     -- ---- fill
 
     filled_cell : (value : ℕ) → (granule_at granules g).state ≡ Undelegated → record (cell_at monitor.machine g) { bytes = page_of value } ≡ cell_of (granule_at granules g) (arena.page_of value)
     filled_cell value was =
         let page : page_of value ≡ bytes_of (granule_at granules g).state (arena.page_of value) =
-          sym (page_of_is value) ∙ sym (ap (λ s. bytes_of s (arena.page_of value)) was) in
+        sym (page_of_is value) ∙ sym (ap (λ s. bytes_of s (arena.page_of value)) was) in
         ap (λ (c : Cell). record c { bytes = page_of value }) (cell_is g taken.inside)
         ∙ (λ i. record { state = (granule_at granules g).state; realm = (granule_at granules g).realm; bytes = page i; descriptor = None })
 
@@ -114,4 +113,4 @@ module _ (monitor : MonitorView) (vmids aux : ℕ) (granules : List Granule) (pa
     filled_done value new_pages new_free was filled kept =
         (λ i. stands_for vmids aux granules (filled i) (kept i))
         ∙ after_done (is_undelegated (seen_in monitor g)) (record (cell_at monitor.machine g) { bytes = page_of value }) _ (is_undelegated_there was)
-          (ap (set machine g) (filled_cell value was) ∙ sym (machine_of-set_page granules pages whole.as_many g (arena.page_of value)))
+        (ap (set machine g) (filled_cell value was) ∙ sym (machine_of-set_page granules pages whole.as_many g (arena.page_of value)))

@@ -4,3 +4,4 @@ pub mod Checks
 pub mod Granules
 pub mod Blocks
 pub mod Sums
+pub mod Kept

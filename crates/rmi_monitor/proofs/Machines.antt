@@ -1,16 +1,13 @@
 -- What becomes of the machine where a granule, its page or both are changed.
-use Rattle.std.proofs.Common.{◌≡◌, ◌≢◌, ℕ, ◌+◌, ◌<◌, ◌≤◌, ◌⊎◌, inl, inr, ⊎_elim, Bool, true, false, List, [], ◌∷◌, length, set, get_or, replicate, Some, None, refl, sym, ap, ◌∙◌, subst, arith}
-use Rattle.std.proofs.lemmas.List.{set-get_or, ext_get_or, length-set, length-replicate}
+use Rattle.std.proofs.Common.{◌≡◌, ℕ, ◌<◌, List, [], length, set, replicate, None, refl, sym, ap, ◌∙◌}
+use Rattle.std.proofs.lemmas.List.{set-get_or}
 use Rattle.page_arena.specs.Page.{page_at}
 use Rattle.page_arena.specs.Page as arena
-use Rattle.page_arena.specs.Block.{with_run}
-use Rattle.page_arena.specs.Runs.{inside_or_outside, length-with_run, get_or-with_run_inside, get_or-with_run_outside}
 use Rattle.granule_table.specs.Granules.{granule_at, undelegated}
 use Rattle.granule_table.specs.declared.granule.Granule.{Granule}
 use Rattle.realm_model.specs.declared.states.GranuleState.{GranuleState}
 use Rattle.realm_model.specs.declared.states.GranuleState.TheVariants.{Undelegated, Rtt}
-use Rattle.realm_model.specs.Machine.{Cell, Machine, blank, left, cell_at, zero_page, page_of, seen}
-use Rattle.realm_model.specs.Command.Check.{is_undelegated}
+use Rattle.realm_model.specs.Machine.{blank, cell_at, zero_page, page_of}
 use Rattle.rmi_monitor.specs.Inside.{cell_of, bytes_of, machine_of}
 use Rattle.rmi_monitor.specs.View.{IsPageOf}
 use Rattle.rmi_monitor.proofs.Zips.{length-each, get_or-each, each-set, each-replicate}

@@ -15,7 +15,10 @@ bytes_of _ page = page
 
 abbrev pub cell_of : Granule → List ℕ → Cell
 cell_of granule page = record {
-  state = granule.state; realm = granule.realm; bytes = bytes_of granule.state page; descriptor = None
+  state = granule.state;
+  realm = granule.realm;
+  bytes = bytes_of granule.state page;
+  descriptor = None;
 }
 
 unfoldable pub machine_of : List Granule → List (List ℕ) → Machine

@@ -17,7 +17,12 @@ impl<S: PageStore> Monitor<S> {
         ensures answer { Answers result (command.granule_delegate (seen_in self.old granule)) }
         ensures machine { self.new ≡ after_command (command.granule_delegate (seen_in self.old granule)) self.old }
     {
-        if !self.granules.shift(granule, GranuleState::Undelegated, GranuleState::Delegated, None) {
+        if !self.granules.shift(
+            granule,
+            GranuleState::Undelegated,
+            GranuleState::Delegated,
+            None,
+        ) {
             return Err(Rmi::INPUT);
         }
         self.store.fill(granule, 0);
@@ -32,7 +37,12 @@ impl<S: PageStore> Monitor<S> {
         ensures answer { Answers result (command.granule_undelegate (seen_in self.old granule)) }
         ensures machine { self.new ≡ after_command (command.granule_undelegate (seen_in self.old granule)) self.old }
     {
-        if !self.granules.shift(granule, GranuleState::Delegated, GranuleState::Undelegated, None) {
+        if !self.granules.shift(
+            granule,
+            GranuleState::Delegated,
+            GranuleState::Undelegated,
+            None,
+        ) {
             return Err(Rmi::INPUT);
         }
         Ok(())

@@ -9,3 +9,6 @@ mod granule;
 mod monitor;
 
 pub use monitor::Monitor;
+
+#[cfg(test)]
+mod tests;

@@ -13,5 +13,5 @@ pub unreachable-requires : goal.unreachable-requires
 unreachable-requires g c =
     let can = subst (λ (a : Act). CanReverse c.args.monitor.now a) c.in-Undelegate.is c.requires in
     never_refused error_input c.in_default-granule_undelegate.field-0
-      (Put c.in-Undelegate.granule (record (cell_at c.args.monitor.now.machine c.in-Undelegate.granule) { state = Undelegated }) ∷ [])
-      (is_delegated (seen_in c.args.monitor.now c.in-Undelegate.granule)) can.1 c.in_default-granule_undelegate.ensures.answer
+    (Put c.in-Undelegate.granule (record (cell_at c.args.monitor.now.machine c.in-Undelegate.granule) { state = Undelegated }) ∷ [])
+    (is_delegated (seen_in c.args.monitor.now c.in-Undelegate.granule)) can.1 c.in_default-granule_undelegate.ensures.answer

@@ -11,17 +11,19 @@ pub push_reserved-requires : goal.push_reserved-requires
 push_reserved-requires c =
     let room = room_for c.args.self.now c.args.act.now (sym c.if-is_paired.ensures) c.requires in
     let len : vec_len c.self.inside.entries ≡ length c.args.self.now =
-      c.self.inside.entries.ok.0 ∙ ap (λ (acts : List Act). length acts) c.self.view_is in
+    c.self.inside.entries.ok.0 ∙ ap (λ (acts : List Act). length acts) c.self.view_is in
     omega arith
 
 pub invariant_of-self : goal.invariant_of-self
 invariant_of-self c =
     let room = room_for c.args.self.now c.args.act.now (sym c.if-is_paired.ensures) c.requires in
     let len : vec_len c.self.inside.entries ≡ length c.args.self.now =
-      c.self.inside.entries.ok.0 ∙ ap (λ (acts : List Act). length acts) c.self.view_is in
-    let paired : is_paired c.again.result ≡ true = ap is_paired c.again.ensures ∙ sym c.if-is_paired.ensures in
-    (omega arith, omega arith,
-      ap are_paired c.push_reserved.ensures.items ∙ are_paired_push c.self.inside.entries.items c.again.result paired c.self.invariant.2)
+    c.self.inside.entries.ok.0 ∙ ap (λ (acts : List Act). length acts) c.self.view_is in
+    let paired : is_paired c.again.result ≡ true = ap is_paired c.again.ensures ∙ sym c.if-is_paired.ensures in (
+      omega arith,
+      omega arith,
+      ap are_paired c.push_reserved.ensures.items ∙ are_paired_push c.self.inside.entries.items c.again.result paired c.self.invariant.2,
+    )
 
 pub returns-then-is_paired : goal.returns-then-is_paired
 returns-then-is_paired c =

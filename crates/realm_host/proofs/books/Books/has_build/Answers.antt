@@ -14,8 +14,8 @@ on_false false P h = h refl
 pub returns-clause-none : goal.returns-clause-none
 returns-clause-none c =
     on_false (nat_lt c.number.result c.len.result) (acts_of c.args.build c.args.self.now.history ≡ []) (λ e.
-      let long = c.self.inside.builds.ok.0 in
-      let known = ltb-false c.number.result c.len.result e in
-      let past : length c.self.inside.builds.items ≤ c.args.build = omega (arith, known, c.len.ensures, c.number.ensures.value) in
-      subst (λ (b : BooksView). acts_of c.args.build b.history ≡ []) c.self.view_is
-        (acts_of-past _ c.args.build c.self.inside.history.items c.self.invariant.of_builds past))
+    let long = c.self.inside.builds.ok.0 in
+    let known = ltb-false c.number.result c.len.result e in
+    let past : length c.self.inside.builds.items ≤ c.args.build = omega (arith, known, c.len.ensures, c.number.ensures.value) in
+    subst (λ (b : BooksView). acts_of c.args.build b.history ≡ []) c.self.view_is
+    (acts_of-past _ c.args.build c.self.inside.history.items c.self.invariant.of_builds past))

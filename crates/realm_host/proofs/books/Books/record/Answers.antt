@@ -19,4 +19,4 @@ push_reserved-requires c = memory_fits c.self.inside.builds.items c.self.inside.
 pub invariant_of-self : goal.invariant_of-self
 invariant_of-self c =
     recorded c.self.inside.builds.items c.self.inside.leases c.self.inside.capacity c.self.inside.history c.args.self.now c.self.view_is c.self.invariant c.args.build c.args.act c.requires.there c.requires.in_turn c.requires.room c.number.result c.index_mut-kept.result.now c.number.ensures.value c.index_mut-kept.ensures.value _ _ _
-      c.follow.ensures c.follow_pages.ensures c.push_reserved.ensures.items c.push_reserved.ensures.capacity
+    c.follow.ensures c.follow_pages.ensures c.push_reserved.ensures.items c.push_reserved.ensures.capacity

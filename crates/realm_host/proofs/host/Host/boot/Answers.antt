@@ -8,4 +8,4 @@ invariant_of-result g c =
     let sized = g.met.S.PageStore.sized c.args.store in
     let few : length (g.S.PageStore.page_bytes c.args.store) < 4097 = omega (arith, sized.few_pages) in
     whole_booted c.in-Ok-build.monitor c.in-Ok.books c.args.settings.vmids c.args.settings.aux (length (g.S.PageStore.page_bytes c.args.store)) few
-      c.in-Ok-build.ensures.ok (ap (λ (b : BooksView). b.pages) c.in-Ok.ensures ∙ c.pages.ensures) (ap (λ (b : BooksView). b.history) c.in-Ok.ensures)
+    c.in-Ok-build.ensures.ok (ap (λ (b : BooksView). b.pages) c.in-Ok.ensures ∙ c.pages.ensures) (ap (λ (b : BooksView). b.history) c.in-Ok.ensures)

@@ -14,5 +14,5 @@ returns-then-needed-capacity g c =
     let quiet = used-quiet host c.args.build c.self.inside.monitor.machine c.self.invariant.machine c.self.invariant.no_realm in
     let fits : used host c.args.build + c.args.needed ≤ host.capacity = omega (arith, c.used.ensures.fits) in
     sym (checked_false (history_full c.args.self.now c.args.build c.args.needed)
-      (subst (λ (h : HostView). nat_lt h.capacity (used h c.args.build + c.args.needed) ≡ false) c.self.view_is
-        (le-ltb host.capacity (used host c.args.build + c.args.needed) fits)))
+    (subst (λ (h : HostView). nat_lt h.capacity (used h c.args.build + c.args.needed) ≡ false) c.self.view_is
+    (le-ltb host.capacity (used host c.args.build + c.args.needed) fits)))

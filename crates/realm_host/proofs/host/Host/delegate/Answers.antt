@@ -33,10 +33,11 @@ pub granule_delegate-requires : goal.granule_delegate-requires
 granule_delegate-requires g c = is_taken c.self.inside.monitor c.self.inside.books c.args.self.now c.self.view_is c.self.invariant c.args.build c.args.page c.in_ok-granule.granule c.in_ok-check_build.ensures c.in_ok-granule.ensures
 
 pub returns-in-Err : goal.returns-in-Err
-returns-in-Err g c =
-    (refused c.self.inside.monitor c.self.inside.books c.args.self.now c.self.view_is c.self.invariant c.args.build c.args.page c.in_ok-granule.granule c.in_ok-check_build.ensures c.in_ok-granule.ensures c.in_ok-check_journal.ensures c.in_ok-check_room.ensures c.in-Err.rmi c.in-Err.ensures.answer,
-      ap (λ (m : MonitorView). host_of m c.self.inside.books) (same_after c.self.inside.monitor c.self.inside.books c.args.self.now c.self.view_is c.self.invariant c.args.build c.args.page c.in_ok-granule.granule c.in_ok-check_build.ensures c.in_ok-granule.ensures c.in_ok-check_journal.ensures c.in_ok-check_room.ensures c.in-Err.rmi c.in-Err.ensures.answer _ c.in-Err.ensures.machine)
-      ∙ c.self.view_is)
+returns-in-Err g c = (
+  refused c.self.inside.monitor c.self.inside.books c.args.self.now c.self.view_is c.self.invariant c.args.build c.args.page c.in_ok-granule.granule c.in_ok-check_build.ensures c.in_ok-granule.ensures c.in_ok-check_journal.ensures c.in_ok-check_room.ensures c.in-Err.rmi c.in-Err.ensures.answer,
+  ap (λ (m : MonitorView). host_of m c.self.inside.books) (same_after c.self.inside.monitor c.self.inside.books c.args.self.now c.self.view_is c.self.invariant c.args.build c.args.page c.in_ok-granule.granule c.in_ok-check_build.ensures c.in_ok-granule.ensures c.in_ok-check_journal.ensures c.in_ok-check_room.ensures c.in-Err.rmi c.in-Err.ensures.answer _ c.in-Err.ensures.machine)
+      ∙ c.self.view_is,
+)
 
 pub record-requires-clause-in_turn : goal.record-requires-clause-in_turn
 record-requires-clause-in_turn g c = turn c.self.inside.monitor c.self.inside.books c.args.self.now c.self.view_is c.self.invariant c.args.build c.args.page c.in_ok-granule.granule c.in_ok-check_build.ensures c.in_ok-granule.ensures c.in_ok-check_journal.ensures c.in_ok-check_room.ensures c.in_default.ensures.answer

@@ -12,7 +12,7 @@ within n (Some g) h = h g refl
 pub returns-then-has_build-clause-inside : goal.returns-then-has_build-clause-inside
 returns-then-has_build-clause-inside g c =
     within _ c.page.result (λ k e. subst (λ (h : HostView). k < h.limits.pages) c.self.view_is
-      (page_inside (host_of c.self.inside.monitor c.self.inside.books) c.self.invariant.legal c.args.build c.args.page k (sym c.page.ensures ∙ e)))
+    (page_inside (host_of c.self.inside.monitor c.self.inside.books) c.self.invariant.legal c.args.build c.args.page k (sym c.page.ensures ∙ e)))
 
 pub returns-else-has_build-clause-value : goal.returns-else-has_build-clause-value
 returns-else-has_build-clause-value g c =

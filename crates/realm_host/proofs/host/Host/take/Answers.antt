@@ -27,9 +27,10 @@ returns-in_err-check_room g c =
     rw (told.1, told.2) (by_room c.args.self.now c.args.build c.args.order c.in_ok-check_build.ensures c.in-Some.order c.in-Some.ensures c.in_ok-check_journal.ensures _ c.in_err-check_room.ensures, refl)
 
 pub returns-in_default-take : goal.returns-in_default-take
-returns-in_default-take g c =
-    (none_free c.self.inside.monitor c.self.inside.books c.args.self.now c.self.view_is c.self.invariant c.args.build c.args.order c.in-Some.order c.in_ok-check_build.ensures c.in-Some.ensures c.in_ok-check_journal.ensures c.in_ok-check_room.ensures c.in_default-take.ensures.none,
-      ap (λ (m : MonitorView). host_of m c.self.inside.books) c.in_default-take.ensures.unchanged ∙ c.self.view_is)
+returns-in_default-take g c = (
+  none_free c.self.inside.monitor c.self.inside.books c.args.self.now c.self.view_is c.self.invariant c.args.build c.args.order c.in-Some.order c.in_ok-check_build.ensures c.in-Some.ensures c.in_ok-check_journal.ensures c.in_ok-check_room.ensures c.in_default-take.ensures.none,
+  ap (λ (m : MonitorView). host_of m c.self.inside.books) c.in_default-take.ensures.unchanged ∙ c.self.view_is,
+)
 
 pub record-requires-clause-in_turn : goal.record-requires-clause-in_turn
 record-requires-clause-in_turn g c = turn c.self.inside.monitor c.self.inside.books c.args.self.now c.self.view_is c.self.invariant c.args.build c.args.order c.in-Some.order c.in_ok-check_build.ensures c.in-Some.ensures c.in_ok-check_journal.ensures c.in_ok-check_room.ensures c.in-Some-take.first c.in-Some-take.ensures.block

@@ -15,9 +15,11 @@ returns-in_err-check_build g c =
     rw (told.1, told.2) (by_build c.args.self.now c.args.build _ c.in_err-check_build.ensures, refl)
 
 pub returns-in_default : goal.returns-in_default
-returns-in_default g c =
-    (by_nothing c.args.self.now c.args.build c.in_ok-check_build.ensures
-      (c.in_default.ensures.value ∙ ap (λ (h : HostView). last_or None (open_of h c.args.build)) c.self.view_is), refl)
+returns-in_default g c = (
+  by_nothing c.args.self.now c.args.build c.in_ok-check_build.ensures
+      (c.in_default.ensures.value ∙ ap (λ (h : HostView). last_or None (open_of h c.args.build)) c.self.view_is),
+  refl,
+)
 
 pub unwrap-kind-requires : goal.unwrap-kind-requires
 unwrap-kind-requires g c = subst IsSome (sym c.kind_of.ensures) (has_kind c.in-Some.newest.now c.in-Some.ensures.paired)
@@ -35,8 +37,11 @@ pub invariant_of-self : goal.invariant_of-self
 invariant_of-self g c = whole_undone c.self.inside.monitor c.self.inside.books c.args.self.now c.self.view_is c.self.invariant c.args.build c.in_ok-check_build.ensures c.in-Some.newest.now c.unwrap-back.result c.in-Some.ensures.value (sym c.reverse_of.ensures ∙ c.unwrap-back.ensures) c.reverse.new.monitor c.record.new.self c.reverse.ensures c.record.ensures
 
 pub returns : goal.returns
-returns g c =
-    ((ap (λ (h : HostView). option_and_then act_kind (last_or None (open_of h c.args.build))) (sym c.self.view_is)
+returns g c = (
+  (
+    ap (λ (h : HostView). option_and_then act_kind (last_or None (open_of h c.args.build))) (sym c.self.view_is)
         ∙ ap (option_and_then act_kind) (sym c.in-Some.ensures.value) ∙ sym c.kind_of.ensures ∙ c.unwrap-kind.ensures,
-      ap (λ (n : ℕ). n - 1) (c.open_count-left.ensures.value ∙ ap (λ (h : HostView). length (open_of h c.args.build)) c.self.view_is)),
-      accepted c.self.inside.monitor c.self.inside.books c.args.self.now c.self.view_is c.self.invariant c.args.build c.in_ok-check_build.ensures c.in-Some.newest.now c.unwrap-back.result c.in-Some.ensures.value (sym c.reverse_of.ensures ∙ c.unwrap-back.ensures) c.reverse.new.monitor c.record.new.self c.reverse.ensures c.record.ensures)
+    ap (λ (n : ℕ). n - 1) (c.open_count-left.ensures.value ∙ ap (λ (h : HostView). length (open_of h c.args.build)) c.self.view_is),
+  ),
+  accepted c.self.inside.monitor c.self.inside.books c.args.self.now c.self.view_is c.self.invariant c.args.build c.in_ok-check_build.ensures c.in-Some.newest.now c.unwrap-back.result c.in-Some.ensures.value (sym c.reverse_of.ensures ∙ c.unwrap-back.ensures) c.reverse.new.monitor c.record.new.self c.reverse.ensures c.record.ensures,
+)

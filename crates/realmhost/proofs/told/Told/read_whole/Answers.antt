@@ -27,6 +27,7 @@ loop-preserved g c =
     let more = c.in-Ok-extend_from_slice.ensures.items in
     record {
       fine = c.in-Ok.ensures.told;
+      not_lowered = omega (arith, c.in-Ok.ensures.not_lowered, c.loop.invariant.not_lowered);
       asked = omega (arith, c.in-Ok.ensures.counted, c.loop.invariant.asked);
       some = let l = c.in-Ok-extend_from_slice.ensures.len in let b = c.in-Ok.ensures.bound in let m = c.min-room.ensures in grind (arith, l, b, m);
       few = grind arith;

@@ -5,6 +5,7 @@ use Rattle.realmhost.proofs.told.Told.read_whole.Given as goal
 abbrev pub invariant-loop : goal.invariant-loop
 invariant-loop g l = record {
   fine : l.self.failed ≡ false;
+  not_lowered : l.fn.self.reads ≤ l.self.reads;
   asked : l.self.reads ≤ l.fn.self.reads + l.counter;
   some : l.counter ≤ length l.bytes.items;
   few : length l.bytes.items < 1048577;

@@ -1,4 +1,4 @@
-use Rattle.std.proofs.Common.{◌≡◌, ◌<◌, ◌∙◌, sym, ap, subst}
+use Rattle.std.proofs.Common.{◌<◌, ◌∙◌, sym, ap, subst}
 use Rattle.std.specs.Prelude.{sum}
 use Rattle.granule_table.specs.Granules.{granule_at}
 use Rattle.realm_model.specs.Machine.{Cell}

@@ -1,4 +1,4 @@
-use Rattle.std.proofs.Common.{◌≡◌, ◌<◌, ◌∙◌, sym, ap, subst}
+use Rattle.std.proofs.Common.{◌<◌, sym, subst}
 use Rattle.realm_model.specs.Machine.{Cell}
 use Rattle.granule_table.specs.Granules.{granule_at}
 use Rattle.rmi_monitor.specs.View.{IsPageOf}
@@ -12,4 +12,4 @@ bytes-requires g c = subst (λ n. c.args.granule < n) (as_many_pages c.args.self
 pub returns : goal.returns
 returns g c =
     subst (λ (x : Cell). IsPageOf x c.bytes.result.now) (sym (cell_is c.args.self.now c.self.inside.vmids c.self.inside.aux c.self.inside.granules (g.S.PageStore.page_bytes c.self.inside.store) (g.S.PageStore.free_flags c.self.inside.store) c.self.view_is c.self.invariant c.args.granule c.requires))
-      (IsPageOf-cell_of (granule_at c.self.inside.granules c.args.granule) _ _ c.bytes.ensures.value)
+    (IsPageOf-cell_of (granule_at c.self.inside.granules c.args.granule) _ _ c.bytes.ensures.value)

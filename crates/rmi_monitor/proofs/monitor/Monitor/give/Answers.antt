@@ -1,4 +1,4 @@
-use Rattle.std.proofs.Common.{◌≡◌, List, ℕ, sym, subst}
+use Rattle.std.proofs.Common.{List, ℕ, sym, subst}
 use Rattle.rmi_monitor.specs.Inside.{IsWhole}
 use Rattle.rmi_monitor.proofs.Blocks.{whole_cleared, given_back}
 use Rattle.rmi_monitor.proofs.monitor.Monitor.give.Goals as goal

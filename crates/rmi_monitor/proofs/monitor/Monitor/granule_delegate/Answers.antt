@@ -1,7 +1,6 @@
-use Rattle.std.proofs.Common.{◌≡◌, [], ◌∷◌, refl, ap, ◌∙◌, List}
+use Rattle.std.proofs.Common.{[], ◌∷◌, refl, ap, ◌∙◌, List}
 use Rattle.granule_table.specs.declared.granule.Granule.{Granule}
 use Rattle.realm_model.specs.Machine.{left}
-use Rattle.realm_model.specs.declared.states.GranuleState.TheVariants.{Undelegated}
 use Rattle.realm_model.specs.Update.{Put}
 use Rattle.realm_model.specs.Command.Check.{error_input}
 use Rattle.rmi_monitor.specs.Inside.{stands_for}
@@ -15,14 +14,14 @@ shift-requires g c = in_granules c.args.self.now c.self.inside.vmids c.self.insi
 pub returns-then-not-shift-clause-answer : goal.returns-then-not-shift-clause-answer
 returns-then-not-shift-clause-answer g c =
     answers_refused error_input (Put c.args.granule left ∷ []) (Unit {0}) _
-      (is_not_undelegated c.args.self.now c.self.inside.vmids c.self.inside.aux c.self.inside.granules (g.S.PageStore.page_bytes c.self.inside.store) (g.S.PageStore.free_flags c.self.inside.store) c.self.view_is c.self.invariant c.args.granule c.requires (λ e. let told = c.if-not-shift.ensures.answer.1 e in cc))
+    (is_not_undelegated c.args.self.now c.self.inside.vmids c.self.inside.aux c.self.inside.granules (g.S.PageStore.page_bytes c.self.inside.store) (g.S.PageStore.free_flags c.self.inside.store) c.self.view_is c.self.invariant c.args.granule c.requires (λ e. let told = c.if-not-shift.ensures.answer.1 e in cc))
 
 pub returns-then-not-shift-clause-machine : goal.returns-then-not-shift-clause-machine
 returns-then-not-shift-clause-machine g c =
     ap (λ (gs : List Granule). stands_for c.self.inside.vmids c.self.inside.aux gs (g.S.PageStore.page_bytes c.self.inside.store) (g.S.PageStore.free_flags c.self.inside.store)) c.if-not-shift.ensures.unchanged
     ∙ c.self.view_is
     ∙ after_refused c.args.self.now c.self.inside.vmids c.self.inside.aux c.self.inside.granules (g.S.PageStore.page_bytes c.self.inside.store) (g.S.PageStore.free_flags c.self.inside.store) c.self.view_is c.self.invariant c.args.granule c.requires _ (Put c.args.granule left ∷ [])
-      (is_not_undelegated c.args.self.now c.self.inside.vmids c.self.inside.aux c.self.inside.granules (g.S.PageStore.page_bytes c.self.inside.store) (g.S.PageStore.free_flags c.self.inside.store) c.self.view_is c.self.invariant c.args.granule c.requires (λ e. let told = c.if-not-shift.ensures.answer.1 e in cc))
+    (is_not_undelegated c.args.self.now c.self.inside.vmids c.self.inside.aux c.self.inside.granules (g.S.PageStore.page_bytes c.self.inside.store) (g.S.PageStore.free_flags c.self.inside.store) c.self.view_is c.self.invariant c.args.granule c.requires (λ e. let told = c.if-not-shift.ensures.answer.1 e in cc))
 
 pub fill-requires-clause-inside : goal.fill-requires-clause-inside
 fill-requires-clause-inside g c = in_pages c.args.self.now c.self.inside.vmids c.self.inside.aux c.self.inside.granules (g.S.PageStore.page_bytes c.self.inside.store) (g.S.PageStore.free_flags c.self.inside.store) c.self.view_is c.self.invariant c.args.granule c.requires
@@ -30,9 +29,9 @@ fill-requires-clause-inside g c = in_pages c.args.self.now c.self.inside.vmids c
 pub returns-clause-answer : goal.returns-clause-answer
 returns-clause-answer g c =
     answers_done error_input (Put c.args.granule left ∷ []) {A = Unit {0}} tt _
-      (is_undelegated_there c.args.self.now c.self.inside.vmids c.self.inside.aux c.self.inside.granules (g.S.PageStore.page_bytes c.self.inside.store) (g.S.PageStore.free_flags c.self.inside.store) c.self.view_is c.self.invariant c.args.granule c.requires (c.if-not-shift.ensures.answer.0 refl))
+    (is_undelegated_there c.args.self.now c.self.inside.vmids c.self.inside.aux c.self.inside.granules (g.S.PageStore.page_bytes c.self.inside.store) (g.S.PageStore.free_flags c.self.inside.store) c.self.view_is c.self.invariant c.args.granule c.requires (c.if-not-shift.ensures.answer.0 refl))
 
 pub returns-clause-machine : goal.returns-clause-machine
 returns-clause-machine g c =
     delegated_done c.args.self.now c.self.inside.vmids c.self.inside.aux c.self.inside.granules (g.S.PageStore.page_bytes c.self.inside.store) (g.S.PageStore.free_flags c.self.inside.store) c.self.view_is c.self.invariant c.args.granule c.requires _ _ _
-      (c.if-not-shift.ensures.answer.0 refl) c.if-not-shift.ensures.shifted c.fill.ensures.filled c.fill.ensures.flags
+    (c.if-not-shift.ensures.answer.0 refl) c.if-not-shift.ensures.shifted c.fill.ensures.filled c.fill.ensures.flags

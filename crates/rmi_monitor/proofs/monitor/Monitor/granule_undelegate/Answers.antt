@@ -1,4 +1,4 @@
-use Rattle.std.proofs.Common.{◌≡◌, [], ◌∷◌, refl, ap, ◌∙◌, List}
+use Rattle.std.proofs.Common.{[], ◌∷◌, refl, ap, ◌∙◌, List}
 use Rattle.granule_table.specs.declared.granule.Granule.{Granule}
 use Rattle.realm_model.specs.Machine.{cell_at}
 use Rattle.realm_model.specs.declared.states.GranuleState.TheVariants.{Undelegated}
@@ -15,19 +15,19 @@ shift-requires g c = in_granules c.args.self.now c.self.inside.vmids c.self.insi
 pub returns-then-not-shift-clause-answer : goal.returns-then-not-shift-clause-answer
 returns-then-not-shift-clause-answer g c =
     answers_refused error_input (Put c.args.granule (record (cell_at c.args.self.now.machine c.args.granule) { state = Undelegated }) ∷ []) (Unit {0}) _
-      (is_not_delegated c.args.self.now c.self.inside.vmids c.self.inside.aux c.self.inside.granules (g.S.PageStore.page_bytes c.self.inside.store) (g.S.PageStore.free_flags c.self.inside.store) c.self.view_is c.self.invariant c.args.granule c.requires (λ e. let told = c.if-not-shift.ensures.answer.1 e in cc))
+    (is_not_delegated c.args.self.now c.self.inside.vmids c.self.inside.aux c.self.inside.granules (g.S.PageStore.page_bytes c.self.inside.store) (g.S.PageStore.free_flags c.self.inside.store) c.self.view_is c.self.invariant c.args.granule c.requires (λ e. let told = c.if-not-shift.ensures.answer.1 e in cc))
 
 pub returns-then-not-shift-clause-machine : goal.returns-then-not-shift-clause-machine
 returns-then-not-shift-clause-machine g c =
     ap (λ (gs : List Granule). stands_for c.self.inside.vmids c.self.inside.aux gs (g.S.PageStore.page_bytes c.self.inside.store) (g.S.PageStore.free_flags c.self.inside.store)) c.if-not-shift.ensures.unchanged
     ∙ c.self.view_is
     ∙ after_refused c.args.self.now c.self.inside.vmids c.self.inside.aux c.self.inside.granules (g.S.PageStore.page_bytes c.self.inside.store) (g.S.PageStore.free_flags c.self.inside.store) c.self.view_is c.self.invariant c.args.granule c.requires _ (Put c.args.granule (record (cell_at c.args.self.now.machine c.args.granule) { state = Undelegated }) ∷ [])
-      (is_not_delegated c.args.self.now c.self.inside.vmids c.self.inside.aux c.self.inside.granules (g.S.PageStore.page_bytes c.self.inside.store) (g.S.PageStore.free_flags c.self.inside.store) c.self.view_is c.self.invariant c.args.granule c.requires (λ e. let told = c.if-not-shift.ensures.answer.1 e in cc))
+    (is_not_delegated c.args.self.now c.self.inside.vmids c.self.inside.aux c.self.inside.granules (g.S.PageStore.page_bytes c.self.inside.store) (g.S.PageStore.free_flags c.self.inside.store) c.self.view_is c.self.invariant c.args.granule c.requires (λ e. let told = c.if-not-shift.ensures.answer.1 e in cc))
 
 pub returns-clause-answer : goal.returns-clause-answer
 returns-clause-answer g c =
     answers_done error_input (Put c.args.granule (record (cell_at c.args.self.now.machine c.args.granule) { state = Undelegated }) ∷ []) {A = Unit {0}} tt _
-      (is_delegated_there c.args.self.now c.self.inside.vmids c.self.inside.aux c.self.inside.granules (g.S.PageStore.page_bytes c.self.inside.store) (g.S.PageStore.free_flags c.self.inside.store) c.self.view_is c.self.invariant c.args.granule c.requires (c.if-not-shift.ensures.answer.0 refl))
+    (is_delegated_there c.args.self.now c.self.inside.vmids c.self.inside.aux c.self.inside.granules (g.S.PageStore.page_bytes c.self.inside.store) (g.S.PageStore.free_flags c.self.inside.store) c.self.view_is c.self.invariant c.args.granule c.requires (c.if-not-shift.ensures.answer.0 refl))
 
 pub returns-clause-machine : goal.returns-clause-machine
 returns-clause-machine g c =

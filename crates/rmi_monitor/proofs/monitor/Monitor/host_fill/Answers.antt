@@ -1,6 +1,5 @@
-use Rattle.std.proofs.Common.{◌≡◌, [], ◌∷◌, sym, ◌∙◌}
+use Rattle.std.proofs.Common.{[], ◌∷◌, sym, ◌∙◌}
 use Rattle.realm_model.specs.Machine.{cell_at, page_of}
-use Rattle.realm_model.specs.declared.states.GranuleState.TheVariants.{Undelegated}
 use Rattle.realm_model.specs.Update.{Put}
 use Rattle.realm_model.specs.Command.Check.{error_input}
 use Rattle.rmi_monitor.proofs.Checks.{answers_done, answers_refused}
@@ -16,7 +15,7 @@ fill-requires-clause-inside g c = in_pages c.args.self.now c.self.inside.vmids c
 pub returns-in-Undelegated-clause-answer : goal.returns-in-Undelegated-clause-answer
 returns-in-Undelegated-clause-answer g c =
     answers_done error_input (Put c.args.granule (record (cell_at c.args.self.now.machine c.args.granule) { bytes = page_of c.args.value }) ∷ []) {A = Unit {0}} tt _
-      (is_undelegated_there c.args.self.now c.self.inside.vmids c.self.inside.aux c.self.inside.granules (g.S.PageStore.page_bytes c.self.inside.store) (g.S.PageStore.free_flags c.self.inside.store) c.self.view_is c.self.invariant c.args.granule c.requires (sym c.in-Undelegated.ensures))
+    (is_undelegated_there c.args.self.now c.self.inside.vmids c.self.inside.aux c.self.inside.granules (g.S.PageStore.page_bytes c.self.inside.store) (g.S.PageStore.free_flags c.self.inside.store) c.self.view_is c.self.invariant c.args.granule c.requires (sym c.in-Undelegated.ensures))
 
 pub returns-in-Undelegated-clause-machine : goal.returns-in-Undelegated-clause-machine
 returns-in-Undelegated-clause-machine g c =

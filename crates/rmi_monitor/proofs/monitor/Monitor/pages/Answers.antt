@@ -1,4 +1,4 @@
-use Rattle.std.proofs.Common.{◌≡◌, ◌∙◌, sym}
+use Rattle.std.proofs.Common.{◌∙◌, sym}
 use Rattle.rmi_monitor.proofs.Granules.{as_many_pages}
 use Rattle.rmi_monitor.proofs.monitor.Monitor.pages.Goals as goal
 

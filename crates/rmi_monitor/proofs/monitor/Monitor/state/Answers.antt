@@ -1,4 +1,4 @@
-use Rattle.std.proofs.Common.{◌≡◌, ◌<◌, ◌∙◌, sym, ap, subst}
+use Rattle.std.proofs.Common.{◌<◌, ◌∙◌, sym, ap, subst}
 use Rattle.realm_model.specs.Machine.{Cell}
 use Rattle.rmi_monitor.proofs.Granules.{as_many_granules, cell_is}
 use Rattle.rmi_monitor.proofs.monitor.Monitor.state.Goals as goal

@@ -1,0 +1,39 @@
+-- What every reached world keeps of the part of a build.
+use Rattle.std.specs.Prelude.{◌≡◌, ℕ, ◌<◌, true, Some, None, is_some}
+use Rattle.std.specs.FinMap.{get}
+use Rattle.realm_model.specs.declared.states.GranuleState.{GranuleState}
+use Rattle.realm_model.specs.Machine.{RecRow, RealmRow, Cell, cell_at}
+use Rattle.realm_model.specs.World.{World, part_of}
+use Rattle.realm_model.specs.Sound.{look, is_host_state, is_rd_state, IsSoundRows}
+use Rattle.realm_model.specs.Roles.{Role, target, is_role_state, HasRole}
+
+pub record IsSoundRealm (realm : RealmRow) : Type 0 where
+  pub rows : IsSoundRows (look realm.rows)
+  pub recs : (number : ℕ) (rec : RecRow) → get realm.recs number ≡ Some rec → number < realm.next
+
+-- A cell of a build whose realm, if it has one, stands at rd
+pub record IsSoundCell (rd granule : ℕ) (cell : Cell) : Type 0 where
+  pub realm : is_host_state cell.state ≡ true → cell.realm ≡ None
+  pub descriptor : is_some cell.descriptor ≡ is_rd_state cell.state
+  pub alone : is_rd_state cell.state ≡ true → granule ≡ rd
+  pub itself : is_rd_state cell.state ≡ true → cell.realm ≡ Some granule
+  pub row : (realm : RealmRow) → cell.descriptor ≡ Some realm → IsSoundRealm realm
+
+pub record IsSoundPart (world : World) : Type 0 where
+  pub rd : ℕ
+  pub cells : (granule : ℕ) → IsSoundCell rd granule (cell_at world.machine granule)
+
+-- of one build
+abbrev pub IsSoundFor : ℕ → World → Type 0
+IsSoundFor build world = IsSoundPart (part_of world build)
+
+-- each granule that a realm names is in the state of its role, and of the realm, and none is named twice; and no other is
+pub record IsLinked (cells : ℕ → Cell) : Type 0 where
+  pub roles : ℕ → Role
+  pub names : (rd : ℕ) (realm : RealmRow) → (cells rd).descriptor ≡ Some realm → (role : Role) (to : ℕ × GranuleState) → target realm role ≡ Some to
+      → ((cells to.0).state ≡ to.1) × ((cells to.0).realm ≡ Some rd) × (roles to.0 ≡ role)
+  pub named : (granule : ℕ) → is_role_state (cells granule).state ≡ true → HasRole cells granule
+
+-- of the part of a build
+abbrev pub IsLinkedFor : ℕ → World → Type 0
+IsLinkedFor build world = IsLinked (λ granule. cell_at (part_of world build).machine granule)

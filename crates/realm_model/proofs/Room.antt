@@ -1,0 +1,208 @@
+-- What an accepted event takes of the room of builds.
+use Rattle.std.proofs.Common.{◌≡◌, ◌≢◌, ℕ, ◌+◌, Bool, true, false, cond, inl, inr, List, [], ◌∷◌, ◌++◌, length, map, Option, Some, None, Ok, Err, refl, sym, ap, ◌∙◌, subst, arith}
+use Rattle.std.specs.Prelude.{◌==◌, filter}
+use Rattle.std.proofs.lemmas.Bool.{eq-eqb, ne_eqb}
+use Rattle.std.proofs.lemmas.List.{length-append, append-nil, map-append}
+use Rattle.std.proofs.lemmas.List.Elements.{filter-append}
+use Rattle.realm_model.specs.declared.act.Act.{Act}
+use Rattle.realm_model.specs.declared.act.Act.TheVariants.{Realm, UnRealm, Enter, Exit}
+use Rattle.realm_model.specs.declared.act.Event.{Event}
+use Rattle.realm_model.specs.Machine.{Limits, RealmRow, cell_at}
+use Rattle.realm_model.specs.Update.{Update, Outcome}
+use Rattle.realm_model.specs.Command.Check.{error_input}
+use Rattle.realm_model.specs.Act.{reverse_of, is_paired, is_reverse}
+use Rattle.realm_model.specs.Outcome.{outcome_of, fits, on_realm}
+use Rattle.realm_model.specs.World.{World, realm_of, part_of}
+use Rattle.realm_model.specs.Step.{step}
+use Rattle.realm_model.specs.History.{acts_of, open_entries, IsInTurn, replay, IsLegal}
+use Rattle.realm_model.specs.Room.{running_count, used_room, room_taken, TakesRoom, RoomIsTaken}
+use Rattle.realm_model.specs.Undoing.{by}
+use Rattle.realm_model.specs.StepLaw.{IsStep}
+use Rattle.realm_model.specs.Command.Rec.{rec_enter, rec_exit}
+use Rattle.realm_model.proofs.Tests.{none_is}
+use Rattle.realm_model.proofs.Stack.{pushed_paired, pushed_other, kind, paired, back, other}
+use Rattle.realm_model.proofs.Growth.{open_entries-own, open_entries-other, takes_away, Grows, grows}
+use Rattle.realm_model.proofs.HiddenSteps.{step-part_of, part_of-other_step}
+use Rattle.realm_model.proofs.RealmOf.{realm_of-part_of}
+use Rattle.realm_model.proofs.Written.{IsSquare}
+use Rattle.realm_model.proofs.StepBack.{asked}
+use Rattle.realm_model.proofs.SoundParts.{IsSquare-part_of}
+use Rattle.realm_model.proofs.RoleChanges.{no_descriptor}
+use Rattle.realm_model.proofs.ZeroPages.{IsKept, kept_reached}
+use Rattle.realm_model.proofs.RunningRecs.{running}
+use Rattle.realm_model.proofs.RealmAfter.{RunsAfter, is_realm_destroy, realm_turned, realm_made_step, realm_gone_step}
+use Rattle.realm_model.proofs.StepSays.{step_is}
+use Rattle.realm_model.proofs.Vmids.{IsMade, realm_before}
+use Rattle.realm_model.proofs.PartRealm.{part_realm, none_there, count_some, count_none}
+
+-- ---- how many run after an act
+
+abbrev is_of_rec_run : Act → Bool
+is_of_rec_run (Enter n) = true
+is_of_rec_run (Exit n) = true
+is_of_rec_run _ = false
+
+none_runs : (act : Act) → is_of_rec_run act ≡ false → RunsAfter act 0 0
+none_runs (Enter n) k = cc
+none_runs (Exit n) k = cc
+none_runs act k = refl
+
+refuses : (us : List Update) → ◌≡◌ {A = Outcome} (Err error_input) (Ok us) → ⊥
+refuses us e = cc
+
+-- without a realm there is nothing to enter
+no_realm_refuses : (limits : Limits) (b : ℕ) (w v : World) (act : Act) → is_of_rec_run act ≡ true → realm_of b w ≡ None → IsStep limits w (by b act) v → ⊥
+unfolding outcome_of
+no_realm_refuses limits b w v (Enter n) k none h = refuses h.updates (ap (λ o. on_realm o (λ rd. rec_enter rd n)) (sym none) ∙ h.outcome)
+no_realm_refuses limits b w v (Exit n) k none h = refuses h.updates (ap (λ o. on_realm o (λ rd. rec_exit rd n)) (sym none) ∙ h.outcome)
+no_realm_refuses limits b w v _ k none h = cc
+
+module _ (limits : Limits) (b : ℕ) (w v : World) (kept : IsKept b w) (kept_v : IsKept b v) where
+  abbrev V : World
+  V = part_of v b
+
+  square : IsSquare (part_of w b)
+  square = IsSquare-part_of w b kept.sound.square
+
+  no_rows : realm_of b (part_of w b) ≡ None → (k : ℕ) → (cell_at (part_of w b).machine k).descriptor ≡ None
+  no_rows none = none_there b w kept (sym (realm_of-part_of b w) ∙ none)
+
+  zero_of : (w : World) (kept : IsKept b w) → ((k : ℕ) (d : RealmRow) → (cell_at (part_of w b).machine k).descriptor ≡ Some d → running d.recs d.next ≡ 0) → running_count (realm_of b w) ≡ 0
+  zero_of w kept none_run = elim (part_realm b w kept) [
+    | inl none ↦ count_none b w kept (none_there b w kept none)
+    | inr there ↦ count_some b w kept there.0 there.1 there.2 ∙ none_run there.0 there.1 there.2
+  ]
+
+  count_made : (rd root vmid : ℕ) → step limits (part_of w b) (by b (Realm rd root vmid)) ≡ Some V → running_count (realm_of b v) ≡ running_count (realm_of b w)
+  unfolding fits
+  count_made rd root vmid s =
+      let none : realm_of b (part_of w b) ≡ None = none_is _ (asked limits b (part_of w b) V (Realm rd root vmid) s).fit in
+      zero_of v kept_v (realm_made_step limits b (part_of w b) V rd root vmid square (no_rows none) s)
+      ∙ sym (count_none b w kept (no_rows none))
+
+  count_gone : (rd root vmid : ℕ) → step limits (part_of w b) (by b (UnRealm rd root vmid)) ≡ Some V → running_count (realm_of b v) ≡ running_count (realm_of b w)
+  count_gone rd root vmid s =
+      let gone = realm_gone_step limits b (part_of w b) V rd root vmid square kept.sound.part s in
+      count_none b v kept_v gone.0 ∙ sym (zero_of w kept gone.1)
+
+  abbrev is_of_realm : Act → Bool
+  is_of_realm (Realm rd root vmid) = true
+  is_of_realm (UnRealm rd root vmid) = true
+  is_of_realm _ = false
+
+  not_made : (act : Act) (k : ℕ) (e : RealmRow) → is_of_realm act ≡ false → IsMade limits act k e → ⊥
+  not_made (Realm rd root vmid) k e plain m = cc
+  not_made _ k e plain m = m
+
+  plain_destroy : (act : Act) → is_of_realm act ≡ false → is_realm_destroy act ≡ false
+  plain_destroy (UnRealm rd root vmid) plain = cc
+  plain_destroy _ plain = refl
+
+  count_turned : (act : Act) → is_of_realm act ≡ false → step limits (part_of w b) (by b act) ≡ Some V → RunsAfter act (running_count (realm_of b w)) (running_count (realm_of b v))
+  count_turned act plain s = elim (part_realm b w kept) [
+    | inl none ↦
+        let none_v : (k : ℕ) → (cell_at V.machine k).descriptor ≡ None = λ k. none_left k (cell_at V.machine k).descriptor refl none in
+        elim (is_of_rec_run act) as (λ t. is_of_rec_run act ≡ t → RunsAfter act (running_count (realm_of b w)) (running_count (realm_of b v))) [
+          | true ↦ λ e. absurd (no_realm_refuses limits b (part_of w b) V act e (realm_of-part_of b w ∙ none) (step_is limits (part_of w b) V (by b act) s))
+          | false ↦ λ e. subst (λ x. RunsAfter act x (running_count (realm_of b v))) (sym (count_none b w kept (none_there b w kept none))) (subst (λ y. RunsAfter act 0 y) (sym (count_none b v kept_v none_v)) (none_runs act e))
+        ] refl
+    | inr there ↦
+        let then = realm_turned limits b (part_of w b) V act square kept.sound.part no_rows (plain_destroy act plain) s there.0 there.1 there.2 in
+        subst (λ x. RunsAfter act x (running_count (realm_of b v))) (sym (count_some b w kept there.0 there.1 there.2)) (subst (λ y. RunsAfter act (running there.1.recs there.1.next) y) (sym (count_some b v kept_v there.0 then.0 then.1)) then.2.1)
+  ]
+    where
+      none_left : (k : ℕ) (o : Option RealmRow) → (cell_at V.machine k).descriptor ≡ o → realm_of b w ≡ None → o ≡ None
+      none_left k None e none = refl
+      none_left k (Some d) e none = elim (realm_before limits (part_of w b) V b act square s k d e) [
+        | inl was ↦ absurd (no_descriptor (cell_at (part_of w b).machine k) was.0 (none_there b w kept none k) was.1)
+        | inr made ↦ absurd (not_made act k d plain made)
+      ]
+
+  count_step : (act : Act) → step limits w (by b act) ≡ Some v → RunsAfter act (running_count (realm_of b w)) (running_count (realm_of b v))
+  count_step act s = by_act act (step-part_of limits b w v (by b act) refl s)
+    where
+      by_act : (act : Act) → step limits (part_of w b) (by b act) ≡ Some V → RunsAfter act (running_count (realm_of b w)) (running_count (realm_of b v))
+      by_act (Realm rd root vmid) s = count_made rd root vmid s
+      by_act (UnRealm rd root vmid) s = count_gone rd root vmid s
+      by_act act s = count_turned act refl s
+
+-- ---- the room
+
+acts_of-own : (history : List Event) (event : Event) → acts_of event.build (history ++ event ∷ []) ≡ acts_of event.build history ++ event.act ∷ []
+acts_of-own history event =
+    ap (map (λ (x : Event). x.act)) (filter-append (λ x. x.build == event.build) history (event ∷ [])
+    ∙ ap (λ t. filter (λ x. x.build == event.build) history ++ cond t (event ∷ []) []) (eq-eqb event.build event.build refl))
+    ∙ map-append (λ (x : Event). x.act) (filter (λ x. x.build == event.build) history) (event ∷ [])
+
+acts_of-other : (build : ℕ) (history : List Event) (event : Event) → event.build ≢ build → acts_of build (history ++ event ∷ []) ≡ acts_of build history
+acts_of-other build history event apart =
+    ap (map (λ (x : Event). x.act)) (filter-append (λ x. x.build == build) history (event ∷ [])
+    ∙ ap (λ t. filter (λ x. x.build == build) history ++ cond t (event ∷ []) []) (ne_eqb event.build build apart)
+    ∙ append-nil (filter (λ x. x.build == build) history))
+
+-- the room of each kind of act, and what it does to the count of running RECs
+room_of_paired : (act : Act) (x y : ℕ) → is_paired act ≡ true → RunsAfter act x y → (room_taken act ≡ 2) × (y ≡ x)
+unfolding room_taken reverse_of
+room_of_paired (Enter n) x y p r = cc
+room_of_paired (Exit n) x y p r = cc
+room_of_paired act x y p r = (ap (λ t. cond t 2 (cond (is_reverse act) 0 1)) p, r)
+
+room_of_back : (act : Act) (x y : ℕ) → is_paired act ≡ false → is_reverse act ≡ true → RunsAfter act x y → (room_taken act ≡ 0) × (y ≡ x)
+unfolding room_taken is_reverse
+room_of_back (Enter n) x y p b r = cc
+room_of_back (Exit n) x y p b r = cc
+room_of_back act x y p b r = ((λ i. cond (p i) 2 (cond (b i) 0 1)), r)
+
+room_of_other : (act : Act) (x y : ℕ) → is_paired act ≡ false → is_reverse act ≡ false → RunsAfter act x y → y + 1 ≡ x + room_taken act
+unfolding room_taken
+room_of_other (Enter n) x y p b r = omega arith
+room_of_other (Exit n) x y p b r = omega arith
+room_of_other act x y p b r = ap (λ n. n + 1) r ∙ ap (λ n. x + n) (sym (λ i. cond (p i) 2 (cond (b i) 0 1)))
+
+module _ (limits : Limits) (history : List Event) (w v : World) where
+  own_room : (b : ℕ) (act : Act) → IsKept b w → IsKept b v → IsInTurn history (by b act) → step limits w (by b act) ≡ Some v
+      → used_room b (history ++ by b act ∷ []) v ≡ used_room b history w + room_taken act
+  own_room b act kept kept_v turn s =
+      let runs = count_step limits b w v kept kept_v act s in
+      let acts : length (acts_of b (history ++ by b act ∷ [])) ≡ length (acts_of b history) + 1 = ap length (acts_of-own history (by b act)) ∙ length-append (acts_of b history) (act ∷ []) in
+      elim (kind act) [
+        | paired p r ↦
+            let opens : length (open_entries b (history ++ by b act ∷ [])) ≡ length (open_entries b history) + 1 =
+            ap length (open_entries-own history (by b act) ∙ pushed_paired (open_entries b history) act p) ∙ length-append (open_entries b history) (act ∷ []) in
+            let room = room_of_paired act (running_count (realm_of b w)) (running_count (realm_of b v)) p runs in
+            sums (length (acts_of b history)) (length (open_entries b history)) (running_count (realm_of b w)) _ _ _ (room_taken act) acts opens room.1 room.0
+        | back p r ↦
+            let away = takes_away b history act p r turn in
+            let opens : length (open_entries b history) ≡ length (open_entries b (history ++ by b act ∷ [])) + 1 =
+            ap length away.open_is ∙ length-append (open_entries b (history ++ by b act ∷ [])) (away.newest ∷ []) in
+            let room = room_of_back act (running_count (realm_of b w)) (running_count (realm_of b v)) p r runs in
+            less (length (acts_of b history)) (length (open_entries b history)) (running_count (realm_of b w)) _ _ _ (room_taken act) acts opens room.1 room.0
+        | other p r ↦
+            let opens : length (open_entries b (history ++ by b act ∷ [])) ≡ length (open_entries b history) =
+            ap length (open_entries-own history (by b act) ∙ pushed_other (open_entries b history) act p r) in
+            let room = room_of_other act (running_count (realm_of b w)) (running_count (realm_of b v)) p r runs in
+            same (length (acts_of b history)) (length (open_entries b history)) (running_count (realm_of b w)) _ _ _ (room_taken act) acts opens room
+      ]
+    where
+      sums : (a o r a' o' r' room : ℕ) → a' ≡ a + 1 → o' ≡ o + 1 → r' ≡ r → room ≡ 2 → a' + o' + r' ≡ a + o + r + room
+      sums a o r a' o' r' room e f g h = omega arith
+
+      less : (a o r a' o' r' room : ℕ) → a' ≡ a + 1 → o ≡ o' + 1 → r' ≡ r → room ≡ 0 → a' + o' + r' ≡ a + o + r + room
+      less a o r a' o' r' room e f g h = omega arith
+
+      same : (a o r a' o' r' room : ℕ) → a' ≡ a + 1 → o' ≡ o → r' + 1 ≡ r + room → a' + o' + r' ≡ a + o + r + room
+      same a o r a' o' r' room e f g = omega arith
+
+  pub room_is_taken : (event : Event) → ((b : ℕ) → IsKept b w) → ((b : ℕ) → IsKept b v) → IsInTurn history event → step limits w event ≡ Some v → TakesRoom history w event v
+  room_is_taken event kept kept_v turn s = record {
+    own = own_room event.build event.act (kept event.build) (kept_v event.build) turn s;
+    others = λ b apart.
+        let part : part_of v b ≡ part_of w b = part_of-other_step limits b w v event apart (kept b).sound.clean s in
+        let realm : realm_of b v ≡ realm_of b w = sym (realm_of-part_of b v) ∙ ap (realm_of b) part ∙ realm_of-part_of b w in
+        λ i. length (acts_of-other b history event apart i) + length (open_entries-other b history event apart i) + running_count (realm i);
+  }
+
+pub room_taken_legal : (limits : Limits) (history : List Event) (w : World) (event : Event) (v : World) → IsLegal limits history → replay limits history ≡ Some w → RoomIsTaken limits history w event v
+room_taken_legal limits history w event v legal at_w turn s =
+    let grown : Grows limits history event v = grows limits history event w v legal at_w s turn in
+    room_is_taken limits history w v event (λ b. kept_reached limits b history w at_w) (λ b. kept_reached limits b (history ++ event ∷ []) v grown.world_is) turn s

@@ -1,0 +1,60 @@
+-- Marks: points of a build that it can be rolled back to.
+use Rattle.std.specs.Prelude.{◌≡◌, ◌↔◌, ℕ, ◌≤◌, List, [], ◌∷◌, ◌++◌, length, map, reverse, take, drop, false, Some}
+use Rattle.std.specs.List.{list_any}
+use Rattle.realm_model.specs.declared.act.Act.{Act}
+use Rattle.realm_model.specs.declared.act.Event.{Event}
+use Rattle.realm_model.specs.Machine.{Limits}
+use Rattle.realm_model.specs.World.{World, realm_of, without}
+use Rattle.realm_model.specs.History.{erase, open_entries, replay, IsLegal}
+use Rattle.realm_model.specs.Ownership.{OwnsSame}
+use Rattle.realm_model.specs.Undoing.{by, is_running, reverses}
+
+-- a point of a build: how much it had open, and the place in the history
+pub record Mark : Type 0 where
+  pub build : ℕ
+  pub depth : ℕ
+  pub place : ℕ
+
+abbrev pub mark_at : ℕ → List Event → Mark
+mark_at build history = record { build = build; depth = length (open_entries build history); place = length history }
+
+-- The mark was made in this history, and never since had the build less open.
+pub record Stands (mark : Mark) (history : List Event) : Type 0 where
+  pub place : mark.place ≤ length history
+  pub depth : length (open_entries mark.build (take mark.place history)) ≡ mark.depth
+  pub since : (n : ℕ) → mark.place ≤ n → mark.depth ≤ length (open_entries mark.build (take n history))
+
+-- after one more event it stands where it stood, unless less is open now
+abbrev pub StandsOn : Mark → List Event → Event → Type 0
+StandsOn mark history event =
+    mark.place ≤ length history → Stands mark (history ++ event ∷ []) ↔ (Stands mark history × (mark.depth ≤ length (open_entries mark.build (history ++ event ∷ []))))
+
+-- The history without the events of a build at a place or later.
+abbrev pub erase_after : ℕ → ℕ → List Event → List Event
+erase_after build place history = take place history ++ erase build (drop place history)
+
+-- what the build has opened above the mark
+abbrev pub above : Mark → List Event → List Act
+above mark history = drop mark.depth (open_entries mark.build history)
+
+-- all of it undone, the newest first
+abbrev pub rolling_back : Mark → List Event → List Event
+rolling_back mark history = map (by mark.build) (reverses (reverse (above mark history)))
+
+-- What the build opened above the mark is undone: the world owns the same as that of the history without what the build
+-- did after the mark, and but for the build's part the two are equal in full.
+pub record IsRolledBack (limits : Limits) (mark : Mark) (history : List Event) : Type 0 where
+  pub legal : IsLegal limits (history ++ rolling_back mark history)
+  pub erased : IsLegal limits (erase_after mark.build mark.place history)
+  pub world : World
+  pub world_is : replay limits (history ++ rolling_back mark history) ≡ Some world
+  pub other : World
+  pub other_is : replay limits (erase_after mark.build mark.place history) ≡ Some other
+  pub owns : OwnsSame other world
+  pub rest : without world mark.build ≡ without other mark.build
+  pub left_open : open_entries mark.build (history ++ rolling_back mark history) ≡ open_entries mark.build (take mark.place history)
+
+-- where the mark stands and no REC above it runs, the build can be rolled back to it
+abbrev pub CanRollBack : Limits → List Event → Mark → World → Type 0
+CanRollBack limits history mark world =
+    Stands mark history → list_any (is_running (realm_of mark.build world)) (above mark history) ≡ false → IsRolledBack limits mark history

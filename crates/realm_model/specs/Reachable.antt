@@ -1,0 +1,41 @@
+-- What holds of every world that a history leads to.
+use Rattle.std.specs.Prelude.{◌≡◌, ◌<◌, ◌≤◌, ℕ, true, Some, None, is_some, length, slice_get}
+use Rattle.std.specs.FinMap.{get}
+use Rattle.realm_model.specs.declared.states.GranuleState.{GranuleState}
+use Rattle.realm_model.specs.Machine.{Limits, RecRow, RealmRow, blank, cell_at}
+use Rattle.realm_model.specs.World.{World}
+use Rattle.realm_model.specs.Sound.{look, is_host_state, is_rd_state, IsSoundRows, IsZeroed}
+use Rattle.realm_model.specs.Roles.{Role, target, is_role_state, HasRole}
+
+-- a realm stands at an RD granule
+abbrev pub IsRealmAt : World → ℕ → RealmRow → Type 0
+IsRealmAt world rd realm = (cell_at world.machine rd).descriptor ≡ Some realm
+
+pub record IsReachable (limits : Limits) (world : World) : Type 0 where
+  -- there is a cell and a lease for each page
+  pub cells : length world.machine ≡ limits.pages
+  pub leases : length world.leases ≡ limits.pages
+  -- A free granule is blank. An UNDELEGATED or DELEGATED one is of no realm. The page of a granule is zero in every state
+  -- but UNDELEGATED and DATA.
+  pub free : (granule : ℕ) → slice_get world.leases granule ≡ Some None → cell_at world.machine granule ≡ blank
+  pub host : (granule : ℕ) → is_host_state (cell_at world.machine granule).state ≡ true → (cell_at world.machine granule).realm ≡ None
+  pub zero : IsZeroed (λ granule. cell_at world.machine granule)
+  -- A realm stands at each RD granule and nowhere else. It is of its own realm. A build has one realm at most.
+  pub rds : (granule : ℕ) → is_some (cell_at world.machine granule).descriptor ≡ is_rd_state (cell_at world.machine granule).state
+  pub itself : (rd : ℕ) (realm : RealmRow) → IsRealmAt world rd realm → (cell_at world.machine rd).realm ≡ Some rd
+  pub one : (g h : ℕ) (realm other : RealmRow) → IsRealmAt world g realm → IsRealmAt world h other
+      → slice_get world.leases g ≡ slice_get world.leases h → g ≡ h
+  -- A VMID is in range, and of one realm alone.
+  pub vmid : (rd : ℕ) (realm : RealmRow) → IsRealmAt world rd realm → (1 ≤ realm.vmid) × (realm.vmid ≤ limits.vmids)
+  pub vmids : (g h : ℕ) (realm other : RealmRow) → IsRealmAt world g realm → IsRealmAt world h other → realm.vmid ≡ other.vmid → g ≡ h
+  -- Rows have their shape, and a TABLE row above them. The numbers of RECs are below the next.
+  pub rows : (rd : ℕ) (realm : RealmRow) → IsRealmAt world rd realm → IsSoundRows (look realm.rows)
+  pub recs : (rd : ℕ) (realm : RealmRow) → IsRealmAt world rd realm → (number : ℕ) (rec : RecRow) → get realm.recs number ≡ Some rec → number < realm.next
+  -- Each granule that a realm names is in the state that goes with its role, belongs to the realm, and is leased by its
+  -- build. None is named in two roles. Each granule in such a state is named so.
+  pub names : (rd : ℕ) (realm : RealmRow) → IsRealmAt world rd realm → (role : Role) (granule : ℕ) (state : GranuleState) → target realm role ≡ Some (granule, state)
+      → ((cell_at world.machine granule).state ≡ state) × ((cell_at world.machine granule).realm ≡ Some rd)
+      × (slice_get world.leases granule ≡ slice_get world.leases rd)
+  pub once : (rd : ℕ) (realm : RealmRow) → IsRealmAt world rd realm → (p q : Role) (granule : ℕ) (s t : GranuleState)
+      → target realm p ≡ Some (granule, s) → target realm q ≡ Some (granule, t) → p ≡ q
+  pub named : (granule : ℕ) → is_role_state (cell_at world.machine granule).state ≡ true → HasRole (λ g. cell_at world.machine g) granule
