@@ -1,7 +1,7 @@
 # PLAN is the plan that `make run` replays.
 PLAN ?= plans/first.toml
 
-.PHONY: help run test
+.PHONY: allocations help run test
 
 help: ## lists the targets
 	@grep -E '^[a-z]+:.*## ' $(MAKEFILE_LIST) | sed 's/:.*## /  /'
@@ -11,3 +11,6 @@ run: ## proves what has to be, builds the program, and replays PLAN
 
 test: ## the whole gate from nothing: proofs, must-fail edits, tests, the program
 	rt ci
+
+allocations: ## refuses each allocation of the stored run in turn
+	@tests/allocations

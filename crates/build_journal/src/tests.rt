@@ -1,7 +1,7 @@
 use super::*;
 use arrayvec::ArrayVec;
 use granule_addr::{Gran, IpaGran, Level, Order, PageOff, RecNo, Vmid};
-use realm_model::Act;
+use realm_model::{Act, granules_again};
 use std::test::Fail;
 
 fn page(number: u16) -> Gran {
@@ -42,101 +42,87 @@ fn a_stack_of_two(rt: HostRuntime) -> Result<(), Fail> {
     Ok(())
 }
 
+/// Whether the act is of the kind, and this is its reverse, which has none.
+fn is_pair(act: &Act, kind: Kind, back: &Act) -> bool {
+    kind_of(act) == Some(kind)
+        && reverse_of(act).as_ref() == Some(back)
+        && kind_of(back).is_none()
+        && reverse_of(back).is_none()
+}
+
 #[test]
-fn reverses_and_kinds(rt: HostRuntime) {
+fn reverses_of_pages_and_realms(rt: HostRuntime) {
+    let (granule, root) = (page(1), page(2));
+    let (first, rd) = (granule, granule);
     let order = Order::new(9).unwrap();
     let vmid = Vmid::new(7).unwrap();
+    let take = Act::Take { order, first };
+    assert!(rt; is_pair(&take, Kind::Take, &Act::UnTake { order, first }));
+    let delegate = Act::Delegate { granule };
+    assert!(rt; is_pair(&delegate, Kind::Delegate, &Act::Undelegate { granule }));
+    let realm = Act::Realm { rd, root, vmid };
+    assert!(rt; is_pair(&realm, Kind::Realm, &Act::UnRealm { rd, root, vmid }));
+}
+
+#[test]
+fn reverses_of_tables_data_and_recs(rt: HostRuntime) {
+    let (granule, source) = (page(1), page(2));
     let level = Level::new(2).unwrap();
+    let ipa = IpaGran::new(5, 39).unwrap();
+    let number = RecNo::new(6);
+    let rtt = Act::Rtt {
+        granule,
+        ipa,
+        level,
+    };
+    assert!(rt;
+        is_pair(
+            &rtt,
+            Kind::Rtt,
+            &Act::UnRtt {
+                granule,
+                ipa,
+                level
+            }
+        )
+    );
+    let data = Act::Data {
+        granule,
+        ipa,
+        source,
+    };
+    assert!(rt; is_pair(&data, Kind::Data, &Act::UnData { granule, ipa }));
+    let unknown = Act::Unknown { granule, ipa };
+    assert!(rt; is_pair(&unknown, Kind::Unknown, &Act::UnData { granule, ipa }));
+    let mut auxiliaries = ArrayVec::new();
+    auxiliaries.push(page(2));
+    auxiliaries.push(page(3));
+    let back = Act::UnRec {
+        granule,
+        auxiliaries: granules_again(&auxiliaries),
+        number,
+    };
+    let rec = Act::Rec {
+        granule,
+        auxiliaries,
+        number,
+    };
+    assert!(rt; is_pair(&rec, Kind::Rec, &back));
+}
+
+#[test]
+fn acts_without_a_kind(rt: HostRuntime) {
+    let granule = page(1);
     let ipa = IpaGran::new(5, 39).unwrap();
     let offset = PageOff::new(4).unwrap();
     let number = RecNo::new(6);
-    let (one, two, three) = (page(1), page(2), page(3));
-    let mut auxiliaries = ArrayVec::new();
-    auxiliaries.push(two);
-    auxiliaries.push(three);
-    let mut same_auxiliaries = ArrayVec::new();
-    same_auxiliaries.push(two);
-    same_auxiliaries.push(three);
-    let table = [
-        (
-            Act::Take { order, first: one },
-            Kind::Take,
-            Act::UnTake { order, first: one },
-        ),
-        (
-            Act::Delegate { granule: two },
-            Kind::Delegate,
-            Act::Undelegate { granule: two },
-        ),
-        (
-            Act::Realm {
-                rd: one,
-                root: two,
-                vmid,
-            },
-            Kind::Realm,
-            Act::UnRealm {
-                rd: one,
-                root: two,
-                vmid,
-            },
-        ),
-        (
-            Act::Rtt {
-                granule: one,
-                ipa,
-                level,
-            },
-            Kind::Rtt,
-            Act::UnRtt {
-                granule: one,
-                ipa,
-                level,
-            },
-        ),
-        (
-            Act::Data {
-                granule: one,
-                ipa,
-                source: two,
-            },
-            Kind::Data,
-            Act::UnData { granule: one, ipa },
-        ),
-        (
-            Act::Unknown { granule: two, ipa },
-            Kind::Unknown,
-            Act::UnData { granule: two, ipa },
-        ),
-        (
-            Act::Rec {
-                granule: one,
-                auxiliaries,
-                number,
-            },
-            Kind::Rec,
-            Act::UnRec {
-                granule: one,
-                auxiliaries: same_auxiliaries,
-                number,
-            },
-        ),
-    ];
-    for (act, kind, back) in table.as_slice() {
-        assert_eq!(rt; kind_of(act), Some(*kind));
-        assert_eq!(rt; reverse_of(act).as_ref(), Some(back));
-        assert_eq!(rt; kind_of(back), None);
-        assert_eq!(rt; reverse_of(back), None);
-    }
+    let (byte, value) = (0, 1);
     let single = [
-        Act::Fill {
-            granule: one,
-            value: 1,
-        },
+        Act::Fill { granule, value },
         Act::Peek {
-            granule: one,
+            granule,
             offset,
-            byte: 0,
+            byte,
         },
         Act::Activate,
         Act::Ripas { ipa, count: 1 },
@@ -146,7 +132,7 @@ fn reverses_and_kinds(rt: HostRuntime) {
             number,
             ipa,
             offset,
-            value: 1,
+            value,
         },
     ];
     for act in single.as_slice() {

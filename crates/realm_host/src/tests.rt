@@ -37,6 +37,47 @@ fn fill(value: u8) -> Cmd {
     Cmd::Fill { page: 0, value }
 }
 
+/// What the host records of a page that is taken, filled, delegated and given back.
+fn events_of_a_page(build: BuildId) -> [Event; 6] {
+    let order = Order::new(0).unwrap();
+    let granule = Gran::new(0, 1).unwrap();
+    [
+        Event {
+            build,
+            act: Act::Take {
+                order,
+                first: granule,
+            },
+        },
+        Event {
+            build,
+            act: Act::Fill {
+                granule,
+                value: 255,
+            },
+        },
+        Event {
+            build,
+            act: Act::Delegate { granule },
+        },
+        Event {
+            build,
+            act: Act::Undelegate { granule },
+        },
+        Event {
+            build,
+            act: Act::Fill { granule, value: 1 },
+        },
+        Event {
+            build,
+            act: Act::UnTake {
+                order,
+                first: granule,
+            },
+        },
+    ]
+}
+
 #[test]
 fn a_page_from_take_to_undo(rt: HostRuntime) -> Result<(), Fail> {
     let mut host = booted(&rt, rt.alloc(), 1, 16)?;
@@ -75,44 +116,7 @@ fn a_page_from_take_to_undo(rt: HostRuntime) -> Result<(), Fail> {
     assert_eq!(rt; host.free_count(), 1);
     assert_eq!(rt; host.page_count(build), 0);
     assert_eq!(rt; host.undo(build), Err(Refusal::NothingToUndo));
-    let order = Order::new(0).unwrap();
-    let granule = Gran::new(0, 1).unwrap();
-    let events = [
-        Event {
-            build,
-            act: Act::Take {
-                order,
-                first: granule,
-            },
-        },
-        Event {
-            build,
-            act: Act::Fill {
-                granule,
-                value: 255,
-            },
-        },
-        Event {
-            build,
-            act: Act::Delegate { granule },
-        },
-        Event {
-            build,
-            act: Act::Undelegate { granule },
-        },
-        Event {
-            build,
-            act: Act::Fill { granule, value: 1 },
-        },
-        Event {
-            build,
-            act: Act::UnTake {
-                order,
-                first: granule,
-            },
-        },
-    ];
-    assert_eq!(rt; host.history(), events.as_slice());
+    assert_eq!(rt; host.history(), events_of_a_page(build).as_slice());
     assert_eq!(rt; host.command(build, TAKE), Ok(Reply::FirstPage(0)));
     assert_eq!(rt;
         host.page_sum(build, 0),

@@ -132,118 +132,123 @@ pub fn granules_again(granules: &ArrayVec<Gran, 16>) -> ArrayVec<Gran, 16>
 }
 
 impl Act {
+    ghost use Rattle.std.specs.Prelude.{Some, None, if◌then◌else◌};
     ghost use Rattle.realm_model.specs.Act as acts;
 
     /// The same act again. No memory is taken.
+    #[tactic(auto, unfolding(crate::specs::Act::is_reverse, crate::specs::Act::reverse_of))]
     pub fn again(&self) -> Act
         ensures { result ≡ self.now }
     {
-        match self {
-            Act::Take { order, first } => Act::Take {
-                order: *order,
-                first: *first,
-            },
-            Act::UnTake { order, first } => Act::UnTake {
-                order: *order,
-                first: *first,
-            },
-            Act::Fill { granule, value } => Act::Fill {
-                granule: *granule,
-                value: *value,
-            },
+        if let Some(paired) = self.paired_again() {
+            return paired;
+        }
+        if let Some(back) = self.reverse_again() {
+            return back;
+        }
+        match *self {
+            Act::Fill { granule, value } => Act::Fill { granule, value },
             Act::Peek {
                 granule,
                 offset,
                 byte,
             } => Act::Peek {
-                granule: *granule,
-                offset: *offset,
-                byte: *byte,
-            },
-            Act::Delegate { granule } => Act::Delegate { granule: *granule },
-            Act::Undelegate { granule } => Act::Undelegate { granule: *granule },
-            Act::Realm { rd, root, vmid } => Act::Realm {
-                rd: *rd,
-                root: *root,
-                vmid: *vmid,
-            },
-            Act::UnRealm { rd, root, vmid } => Act::UnRealm {
-                rd: *rd,
-                root: *root,
-                vmid: *vmid,
+                granule,
+                offset,
+                byte,
             },
             Act::Activate => Act::Activate,
-            Act::Rtt {
-                granule,
-                ipa,
-                level,
-            } => Act::Rtt {
-                granule: *granule,
-                ipa: *ipa,
-                level: *level,
-            },
-            Act::UnRtt {
-                granule,
-                ipa,
-                level,
-            } => Act::UnRtt {
-                granule: *granule,
-                ipa: *ipa,
-                level: *level,
-            },
-            Act::Ripas { ipa, count } => Act::Ripas {
-                ipa: *ipa,
-                count: *count,
-            },
-            Act::Data {
-                granule,
-                ipa,
-                source,
-            } => Act::Data {
-                granule: *granule,
-                ipa: *ipa,
-                source: *source,
-            },
-            Act::Unknown { granule, ipa } => Act::Unknown {
-                granule: *granule,
-                ipa: *ipa,
-            },
-            Act::UnData { granule, ipa } => Act::UnData {
-                granule: *granule,
-                ipa: *ipa,
-            },
-            Act::Rec {
-                granule,
-                auxiliaries,
-                number,
-            } => Act::Rec {
-                granule: *granule,
-                auxiliaries: granules_again(auxiliaries),
-                number: *number,
-            },
-            Act::UnRec {
-                granule,
-                auxiliaries,
-                number,
-            } => Act::UnRec {
-                granule: *granule,
-                auxiliaries: granules_again(auxiliaries),
-                number: *number,
-            },
-            Act::Enter { number } => Act::Enter { number: *number },
-            Act::Exit { number } => Act::Exit { number: *number },
+            Act::Ripas { ipa, count } => Act::Ripas { ipa, count },
+            Act::Enter { number } => Act::Enter { number },
+            Act::Exit { number } => Act::Exit { number },
             Act::Poke {
                 number,
                 ipa,
                 offset,
                 value,
             } => Act::Poke {
-                number: *number,
-                ipa: *ipa,
-                offset: *offset,
-                value: *value,
+                number,
+                ipa,
+                offset,
+                value,
             },
+            _ => unreachable!(),
         }
+    }
+
+    // The same act again, where it has a reverse.
+    #[tactic(auto, unfolding(crate::specs::Act::reverse_of))]
+    fn paired_again(&self) -> Option<Act>
+        ensures { result ≡ (if acts.is_paired self.now then Some self.now else None) }
+    {
+        let paired = match *self {
+            Act::Take { order, first } => Act::Take { order, first },
+            Act::Delegate { granule } => Act::Delegate { granule },
+            Act::Realm { rd, root, vmid } => Act::Realm { rd, root, vmid },
+            Act::Rtt {
+                granule,
+                ipa,
+                level,
+            } => Act::Rtt {
+                granule,
+                ipa,
+                level,
+            },
+            Act::Data {
+                granule,
+                ipa,
+                source,
+            } => Act::Data {
+                granule,
+                ipa,
+                source,
+            },
+            Act::Unknown { granule, ipa } => Act::Unknown { granule, ipa },
+            Act::Rec {
+                granule,
+                ref auxiliaries,
+                number,
+            } => Act::Rec {
+                granule,
+                auxiliaries: granules_again(auxiliaries),
+                number,
+            },
+            _ => return None,
+        };
+        Some(paired)
+    }
+
+    // The same act again, where it is the reverse of another.
+    #[tactic(auto, unfolding(crate::specs::Act::is_reverse))]
+    fn reverse_again(&self) -> Option<Act>
+        ensures { result ≡ (if acts.is_reverse self.now then Some self.now else None) }
+    {
+        let back = match *self {
+            Act::UnTake { order, first } => Act::UnTake { order, first },
+            Act::Undelegate { granule } => Act::Undelegate { granule },
+            Act::UnRealm { rd, root, vmid } => Act::UnRealm { rd, root, vmid },
+            Act::UnRtt {
+                granule,
+                ipa,
+                level,
+            } => Act::UnRtt {
+                granule,
+                ipa,
+                level,
+            },
+            Act::UnData { granule, ipa } => Act::UnData { granule, ipa },
+            Act::UnRec {
+                granule,
+                ref auxiliaries,
+                number,
+            } => Act::UnRec {
+                granule,
+                auxiliaries: granules_again(auxiliaries),
+                number,
+            },
+            _ => return None,
+        };
+        Some(back)
     }
 
     /// Whether the act has a reverse.

@@ -19,7 +19,7 @@ fn result_words(rt: HostRuntime) {
 }
 
 #[test]
-fn acts_and_reverses(rt: HostRuntime) {
+fn paired_acts(rt: HostRuntime) {
     let granule = Gran::new(2, 4096).unwrap();
     let second = Gran::new(3, 4096).unwrap();
     let ipa = IpaGran::new(5, 39).unwrap();
@@ -27,130 +27,107 @@ fn acts_and_reverses(rt: HostRuntime) {
     let vmid = Vmid::new(1).unwrap();
     let level = Level::new(3).unwrap();
     let number = RecNo::new(6);
-    let offset = PageOff::new(9).unwrap();
+    let mut auxiliaries = ArrayVec::new();
+    auxiliaries.push(second);
+    auxiliaries.push(granule);
+    let first = granule;
+    let rd = granule;
+    let root = second;
+    let source = second;
+    for act in [
+        Act::Take { order, first },
+        Act::Delegate { granule },
+        Act::Realm { rd, root, vmid },
+        Act::Rtt {
+            granule,
+            ipa,
+            level,
+        },
+        Act::Data {
+            granule,
+            ipa,
+            source,
+        },
+        Act::Unknown { granule, ipa },
+        Act::Rec {
+            granule,
+            auxiliaries,
+            number,
+        },
+    ] {
+        assert!(rt; act.is_paired(), "{act:?}");
+        assert!(rt; !act.is_reverse(), "{act:?}");
+        assert_eq!(rt; act.again(), act);
+    }
+}
+
+#[test]
+fn reverse_acts(rt: HostRuntime) {
+    let granule = Gran::new(2, 4096).unwrap();
+    let second = Gran::new(3, 4096).unwrap();
+    let ipa = IpaGran::new(5, 39).unwrap();
+    let order = Order::new(1).unwrap();
+    let vmid = Vmid::new(1).unwrap();
+    let level = Level::new(3).unwrap();
+    let number = RecNo::new(6);
     let mut auxiliaries = ArrayVec::new();
     auxiliaries.push(second);
     auxiliaries.push(granule);
     let again = granules_again(&auxiliaries);
     assert_eq!(rt; again.as_slice(), [second, granule].as_slice());
-    for (act, is_paired, is_reverse) in [
-        (
-            Act::Take {
-                order,
-                first: granule,
-            },
-            true,
-            false,
-        ),
-        (
-            Act::UnTake {
-                order,
-                first: granule,
-            },
-            false,
-            true,
-        ),
-        (
-            Act::Fill {
-                granule,
-                value: 255,
-            },
-            false,
-            false,
-        ),
-        (
-            Act::Peek {
-                granule,
-                offset,
-                byte: 255,
-            },
-            false,
-            false,
-        ),
-        (Act::Delegate { granule }, true, false),
-        (Act::Undelegate { granule }, false, true),
-        (
-            Act::Realm {
-                rd: granule,
-                root: second,
-                vmid,
-            },
-            true,
-            false,
-        ),
-        (
-            Act::UnRealm {
-                rd: granule,
-                root: second,
-                vmid,
-            },
-            false,
-            true,
-        ),
-        (Act::Activate, false, false),
-        (
-            Act::Rtt {
-                granule,
-                ipa,
-                level,
-            },
-            true,
-            false,
-        ),
-        (
-            Act::UnRtt {
-                granule,
-                ipa,
-                level,
-            },
-            false,
-            true,
-        ),
-        (Act::Ripas { ipa, count: 4 }, false, false),
-        (
-            Act::Data {
-                granule,
-                ipa,
-                source: second,
-            },
-            true,
-            false,
-        ),
-        (Act::Unknown { granule, ipa }, true, false),
-        (Act::UnData { granule, ipa }, false, true),
-        (
-            Act::Rec {
-                granule,
-                auxiliaries: granules_again(&again),
-                number,
-            },
-            true,
-            false,
-        ),
-        (
-            Act::UnRec {
-                granule,
-                auxiliaries: again,
-                number,
-            },
-            false,
-            true,
-        ),
-        (Act::Enter { number }, false, false),
-        (Act::Exit { number }, false, false),
-        (
-            Act::Poke {
-                number,
-                ipa,
-                offset,
-                value: 255,
-            },
-            false,
-            false,
-        ),
+    let first = granule;
+    let rd = granule;
+    let root = second;
+    for act in [
+        Act::UnTake { order, first },
+        Act::Undelegate { granule },
+        Act::UnRealm { rd, root, vmid },
+        Act::UnRtt {
+            granule,
+            ipa,
+            level,
+        },
+        Act::UnData { granule, ipa },
+        Act::UnRec {
+            granule,
+            auxiliaries,
+            number,
+        },
     ] {
-        assert_eq!(rt; act.is_paired(), is_paired, "{act:?}");
-        assert_eq!(rt; act.is_reverse(), is_reverse, "{act:?}");
+        assert!(rt; !act.is_paired(), "{act:?}");
+        assert!(rt; act.is_reverse(), "{act:?}");
+        assert_eq!(rt; act.again(), act);
+    }
+}
+
+#[test]
+fn acts_by_themselves(rt: HostRuntime) {
+    let granule = Gran::new(2, 4096).unwrap();
+    let ipa = IpaGran::new(5, 39).unwrap();
+    let number = RecNo::new(6);
+    let offset = PageOff::new(9).unwrap();
+    let value = 255;
+    let byte = 255;
+    for act in [
+        Act::Fill { granule, value },
+        Act::Peek {
+            granule,
+            offset,
+            byte,
+        },
+        Act::Activate,
+        Act::Ripas { ipa, count: 4 },
+        Act::Enter { number },
+        Act::Exit { number },
+        Act::Poke {
+            number,
+            ipa,
+            offset,
+            value,
+        },
+    ] {
+        assert!(rt; !act.is_paired(), "{act:?}");
+        assert!(rt; !act.is_reverse(), "{act:?}");
         assert_eq!(rt; act.again(), act);
     }
 }

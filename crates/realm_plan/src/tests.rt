@@ -63,22 +63,21 @@ fn fault_of(alloc: Global, text: &str) -> Option<PlanError> {
     }
 }
 
+const ONE_BUILD: &str = "[[build]]\nsteps = []\n";
+
 #[test]
-fn names_the_fault(rt: HostRuntime) -> Result<(), Fail> {
+fn names_faults_of_syntax_and_keys(rt: HostRuntime) -> Result<(), Fail> {
     let bytes: &[u8] = b"\xff";
     let binary = Plan::from_bytes(rt.alloc(), bytes);
     assert!(rt; matches!(binary, Err(PlanError::Fault(PlanFault::Syntax))));
-    let one = "[[build]]\nsteps = []\n";
-    let wrong =
-        "[[build]]\nsteps = [\"take 0\"]\n[[build]]\nsteps = [\"undo\", \"take 00\", \"take 256\"]\n";
     for (head, builds, want) in [
         ("pages =", "", PlanFault::Syntax),
         ("", "", PlanFault::Key),
         ("pages = 1", "", PlanFault::Key),
-        ("", one, PlanFault::Key),
-        ("pages = \"1\"", one, PlanFault::Key),
-        ("pages = 1\nsize = 1", one, PlanFault::Key),
-        ("pages = 1\norder = [0, \"0\"]", one, PlanFault::Key),
+        ("", ONE_BUILD, PlanFault::Key),
+        ("pages = \"1\"", ONE_BUILD, PlanFault::Key),
+        ("pages = 1\nsize = 1", ONE_BUILD, PlanFault::Key),
+        ("pages = 1\norder = [0, \"0\"]", ONE_BUILD, PlanFault::Key),
         ("pages = 1", "[build]\nsteps = []\n", PlanFault::Key),
         ("pages = 1", "[[build]]\n", PlanFault::Key),
         ("pages = 1", "[[build]]\nsteps = [1]\n", PlanFault::Key),
@@ -87,6 +86,22 @@ fn names_the_fault(rt: HostRuntime) -> Result<(), Fail> {
             "[[build]]\nsteps = []\nname = \"a\"\n",
             PlanFault::Key,
         ),
+    ] {
+        let text = format!(in rt.alloc(); "{head}\n{builds}")?;
+        assert_eq!(rt;
+            fault_of(rt.alloc(), &text),
+            Some(PlanError::Fault(want)),
+            "{text}"
+        );
+    }
+    Ok(())
+}
+
+#[test]
+fn names_faults_of_steps_and_turns(rt: HostRuntime) -> Result<(), Fail> {
+    let wrong =
+        "[[build]]\nsteps = [\"take 0\"]\n[[build]]\nsteps = [\"undo\", \"take 00\", \"take 256\"]\n";
+    for (head, builds, want) in [
         (
             "pages = 1",
             "[[build]]\nsteps = [\"tkae 0\"]\n",
@@ -119,27 +134,41 @@ fn names_the_fault(rt: HostRuntime) -> Result<(), Fail> {
         ),
         (
             "pages = 1\norder = [0, 8]",
-            one,
+            ONE_BUILD,
             PlanFault::Order { place: 1 },
         ),
         (
             "pages = 1\norder = [-1]",
-            one,
+            ONE_BUILD,
             PlanFault::Order { place: 0 },
         ),
         (
             "pages = 0\norder = [0, 0, 1]",
-            one,
+            ONE_BUILD,
             PlanFault::Order { place: 2 },
         ),
-        ("pages = 0", one, PlanFault::Limit),
-        ("pages = 4097", one, PlanFault::Limit),
-        ("pages = 1\nvmids = 0", one, PlanFault::Limit),
-        ("pages = 1\nvmids = 256", one, PlanFault::Limit),
-        ("pages = 1\naux = -1", one, PlanFault::Limit),
-        ("pages = 1\naux = 17", one, PlanFault::Limit),
-        ("pages = 1\nhistory = 15", one, PlanFault::Limit),
-        ("pages = 1\nhistory = 16385", one, PlanFault::Limit),
+    ] {
+        let text = format!(in rt.alloc(); "{head}\n{builds}")?;
+        assert_eq!(rt;
+            fault_of(rt.alloc(), &text),
+            Some(PlanError::Fault(want)),
+            "{text}"
+        );
+    }
+    Ok(())
+}
+
+#[test]
+fn names_faults_of_limits(rt: HostRuntime) -> Result<(), Fail> {
+    for (head, builds, want) in [
+        ("pages = 0", ONE_BUILD, PlanFault::Limit),
+        ("pages = 4097", ONE_BUILD, PlanFault::Limit),
+        ("pages = 1\nvmids = 0", ONE_BUILD, PlanFault::Limit),
+        ("pages = 1\nvmids = 256", ONE_BUILD, PlanFault::Limit),
+        ("pages = 1\naux = -1", ONE_BUILD, PlanFault::Limit),
+        ("pages = 1\naux = 17", ONE_BUILD, PlanFault::Limit),
+        ("pages = 1\nhistory = 15", ONE_BUILD, PlanFault::Limit),
+        ("pages = 1\nhistory = 16385", ONE_BUILD, PlanFault::Limit),
         ("pages = 1\nbuild = []", "", PlanFault::Limit),
     ] {
         let text = format!(in rt.alloc(); "{head}\n{builds}")?;
