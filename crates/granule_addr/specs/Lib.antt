@@ -1,1 +1,2 @@
 pub mod Ipa
+pub mod Page

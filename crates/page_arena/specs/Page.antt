@@ -1,5 +1,5 @@
 -- The pages of a machine, and which of them are free. RMM 1.0, Granule.
-use Rattle.std.specs.Prelude.{◌≡◌, ℕ, ◌≤◌, Bool, false, List, [], length, replicate, slice_index_or, slice_set, All}
+use Rattle.std.specs.Prelude.{◌≡◌, ℕ, ◌≤◌, Bool, false, List, [], length, slice_index_or, slice_set, All}
 
 -- the bytes of a page; a granule outside the machine has none
 abbrev pub page_at : List (List ℕ) → ℕ → List ℕ
@@ -8,13 +8,6 @@ page_at pages granule = slice_index_or pages granule []
 -- whether a granule is free; one outside the machine is not
 abbrev pub is_free : List Bool → ℕ → Bool
 is_free flags granule = slice_index_or flags granule false
-
--- a page with one value in each byte
-unfoldable pub page_of : ℕ → List ℕ
-page_of value = replicate 4096 value
-
-abbrev pub zero_page : List ℕ
-zero_page = page_of 0
 
 -- the pages with another value in one byte of a page
 abbrev pub with_byte : List (List ℕ) → ℕ → ℕ → ℕ → List (List ℕ)

@@ -3,7 +3,8 @@ use Rattle.std.specs.Prelude.{◌≡◌, ℕ, ◌+◌, ◌<◌, ◌≤◌, Bool,
 use Rattle.std.proofs.Common.{sym, ap, ◌∙◌, ⊎_elim, arith}
 use Rattle.std.proofs.lemmas.List.{length-set, length-replicate, get_or-replicate}
 use Rattle.std.proofs.lemmas.List.Elements.{All-set, All-from_get_or, All-replicate}
-use Rattle.page_arena.specs.Page.{page_at, page_of, zero_page, IsSized}
+use Rattle.granule_addr.specs.Page.{page_of, zero_page}
+use Rattle.page_arena.specs.Page.{page_at, IsSized}
 use Rattle.page_arena.specs.Block.{with_run}
 use Rattle.page_arena.specs.Word.{with_word}
 use Rattle.page_arena.specs.Runs.{length-with_run, get_or-with_run_inside, get_or-with_run_outside, inside_or_outside}

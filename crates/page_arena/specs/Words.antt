@@ -6,7 +6,8 @@ use Rattle.std.proofs.lemmas.List.{length-drop, length-set, length-take-le, drop
 use Rattle.std.proofs.lemmas.List.Edits.{length-between, get_or-between}
 use Rattle.std.proofs.lemmas.Nat.{from_le_bytes-to_le_bytes_8}
 use Rattle.std.proofs.lemmas.Bool.{cases_eq, cases_lt}
-use Rattle.page_arena.specs.Page.{page_at, page_of, zero_page}
+use Rattle.granule_addr.specs.Page.{page_of, zero_page}
+use Rattle.page_arena.specs.Page.{page_at}
 use Rattle.page_arena.specs.Word.{with_bytes, word_of_page, page_with_word, word_at, with_word}
 
 -- ---- eight bytes written into a page

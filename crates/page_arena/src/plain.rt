@@ -1,6 +1,7 @@
 //! The plainest store: vectors and a scan.
 ghost use Rattle.std.specs.Prelude.{◌≡◌, ◌↔◌, ◌<◌, ◌⊎◌, true, replicate, IfOk, IsErrOf};
-ghost use Rattle.page_arena.specs.Page.{zero_page, IsSized};
+ghost use Rattle.granule_addr.specs.Page.{zero_page};
+ghost use Rattle.page_arena.specs.Page.{IsSized};
 
 mod clear;
 mod flags;

@@ -1,7 +1,8 @@
 //! What a store of pages is.
 ghost use Rattle.std.specs.Prelude.{◌≡◌, ◌≢◌, ℕ, ◌+◌, ◌^◌, ◌<◌, ◌≤◌, ◌↔◌, Bool, true, false, List, length, filter, IsTrue, IfSome, IfNone, slice_set};
 ghost use Rattle.std.specs.Bool.{OnTrue, OnFalse};
-ghost use Rattle.page_arena.specs.Page.{page_at, is_free, page_of, zero_page, with_byte, IsSized};
+ghost use Rattle.granule_addr.specs.Page.{page_of, zero_page};
+ghost use Rattle.page_arena.specs.Page.{page_at, is_free, with_byte, IsSized};
 ghost use Rattle.page_arena.specs.Block.{IsFreeBlock, IsTakenBlock, with_run, with_taken, with_given};
 ghost use Rattle.page_arena.specs.Word.{word_at, with_word};
 

@@ -5,7 +5,8 @@ use Rattle.std.proofs.lemmas.List.Elements.{All-nil, All-cons}
 use Rattle.realm_model.specs.declared.act.Act.{Act}
 use Rattle.realm_model.specs.declared.act.Act.TheVariants.{Fill}
 use Rattle.realm_model.specs.declared.rmi.Rmi.{Rmi as RmiAnswer}
-use Rattle.realm_model.specs.Machine.{Cell, Machine, Seen, seen, cell_at, page_of}
+use Rattle.granule_addr.specs.Page.{page_of}
+use Rattle.realm_model.specs.Machine.{Cell, Machine, Seen, seen, cell_at}
 use Rattle.realm_model.specs.Update.{Update, Outcome, Put, machine_after_all, machine_after_command}
 use Rattle.realm_model.specs.Command.Check.{check, error_input, is_undelegated}
 use Rattle.realm_model.specs.Command.Granule.{host_fill}

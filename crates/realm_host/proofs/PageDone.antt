@@ -9,7 +9,8 @@ use Rattle.page_arena.specs.Page.{is_free}
 use Rattle.realm_model.specs.declared.act.Act.{Act}
 use Rattle.realm_model.specs.declared.act.Act.TheVariants.{Fill, Delegate}
 use Rattle.realm_model.specs.declared.rmi.Rmi.{Rmi as RmiAnswer}
-use Rattle.realm_model.specs.Machine.{Cell, Machine, Seen, seen, cell_at, blank, left, page_of}
+use Rattle.granule_addr.specs.Page.{page_of}
+use Rattle.realm_model.specs.Machine.{Cell, Machine, Seen, seen, cell_at, blank, left}
 use Rattle.realm_model.specs.Update.{Update, Outcome, Put, machine_after_all, machine_after_command}
 use Rattle.realm_model.specs.Command.Check.{check, error_input, is_undelegated}
 use Rattle.realm_model.specs.Command.Granule.{granule_delegate, host_fill}

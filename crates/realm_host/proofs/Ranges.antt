@@ -4,7 +4,7 @@ use Rattle.std.specs.Prelude.{◌==◌}
 use Rattle.std.specs.List.{list_any, range_with_len}
 use Rattle.std.proofs.lemmas.Bool.{eqb-true, eq-eqb, cases_eq, ne_eqb}
 use Rattle.realm_model.proofs.Lists.{is_in, is_in_head, is_in_more}
-use Rattle.realm_model.proofs.Tests.{false_from}
+use Rattle.realm_model.proofs.Booleans.{false_from}
 
 pub in_range_from : (first count k : ℕ) → first ≤ k → k < first + count → is_in k (range_with_len first count) ≡ true
 in_range_from first zero k low high = absurd (omega arith)

@@ -37,6 +37,7 @@ use Rattle.realm_host.proofs.Worlds.{world_is}
 use Rattle.realm_host.proofs.FreeBlocks.{taken_flag}
 use Rattle.realm_host.proofs.Ranges.{in_range_from}
 use Rattle.realm_host.proofs.SetRuns.{set_each-block, map-set_each}
+use Rattle.rmi_monitor.proofs.Checks.{undelegated_state}
 use Rattle.realm_host.proofs.PageDone.{check_done}
 
 -- a check that holds refuses nothing
@@ -50,10 +51,6 @@ check_held : (rmi : RmiAnswer) (us updates : List Update) (holds : Bool) → che
 unfolding check
 check_held rmi us updates true e = refl
 check_held rmi us updates false e = cc
-
-undelegated_state : (state : GranuleState) → (elim state [ Undelegated ↦ true | _ ↦ false ]) ≡ true → state ≡ Undelegated
-undelegated_state Undelegated h = refl
-undelegated_state _ h = cc
 
 abbrev no_rd : Cell → Type 0
 no_rd cell = cell.descriptor ≡ None

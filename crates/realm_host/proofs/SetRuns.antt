@@ -4,7 +4,7 @@ use Rattle.std.proofs.lemmas.List.{ext_get_or, map-set}
 use Rattle.page_arena.specs.Block.{with_run}
 use Rattle.page_arena.specs.Runs.{inside_or_outside, length-with_run, get_or-with_run_inside, get_or-with_run_outside}
 use Rattle.std.specs.List.{range_with_len}
-use Rattle.realm_model.proofs.Tests.{false_from}
+use Rattle.realm_model.proofs.Booleans.{false_from}
 use Rattle.realm_model.specs.Act.{block}
 use Rattle.realm_model.specs.StepLaw.{set_each}
 use Rattle.realm_model.proofs.Lists.{is_in}

@@ -1,6 +1,6 @@
 //! The host, its memory, and what can be read of it.
 ghost use Rattle.std.specs.Prelude.{◌≡◌, ◌<◌, ℕ, [], length, replicate, true, IfOk, IfErr, IfSome, option_map, sum};
-ghost use Rattle.page_arena.specs.Page.{zero_page};
+ghost use Rattle.granule_addr.specs.Page.{zero_page};
 ghost use Rattle.realm_model.specs.Machine.{cell_at};
 ghost use Rattle.realm_model.specs.World.{free_set};
 ghost use Rattle.realm_model.specs.History.{LeavesNoTrace};

@@ -14,7 +14,7 @@ use Rattle.realm_model.specs.World.{World, part_of, realm_of}
 use Rattle.realm_model.specs.Step.{step}
 use Rattle.realm_model.specs.Room.{is_rec_running}
 use Rattle.realm_model.specs.Undoing.{by, is_running, IsAtRest}
-use Rattle.realm_model.proofs.Tests.{or_parts}
+use Rattle.realm_model.proofs.Booleans.{or_parts}
 use Rattle.realm_model.proofs.HiddenSteps.{step-part_of}
 use Rattle.realm_model.proofs.RealmOf.{realm_of-part_of}
 use Rattle.realm_model.proofs.Written.{IsSquare}

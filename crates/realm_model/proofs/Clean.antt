@@ -4,7 +4,7 @@ use Rattle.std.specs.Prelude.{slice_get}
 use Rattle.realm_model.specs.Machine.{Cell, blank, cell_at}
 use Rattle.realm_model.specs.Update.{Update, Put, PutByte, Lease, Free, granule_of, cell_after, lease_after}
 use Rattle.realm_model.specs.World.{World, each, updated, updated_all}
-use Rattle.realm_model.proofs.Tests.{guarded}
+use Rattle.realm_model.proofs.Booleans.{guarded}
 use Rattle.realm_model.proofs.Leases.{each-set, cell_at-each}
 
 abbrev pub scrubbed : Option ℕ → Cell → Cell

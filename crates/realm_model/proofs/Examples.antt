@@ -5,7 +5,8 @@ use Rattle.realm_model.specs.declared.act.Act.TheVariants.{Take, UnTake, Fill, D
 use Rattle.realm_model.specs.declared.act.Event.{Event}
 use Rattle.realm_model.specs.declared.states.GranuleState.{GranuleState}
 use Rattle.realm_model.specs.declared.states.GranuleState.TheVariants.{Undelegated, Rd, Rtt as InRtt}
-use Rattle.realm_model.specs.Machine.{Limits, Cell, zero_page}
+use Rattle.granule_addr.specs.Page.{zero_page}
+use Rattle.realm_model.specs.Machine.{Limits, Cell}
 use Rattle.realm_model.specs.Act.{named, reverse_of, is_reverse}
 use Rattle.realm_model.specs.Command.Check.{check}
 use Rattle.realm_model.specs.Command.Realm.{new_realm}

@@ -12,7 +12,7 @@ use Rattle.realm_model.specs.History.{pages_of, replay, IsLegal}
 use Rattle.realm_model.proofs.Lists.{is_in, Contains-from_in, in_from_Contains}
 use Rattle.realm_model.proofs.Leases.{leased}
 use Rattle.realm_model.proofs.Pages.{is_in-pages_of}
-use Rattle.realm_model.proofs.Tests.{or_true}
+use Rattle.realm_model.proofs.Booleans.{or_true}
 
 -- ---- the free set
 

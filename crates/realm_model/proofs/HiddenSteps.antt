@@ -14,7 +14,7 @@ use Rattle.realm_model.specs.Act.{named, holder}
 use Rattle.realm_model.specs.Outcome.{outcome_of, fits}
 use Rattle.realm_model.specs.World.{World, is_lease, is_leased_to, each, masked, without, part_of, is_of, is_of_other, hidden, unleased, realm_from, realm_of}
 use Rattle.realm_model.specs.Step.{step, after_outcome, is_allowed, is_vmid_free, has_vmid}
-use Rattle.realm_model.proofs.Tests.{guarded, false_from, or_parts, not_true, true_false}
+use Rattle.realm_model.proofs.Booleans.{guarded, false_from, or_parts, not_true, true_false}
 use Rattle.realm_model.proofs.Leases.{leased-map, lease_is, leased, cell_at-each}
 use Rattle.realm_model.proofs.HiddenUpdates.{updated_all-masked, hidden-blank, masked-own_updated_all}
 use Rattle.realm_model.proofs.Clean.{IsClean, IsClean-updated_all}

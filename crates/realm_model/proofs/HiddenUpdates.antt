@@ -6,7 +6,7 @@ use Rattle.std.proofs.lemmas.Option.{slice_get-map}
 use Rattle.realm_model.specs.Machine.{Cell, blank, cell_at}
 use Rattle.realm_model.specs.Update.{Update, Put, PutByte, Lease, Free, granule_of, cell_after, lease_before, lease_after}
 use Rattle.realm_model.specs.World.{World, is_leased_to, each, updated, updated_all, masked, hidden, unleased}
-use Rattle.realm_model.proofs.Tests.{guarded}
+use Rattle.realm_model.proofs.Booleans.{guarded}
 use Rattle.realm_model.proofs.Clean.{clean_at, IsClean, IsClean-updated}
 use Rattle.realm_model.proofs.Leases.{set_lease, leased-map, each-set, leased, set_cell, cell_at-each}
 

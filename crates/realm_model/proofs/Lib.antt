@@ -1,5 +1,5 @@
 -- tests, lists and maps
-pub mod Tests
+pub mod Booleans
 pub mod Lists
 pub mod SetEach
 pub mod Maps

@@ -35,7 +35,7 @@ use Rattle.realm_model.proofs.Maps.{same_insert}
 use Rattle.realm_model.proofs.Outcomes.{Yields-Ok, Yields-with_realm, Yields-Err, Yields, Yields-check, Yields-with_end, Yields-with_granule, Yields-with_rec}
 use Rattle.realm_model.proofs.RealmOf.{IsAt-realm_of, realm_of-part_of, IsAt, no_row}
 use Rattle.realm_model.proofs.SoundParts.{IsSound-opening, IsSquare-part_of, IsSound, IsSound-step}
-use Rattle.realm_model.proofs.Tests.{not_true, none_is, true_false}
+use Rattle.realm_model.proofs.Booleans.{not_true, none_is, true_false}
 use Rattle.realm_model.proofs.LeftOut.{each-replicate}
 use Rattle.realm_model.proofs.Lists.{is_in, AllDistinct}
 use Rattle.realm_model.proofs.Rows.{place_self, same_rows}

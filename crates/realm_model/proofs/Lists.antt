@@ -10,7 +10,7 @@ use Rattle.std.proofs.lemmas.Bool.Decides.{Decides-eqb}
 use Rattle.std.proofs.lemmas.Map.Made.{IsDistinct-from_AllPairs}
 use Rattle.std.proofs.lemmas.Map.Steps.{length-le_from_distinct_below}
 use native.Mathlib.Numerals.{unary_clauses}
-use Rattle.realm_model.proofs.Tests.{or_parts, true_false}
+use Rattle.realm_model.proofs.Booleans.{or_parts, true_false}
 
 -- ---- the last element and the rest
 

@@ -14,7 +14,7 @@ use Rattle.realm_model.specs.Outcome.{fits, outcome_of}
 use Rattle.realm_model.specs.World.{World, is_leased_to, realm_of, each, hidden, unleased, is_of, is_of_other, without, part_of}
 use Rattle.realm_model.specs.Step.{step, has_vmid, is_vmid_free}
 use Rattle.realm_model.specs.StepLaw.{leases_after, IsStep, StepIsWhatItSays}
-use Rattle.realm_model.proofs.Tests.{or_parts, not_true, true_false}
+use Rattle.realm_model.proofs.Booleans.{or_parts, not_true, true_false}
 use Rattle.realm_model.proofs.Lists.{all_in, all_from_in}
 use Rattle.realm_model.proofs.Leases.{lease_is, lease_same, leased, leased_from, leased_all, all_leased}
 use Rattle.realm_model.proofs.HiddenSteps.{named_seen, realm_kept, fewer_vmids, step-without, part_of-other_step, leased_in_part}

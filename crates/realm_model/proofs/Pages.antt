@@ -25,7 +25,7 @@ use Rattle.realm_model.proofs.Stack.{paired, pushed_other, back, kind, pushed_pa
 use Rattle.realm_model.proofs.Growth.{takes_away, TakesAway, open_entries-own, open_entries-other}
 use Rattle.realm_model.proofs.StepSays.{step_is}
 use Rattle.realm_model.proofs.Clean.{IsClean}
-use Rattle.realm_model.proofs.Tests.{or_none, or_true, true_false}
+use Rattle.realm_model.proofs.Booleans.{or_none, or_true, true_false}
 use Rattle.realm_model.proofs.HiddenSteps.{leased_in_part, part_of-other_step}
 use Rattle.realm_model.proofs.SetEach.{slice_get-set_each}
 use Rattle.realm_model.proofs.Puts.{is_of_block}

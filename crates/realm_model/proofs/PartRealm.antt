@@ -9,7 +9,7 @@ use Rattle.realm_model.specs.Machine.{RealmRow, Cell, Machine, Seen, cell_at, se
 use Rattle.realm_model.specs.World.{World, is_lease, realm_from, realm_of, part_of}
 use Rattle.realm_model.specs.Room.{running_count}
 use Rattle.realm_model.specs.Sound.{is_host_state, is_rd_state}
-use Rattle.realm_model.proofs.Tests.{some_is}
+use Rattle.realm_model.proofs.Booleans.{some_is}
 use Rattle.realm_model.proofs.Leases.{leased_from}
 use Rattle.realm_model.proofs.RealmOf.{IsAt, IsAt-realm_of, no_row, realm_of-part_of, realm_of_there}
 use Rattle.realm_model.proofs.Reaching.{state_leased}

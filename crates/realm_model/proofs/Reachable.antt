@@ -5,13 +5,14 @@ use Rattle.std.proofs.lemmas.Bool.{eq-eqb}
 use Rattle.realm_model.specs.declared.states.GranuleState.{GranuleState}
 use Rattle.realm_model.specs.declared.states.GranuleState.TheVariants.{Rd}
 use Rattle.realm_model.specs.declared.act.Event.{Event}
-use Rattle.realm_model.specs.Machine.{Limits, RealmRow, Cell, blank, zero_page, cell_at}
+use Rattle.granule_addr.specs.Page.{zero_page}
+use Rattle.realm_model.specs.Machine.{Limits, RealmRow, Cell, blank, cell_at}
 use Rattle.realm_model.specs.World.{World, part_of, hidden, is_of_other}
 use Rattle.realm_model.specs.History.{replay}
 use Rattle.realm_model.specs.Sound.{is_host_state, is_rd_state, is_zero_state}
 use Rattle.realm_model.specs.Roles.{is_role_state}
 use Rattle.realm_model.specs.Reachable.{IsRealmAt, IsReachable}
-use Rattle.realm_model.proofs.Tests.{true_false}
+use Rattle.realm_model.proofs.Booleans.{true_false}
 use Rattle.realm_model.proofs.Leases.{cell_at-each, leased, leased_from}
 use Rattle.realm_model.proofs.Clean.{IsClean, clean_at}
 use Rattle.realm_model.proofs.HiddenUpdates.{hidden-blank}

@@ -8,7 +8,7 @@ use Rattle.realm_model.specs.Update.{Update, Outcome, granule_of, cell_after, le
 use Rattle.realm_model.specs.World.{World, updated, updated_all, opening}
 use Rattle.realm_model.specs.Step.{step, is_allowed, after_outcome}
 use Rattle.realm_model.specs.History.{after, replay, IsInTurn, AllInTurn, IsLegal}
-use Rattle.realm_model.proofs.Tests.{guarded}
+use Rattle.realm_model.proofs.Booleans.{guarded}
 use Rattle.realm_model.proofs.LeftOut.{IsClean-opening}
 use Rattle.realm_model.proofs.Clean.{IsClean}
 use Rattle.realm_model.proofs.Growth.{grows, Grows}

@@ -22,7 +22,7 @@ use Rattle.realm_model.proofs.Linked.{linked_reached}
 use Rattle.realm_model.proofs.Lists.{head_or, tail}
 use Rattle.realm_model.proofs.Clean.{scrubbed}
 use Rattle.realm_model.proofs.Changes.{ReachesOwn}
-use Rattle.realm_model.proofs.Tests.{true_false}
+use Rattle.realm_model.proofs.Booleans.{true_false}
 use Rattle.realm_model.proofs.Walks.{walk_end}
 use Rattle.realm_model.proofs.RowKinds.{assigned_target}
 use Rattle.realm_model.proofs.Parts.{IsLinkedFor}

@@ -10,7 +10,8 @@ use Rattle.realm_model.specs.declared.states.RecState.TheVariants.{Ready, Runnin
 use Rattle.realm_model.specs.declared.act.Act.{Act}
 use Rattle.realm_model.specs.declared.act.Act.TheVariants.{Take, UnTake, Fill, Peek, Delegate, Undelegate, Realm, UnRealm, Activate, Rtt, UnRtt, Ripas, Data, Unknown, UnData, Rec, UnRec, Enter, Exit, Poke}
 use Rattle.realm_model.specs.declared.states.GranuleState.TheVariants.{Rd, Rtt as InRtt}
-use Rattle.realm_model.specs.Machine.{Limits, RecRow, RealmRow, Cell, Seen, blank, cell_at, seen, held, zero_page, left}
+use Rattle.granule_addr.specs.Page.{zero_page}
+use Rattle.realm_model.specs.Machine.{Limits, RecRow, RealmRow, Cell, Seen, blank, cell_at, seen, held, left}
 use Rattle.realm_model.specs.Update.{Update, Put, PutByte, cell_after}
 use Rattle.realm_model.specs.Command.Check.{is_ready, is_undelegated}
 use Rattle.realm_model.specs.Act.{block, named}
@@ -21,7 +22,7 @@ use Rattle.realm_model.specs.Room.{is_rec_running}
 use Rattle.realm_model.specs.Step.{step}
 use Rattle.realm_model.specs.Undoing.{by}
 use Rattle.realm_model.specs.Command.Realm.{new_realm}
-use Rattle.realm_model.proofs.Tests.{none_is, not_true}
+use Rattle.realm_model.proofs.Booleans.{none_is, not_true}
 use Rattle.realm_model.proofs.Lists.{is_in}
 use Rattle.realm_model.proofs.Outcomes.{Yields, Yields-Ok, Yields-Err, Yields-check, Yields-with_realm, Yields-with_rec, Yields-with_end, Yields-with_granule}
 use Rattle.realm_model.proofs.RealmOf.{IsAt, IsAt-realm_of}

@@ -8,7 +8,7 @@ use Rattle.realm_model.specs.Machine.{RealmRow, Cell, Machine, Seen, blank, cell
 use Rattle.realm_model.specs.World.{World, is_leased_to, is_lease, realm_from, realm_of, each, hidden, is_of_other, part_of}
 use Rattle.realm_model.specs.Outcome.{realm_is}
 use Rattle.realm_model.proofs.Leases.{lease_same, leased_from, lease_is, leased}
-use Rattle.realm_model.proofs.Tests.{neither, none_from}
+use Rattle.realm_model.proofs.Booleans.{neither, none_from}
 use Rattle.realm_model.proofs.Lists.{head_or, tail}
 use Rattle.realm_model.proofs.HiddenSteps.{realm_kept}
 use Rattle.realm_model.proofs.Clean.{scrubbed}

@@ -9,14 +9,15 @@ use Rattle.realm_model.specs.declared.states.GranuleState.{GranuleState}
 use Rattle.realm_model.specs.declared.states.GranuleState.TheVariants.{Rd, Rtt as InRtt}
 use Rattle.realm_model.specs.declared.states.Ripas.TheVariants.{Empty}
 use Rattle.realm_model.specs.Rows.{place_cmp, root_rows, unassigned}
-use Rattle.realm_model.specs.Machine.{RecRow, RealmRow, Cell, left, held, zero_page, cell_at}
+use Rattle.granule_addr.specs.Page.{zero_page}
+use Rattle.realm_model.specs.Machine.{RecRow, RealmRow, Cell, left, held, cell_at}
 use Rattle.realm_model.specs.Update.{Update, Put}
 use Rattle.realm_model.specs.Command.Realm.{new_realm}
 use Rattle.realm_model.specs.World.{World}
 use Rattle.realm_model.specs.Ownership.{mapping_of_row, granules_of_rec}
 use Rattle.realm_model.specs.Sound.{look}
 use Rattle.realm_model.specs.Roles.{Role, AsRoot, AtRow, AsRec, AsAux, row_target, aux_target, target, is_role_state, HasRole}
-use Rattle.realm_model.proofs.Tests.{true_false}
+use Rattle.realm_model.proofs.Booleans.{true_false}
 use Rattle.realm_model.proofs.Written.{put_at}
 use Rattle.realm_model.proofs.Rows.{put_kinds}
 use Rattle.realm_model.proofs.Roles.{rec_target}

@@ -16,7 +16,7 @@ use Rattle.realm_model.specs.World.{World}
 use Rattle.realm_model.specs.Ownership.{granules_of_rec}
 use Rattle.realm_model.specs.Sound.{look, is_host_state}
 use Rattle.realm_model.specs.Roles.{Role, AsRoot, AtRow, AsRec, AsAux, row_target, aux_target, target, is_role_state}
-use Rattle.realm_model.proofs.Tests.{true_false, cond_or}
+use Rattle.realm_model.proofs.Booleans.{true_false, cond_or}
 use Rattle.realm_model.proofs.Lists.{is_in, is_in_at, index_of, AllDistinct}
 use Rattle.realm_model.proofs.Maps.{nat_place}
 use Rattle.realm_model.proofs.Written.{put_at, put_lefts, lefts}

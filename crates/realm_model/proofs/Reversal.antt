@@ -24,7 +24,8 @@ use Rattle.realm_model.specs.declared.rmi.Rmi.{Rmi}
 use Rattle.realm_model.specs.declared.act.Act.{Act}
 use Rattle.realm_model.specs.declared.act.Act.TheVariants.{Take, UnTake, Fill, Peek, Delegate, Undelegate, Realm, UnRealm, Activate, Rtt, UnRtt, Ripas as ToRam, Data, Unknown, UnData, Rec, UnRec, Enter, Exit, Poke}
 use Rattle.realm_model.specs.Rows.{Row, row_at, put_row, assigned, unassigned, unmapped_ripas, with_table, without_table, root_rows, is_unassigned, is_assigned, is_table, is_table_unused, place_cmp, is_table_place, has_root_table}
-use Rattle.realm_model.specs.Machine.{Limits, RecRow, RealmRow, Cell, Machine, Seen, left, held, held as held_cell, zero_page, cell_at, seen}
+use Rattle.granule_addr.specs.Page.{zero_page}
+use Rattle.realm_model.specs.Machine.{Limits, RecRow, RealmRow, Cell, Machine, Seen, left, held, held as held_cell, cell_at, seen}
 use Rattle.realm_model.specs.Update.{Update, Put, granule_of}
 use Rattle.realm_model.specs.Command.Check.{error_input, check, is_undelegated, is_delegated, is_ready, is_protected, error_rec}
 use Rattle.realm_model.specs.Measurement.{measurement_after, data_event, rec_event}
@@ -42,7 +43,7 @@ use Rattle.realm_model.proofs.SoundRows.{none_among, look-with_table, look-with_
 use Rattle.realm_model.proofs.RealmOf.{IsHeld, realm_test, realm_of_there, IsAt}
 use Rattle.realm_model.proofs.Rows.{place_self, put_there, look-insert, all_rows_from}
 use Rattle.realm_model.proofs.OwnsSame.{descriptor_some, same_bare, descriptor_none}
-use Rattle.realm_model.proofs.Tests.{none_from, not_true, none_map, not_false}
+use Rattle.realm_model.proofs.Booleans.{none_from, not_true, none_map, not_false}
 use Rattle.realm_model.proofs.SoundCells.{undelegated_state, delegated_state}
 use Rattle.realm_model.proofs.Lists.{is_in}
 use Rattle.realm_model.proofs.TableBack.{table_back}

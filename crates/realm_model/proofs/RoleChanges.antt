@@ -14,7 +14,7 @@ use Rattle.realm_model.specs.World.{World}
 use Rattle.realm_model.specs.Ownership.{granules_of_rec}
 use Rattle.realm_model.specs.Sound.{look, is_host_state, is_rd_state}
 use Rattle.realm_model.specs.Roles.{Role, AsRoot, AtRow, AsRec, AsAux, row_target, aux_target, target, is_role_state, HasRole}
-use Rattle.realm_model.proofs.Tests.{true_false, none_from}
+use Rattle.realm_model.proofs.Booleans.{true_false, none_from}
 use Rattle.realm_model.proofs.Lists.{is_in}
 use Rattle.realm_model.proofs.Written.{put_at, put_more, put_last, put_other}
 use Rattle.realm_model.proofs.SoundCells.{delegated_state, undelegated_state}

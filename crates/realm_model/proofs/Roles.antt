@@ -11,7 +11,7 @@ use Rattle.realm_model.specs.Machine.{RealmRow, Cell}
 use Rattle.realm_model.specs.Ownership.{granules_of_rec}
 use Rattle.realm_model.specs.Sound.{look, is_host_state, is_rd_state}
 use Rattle.realm_model.specs.Roles.{Role, AsRoot, AtRow, AsRec, AsAux, kind_target, row_target, aux_target, target, is_role_state, HasRole}
-use Rattle.realm_model.proofs.Tests.{true_false}
+use Rattle.realm_model.proofs.Booleans.{true_false}
 use Rattle.realm_model.proofs.Parts.{IsLinked}
 
 -- ---- states

@@ -19,7 +19,7 @@ use Rattle.realm_model.specs.Room.{running_count, used_room, room_taken, TakesRo
 use Rattle.realm_model.specs.Undoing.{by}
 use Rattle.realm_model.specs.StepLaw.{IsStep}
 use Rattle.realm_model.specs.Command.Rec.{rec_enter, rec_exit}
-use Rattle.realm_model.proofs.Tests.{none_is}
+use Rattle.realm_model.proofs.Booleans.{none_is}
 use Rattle.realm_model.proofs.Stack.{pushed_paired, pushed_other, kind, paired, back, other}
 use Rattle.realm_model.proofs.Growth.{open_entries-own, open_entries-other, takes_away, Grows, grows}
 use Rattle.realm_model.proofs.HiddenSteps.{step-part_of, part_of-other_step}

@@ -12,7 +12,7 @@ use Rattle.realm_model.specs.Rows.{Row, Rows, place_cmp, put_rows, drop_rows, is
 use Rattle.realm_model.specs.Ownership.{mapping_of_row}
 use Rattle.realm_model.specs.Sound.{look}
 use Rattle.realm_model.proofs.Maps.{place_total, same_place, same_insert, place_cmp-IsAntisymmetric}
-use Rattle.realm_model.proofs.Tests.{true_false}
+use Rattle.realm_model.proofs.Booleans.{true_false}
 use Rattle.realm_model.proofs.RowKinds.{look_get, Vacant}
 
 abbrev pub differs : ℕ × ℕ → ℕ × ℕ → Type 0

@@ -6,7 +6,7 @@ use Rattle.std.proofs.lemmas.Option.{slice_get-get_or}
 use Rattle.std.proofs.lemmas.List.{length-set, get_or-set_other}
 use Rattle.realm_model.specs.StepLaw.{set_each}
 use Rattle.realm_model.proofs.Lists.{slice_get-set, is_in, is_in_head, is_in_more}
-use Rattle.realm_model.proofs.Tests.{cond_or}
+use Rattle.realm_model.proofs.Booleans.{cond_or}
 
 module _ {X : Type 0} (x : X) where
   pub length-set_each : (places : List ℕ) (xs : List X) → length (set_each x places xs) ≡ length xs

@@ -25,7 +25,7 @@ use Rattle.realm_model.specs.Outcome.{outcome_of}
 use Rattle.realm_model.specs.World.{World, updated, updated_all}
 use Rattle.realm_model.specs.Ownership.{mapping_of_row}
 use Rattle.realm_model.specs.Sound.{look, IsShaped, is_table_kind, is_host_state, is_rd_state, IsSoundRows}
-use Rattle.realm_model.proofs.Tests.{guarded, not_true, true_false}
+use Rattle.realm_model.proofs.Booleans.{guarded, not_true, true_false}
 use Rattle.realm_model.proofs.SoundRows.{root_sound, put_sound, with_table_sound, without_table_sound, with_ram_sound}
 use Rattle.realm_model.proofs.RealmOf.{IsAt}
 use Rattle.realm_model.proofs.Outcomes.{Yields, Yields-Ok, Yields-Err, Yields-with_rec, Yields-with_realm, Yields-with_end, Yields-check, Yields-with_granule}

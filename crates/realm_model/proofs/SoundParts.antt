@@ -15,7 +15,7 @@ use Rattle.realm_model.specs.World.{World, each, unleased, hidden, is_of_other, 
 use Rattle.realm_model.specs.Step.{step, after_outcome, is_allowed}
 use Rattle.realm_model.specs.History.{after, replay}
 use Rattle.realm_model.specs.Undoing.{by}
-use Rattle.realm_model.proofs.Tests.{guarded, none_is, true_false}
+use Rattle.realm_model.proofs.Booleans.{guarded, none_is, true_false}
 use Rattle.realm_model.proofs.SoundCells.{blank_sound, good_updated_all, good, StandsAt, AllGood, AllCells}
 use Rattle.realm_model.proofs.LeftOut.{each-replicate, IsClean-opening}
 use Rattle.realm_model.proofs.StepBack.{done}

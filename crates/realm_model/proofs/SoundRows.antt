@@ -15,7 +15,7 @@ use Rattle.realm_model.specs.Roles.{row_target}
 use Rattle.realm_model.proofs.Maps.{same_place}
 use Rattle.realm_model.proofs.Rows.{is_among, put_there, get-drop_rows, look-insert, same_rows, put_kinds, place_self, Look, is_place, all_rows_at}
 use Rattle.realm_model.proofs.TablePlaces.{IsTablePlace}
-use Rattle.realm_model.proofs.Tests.{true_false, not_false, not_true}
+use Rattle.realm_model.proofs.Booleans.{true_false, not_false, not_true}
 use Rattle.realm_model.proofs.RowKinds.{kind_of_table, plain_unassigned, unassigned_target, above_target, kind_table}
 
 pub sound_same : (f g : Look) → IsSoundRows f → ((q : ℕ × ℕ) → f q ≡ g q) → IsSoundRows g

@@ -11,7 +11,7 @@ use Rattle.realm_model.specs.Outcome.{outcome_of, fits}
 use Rattle.realm_model.specs.World.{World, is_leased_to, realm_of, updated_all}
 use Rattle.realm_model.specs.Step.{step, after_outcome, is_allowed}
 use Rattle.realm_model.specs.Undoing.{by}
-use Rattle.realm_model.proofs.Tests.{guarded}
+use Rattle.realm_model.proofs.Booleans.{guarded}
 use Rattle.realm_model.proofs.Outcomes.{Yields}
 
 -- what a step asked for

@@ -15,7 +15,7 @@ use Rattle.realm_model.specs.World.{World, is_leased_to, realm_of, updated, upda
 use Rattle.realm_model.specs.Step.{step, is_allowed, is_vmid_free, after_outcome, named_cells, outcome_in}
 use Rattle.realm_model.specs.StepLaw.{set_each, leases_after, IsStep, StepIsWhatItSays}
 use Rattle.realm_model.specs.Undoing.{by}
-use Rattle.realm_model.proofs.Tests.{guarded}
+use Rattle.realm_model.proofs.Booleans.{guarded}
 use Rattle.realm_model.proofs.Written.{takes, puts_leases, seen_takes, seen_frees, frees}
 use Rattle.realm_model.proofs.Puts.{puts}
 use Rattle.realm_model.proofs.Leases.{leased_from, leased_all, leased, all_leased}

@@ -9,7 +9,7 @@ use Rattle.realm_model.specs.declared.states.Ripas.{Ripas}
 use Rattle.realm_model.specs.declared.states.Ripas.TheVariants.{Destroyed}
 use Rattle.realm_model.specs.Rows.{Row, Rows, place_cmp, drop_rows, put_row, with_table, without_table, unassigned, table}
 use Rattle.realm_model.specs.Ownership.{mapping_of_row}
-use Rattle.realm_model.proofs.Tests.{false_from, true_false}
+use Rattle.realm_model.proofs.Booleans.{false_from, true_false}
 use Rattle.realm_model.proofs.Maps.{place_total, same_place}
 use Rattle.realm_model.proofs.Rows.{is_among, get-drop_rows, get-put_rows_other, get-put_row_other, among_put, differs}
 

@@ -15,7 +15,7 @@ use Rattle.realm_model.specs.World.{World, realm_of, without, opening}
 use Rattle.realm_model.specs.History.{erase, open_entries, replay, IsLegal}
 use Rattle.realm_model.specs.Undoing.{is_running, IsAtRest, reverses, undoing, IsUndone, IsUndoneNext, by}
 use Rattle.realm_model.proofs.SoundParts.{IsSound}
-use Rattle.realm_model.proofs.Tests.{some_is, or_parts}
+use Rattle.realm_model.proofs.Booleans.{some_is, or_parts}
 use Rattle.realm_model.proofs.Lists.{front, front_last, last_push}
 use Rattle.realm_model.proofs.AtRest.{none_run, none_run_still}
 use Rattle.realm_model.proofs.OwnLaws.{laws, SameFor}

@@ -8,7 +8,8 @@ use Rattle.realm_model.specs.declared.act.Act.TheVariants.{Take, UnTake, Fill, P
 use Rattle.realm_model.specs.declared.states.RealmState.TheVariants.{Active}
 use Rattle.realm_model.specs.declared.states.RecState.TheVariants.{Ready, Running}
 use Rattle.realm_model.specs.Rows.{with_ram}
-use Rattle.realm_model.specs.Machine.{Limits, RecRow, RealmRow, Cell, Seen, cell_at, seen, page_of}
+use Rattle.granule_addr.specs.Page.{page_of}
+use Rattle.realm_model.specs.Machine.{Limits, RecRow, RealmRow, Cell, Seen, cell_at, seen}
 use Rattle.realm_model.specs.Act.{named, reverse_of, is_reverse, is_paired}
 use Rattle.realm_model.specs.Update.{Outcome, Update}
 use Rattle.realm_model.specs.Measurement.{measurement_after, ripas_event}
@@ -17,7 +18,7 @@ use Rattle.realm_model.specs.World.{World, updated, updated_all, realm_of}
 use Rattle.realm_model.specs.Step.{step, after_outcome, is_allowed}
 use Rattle.realm_model.specs.Undoing.{by}
 use Rattle.realm_model.specs.Ownership.{OwnsSame, SameRealm, SameCell, SameDescriptor, granules_of_rec}
-use Rattle.realm_model.proofs.Tests.{guarded}
+use Rattle.realm_model.proofs.Booleans.{guarded}
 use Rattle.realm_model.proofs.RealmOf.{IsAt, IsAt-realm_of}
 use Rattle.realm_model.proofs.Outcomes.{Yields, Yields-Ok, Yields-with_rec, Yields-with_realm, Yields-with_end, Yields-check, Yields-Err, Yields-with_granule}
 use Rattle.realm_model.proofs.OwnsSame.{own_updated, descriptor_itself, IsMild, own_itself}

@@ -17,7 +17,7 @@ use Rattle.realm_model.specs.World.{World, realm_of}
 use Rattle.realm_model.specs.Step.{step, has_vmid, is_vmid_free}
 use Rattle.realm_model.specs.History.{replay}
 use Rattle.realm_model.specs.Undoing.{by}
-use Rattle.realm_model.proofs.Tests.{true_false, not_true, or_parts}
+use Rattle.realm_model.proofs.Booleans.{true_false, not_true, or_parts}
 use Rattle.realm_model.proofs.Outcomes.{Yields, Yields-Ok, Yields-Err, Yields-check, Yields-with_realm, Yields-with_rec, Yields-with_end, Yields-with_granule}
 use Rattle.realm_model.proofs.Leases.{cell_at-replicate}
 use Rattle.realm_model.proofs.RealmOf.{IsAt, IsAt-realm_of}

@@ -8,7 +8,7 @@ use Rattle.std.proofs.lemmas.List.{length-set, get_or-set_same, get_or-set_other
 use Rattle.realm_model.specs.Machine.{Cell, Machine, Seen, blank, left, cell_at, seen}
 use Rattle.realm_model.specs.Update.{Update, Put, PutByte, Lease, Free, granule_of, cell_after, lease_after, lease_before}
 use Rattle.realm_model.specs.World.{World, updated, updated_all, is_leased_to}
-use Rattle.realm_model.proofs.Tests.{guarded, cond_or}
+use Rattle.realm_model.proofs.Booleans.{guarded, cond_or}
 use Rattle.realm_model.proofs.Leases.{set_lease, leased}
 use Rattle.realm_model.proofs.Lists.{is_in, slice_get-set}
 

@@ -7,7 +7,8 @@ use Rattle.realm_model.specs.declared.states.GranuleState.TheVariants.{RecAux, D
 use Rattle.realm_model.specs.declared.act.Act.{Act}
 use Rattle.realm_model.specs.declared.act.Act.TheVariants.{Take, UnTake, Fill, Peek, Delegate, Undelegate, Realm, UnRealm, Activate, Rtt, UnRtt, Ripas, Data, Unknown, UnData, Rec, UnRec, Enter, Exit, Poke}
 use Rattle.realm_model.specs.declared.act.Event.{Event}
-use Rattle.realm_model.specs.Machine.{Limits, Cell, Seen, zero_page, left, held, cell_at, seen}
+use Rattle.granule_addr.specs.Page.{zero_page}
+use Rattle.realm_model.specs.Machine.{Limits, Cell, Seen, left, held, cell_at, seen}
 use Rattle.realm_model.specs.Update.{Update, Put, PutByte, Lease, Free, granule_of, cell_after}
 use Rattle.realm_model.specs.Act.{named}
 use Rattle.realm_model.specs.Outcome.{outcome_of}
@@ -31,7 +32,7 @@ use Rattle.realm_model.proofs.SoundParts.{IsSound, IsSound-step, IsSound-opening
 use Rattle.realm_model.proofs.Linked.{linked_step, linked_opening}
 use Rattle.realm_model.proofs.Reached.{of_reached}
 use Rattle.realm_model.proofs.Leases.{cell_at-replicate}
-use Rattle.realm_model.proofs.Tests.{true_false}
+use Rattle.realm_model.proofs.Booleans.{true_false}
 use Rattle.realm_model.proofs.Parts.{IsLinked, IsLinkedFor}
 
 -- ---- updates

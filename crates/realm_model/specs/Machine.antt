@@ -1,7 +1,8 @@
 -- What the monitor keeps of granules, realms and RECs. RMM 1.0, Granule, Realm and REC attributes.
-use Rattle.std.specs.Prelude.{ℕ, List, Option, Some, None, replicate, slice_index_or}
+use Rattle.std.specs.Prelude.{ℕ, List, Option, Some, None, slice_index_or}
 use Rattle.std.specs.FinMap.{FinMap}
 use Rattle.std.specs.Ordering.{nat_cmp}
+use Rattle.granule_addr.specs.Page.{zero_page}
 use Rattle.realm_model.specs.declared.states.GranuleState.{GranuleState}
 use Rattle.realm_model.specs.declared.states.GranuleState.TheVariants.{Undelegated, Delegated}
 use Rattle.realm_model.specs.declared.states.RealmState.{RealmState}
@@ -39,12 +40,6 @@ pub record Cell : Type 0 where
   pub realm : Option ℕ
   pub bytes : List ℕ
   pub descriptor : Option RealmRow
-
-unfoldable pub page_of : ℕ → List ℕ
-page_of value = replicate 4096 value
-
-unfoldable pub zero_page : List ℕ
-zero_page = replicate 4096 0
 
 -- a granule as nobody has it
 abbrev pub blank : Cell

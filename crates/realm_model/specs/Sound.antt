@@ -7,7 +7,8 @@ use Rattle.realm_model.specs.declared.states.GranuleState.TheVariants.{Undelegat
 use Rattle.realm_model.specs.declared.states.Hipas.{Hipas}
 use Rattle.realm_model.specs.declared.states.Hipas.TheVariants.{Unassigned, Assigned, Table}
 use Rattle.realm_model.specs.Rows.{Rows}
-use Rattle.realm_model.specs.Machine.{Cell, zero_page}
+use Rattle.granule_addr.specs.Page.{zero_page}
+use Rattle.realm_model.specs.Machine.{Cell}
 use Rattle.realm_model.specs.Ownership.{mapping_of_row}
 
 -- a row's kind and granule

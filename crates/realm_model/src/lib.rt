@@ -15,4 +15,4 @@ pub use rmi::{Rmi, Status};
 pub use states::{GranuleState, Hipas, RealmState, RecState, Ripas};
 
 #[cfg(test)]
-mod unit_tests;
+mod tests;

@@ -1,6 +1,10 @@
 //! Replays plans of builds: a plan comes on standard input, and the text of its run goes to standard output.
 #![tactic(auto)]
 
+ghost use Rattle.std.specs.Prelude.{◌≡◌, IfErr};
+ghost use Rattle.clap.specs.Values.{kind_of};
+ghost use Rattle.realmhost.specs.Fault.{status_of, status_of_kind, IsStatus};
+
 mod fault;
 mod line;
 mod replay;
@@ -20,13 +24,17 @@ use std::{env, io};
 const USAGE: u8 = 2;
 
 /// Tells a fault on standard error. Gives its status.
-fn fail(rt: &HostRuntime, fault: Fault) -> u8 {
+fn fail(rt: &HostRuntime, fault: Fault) -> u8
+    ensures { result ≡ status_of fault }
+{
     let _told = eprintln!(rt; "{fault}");
     fault.status()
 }
 
 /// Tells what `clap` says. Gives the status.
-fn refuse(rt: &HostRuntime, error: &clap::Error) -> u8 {
+fn refuse(rt: &HostRuntime, error: &clap::Error) -> u8
+    ensures { result ≡ status_of_kind (kind_of error.now) }
+{
     if error.kind() == ErrorKind::OutOfMemory {
         return fail(rt, Fault::Memory);
     }
@@ -35,7 +43,9 @@ fn refuse(rt: &HostRuntime, error: &clap::Error) -> u8 {
 }
 
 /// The command line.
-fn arguments(rt: &HostRuntime) -> Result<Vec<String>, u8> {
+fn arguments(rt: &HostRuntime) -> Result<Vec<String>, u8>
+    ensures { IfErr result (λ status. IsStatus status) }
+{
     let args = match env::args(rt) {
         Ok(args) => args,
         Err(error) if error.kind() == io::ErrorKind::OutOfMemory => {
@@ -51,7 +61,9 @@ fn arguments(rt: &HostRuntime) -> Result<Vec<String>, u8> {
 }
 
 /// Does what the command line asks for. At an `Err` the status is given, and its line was told.
-fn run(rt: &HostRuntime) -> Result<(), u8> {
+fn run(rt: &HostRuntime) -> Result<(), u8>
+    ensures { IfErr result (λ status. IsStatus status) }
+{
     let alloc = rt.alloc();
     let arguments = arguments(rt)?;
     let mut words = Vec::new(alloc);

@@ -203,7 +203,9 @@ fn reads_command_lines(rt: HostRuntime) -> Result<(), Fail> {
     ] {
         let error = Line::of(rt.alloc(), words).err().ok_or("accepted")?;
         assert_eq!(rt; error.kind(), want);
+        assert_eq!(rt; crate::refuse(&rt, &error), 2);
     }
+    assert_eq!(rt; crate::refuse(&rt, &clap::Error::from(AllocError)), 3);
     Ok(())
 }
 
@@ -217,6 +219,7 @@ fn tells_faults(rt: HostRuntime) -> Result<(), Fail> {
         (Fault::Device, 5, "device"),
     ] {
         assert_eq!(rt; fault.status(), status);
+        assert_eq!(rt; crate::fail(&rt, fault), status);
         assert_eq!(rt; fault.to_string(rt.alloc())?.as_str(), line);
     }
     assert_eq!(rt; Fault::from(PlanError::Fault(step)), Fault::Plan(step));

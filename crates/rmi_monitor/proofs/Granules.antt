@@ -1,17 +1,18 @@
 -- The commands on single granules, over the fields of a monitor.
 use Rattle.std.proofs.Common.{◌≡◌, ℕ, ◌<◌, Bool, true, false, List, [], ◌∷◌, length, set, Ok, None, sym, ap, ◌∙◌, subst}
 use Rattle.page_arena.specs.Page.{page_at, is_free}
-use Rattle.page_arena.specs.Page as arena
 use Rattle.granule_table.specs.Granules.{granule_at}
 use Rattle.granule_table.specs.declared.granule.Granule.{Granule}
 use Rattle.realm_model.specs.declared.states.GranuleState.TheVariants.{Undelegated, Delegated}
-use Rattle.realm_model.specs.Machine.{Cell, Machine, left, cell_at, page_of}
+use Rattle.granule_addr.specs.Page.{page_of}
+use Rattle.realm_model.specs.Machine.{Cell, Machine, left, cell_at}
 use Rattle.realm_model.specs.Update.{Update, Put, machine_after_all, machine_after_command}
 use Rattle.realm_model.specs.Command.Check.{check, error_input, is_undelegated, is_delegated}
 use Rattle.realm_model.specs.Command.Granule.{granule_delegate, granule_undelegate, host_fill}
 use Rattle.rmi_monitor.specs.View.{MonitorView, IsTaken, seen_in, after_command}
-use Rattle.rmi_monitor.specs.Inside.{cell_of, bytes_of, machine_of, stands_for, IsWhole, is_host_state}
-use Rattle.rmi_monitor.proofs.Machines.{length-machine_of, cell_at-machine_of, machine_of-set, machine_of-set_granule, machine_of-set_page, zero_page_is, page_of_is}
+use Rattle.realm_model.specs.Sound.{is_host_state}
+use Rattle.rmi_monitor.specs.Inside.{cell_of, bytes_of, machine_of, stands_for, IsWhole}
+use Rattle.rmi_monitor.proofs.Machines.{length-machine_of, cell_at-machine_of, machine_of-set, machine_of-set_granule, machine_of-set_page}
 use Rattle.rmi_monitor.proofs.Checks.{machine_done, machine_refused, undelegated_test, delegated_test, not_undelegated, not_delegated}
 
 module _ (monitor : MonitorView) (vmids aux : ℕ) (granules : List Granule) (pages : List (List ℕ)) (free : List Bool)
@@ -76,13 +77,12 @@ module _ (monitor : MonitorView) (vmids aux : ℕ) (granules : List Granule) (pa
         ap (λ (m : Machine). record monitor { machine = m }) (sym (machine_refused error_input updates monitor.machine holds h))
 
     pub delegated_done : (new : List Granule) (new_pages : List (List ℕ)) (new_free : List Bool) → (granule_at granules g).state ≡ Undelegated
-        → new ≡ set granules g (record { state = Delegated; realm = None }) → new_pages ≡ set pages g (arena.page_of 0) → new_free ≡ free
+        → new ≡ set granules g (record { state = Delegated; realm = None }) → new_pages ≡ set pages g (page_of 0) → new_free ≡ free
         → stands_for vmids aux new new_pages new_free ≡ after_command (granule_delegate (seen_in monitor g)) monitor
     delegated_done new new_pages new_free was shifted filled kept =
         (λ i. stands_for vmids aux (shifted i) (filled i) (kept i))
         ∙ after_done (is_undelegated (seen_in monitor g)) left _ (is_undelegated_there was)
-        (ap (λ (page : List ℕ). set machine g (record { state = Delegated; realm = None; bytes = page; descriptor = None })) (sym zero_page_is)
-        ∙ sym (machine_of-set granules pages whole.as_many g (record { state = Delegated; realm = None }) (arena.page_of 0)))
+        (sym (machine_of-set granules pages whole.as_many g (record { state = Delegated; realm = None }) (page_of 0)))
 
     -- ---- undelegate
 
@@ -100,17 +100,17 @@ module _ (monitor : MonitorView) (vmids aux : ℕ) (granules : List Granule) (pa
 
     -- ---- fill
 
-    filled_cell : (value : ℕ) → (granule_at granules g).state ≡ Undelegated → record (cell_at monitor.machine g) { bytes = page_of value } ≡ cell_of (granule_at granules g) (arena.page_of value)
+    filled_cell : (value : ℕ) → (granule_at granules g).state ≡ Undelegated → record (cell_at monitor.machine g) { bytes = page_of value } ≡ cell_of (granule_at granules g) (page_of value)
     filled_cell value was =
-        let page : page_of value ≡ bytes_of (granule_at granules g).state (arena.page_of value) =
-        sym (page_of_is value) ∙ sym (ap (λ s. bytes_of s (arena.page_of value)) was) in
+        let page : page_of value ≡ bytes_of (granule_at granules g).state (page_of value) =
+        sym (ap (λ s. bytes_of s (page_of value)) was) in
         ap (λ (c : Cell). record c { bytes = page_of value }) (cell_is g taken.inside)
         ∙ (λ i. record { state = (granule_at granules g).state; realm = (granule_at granules g).realm; bytes = page i; descriptor = None })
 
     pub filled_done : (value : ℕ) (new_pages : List (List ℕ)) (new_free : List Bool) → (granule_at granules g).state ≡ Undelegated
-        → new_pages ≡ set pages g (arena.page_of value) → new_free ≡ free
+        → new_pages ≡ set pages g (page_of value) → new_free ≡ free
         → stands_for vmids aux granules new_pages new_free ≡ after_command (host_fill (seen_in monitor g) value) monitor
     filled_done value new_pages new_free was filled kept =
         (λ i. stands_for vmids aux granules (filled i) (kept i))
         ∙ after_done (is_undelegated (seen_in monitor g)) (record (cell_at monitor.machine g) { bytes = page_of value }) _ (is_undelegated_there was)
-        (ap (set machine g) (filled_cell value was) ∙ sym (machine_of-set_page granules pages whole.as_many g (arena.page_of value)))
+        (ap (set machine g) (filled_cell value was) ∙ sym (machine_of-set_page granules pages whole.as_many g (page_of value)))

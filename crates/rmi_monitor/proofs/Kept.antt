@@ -5,7 +5,8 @@ use Rattle.std.specs.Bool.{OnTrue}
 use Rattle.std.proofs.lemmas.List.{length-set}
 use Rattle.page_arena.specs.Block.{IsFreeBlock}
 use Rattle.page_arena.specs.Runs.{get_or-with_run_inside, length-with_run}
-use Rattle.realm_model.specs.Machine.{Cell, Machine, blank, cell_at, page_of}
+use Rattle.granule_addr.specs.Page.{page_of}
+use Rattle.realm_model.specs.Machine.{Cell, Machine, blank, cell_at}
 use Rattle.realm_model.specs.Update.{Update, Put, Outcome, granule_of, machine_after, machine_after_all, machine_after_command}
 use Rattle.realm_model.specs.Command.Check.{check, error_input, is_undelegated}
 use Rattle.realm_model.specs.Command.Granule.{host_fill}

@@ -2,23 +2,15 @@
 use Rattle.std.proofs.Common.{◌≡◌, ℕ, ◌<◌, List, [], length, set, replicate, None, refl, sym, ap, ◌∙◌}
 use Rattle.std.proofs.lemmas.List.{set-get_or}
 use Rattle.page_arena.specs.Page.{page_at}
-use Rattle.page_arena.specs.Page as arena
 use Rattle.granule_table.specs.Granules.{granule_at, undelegated}
 use Rattle.granule_table.specs.declared.granule.Granule.{Granule}
 use Rattle.realm_model.specs.declared.states.GranuleState.{GranuleState}
 use Rattle.realm_model.specs.declared.states.GranuleState.TheVariants.{Undelegated, Rtt}
-use Rattle.realm_model.specs.Machine.{blank, cell_at, zero_page, page_of}
+use Rattle.granule_addr.specs.Page.{zero_page}
+use Rattle.realm_model.specs.Machine.{blank, cell_at}
 use Rattle.rmi_monitor.specs.Inside.{cell_of, bytes_of, machine_of}
 use Rattle.rmi_monitor.specs.View.{IsPageOf}
 use Rattle.rmi_monitor.proofs.Zips.{length-each, get_or-each, each-set, each-replicate}
-
-pub zero_page_is : arena.zero_page ≡ zero_page
-unfolding arena.page_of zero_page
-zero_page_is = refl
-
-pub page_of_is : (value : ℕ) → arena.page_of value ≡ page_of value
-unfolding arena.page_of page_of
-page_of_is value = refl
 
 module _ (granules : List Granule) (pages : List (List ℕ)) (as_many : length granules ≡ length pages) where
   pub length-machine_of : length (machine_of granules pages) ≡ length granules
@@ -44,11 +36,9 @@ module _ (granules : List Granule) (pages : List (List ℕ)) (as_many : length g
   machine_of-set_page g page =
       ap (λ gs. machine_of gs (set pages g page)) (sym (set-get_or granules g undelegated)) ∙ machine_of-set g (granule_at granules g) page
 
-pub machine_of-fresh : (n : ℕ) → machine_of (replicate n undelegated) (replicate n arena.zero_page) ≡ replicate n blank
+pub machine_of-fresh : (n : ℕ) → machine_of (replicate n undelegated) (replicate n zero_page) ≡ replicate n blank
 unfolding machine_of
-machine_of-fresh n =
-    each-replicate cell_of n undelegated arena.zero_page
-    ∙ ap (λ (page : List ℕ). replicate n (record { state = Undelegated; realm = None; bytes = page; descriptor = None })) zero_page_is
+machine_of-fresh n = each-replicate cell_of n undelegated zero_page
 
 -- the page of a granule that is no table
 pub IsPageOf-cell_of : (granule : Granule) (page bytes : List ℕ) → bytes ≡ page → IsPageOf (cell_of granule page) bytes

@@ -4,7 +4,7 @@ use Rattle.std.specs.Prelude.{sum}
 use Rattle.granule_table.specs.declared.granule.Granule.{Granule}
 use Rattle.realm_model.specs.declared.states.GranuleState.{GranuleState}
 use Rattle.realm_model.specs.declared.states.GranuleState.TheVariants.{Rtt}
-use Rattle.realm_model.specs.Machine.{zero_page}
+use Rattle.granule_addr.specs.Page.{page_of, zero_page}
 use Rattle.rmi_monitor.specs.Inside.{bytes_of, cell_of}
 
 sum-zeros : (n : ℕ) → sum (replicate n 0) ≡ 0
@@ -12,7 +12,7 @@ sum-zeros zero = refl
 sum-zeros (suc n) = sum-zeros n
 
 sum-zero_page : sum zero_page ≡ 0
-unfolding zero_page
+unfolding page_of
 sum-zero_page = sum-zeros 4096
 
 -- a table counts as zero

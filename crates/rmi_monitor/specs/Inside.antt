@@ -1,10 +1,12 @@
 -- The machine that a monitor's fields stand for, and what always holds of them.
-use Rattle.std.specs.Prelude.{◌≡◌, ℕ, List, length, Bool, true, false, None}
+use Rattle.std.specs.Prelude.{◌≡◌, ℕ, List, length, Bool, true, None}
 use Rattle.granule_table.specs.Granules.{granule_at}
 use Rattle.granule_table.specs.declared.granule.Granule.{Granule}
 use Rattle.realm_model.specs.declared.states.GranuleState.{GranuleState}
-use Rattle.realm_model.specs.declared.states.GranuleState.TheVariants.{Undelegated, Delegated, Rtt}
-use Rattle.realm_model.specs.Machine.{Cell, Machine, zero_page}
+use Rattle.realm_model.specs.declared.states.GranuleState.TheVariants.{Rtt}
+use Rattle.granule_addr.specs.Page.{zero_page}
+use Rattle.realm_model.specs.Machine.{Cell, Machine}
+use Rattle.realm_model.specs.Sound.{is_host_state}
 use Rattle.realm_model.specs.World.{each}
 use Rattle.rmi_monitor.specs.View.{MonitorView}
 
@@ -23,12 +25,6 @@ cell_of granule page = record {
 
 unfoldable pub machine_of : List Granule → List (List ℕ) → Machine
 machine_of granules pages = each cell_of granules pages
-
--- the host may use the granule
-abbrev pub is_host_state : GranuleState → Bool
-is_host_state Undelegated = true
-is_host_state Delegated = true
-is_host_state _ = false
 
 -- There is a page for each granule, and those that the host may use belong to no realm.
 pub record IsWhole (granules : List Granule) (pages : List (List ℕ)) : Type 0 where

@@ -2,7 +2,7 @@
 ghost use Rattle.std.specs.Prelude.{◌≡◌, ◌<◌, ◌≤◌, ◌↔◌, ℕ, Bool, true, List, length, filter, replicate, sum, IsTrue, IfOk, IfErr, IfSome, IfNone};
 ghost use Rattle.std.specs.Bool.{OnTrue, OnFalse};
 ghost use Rattle.page_arena.specs.Block.{IsFreeBlock};
-ghost use Rattle.page_arena.specs.Page.{zero_page};
+ghost use Rattle.granule_addr.specs.Page.{zero_page};
 ghost use Rattle.realm_model.specs.Machine.{cell_at, blank};
 ghost use Rattle.rmi_monitor.specs.View.{IsGivable, IsPageOf, fresh, with_block, without_block};
 

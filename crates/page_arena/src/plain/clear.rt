@@ -1,6 +1,6 @@
 //! Pages of zeros.
 ghost use Rattle.std.specs.Prelude.{◌≡◌, ◌+◌, ◌≤◌, length, replicate, IfOk};
-ghost use Rattle.page_arena.specs.Page.{zero_page};
+ghost use Rattle.granule_addr.specs.Page.{zero_page};
 ghost use Rattle.page_arena.specs.Block.{with_run};
 
 use std::alloc::{AllocError, Global};

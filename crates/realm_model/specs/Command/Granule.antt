@@ -1,7 +1,8 @@
 -- Commands on single granules.
 use Rattle.std.specs.Prelude.{ℕ, [], ◌∷◌, Ok}
 use Rattle.realm_model.specs.declared.states.GranuleState.TheVariants.{Undelegated}
-use Rattle.realm_model.specs.Machine.{Seen, page_of, left}
+use Rattle.granule_addr.specs.Page.{page_of}
+use Rattle.realm_model.specs.Machine.{Seen, left}
 use Rattle.realm_model.specs.Update.{Outcome, Put}
 use Rattle.realm_model.specs.Command.Check.{check, error_input, is_undelegated, is_delegated}
 

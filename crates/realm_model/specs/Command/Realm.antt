@@ -5,7 +5,8 @@ use Rattle.realm_model.specs.declared.states.GranuleState.TheVariants.{Rd, Rtt}
 use Rattle.realm_model.specs.declared.states.RealmState.TheVariants.{New, Active}
 use Rattle.realm_model.specs.Rows.{root_rows, has_root_table}
 use Rattle.realm_model.specs.Measurement.{zero_measurement}
-use Rattle.realm_model.specs.Machine.{Limits, RealmRow, Seen, zero_page, left, held}
+use Rattle.granule_addr.specs.Page.{zero_page}
+use Rattle.realm_model.specs.Machine.{Limits, RealmRow, Seen, left, held}
 use Rattle.realm_model.specs.Update.{Outcome, Put}
 use Rattle.realm_model.specs.Command.Check.{check, error_input, error_realm, is_delegated, is_new, with_realm, put_realm}
 

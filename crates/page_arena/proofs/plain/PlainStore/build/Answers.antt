@@ -1,5 +1,5 @@
 use Rattle.std.proofs.Common.{◌≡◌, true, replicate, arith, rules}
-use Rattle.page_arena.specs.Page.{zero_page}
+use Rattle.granule_addr.specs.Page.{zero_page}
 use Rattle.page_arena.specs.Pages.{IsSized-replicate}
 use Rattle.page_arena.proofs.plain.PlainStore.build.Goals as goal
 

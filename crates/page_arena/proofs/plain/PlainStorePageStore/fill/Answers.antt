@@ -1,5 +1,5 @@
 use Rattle.std.proofs.Common.{ℕ, set, ap}
-use Rattle.page_arena.specs.Page.{page_of}
+use Rattle.granule_addr.specs.Page.{page_of}
 use Rattle.page_arena.proofs.plain.PlainStorePageStore.fill.Goals as goal
 
 pub returns-clause-filled : goal.returns-clause-filled

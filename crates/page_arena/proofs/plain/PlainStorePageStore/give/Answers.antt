@@ -1,6 +1,6 @@
 use Rattle.std.proofs.Common.{◌≡◌, ◌+◌, ◌≤◌, true, length, ap, ◌∙◌, arith}
 use Rattle.std.proofs.lemmas.List.{take_at}
-use Rattle.page_arena.specs.Page.{zero_page}
+use Rattle.granule_addr.specs.Page.{zero_page}
 use Rattle.page_arena.specs.Block.{with_run}
 use Rattle.page_arena.specs.Runs.{length-with_run}
 use Rattle.page_arena.specs.Pages.{IsSized-with_run}

@@ -1,5 +1,5 @@
 use Rattle.std.proofs.Common.{set, ap, ◌∙◌, refl, arith}
-use Rattle.page_arena.specs.Page.{page_of, zero_page}
+use Rattle.granule_addr.specs.Page.{page_of, zero_page}
 use Rattle.page_arena.proofs.RunLoops.{run_begun, run_on}
 use Rattle.page_arena.proofs.plain.clear.clear_run.Goals as goal
 

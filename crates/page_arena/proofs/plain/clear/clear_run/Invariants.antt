@@ -1,5 +1,5 @@
 use Rattle.std.proofs.Common.{◌≡◌, ◌-◌}
-use Rattle.page_arena.specs.Page.{zero_page}
+use Rattle.granule_addr.specs.Page.{zero_page}
 use Rattle.page_arena.specs.Block.{with_run}
 use Rattle.page_arena.proofs.plain.clear.clear_run.Given as goal
 

@@ -1,5 +1,5 @@
 use Rattle.std.proofs.Common.{◌≡◌, replicate}
-use Rattle.page_arena.specs.Page.{zero_page}
+use Rattle.granule_addr.specs.Page.{zero_page}
 use Rattle.page_arena.proofs.plain.clear.zero_pages.Given as goal
 
 abbrev pub invariant-loop-i : goal.invariant-loop-i

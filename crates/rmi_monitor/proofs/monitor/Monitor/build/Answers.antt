@@ -1,7 +1,7 @@
 use Rattle.std.proofs.Common.{◌≡◌, List, ℕ, Bool, replicate, length, true, ap, ◌∙◌}
 use Rattle.granule_table.specs.Granules.{undelegated}
 use Rattle.granule_table.specs.declared.granule.Granule.{Granule}
-use Rattle.page_arena.specs.Page.{zero_page}
+use Rattle.granule_addr.specs.Page.{zero_page}
 use Rattle.realm_model.specs.Machine.{Machine}
 use Rattle.rmi_monitor.specs.Inside.{stands_for}
 use Rattle.rmi_monitor.proofs.Machines.{machine_of-fresh}

@@ -1,5 +1,6 @@
 use Rattle.std.proofs.Common.{[], ◌∷◌, sym, ◌∙◌}
-use Rattle.realm_model.specs.Machine.{cell_at, page_of}
+use Rattle.granule_addr.specs.Page.{page_of}
+use Rattle.realm_model.specs.Machine.{cell_at}
 use Rattle.realm_model.specs.Update.{Put}
 use Rattle.realm_model.specs.Command.Check.{error_input}
 use Rattle.rmi_monitor.proofs.Checks.{answers_done, answers_refused}
