@@ -1,13 +1,12 @@
 -- A stack that follows an act.
-use Rattle.std.proofs.Common.{◌≡◌, ◌≢◌, ℕ, ◌+◌, ◌-◌, ◌≤◌, ◌<◌, Bool, true, false, List, [], ◌∷◌, ◌++◌, length, take, refl, sym, ap, ◌∙◌, subst, arith, length-append}
-use Rattle.std.specs.List.{list_all}
+use Rattle.std.proofs.Common.{◌≡◌, ◌+◌, ◌-◌, ◌≤◌, true, false, List, [], ◌∷◌, ◌++◌, length, take, refl, sym, ap, ◌∙◌, subst, length-append}
 use Rattle.std.proofs.lemmas.Bool.{and_parts, and_from}
 use Rattle.std.proofs.lemmas.List.Folds.{list_all-append}
 use Rattle.realm_model.specs.declared.act.Act.{Act}
 use Rattle.realm_model.specs.Act.{is_paired, is_reverse}
 use Rattle.realm_model.specs.Stack.{pushed}
 use Rattle.realm_model.proofs.Lists.{front, take-front}
-use Rattle.realm_model.proofs.Stack.{pushed_paired, pushed_back, pushed_other}
+use Rattle.realm_model.proofs.Stack.{pushed_paired, pushed_back}
 use Rattle.build_journal.specs.Stack.{are_paired}
 
 module _ (stack : List Act) (act : Act) (paired : is_paired act ≡ true) where

@@ -1,13 +1,13 @@
 -- A Delegate that passed its checks.
-use Rattle.std.proofs.Common.{◌≡◌, ℕ, ◌<◌, ◌≤◌, Bool, true, false, List, [], ◌∷◌, ◌++◌, length, Option, Some, None, Ok, Err, refl, sym, ap, ◌∙◌, subst}
+use Rattle.std.proofs.Common.{◌≡◌, ℕ, true, false, [], ◌∷◌, Some, None, Ok, Err, refl, sym, ap, ◌∙◌, subst}
 use Rattle.std.specs.Prelude.{slice_get}
 use Rattle.std.proofs.lemmas.List.Elements.{All-nil, All-cons}
 use Rattle.realm_model.specs.declared.act.Act.{Act}
 use Rattle.realm_model.specs.declared.act.Act.TheVariants.{Delegate}
 use Rattle.realm_model.specs.declared.rmi.Rmi.{Rmi as RmiAnswer}
-use Rattle.realm_model.specs.Machine.{Cell, Machine, Seen, seen, left}
-use Rattle.realm_model.specs.Update.{Update, Outcome, Put, machine_after_all, machine_after_command}
-use Rattle.realm_model.specs.Command.Check.{check, error_input, is_undelegated}
+use Rattle.realm_model.specs.Machine.{Cell, seen, left}
+use Rattle.realm_model.specs.Update.{Outcome, Put, machine_after_all, machine_after_command}
+use Rattle.realm_model.specs.Command.Check.{error_input, is_undelegated}
 use Rattle.realm_model.specs.Command.Granule.{granule_delegate}
 use Rattle.realm_model.specs.Act.{named, is_paired, is_reverse, reverse_of}
 use Rattle.realm_model.specs.Outcome.{outcome_of, fits}
@@ -24,7 +24,7 @@ use Rattle.realm_host.specs.Books.{BooksView, CanRecord, with_entry}
 use Rattle.realm_host.specs.Whole.{host_of, is_served, IsWhole}
 use Rattle.realm_host.specs.Refusals.{checked, no_build, journal_full, history_full, refusal_of}
 use Rattle.realm_host.specs.Answer.{IsAccepted}
-use Rattle.realm_host.proofs.Refused.{refused_with, IsDone, done_with}
+use Rattle.realm_host.proofs.Refused.{refused_with, done_with}
 use Rattle.realm_host.proofs.Rooms.{in_turn, room_paired}
 use Rattle.realm_host.proofs.PageRefused.{delegate_by_monitor, delegate_not_refused}
 use Rattle.realm_host.proofs.PageDone.{check_done, there, is_leased, seen_same, pages_fit_after, whole_put, legal_put, grows_put}

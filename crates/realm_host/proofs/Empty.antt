@@ -9,7 +9,7 @@ use Rattle.leases.specs.Stacks.{Stacks, stack_of}
 use Rattle.realm_model.specs.declared.act.Event.{Event}
 use Rattle.realm_model.specs.History.{open_entries, pages_of}
 use Rattle.realm_host.specs.declared.build.Build.{Build}
-use Rattle.realm_host.specs.Books.{books_of, build_after, new_build, HasRoom, IsKept}
+use Rattle.realm_host.specs.Books.{books_of, build_after, new_build, IsKept}
 
 new_build_is : (build : ℕ) → new_build ≡ build_after [] build
 unfolding open_entries

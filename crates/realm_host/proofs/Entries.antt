@@ -1,10 +1,9 @@
 -- One more entry in the books.
-use Rattle.std.proofs.Common.{◌≡◌, ◌≢◌, ℕ, ◌+◌, ◌-◌, ◌*◌, ◌^◌, ◌<◌, ◌≤◌, Bool, true, false, cond, List, [], ◌∷◌, ◌++◌, length, set, get_or, take, Option, Some, None, refl, sym, ap, ◌∙◌, subst, arith, length-append, ⊎_elim, vec_len, vec_capacity}
+use Rattle.std.proofs.Common.{◌≡◌, ◌≢◌, ℕ, ◌+◌, ◌-◌, ◌*◌, ◌^◌, ◌<◌, ◌≤◌, cond, List, [], ◌∷◌, ◌++◌, length, set, take, Some, refl, sym, ap, ◌∙◌, subst, arith, length-append, ⊎_elim, vec_capacity}
 use Rattle.std.specs.Prelude.{slice_get}
 use Rattle.std.specs.Global.{Vec}
-use Rattle.std.specs.List.{All, range_with_len}
+use Rattle.std.specs.List.{All}
 use Rattle.std.proofs.lemmas.Bool.{cases_eq, eq-eqb, ne_eqb}
-use Rattle.std.proofs.lemmas.Option.{get_or_from_slice_get, same_Some}
 use Rattle.std.proofs.lemmas.List.{length-set, get_or-set_same, get_or-set_other}
 use Rattle.std.proofs.lemmas.List.FromFn.{length-range_with_len}
 use Rattle.std.proofs.Math.Seq.{take-append_seam}
@@ -19,7 +18,6 @@ use Rattle.realm_model.specs.History.{acts_of, open_entries, pages_of, IsInTurn}
 use Rattle.realm_model.proofs.Lists.{slice_get-set}
 use Rattle.realm_model.proofs.Growth.{open_entries-own, open_entries-other}
 use Rattle.realm_model.proofs.Pages.{pages_of-take, pages_of-untake, pages_of-same, pages_of-other}
-use Rattle.realm_model.proofs.Puts.{is_of_block}
 use Rattle.realm_host.specs.declared.build.Build.{Build}
 use Rattle.realm_host.specs.View.{event_by}
 use Rattle.realm_host.specs.Books.{BooksView, with_entry, build_after, pages_after, CanFollow, HasRoom, FitsMachine, IsKept}

@@ -1,20 +1,20 @@
 -- A Fill that passed its checks.
-use Rattle.std.proofs.Common.{◌≡◌, ℕ, ◌<◌, ◌≤◌, Bool, true, false, List, [], ◌∷◌, ◌++◌, length, Option, Some, None, Ok, Err, refl, sym, ap, ◌∙◌, subst}
+use Rattle.std.proofs.Common.{◌≡◌, ℕ, true, false, [], ◌∷◌, Some, None, Ok, Err, refl, sym, ap, ◌∙◌, subst}
 use Rattle.std.specs.Prelude.{slice_get}
 use Rattle.std.proofs.lemmas.List.Elements.{All-nil, All-cons}
 use Rattle.realm_model.specs.declared.act.Act.{Act}
 use Rattle.realm_model.specs.declared.act.Act.TheVariants.{Fill}
 use Rattle.realm_model.specs.declared.rmi.Rmi.{Rmi as RmiAnswer}
 use Rattle.granule_addr.specs.Page.{page_of}
-use Rattle.realm_model.specs.Machine.{Cell, Machine, Seen, seen, cell_at}
-use Rattle.realm_model.specs.Update.{Update, Outcome, Put, machine_after_all, machine_after_command}
-use Rattle.realm_model.specs.Command.Check.{check, error_input, is_undelegated}
+use Rattle.realm_model.specs.Machine.{Cell, seen, cell_at}
+use Rattle.realm_model.specs.Update.{Outcome, Put, machine_after_all, machine_after_command}
+use Rattle.realm_model.specs.Command.Check.{error_input, is_undelegated}
 use Rattle.realm_model.specs.Command.Granule.{host_fill}
 use Rattle.realm_model.specs.Act.{named, is_paired, is_reverse, reverse_of}
 use Rattle.realm_model.specs.Outcome.{outcome_of, fits}
 use Rattle.realm_model.specs.World.{World}
 use Rattle.realm_model.specs.Step.{step}
-use Rattle.realm_model.specs.History.{open_entries, IsInTurn}
+use Rattle.realm_model.specs.History.{IsInTurn}
 use Rattle.realm_model.proofs.StepSays.{step_says}
 use Rattle.rmi_monitor.specs.View.{MonitorView, Answers, seen_in, after_command}
 use Rattle.realm_host.specs.declared.refusal.Refusal.TheVariants.{Rmi}
@@ -25,7 +25,7 @@ use Rattle.realm_host.specs.Books.{BooksView, CanRecord, with_entry}
 use Rattle.realm_host.specs.Whole.{host_of, is_served, IsWhole}
 use Rattle.realm_host.specs.Refusals.{checked, no_build, history_full, refusal_of}
 use Rattle.realm_host.specs.Answer.{IsAccepted}
-use Rattle.realm_host.proofs.Refused.{refused_with, IsDone, done_with}
+use Rattle.realm_host.proofs.Refused.{refused_with, done_with}
 use Rattle.realm_host.proofs.Rooms.{in_turn, room_unpaired}
 use Rattle.realm_host.proofs.PageRefused.{fill_by_monitor, fill_not_refused}
 use Rattle.realm_host.proofs.PageDone.{check_done, there, is_leased, seen_same, no_descriptor, pages_fit_after, whole_put, legal_put, grows_put}

@@ -1,7 +1,7 @@
 -- A block that is free by the flags of the store is one that nobody leases, and the other way round.
-use Rattle.std.proofs.Common.{◌≡◌, ℕ, zero, suc, ◌+◌, ◌-◌, ◌%◌, ◌^◌, ◌<◌, ◌≤◌, Bool, true, false, not, ◌&&◌, List, [], ◌∷◌, length, map, get_or, Option, Some, None, refl, sym, ap, ◌∙◌, subst, arith}
-use Rattle.std.specs.Prelude.{is_none, slice_get, ◌==◌, nat_le}
-use Rattle.std.specs.List.{All, list_all, list_any, range_with_len}
+use Rattle.std.proofs.Common.{◌≡◌, ℕ, zero, suc, ◌+◌, ◌-◌, ◌%◌, ◌^◌, ◌<◌, ◌≤◌, Bool, true, false, List, [], ◌∷◌, length, map, Option, Some, None, refl, arith}
+use Rattle.std.specs.Prelude.{is_none, slice_get}
+use Rattle.std.specs.List.{list_any, range_with_len}
 use Rattle.std.proofs.lemmas.Bool.{and_parts, and_from, eqb-true, eq-eqb, le-leb}
 use Rattle.std.proofs.lemmas.Option.{slice_get_within}
 use Rattle.std.proofs.lemmas.List.{length-map}
@@ -9,10 +9,9 @@ use Rattle.std.proofs.lemmas.Nat.{pow_pos}
 use Rattle.page_arena.specs.Page.{is_free}
 use Rattle.page_arena.specs.Block.{IsFreeBlock}
 use Rattle.realm_model.specs.Act.{block}
-use Rattle.realm_model.specs.Outcome.{is_block_start}
 use Rattle.realm_model.specs.World.{World, is_leased_to}
 use Rattle.realm_model.proofs.Leases.{leased, leased_from}
-use Rattle.realm_model.proofs.Lists.{is_in, all_from_in, all_in}
+use Rattle.realm_model.proofs.Lists.{all_from_in, all_in}
 use Rattle.realm_host.specs.Refusals.{is_free_block}
 use Rattle.realm_host.proofs.Ranges.{in_range_from, range_in, any_from, none_from}
 

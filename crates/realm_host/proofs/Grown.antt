@@ -1,18 +1,16 @@
 -- A host after one more step: its history is legal, and what it keeps is what its history says.
-use Rattle.std.proofs.Common.{◌≡◌, ◌≢◌, ℕ, ◌-◌, ◌<◌, ◌≤◌, Bool, true, false, cond, List, [], ◌∷◌, ◌++◌, length, map, take, Option, Some, None, refl, sym, ap, ◌∙◌, subst, arith, ⊎_elim}
+use Rattle.std.proofs.Common.{◌≡◌, ℕ, ◌-◌, ◌≤◌, Bool, true, false, cond, List, [], ◌∷◌, ◌++◌, length, map, take, Option, Some, None, refl, sym, ap, ◌∙◌, subst, ⊎_elim}
 use Rattle.std.specs.Prelude.{is_none, unwrap_or}
 use Rattle.std.specs.List.{All}
 use Rattle.std.proofs.lemmas.Bool.{cases_eq}
 use Rattle.std.proofs.lemmas.List.Elements.{All-push, All-take}
 use Rattle.realm_model.specs.declared.act.Act.{Act}
-use Rattle.realm_model.specs.declared.act.Event.{Event}
-use Rattle.realm_model.specs.Machine.{Limits, Cell, Machine}
+use Rattle.realm_model.specs.Machine.{Cell}
 use Rattle.realm_model.specs.World.{World, opening}
 use Rattle.realm_model.specs.Step.{step}
 use Rattle.realm_model.specs.Act.{is_paired, is_reverse}
 use Rattle.realm_model.specs.Stack.{pushed}
 use Rattle.realm_model.specs.History.{replay, open_entries, pages_of, IsInTurn, IsLegal}
-use Rattle.realm_model.specs.Pages.{PagesAreLeased}
 use Rattle.realm_model.proofs.Growth.{Grows, grows, open_entries-own, open_entries-other}
 use Rattle.realm_model.proofs.Pages.{pages_are_leased}
 use Rattle.rmi_monitor.specs.View.{MonitorView}

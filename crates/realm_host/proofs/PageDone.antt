@@ -1,37 +1,31 @@
 -- A command on a page that passed its checks: the monitor refuses it, or it is done and recorded.
-use Rattle.std.proofs.Common.{◌≡◌, ℕ, ◌<◌, ◌≤◌, Bool, true, false, List, [], ◌∷◌, ◌++◌, length, map, set, get_or, Option, Some, None, Ok, Err, refl, sym, ap, ◌∙◌, subst}
-use Rattle.std.specs.Prelude.{is_none, slice_get}
+use Rattle.std.proofs.Common.{◌≡◌, ℕ, ◌<◌, ◌≤◌, Bool, true, false, List, [], ◌∷◌, ◌++◌, length, set, Some, None, Ok, refl, sym, ap, ◌∙◌, subst}
+use Rattle.std.specs.Prelude.{slice_get}
 use Rattle.std.specs.List.{All}
 use Rattle.std.proofs.lemmas.Bool.{leb-false}
 use Rattle.std.proofs.lemmas.List.{length-set}
-use Rattle.std.proofs.lemmas.List.Elements.{All-nil, All-cons, All-set, All-get_or}
+use Rattle.std.proofs.lemmas.List.Elements.{All-set, All-get_or}
 use Rattle.page_arena.specs.Page.{is_free}
 use Rattle.realm_model.specs.declared.act.Act.{Act}
-use Rattle.realm_model.specs.declared.act.Act.TheVariants.{Fill, Delegate}
 use Rattle.realm_model.specs.declared.rmi.Rmi.{Rmi as RmiAnswer}
-use Rattle.granule_addr.specs.Page.{page_of}
-use Rattle.realm_model.specs.Machine.{Cell, Machine, Seen, seen, cell_at, blank, left}
+use Rattle.realm_model.specs.Machine.{Cell, Machine, seen, cell_at, blank}
 use Rattle.realm_model.specs.Update.{Update, Outcome, Put, machine_after_all, machine_after_command}
-use Rattle.realm_model.specs.Command.Check.{check, error_input, is_undelegated}
-use Rattle.realm_model.specs.Command.Granule.{granule_delegate, host_fill}
-use Rattle.realm_model.specs.Act.{named, is_paired, is_reverse, reverse_of}
-use Rattle.realm_model.specs.Outcome.{outcome_of, fits}
+use Rattle.realm_model.specs.Command.Check.{check}
+use Rattle.realm_model.specs.Act.{is_paired}
 use Rattle.realm_model.specs.World.{World}
 use Rattle.realm_model.specs.Step.{step}
 use Rattle.realm_model.specs.History.{pages_of, IsInTurn, IsLegal}
 use Rattle.realm_model.proofs.Leases.{leased}
 use Rattle.realm_model.proofs.Lists.{is_in_at}
 use Rattle.realm_model.proofs.Pages.{is_in-pages_of}
-use Rattle.realm_model.proofs.StepSays.{step_says}
-use Rattle.rmi_monitor.specs.View.{MonitorView, IsTaken, Answers, seen_in, after_command}
+use Rattle.rmi_monitor.specs.View.{MonitorView, IsTaken, seen_in, after_command}
 use Rattle.realm_host.specs.View.{HostView, world_of, granule_of_page, event_by, with_event}
-use Rattle.realm_host.specs.Books.{BooksView, CanRecord, with_entry}
+use Rattle.realm_host.specs.Books.{BooksView, with_entry}
 use Rattle.realm_host.specs.Whole.{host_of, is_served, IsWhole}
 use Rattle.realm_host.specs.Refusals.{checked, no_build}
 use Rattle.realm_host.proofs.Refused.{is_false}
 use Rattle.realm_host.proofs.Worlds.{world_is, page_inside}
 use Rattle.realm_host.proofs.FreeBlocks.{taken_flag}
-use Rattle.realm_host.proofs.Rooms.{in_turn}
 use Rattle.realm_host.proofs.Grown.{legal_after, pages_fit, host_grows, whole_after}
 
 abbrev no_rd : Cell → Type 0

@@ -1,5 +1,5 @@
 -- Which refusal a Fill or a Delegate gets.
-use Rattle.std.proofs.Common.{◌≡◌, ℕ, Bool, true, false, List, [], ◌∷◌, Option, Some, None, Ok, Err, refl, sym, ap, ◌∙◌}
+use Rattle.std.proofs.Common.{◌≡◌, ℕ, List, ◌∷◌, Some, None, Ok, Err, refl, ap, ◌∙◌}
 use Rattle.std.specs.Prelude.{is_none}
 use Rattle.realm_model.specs.declared.rmi.Rmi.{Rmi as RmiAnswer}
 use Rattle.realm_model.specs.Machine.{Seen, seen}

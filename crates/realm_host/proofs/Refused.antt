@@ -1,11 +1,10 @@
 -- Which refusal of a list of checks is given.
-use Rattle.std.proofs.Common.{◌≡◌, Bool, true, false, cond, List, [], ◌∷◌, ◌++◌, Option, Some, None, Result, Ok, Err, refl, sym, ap, ◌∙◌}
+use Rattle.std.proofs.Common.{◌≡◌, Bool, true, false, cond, List, ◌∷◌, Option, Some, Result, Ok, Err, refl, sym, ap}
 use Rattle.realm_model.specs.declared.rmi.Rmi.{Rmi as RmiAnswer}
 use Rattle.realm_model.specs.Update.{Update, Outcome}
 use Rattle.rmi_monitor.specs.View.{Answers}
 use Rattle.realm_host.specs.declared.refusal.Refusal.{Refusal}
-use Rattle.realm_host.specs.declared.refusal.Refusal.TheVariants.{Rmi}
-use Rattle.realm_host.specs.Refusals.{Check, checked, first_that_holds, refused_by}
+use Rattle.realm_host.specs.Refusals.{Check, checked, first_that_holds}
 
 -- a check that holds is the first, and one that does not is passed
 abbrev answer : Bool → Refusal → Result (Unit {0}) Refusal

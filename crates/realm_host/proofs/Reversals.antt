@@ -1,21 +1,20 @@
 -- The reverse of a newest open act, in the world and in the monitor.
-use Rattle.std.proofs.Common.{◌≡◌, ℕ, ◌+◌, ◌-◌, ◌%◌, ◌^◌, ◌<◌, ◌≤◌, Bool, true, false, ◌&&◌, List, [], ◌∷◌, ◌++◌, length, map, set, take, drop, replicate, get_or, Option, Some, None, Ok, Err, refl, sym, ap, ◌∙◌, subst, arith}
-use Rattle.std.specs.Prelude.{is_none, slice_get, is_some, IsSome}
-use Rattle.std.specs.List.{All, list_all, range_with_len, last_or}
+use Rattle.std.proofs.Common.{◌≡◌, ℕ, ◌+◌, ◌-◌, ◌%◌, ◌^◌, ◌<◌, ◌≤◌, Bool, true, false, ◌&&◌, List, [], ◌∷◌, ◌++◌, length, map, set, take, drop, replicate, Option, Some, None, Ok, Err, refl, sym, ap, ◌∙◌, subst, arith}
+use Rattle.std.specs.Prelude.{is_none, slice_get}
+use Rattle.std.specs.List.{All, list_all}
 use Rattle.std.proofs.lemmas.Bool.{and_parts, eqb-true}
 use Rattle.std.proofs.lemmas.Nat.{pow_pos}
-use Rattle.std.proofs.lemmas.Option.{same_Some, slice_get_within}
+use Rattle.std.proofs.lemmas.Option.{slice_get_within}
 use Rattle.std.proofs.lemmas.List.{length-map, length-set}
-use Rattle.std.proofs.lemmas.List.Elements.{All-head, All-tail, All-append, All-take, All-drop, All-replicate, All-set, All-get_or, All-contains, All-cons, All-nil}
+use Rattle.std.proofs.lemmas.List.Elements.{All-head, All-append, All-take, All-drop, All-replicate, All-set, All-get_or, All-contains, All-cons, All-nil}
 use Rattle.page_arena.specs.Page.{is_free}
 use Rattle.page_arena.specs.Block.{IsTakenBlock, with_run}
 use Rattle.page_arena.specs.Runs.{length-with_run}
 use Rattle.realm_model.specs.declared.act.Act.{Act}
 use Rattle.realm_model.specs.declared.act.Act.TheVariants.{UnTake, Undelegate}
 use Rattle.realm_model.specs.declared.rmi.Rmi.{Rmi as RmiAnswer}
-use Rattle.realm_model.specs.declared.states.GranuleState.{GranuleState}
 use Rattle.realm_model.specs.declared.states.GranuleState.TheVariants.{Undelegated}
-use Rattle.realm_model.specs.Machine.{Limits, Cell, Machine, Seen, seen, cell_at, blank}
+use Rattle.realm_model.specs.Machine.{Cell, Machine, seen, cell_at, blank}
 use Rattle.realm_model.specs.Update.{Update, Outcome, Put, machine_after_all, machine_after_command}
 use Rattle.realm_model.specs.Command.Check.{check, error_input, is_undelegated, is_delegated}
 use Rattle.realm_model.specs.Command.Granule.{granule_undelegate}
@@ -28,7 +27,7 @@ use Rattle.realm_model.proofs.Blocks.{step-untake}
 use Rattle.realm_model.proofs.StepSays.{step_is}
 use Rattle.realm_model.proofs.Lists.{is_in, Contains-from_in}
 use Rattle.realm_model.proofs.Reached.{sized_reached}
-use Rattle.rmi_monitor.specs.View.{MonitorView, IsTaken, IsGivable, Answers, seen_in, after_command, without_block}
+use Rattle.rmi_monitor.specs.View.{MonitorView, Answers, seen_in}
 use Rattle.realm_host.specs.View.{HostView, world_of, event_by}
 use Rattle.realm_host.specs.Books.{BooksView}
 use Rattle.realm_host.specs.Whole.{host_of, IsWhole}

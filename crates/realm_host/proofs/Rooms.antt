@@ -1,16 +1,15 @@
 -- Room for one more event of a build.
-use Rattle.std.proofs.Common.{◌≡◌, ℕ, ◌+◌, ◌<◌, ◌≤◌, Bool, true, false, List, [], ◌∷◌, ◌++◌, length, Ok, refl, sym, ap, ◌∙◌, subst, arith, length-append}
-use Rattle.std.specs.Prelude.{IsTrue, nat_lt, nat_le}
+use Rattle.std.proofs.Common.{◌≡◌, ℕ, ◌+◌, ◌≤◌, Bool, true, false, List, [], ◌∷◌, ◌++◌, length, Ok, ap, ◌∙◌, arith, length-append}
+use Rattle.std.specs.Prelude.{IsTrue}
 use Rattle.std.proofs.lemmas.Bool.{ltb-false, leb-false}
 use Rattle.realm_model.specs.declared.act.Act.{Act}
 use Rattle.realm_model.specs.declared.act.Event.{Event}
 use Rattle.realm_model.specs.Act.{is_paired, is_reverse}
-use Rattle.realm_model.specs.Stack.{pushed}
 use Rattle.realm_model.specs.History.{acts_of, open_entries, pages_of, IsInTurn}
 use Rattle.realm_model.proofs.Growth.{open_entries-own}
 use Rattle.realm_model.proofs.Stack.{pushed_paired, pushed_other}
 use Rattle.rmi_monitor.specs.View.{MonitorView}
-use Rattle.realm_host.specs.View.{HostView, world_of, used, event_by}
+use Rattle.realm_host.specs.View.{HostView, used, event_by}
 use Rattle.realm_host.specs.Books.{BooksView, CanRecord}
 use Rattle.realm_host.specs.Whole.{host_of, IsWhole}
 use Rattle.realm_host.specs.Refusals.{checked, journal_full, history_full}

@@ -1,13 +1,12 @@
 -- No REC runs where no cell is an RD.
-use Rattle.std.proofs.Common.{◌≡◌, ℕ, suc, ◌+◌, Bool, true, false, cond, ◌&&◌, List, [], ◌∷◌, length, Option, Some, None, refl, sym, ap, ◌∙◌, subst, arith}
+use Rattle.std.proofs.Common.{◌≡◌, ℕ, suc, ◌+◌, Bool, true, false, cond, ◌&&◌, List, [], ◌∷◌, length, Option, Some, None, refl, ap, ◌∙◌, subst, arith}
 use Rattle.std.specs.Prelude.{is_some}
 use Rattle.std.specs.List.{All}
 use Rattle.std.proofs.lemmas.List.Elements.{All-head, All-tail}
-use Rattle.realm_model.specs.declared.act.Event.{Event}
-use Rattle.realm_model.specs.Machine.{Cell, Machine, Seen}
-use Rattle.realm_model.specs.World.{World, realm_from, realm_of, is_lease}
+use Rattle.realm_model.specs.Machine.{Cell, Machine}
+use Rattle.realm_model.specs.World.{realm_from, realm_of, is_lease}
 use Rattle.realm_model.specs.History.{acts_of, open_entries}
-use Rattle.realm_model.specs.Room.{running_count, used_room}
+use Rattle.realm_model.specs.Room.{running_count}
 use Rattle.realm_host.specs.View.{HostView, world_of, used}
 
 abbrev no_rd : Cell → Type 0

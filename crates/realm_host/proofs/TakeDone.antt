@@ -1,6 +1,5 @@
 -- A Take that passed its checks: there is no block, or a block is taken and recorded.
-use Rattle.std.proofs.Common.{◌≡◌, ℕ, ◌+◌, ◌^◌, ◌<◌, ◌≤◌, Bool, true, false, not, List, [], ◌∷◌, ◌++◌, length, map, Option, Some, None, Ok, refl, sym, ap, ◌∙◌, subst, arith}
-use Rattle.std.specs.Prelude.{is_none}
+use Rattle.std.proofs.Common.{◌≡◌, ℕ, ◌+◌, ◌^◌, ◌<◌, ◌≤◌, Bool, true, false, not, [], ◌∷◌, ◌++◌, length, Some, Ok, refl, sym, ap, ◌∙◌, subst, arith}
 use Rattle.std.specs.List.{list_any, range_with_len}
 use Rattle.std.proofs.lemmas.Bool.{leb-false}
 use Rattle.page_arena.specs.Block.{IsFreeBlock}
@@ -21,7 +20,7 @@ use Rattle.realm_host.proofs.Refused.{is_false}
 use Rattle.realm_host.proofs.TakeRefused.{order_of, an_order, by_block, not_refused}
 use Rattle.realm_host.proofs.FreeBlocks.{some_block, none_block}
 use Rattle.realm_host.proofs.Rooms.{in_turn, room_paired}
-use Rattle.realm_host.proofs.Grown.{legal_after, pages_fit, host_grows, whole_after}
+use Rattle.realm_host.proofs.Grown.{legal_after, pages_fit, whole_after}
 use Rattle.realm_host.proofs.Takes.{take_is_paired, take_is_forward, taken, leases_after, block_inside, free_after}
 
 module _ (monitor : MonitorView) (books : BooksView) (old : HostView) (view_is : host_of monitor books ≡ old) (whole : IsWhole monitor books)

@@ -1,13 +1,12 @@
 -- A block is taken.
-use Rattle.std.proofs.Common.{◌≡◌, ℕ, ◌+◌, ◌%◌, ◌^◌, ◌<◌, ◌≤◌, Bool, true, false, List, [], ◌∷◌, length, map, Option, Some, None, refl, sym, ap, ◌∙◌, subst, arith}
-use Rattle.std.specs.Prelude.{is_none, slice_get}
-use Rattle.std.specs.List.{All, range_with_len}
+use Rattle.std.proofs.Common.{◌≡◌, ℕ, ◌+◌, ◌^◌, ◌<◌, ◌≤◌, Bool, true, false, List, length, map, Option, Some, None, refl, sym, ap, ◌∙◌, subst, arith}
+use Rattle.std.specs.Prelude.{is_none}
 use Rattle.std.proofs.lemmas.Bool.{and_parts}
 use Rattle.page_arena.specs.Block.{IsFreeBlock, with_run}
 use Rattle.realm_model.specs.declared.act.Act.TheVariants.{Take}
 use Rattle.realm_model.specs.Machine.{Machine}
 use Rattle.realm_model.specs.Act.{block, is_paired, is_reverse, reverse_of}
-use Rattle.realm_model.specs.World.{World, is_leased_to}
+use Rattle.realm_model.specs.World.{World}
 use Rattle.realm_model.specs.Step.{step}
 use Rattle.realm_model.specs.StepLaw.{set_each}
 use Rattle.realm_model.proofs.Blocks.{step-take}

@@ -1,6 +1,6 @@
 -- An undo of a newest open act: it is accepted, and recorded.
-use Rattle.std.proofs.Common.{◌≡◌, ℕ, ◌<◌, ◌≤◌, Bool, true, false, List, [], ◌∷◌, ◌++◌, length, map, Option, Some, None, Ok, refl, sym, ap, ◌∙◌, subst}
-use Rattle.std.specs.Prelude.{option_and_then, is_some, IsSome}
+use Rattle.std.proofs.Common.{◌≡◌, ℕ, true, false, List, [], ◌∷◌, ◌++◌, Option, Some, None, Ok, refl, sym, ap, ◌∙◌, subst}
+use Rattle.std.specs.Prelude.{option_and_then, IsSome}
 use Rattle.std.specs.List.{All, last_or}
 use Rattle.std.proofs.lemmas.Option.{same_Some}
 use Rattle.std.proofs.lemmas.List.Elements.{All-head, All-tail}
@@ -11,7 +11,7 @@ use Rattle.realm_model.specs.Machine.{Seen}
 use Rattle.realm_model.specs.Act.{is_paired, is_reverse, reverse_of}
 use Rattle.realm_model.specs.World.{World, realm_of}
 use Rattle.realm_model.specs.Step.{step}
-use Rattle.realm_model.specs.History.{open_entries, pages_of, IsInTurn, IsLegal}
+use Rattle.realm_model.specs.History.{open_entries, IsInTurn, IsLegal}
 use Rattle.realm_model.specs.Undoing.{is_running}
 use Rattle.realm_model.proofs.Progress.{undoable}
 use Rattle.rmi_monitor.specs.View.{MonitorView}

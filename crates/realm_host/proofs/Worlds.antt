@@ -1,6 +1,6 @@
 -- The world of a host, and what the monitor keeps of it.
-use Rattle.std.proofs.Common.{◌≡◌, ℕ, zero, suc, ◌+◌, ◌<◌, Bool, true, false, cond, List, [], ◌∷◌, length, map, replicate, Option, Some, None, refl, sym, ap, ◌∙◌, subst, arith, get_or, add-zero, zero-add}
-use Rattle.std.specs.Prelude.{slice_get, unwrap_or, filter, is_none, is_some, IsSome, ◌==◌}
+use Rattle.std.proofs.Common.{◌≡◌, ℕ, zero, suc, ◌+◌, ◌<◌, Bool, true, false, cond, List, [], ◌∷◌, length, map, replicate, Option, Some, None, refl, sym, ap, ◌∙◌, subst, arith, add-zero, zero-add}
+use Rattle.std.specs.Prelude.{slice_get, unwrap_or, filter, is_none, IsSome}
 use Rattle.std.specs.List.{All, range_with_len, flat_map}
 use Rattle.std.specs.Option.{option_eq}
 use Rattle.std.proofs.lemmas.List.Elements.{All-replicate, All-nil, All-get_or}
@@ -8,13 +8,12 @@ use Rattle.std.proofs.lemmas.Option.{slice_get_within, get_or_from_slice_get}
 use Rattle.std.proofs.lemmas.List.{length-replicate}
 use Rattle.realm_model.specs.declared.act.Act.{Act}
 use Rattle.realm_model.specs.declared.act.Event.{Event}
-use Rattle.realm_model.specs.Machine.{Limits, Cell, Machine, blank, cell_at}
+use Rattle.realm_model.specs.Machine.{Limits, Cell, blank}
 use Rattle.realm_model.specs.World.{World, opening, is_lease, is_leased_to, free_set}
 use Rattle.realm_model.specs.History.{after, replay, open_entries, unmatched, pages_of, pages_held, acts_of, IsLegal}
-use Rattle.realm_model.specs.Pages.{PagesAreLeased}
 use Rattle.realm_model.proofs.Pages.{pages_are_leased}
 use Rattle.rmi_monitor.specs.View.{MonitorView, fresh}
-use Rattle.realm_host.specs.View.{HostView, world_of, booted}
+use Rattle.realm_host.specs.View.{HostView, world_of}
 use Rattle.realm_host.specs.Books.{BooksView}
 use Rattle.realm_host.specs.Whole.{host_of, is_served, IsWhole}
 

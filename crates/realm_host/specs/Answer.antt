@@ -1,5 +1,5 @@
 -- Which answer a step gets, and which event is recorded.
-use Rattle.std.specs.Prelude.{◌≡◌, ℕ, ◌-◌, List, [], ◌∷◌, ◌++◌, length, Option, Some, None, Result, Ok, Err, option_and_then}
+use Rattle.std.specs.Prelude.{◌≡◌, ℕ, ◌-◌, [], ◌∷◌, ◌++◌, length, Some, None, Result, Ok, Err, option_and_then}
 use Rattle.std.specs.List.{last_or}
 use Rattle.build_journal.specs.Kind.{act_kind}
 use Rattle.realm_model.specs.declared.act.Act.{Act}

@@ -1,5 +1,5 @@
 -- When the host refuses: the checks of each step, in the order of the refusals' numbers.
-use Rattle.std.specs.Prelude.{ℕ, ◌+◌, nat_lt, nat_le, List, [], ◌∷◌, length, Bool, true, false, not, ◌&&◌, cond, Option, Some, None, is_none, Result, Ok, Err}
+use Rattle.std.specs.Prelude.{ℕ, ◌+◌, nat_lt, nat_le, List, [], ◌∷◌, length, Bool, true, not, ◌&&◌, cond, Option, Some, None, is_none, Result, Ok, Err}
 use Rattle.std.specs.List.{list_any, list_all, range_with_len}
 use Rattle.realm_model.specs.Machine.{Seen, seen}
 use Rattle.realm_model.specs.Update.{Outcome}

@@ -1,8 +1,8 @@
 -- What always holds of a host: what it keeps is what its history says.
-use Rattle.std.specs.Prelude.{◌≡◌, ℕ, ◌<◌, ◌≤◌, List, length, map, Bool, true, false, None, is_none}
+use Rattle.std.specs.Prelude.{◌≡◌, ℕ, ◌≤◌, length, map, Bool, true, false, None, is_none}
 use Rattle.std.specs.List.{All}
 use Rattle.realm_model.specs.declared.act.Act.{Act}
-use Rattle.realm_model.specs.declared.act.Act.TheVariants.{Take, Fill, Delegate}
+use Rattle.realm_model.specs.declared.act.Act.TheVariants.{Take, Delegate}
 use Rattle.realm_model.specs.Machine.{Cell}
 use Rattle.realm_model.specs.History.{open_entries, IsLegal}
 use Rattle.rmi_monitor.specs.View.{MonitorView}

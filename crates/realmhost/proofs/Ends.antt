@@ -1,6 +1,5 @@
 -- How a replay ends.
-use Rattle.std.proofs.Common.{◌≡◌, ℕ, List, [], ◌++◌, Option, None, Some, IfSome, Result, Ok, Err, refl, ap, sym, ◌∙◌, subst, inl, inr}
-use Rattle.std.specs.Prelude.{◌⊎◌}
+use Rattle.std.proofs.Common.{◌≡◌, ℕ, List, Option, None, Some, IfSome, Result, Ok, Err, refl, ap, sym, ◌∙◌, inr}
 use Rattle.std.specs.Io.KnownBytes.{Appends, Keeps}
 use Rattle.realm_plan.specs.Outcome.{Fails}
 use Rattle.realm_plan.specs.Plan.{Plan, plan_of}
@@ -10,7 +9,6 @@ use Rattle.realm_plan.specs.declared.fault.PlanError.TheVariants as plan_error
 use Rattle.realmhost.specs.Fault.{fault_of_plan}
 use Rattle.realmhost.specs.Whole.{kept_of, AppendsFront}
 use Rattle.realmhost.specs.Replay.{IsText, IsTextOf, IsPrinted, IsEnd}
-use Rattle.realmhost.specs.declared.fault.Fault.{Fault}
 use Rattle.realmhost.specs.declared.fault.Fault.TheVariants.{Device}
 use Rattle.realmhost.proofs.KeptPlan.{plan_of-kept_of}
 

@@ -1,11 +1,11 @@
 -- What becomes of the machine where a granule, its page or both are changed.
-use Rattle.std.proofs.Common.{◌≡◌, ℕ, ◌<◌, List, [], length, set, replicate, None, refl, sym, ap, ◌∙◌}
+use Rattle.std.proofs.Common.{◌≡◌, ℕ, ◌<◌, List, [], length, set, replicate, refl, sym, ap, ◌∙◌}
 use Rattle.std.proofs.lemmas.List.{set-get_or}
 use Rattle.page_arena.specs.Page.{page_at}
 use Rattle.granule_table.specs.Granules.{granule_at, undelegated}
 use Rattle.granule_table.specs.declared.granule.Granule.{Granule}
 use Rattle.realm_model.specs.declared.states.GranuleState.{GranuleState}
-use Rattle.realm_model.specs.declared.states.GranuleState.TheVariants.{Undelegated, Rtt}
+use Rattle.realm_model.specs.declared.states.GranuleState.TheVariants.{Rtt}
 use Rattle.granule_addr.specs.Page.{zero_page}
 use Rattle.realm_model.specs.Machine.{blank, cell_at}
 use Rattle.rmi_monitor.specs.Inside.{cell_of, bytes_of, machine_of}

@@ -1,4 +1,4 @@
-use Rattle.std.proofs.Common.{◌≡◌, ◌∷◌, [], subst}
+use Rattle.std.proofs.Common.{◌∷◌, [], subst}
 use Rattle.realm_model.specs.declared.act.Act.{Act}
 use Rattle.realm_model.specs.declared.states.GranuleState.TheVariants.{Undelegated}
 use Rattle.realm_model.specs.Machine.{cell_at}

@@ -1,4 +1,4 @@
-use Rattle.std.proofs.Common.{◌≡◌, ◌<◌, ◌≤◌, ◌+◌, ◌-◌, ℕ, take, vec_len, ◌∷◌, ◌++◌, [], List, true, length, sym, ap, ◌∙◌, subst, arith}
+use Rattle.std.proofs.Common.{◌≡◌, ◌-◌, ℕ, take, vec_len, ◌∷◌, ◌++◌, [], List, true, length, sym, ap, ◌∙◌, arith}
 use Rattle.realm_model.specs.declared.act.Act.{Act}
 use Rattle.realm_model.specs.Act.{is_paired}
 use Rattle.realm_model.specs.Stack.{pushed}

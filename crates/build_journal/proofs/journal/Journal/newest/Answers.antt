@@ -1,4 +1,4 @@
-use Rattle.std.proofs.Common.{◌≡◌, ◌∙◌, ap, List, None}
+use Rattle.std.proofs.Common.{◌∙◌, ap, List, None}
 use Rattle.std.specs.List.{last_or}
 use Rattle.realm_model.specs.declared.act.Act.{Act}
 use Rattle.build_journal.proofs.Ends.{slice_get-last}

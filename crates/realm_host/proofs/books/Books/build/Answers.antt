@@ -1,4 +1,4 @@
-use Rattle.std.proofs.Common.{◌≡◌, ◌≤◌, ◌*◌, vec_capacity, arith}
+use Rattle.std.proofs.Common.{◌≤◌, ◌*◌, vec_capacity, arith}
 use Rattle.realm_host.proofs.Empty.{kept_empty}
 use Rattle.realm_host.proofs.books.Books.build.Goals as goal
 

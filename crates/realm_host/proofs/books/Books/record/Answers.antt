@@ -1,4 +1,4 @@
-use Rattle.std.proofs.Common.{◌≡◌, ◌+◌, ◌≤◌, arith}
+use Rattle.std.proofs.Common.{◌+◌, ◌≤◌, arith}
 use Rattle.realm_host.proofs.Recorded.{pages_follow, entries_fit, count_fits, memory_fits, recorded}
 use Rattle.realm_host.proofs.books.Books.record.Goals as goal
 

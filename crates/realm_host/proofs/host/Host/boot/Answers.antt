@@ -1,4 +1,4 @@
-use Rattle.std.proofs.Common.{◌≡◌, ◌<◌, ◌≤◌, ◌∙◌, ap, sym, length, arith}
+use Rattle.std.proofs.Common.{◌<◌, ◌∙◌, ap, length, arith}
 use Rattle.realm_host.specs.Books.{BooksView}
 use Rattle.realm_host.proofs.Worlds.{whole_booted}
 use Rattle.realm_host.proofs.host.Host.boot.Goals as goal

@@ -1,7 +1,7 @@
-use Rattle.std.proofs.Common.{◌≡◌, ◌+◌, ◌≤◌, false, true, Ok, sym, ap, ◌∙◌, subst, arith}
-use Rattle.std.specs.Prelude.{cond, Err, nat_lt}
+use Rattle.std.proofs.Common.{◌≡◌, ◌+◌, ◌≤◌, false, sym, subst, arith}
+use Rattle.std.specs.Prelude.{nat_lt}
 use Rattle.std.proofs.lemmas.Bool.{le-ltb}
-use Rattle.realm_host.specs.Refusals.{checked, history_full}
+use Rattle.realm_host.specs.Refusals.{history_full}
 use Rattle.realm_host.specs.View.{HostView, used}
 use Rattle.realm_host.specs.Whole.{host_of}
 use Rattle.realm_host.proofs.Refused.{checked_false}

@@ -1,7 +1,5 @@
-use Rattle.std.proofs.Common.{◌≡◌, ◌∙◌, refl, ap, sym, Some}
+use Rattle.std.proofs.Common.{◌∙◌, refl, ap, sym, Some}
 use Rattle.std.proofs.lemmas.Result.{err_from_is_err_and}
-use Rattle.realm_host.specs.declared.refusal.Refusal.{Refusal}
-use Rattle.realm_host.specs.declared.refusal.Refusal.TheVariants.{NotLeased}
 use Rattle.rmi_monitor.specs.View.{MonitorView}
 use Rattle.realm_host.specs.Whole.{host_of}
 use Rattle.realm_host.proofs.PageRefused.{fill_by_build, fill_by_page, fill_by_room}

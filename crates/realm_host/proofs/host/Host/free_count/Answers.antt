@@ -1,4 +1,4 @@
-use Rattle.std.proofs.Common.{◌≡◌, ◌∙◌, ap, Bool, List, length}
+use Rattle.std.proofs.Common.{◌∙◌, ap, Bool, List, length}
 use Rattle.std.specs.Prelude.{filter}
 use Rattle.realm_model.specs.World.{free_set}
 use Rattle.realm_host.specs.View.{HostView, world_of}

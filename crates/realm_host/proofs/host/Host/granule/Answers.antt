@@ -1,4 +1,4 @@
-use Rattle.std.proofs.Common.{◌≡◌, ◌<◌, ◌∙◌, ℕ, sym, ap, subst, length, List, Option, Some, None, refl}
+use Rattle.std.proofs.Common.{◌≡◌, ◌<◌, ◌∙◌, ℕ, sym, ap, subst, List, Option, Some, None, refl}
 use Rattle.std.specs.Prelude.{slice_get, IfSome}
 use Rattle.realm_host.specs.View.{HostView, granule_of_page}
 use Rattle.realm_host.specs.Whole.{host_of}

@@ -1,4 +1,4 @@
-use Rattle.std.proofs.Common.{◌≡◌, ◌∙◌, sym, ap, length}
+use Rattle.std.proofs.Common.{◌∙◌, sym, ap, length}
 use Rattle.realm_host.specs.View.{HostView, pages_of_build}
 use Rattle.realm_host.proofs.Worlds.{no_pages}
 use Rattle.realm_host.proofs.host.Host.page_count.Goals as goal

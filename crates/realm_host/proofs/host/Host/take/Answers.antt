@@ -1,4 +1,4 @@
-use Rattle.std.proofs.Common.{◌≡◌, ◌∙◌, refl, ap, length}
+use Rattle.std.proofs.Common.{◌∙◌, refl, ap, length}
 use Rattle.std.proofs.lemmas.Result.{err_from_is_err_and}
 use Rattle.realm_host.specs.declared.reply.Reply.TheVariants.{FirstPage}
 use Rattle.rmi_monitor.specs.View.{MonitorView}

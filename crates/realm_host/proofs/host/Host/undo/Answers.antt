@@ -1,12 +1,11 @@
-use Rattle.std.proofs.Common.{◌≡◌, ◌∙◌, ◌-◌, ℕ, None, length, refl, sym, ap, subst}
+use Rattle.std.proofs.Common.{◌∙◌, ◌-◌, ℕ, None, length, refl, sym, ap, subst}
 use Rattle.std.specs.Prelude.{IsSome, option_and_then}
 use Rattle.std.specs.List.{last_or}
 use Rattle.std.proofs.lemmas.Result.{err_from_is_err_and}
 use Rattle.build_journal.specs.Kind.{act_kind}
-use Rattle.realm_model.specs.History.{open_entries}
 use Rattle.realm_host.specs.View.{HostView, open_of}
 use Rattle.realm_host.proofs.UndoRefused.{by_build, by_nothing}
-use Rattle.realm_host.proofs.UndoDone.{has_kind, turn, can_reverse, fits_machine, room, whole_undone, accepted}
+use Rattle.realm_host.proofs.UndoDone.{has_kind, can_reverse, fits_machine, room, whole_undone, accepted}
 use Rattle.realm_host.proofs.host.Host.undo.Goals as goal
 
 pub returns-in_err-check_build : goal.returns-in_err-check_build
