@@ -1,6 +1,7 @@
 -- A Fill that passed its checks.
-use Rattle.std.proofs.Common.{◌≡◌, ℕ, true, false, [], ◌∷◌, Some, None, Ok, Err, refl, sym, ap, ◌∙◌, subst}
+use Rattle.std.proofs.Common.{◌≡◌, ℕ, ◌<◌, true, false, [], ◌∷◌, Some, None, Ok, Err, refl, sym, ap, ◌∙◌, subst}
 use Rattle.std.specs.Prelude.{slice_get}
+use Rattle.std.proofs.lemmas.Bool.{lt-ltb}
 use Rattle.std.proofs.lemmas.List.Elements.{All-nil, All-cons}
 use Rattle.realm_model.specs.declared.act.Act.{Act}
 use Rattle.realm_model.specs.declared.act.Act.TheVariants.{Fill}
@@ -70,7 +71,7 @@ module _ (monitor : MonitorView) (books : BooksView) (old : HostView) (view_is :
   same_after rmi answer new new_is = new_is ∙ ap (λ o. after_command o monitor) (refused_with (Unit {0}) rmi outcome answer)
 
   -- the page is filled
-  module _ (answer : Answers {A = Unit {0}} (Ok tt) outcome) where
+  module _ (answer : Answers {A = Unit {0}} (Ok tt) outcome) (is_byte : value < 256) where
     done : outcome ≡ Ok (Put granule cell ∷ [])
     done =
         let told = done_with {A = Unit {0}} tt outcome answer in
@@ -86,7 +87,7 @@ module _ (monitor : MonitorView) (books : BooksView) (old : HostView) (view_is :
       granules = All-cons (λ g. slice_get world.leases g ≡ Some (Some build)) granule []
           (is_leased monitor books old view_is whole build page granule there_ok some_old) (All-nil (λ g. slice_get world.leases g ≡ Some (Some build)));
       vmid = refl;
-      fields = refl;
+      fields = lt-ltb value 256 is_byte;
       updates = Put granule cell ∷ [];
       outcome = ap (λ g. host_fill g value) (sym (seen_same monitor books old view_is whole build page granule there_ok some_old)) ∙ done;
       machine = ap (λ o. machine_after_command o monitor.machine) done ∙ ap (machine_after_all (Put granule cell ∷ [])) whole.machine;

@@ -1,14 +1,14 @@
 -- Small histories, computed.
 use Rattle.std.proofs.Common.{◌≡◌, ℕ, false, List, [], ◌∷◌, ◌++◌, map, Option, Some, None, refl}
 use Rattle.std.specs.Prelude.{is_some, option_map}
-use Rattle.realm_model.specs.declared.act.Act.TheVariants.{Take, UnTake, Fill, Delegate, Undelegate, Realm}
+use Rattle.realm_model.specs.declared.act.Act.TheVariants.{Take, UnTake, Fill, Peek, Delegate, Undelegate, Realm, Activate, Rec}
 use Rattle.realm_model.specs.declared.act.Event.{Event}
 use Rattle.realm_model.specs.declared.states.GranuleState.{GranuleState}
-use Rattle.realm_model.specs.declared.states.GranuleState.TheVariants.{Undelegated, Rd, Rtt as InRtt}
+use Rattle.realm_model.specs.declared.states.GranuleState.TheVariants.{Undelegated, Rd, Rtt as InRtt, Rec as InRec}
 use Rattle.granule_addr.specs.Page.{zero_page}
 use Rattle.realm_model.specs.Machine.{Limits, Cell}
 use Rattle.realm_model.specs.Act.{named, reverse_of, is_reverse}
-use Rattle.realm_model.specs.Command.Check.{check}
+use Rattle.realm_model.specs.Command.Check.{check, with_realm}
 use Rattle.realm_model.specs.Command.Realm.{new_realm}
 use Rattle.realm_model.specs.Outcome.{outcome_of, fits}
 use Rattle.realm_model.specs.World.{World, realm_from, updated_all, free_set}
@@ -133,6 +133,28 @@ realm_made-erased = refl
 realm_made-free : free (replay (machine_of 4) (erase 0 realm_made)) ≡ Some (0 ∷ 1 ∷ 3 ∷ [])
 unfolding after step named outcome_of fits updated_all check
 realm_made-free = refl
+
+-- a REC, with the number that is next and no other
+abbrev rec_made : ℕ → List Event
+rec_made number = by 0 (Take 2 0) ∷ by 0 (Delegate 0) ∷ by 0 (Delegate 1) ∷ by 0 (Delegate 2) ∷ by 0 (Realm 0 1 1)
+    ∷ by 0 (Rec 2 (record { items = [] }) number) ∷ by 0 Activate ∷ []
+
+rec_made-states : states (replay (machine_of 4) (rec_made 0)) ≡ Some (Rd ∷ InRtt ∷ InRec ∷ Undelegated ∷ [])
+unfolding after step named outcome_of fits updated_all check realm_from with_realm new_realm
+rec_made-states = refl
+
+other_number : is_some (replay (machine_of 4) (rec_made 1)) ≡ false
+unfolding after step named outcome_of fits updated_all check realm_from with_realm new_realm
+other_number = refl
+
+-- a byte has eight bits, and a page 4,096 bytes
+too_much : is_some (replay (machine_of 1) (by 0 (Take 0 0) ∷ by 0 (Fill 0 256) ∷ [])) ≡ false
+unfolding after step named outcome_of fits updated_all check
+too_much = refl
+
+too_far : is_some (replay (machine_of 1) (by 0 (Take 0 0) ∷ by 0 (Peek 0 4096 0) ∷ [])) ≡ false
+unfolding after step named outcome_of fits updated_all check
+too_far = refl
 
 -- a second realm of the build is refused
 second_realm : is_some (replay (machine_of 4) (by 0 (Take 2 0) ∷ by 0 (Delegate 0) ∷ by 0 (Delegate 1) ∷ by 0 (Delegate 2) ∷ by 0 (Delegate 3) ∷ by 0 (Realm 0 1 1) ∷ by 0 (Realm 2 3 2) ∷ [])) ≡ false

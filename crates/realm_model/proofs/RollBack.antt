@@ -1,10 +1,11 @@
 -- A build can be rolled back to a mark that stands.
-use Rattle.std.proofs.Common.{◌≡◌, ◌≢◌, ℕ, suc, ◌+◌, ◌≤◌, true, false, List, [], ◌∷◌, ◌++◌, length, take, drop, reverse, Some, None, refl, sym, ap, ◌∙◌, subst, arith}
+use Rattle.std.proofs.Common.{◌≡◌, ◌≢◌, ℕ, suc, ◌+◌, ◌≤◌, true, false, not, List, [], ◌∷◌, ◌++◌, length, map, take, drop, reverse, Some, None, refl, sym, ap, ◌∙◌, subst, arith}
 use Rattle.std.specs.Prelude.{◌==◌, option_map, option_and_then}
 use Rattle.std.specs.List.{list_any, last_or}
 use Rattle.std.proofs.lemmas.Bool.{eqb-true, eqb-false}
 use Rattle.std.proofs.lemmas.Option.{same_Some, option_and_then_some}
-use Rattle.std.proofs.lemmas.List.{append_assoc, append-nil, reverse-reverse, take-append-drop}
+use Rattle.std.proofs.lemmas.List.{append_assoc, append-nil, reverse-reverse, length-reverse, take-append-drop, take-append-le, drop-append-le}
+use Rattle.std.proofs.lemmas.List.Elements.{filter-append}
 use Rattle.realm_model.specs.declared.act.Act.{Act}
 use Rattle.realm_model.specs.declared.act.Event.{Event}
 use Rattle.realm_model.specs.Machine.{Limits}
@@ -12,8 +13,8 @@ use Rattle.realm_model.specs.Act.{reverse_of}
 use Rattle.realm_model.specs.World.{World, realm_of, part_of, without}
 use Rattle.realm_model.specs.Step.{step}
 use Rattle.realm_model.specs.History.{erase, open_entries, IsInTurn, AllInTurn, after, replay, IsLegal}
-use Rattle.realm_model.specs.Undoing.{is_running}
-use Rattle.realm_model.specs.Marks.{Mark, Stands, above, rolling_back, IsRolledBack}
+use Rattle.realm_model.specs.Undoing.{is_running, reverses, by}
+use Rattle.realm_model.specs.Marks.{Mark, Stands, above, rolling_back, erase_after, IsRolledBack}
 use Rattle.realm_model.specs.Ownership.{OwnsSame}
 use Rattle.realm_model.proofs.Chain.{Kept, kept_step}
 use Rattle.realm_model.proofs.OwnLaws.{laws, SameFor}
@@ -26,7 +27,7 @@ use Rattle.realm_model.proofs.Reached.{clean_reached}
 use Rattle.realm_model.proofs.Reaching.{step_says_reached}
 use Rattle.realm_model.proofs.StaysThere.{has_still}
 use Rattle.realm_model.proofs.OthersGoOn.{IsBack, other_there}
-use Rattle.realm_model.proofs.UndoAll.{undo_all, Ended, events, erase_events}
+use Rattle.realm_model.proofs.UndoAll.{undo_all, Ended, counted, events, erase_own, erase_events}
 use Rattle.realm_model.proofs.Lists.{take_further, drop_front, any_reverse}
 use Rattle.realm_model.proofs.HistoryParts.{split, open_others}
 
@@ -115,6 +116,14 @@ module _ (limits : Limits) (b : ℕ) (p : List Event) (base : World) (legal_p : 
 
 -- ---- the mark
 
+-- what the build does later is left out
+erase_after_own : (b place : ℕ) (history : List Event) (acts : List Act) → place ≤ length history → erase_after b place (history ++ map (by b) acts) ≡ erase_after b place history
+erase_after_own b place history acts within =
+    (λ i. take-append-le place history (map (by b) acts) within i ++ erase b (drop-append-le place history (map (by b) acts) within i))
+    ∙ ap (λ es. take place history ++ es)
+    (filter-append (λ (x : Event). not (x.build == b)) (drop place history) (map (by b) acts)
+    ∙ ap (λ es. erase b (drop place history) ++ es) (erase_own b acts) ∙ append-nil (erase b (drop place history)))
+
 pub rolled_back : (limits : Limits) (history : List Event) (mark : Mark) (w : World) → IsLegal limits history → replay limits history ≡ Some w → Stands mark history
     → list_any (is_running (realm_of mark.build w)) (above mark history) ≡ false → IsRolledBack limits mark history
 rolled_back limits history mark w legal at_w stands rest =
@@ -142,6 +151,8 @@ rolled_back limits history mark w legal at_w stands rest =
     record {
       legal = ended.legal;
       erased = both_there.legal;
+      same = erase_after_own b mark.place history (reverses (reverse (above mark history))) stands.place;
+      all = subst (λ st. length (events b st) ≡ length st) stack (counted limits b parts.base (open_entries b p) st w kept.chained) ∙ length-reverse (above mark history);
       world = ended.world;
       world_is = ended.world_is;
       other = both_there.world;

@@ -1,10 +1,10 @@
 -- All that a build has open can be undone, the newest first.
-use Rattle.std.proofs.Common.{◌≡◌, ℕ, true, false, cond, not, List, [], ◌∷◌, ◌++◌, map, reverse, Some, None, refl, sym, ap, ◌∙◌, subst}
+use Rattle.std.proofs.Common.{◌≡◌, ℕ, suc, true, false, cond, not, List, [], ◌∷◌, ◌++◌, length, map, reverse, Some, None, refl, sym, ap, ◌∙◌, subst}
 use Rattle.std.specs.Prelude.{◌==◌, option_map}
 use Rattle.std.specs.List.{last_or, list_any}
 use Rattle.std.proofs.lemmas.Bool.{eq-eqb}
 use Rattle.std.proofs.lemmas.Option.{same_Some}
-use Rattle.std.proofs.lemmas.List.{append-nil, append_assoc, reverse-reverse}
+use Rattle.std.proofs.lemmas.List.{append-nil, append_assoc, reverse-reverse, length-reverse}
 use Rattle.std.proofs.lemmas.List.Elements.{filter-append}
 use Rattle.realm_model.specs.declared.act.Act.{Act}
 use Rattle.realm_model.specs.declared.act.Act.TheVariants.{Take, Delegate, Realm, Rtt, Data, Unknown, Rec}
@@ -22,7 +22,7 @@ use Rattle.realm_model.proofs.OwnLaws.{laws, SameFor}
 use Rattle.realm_model.proofs.Emptied.{emptied}
 use Rattle.realm_model.proofs.Progress.{undoable}
 use Rattle.realm_model.proofs.Stack.{pushed_back}
-use Rattle.realm_model.proofs.Chain.{kept, Kept, kept_back, on_top, newest}
+use Rattle.realm_model.proofs.Chain.{kept, Kept, Chain, kept_back, on_top, newest}
 use Rattle.realm_model.proofs.Growth.{open_entries-own}
 use Rattle.realm_model.proofs.LeftOut.{leaves_no_trace}
 use Rattle.realm_model.proofs.FreeSets.{free_set-without, part_of-without}
@@ -56,6 +56,13 @@ module _ (limits : Limits) (b : ℕ) (base : World) (below : List Act) where
   abbrev pub KeptOver : List Act → List Event → World → Type 0
   KeptOver st history w = Kept limits b (SameFor b) (IsSound b) (laws limits b) base below st history w
 
+  -- each has one reverse
+  pub counted : (st : List Act) (w : World) → Chain limits b (SameFor b) (IsSound b) (laws limits b) base below st w → length (events b st) ≡ length st
+  counted [] w h = refl
+  counted (act ∷ st) w h =
+      let r = some_is (reverse_of act) h.6 in
+      ap length (events_more b act r.0 st r.1) ∙ ap suc (counted st h.0 h.3)
+
   pub record Ended (history : List Event) : Type 0 where
     pub world : World
     pub legal : IsLegal limits history
@@ -80,7 +87,7 @@ module _ (limits : Limits) (b : ℕ) (base : World) (below : List Act) where
       subst Ended (append_assoc history (by b r.0 ∷ []) (events b st) ∙ ap (λ es. history ++ es) (sym (events_more b act r.0 st r.1)))
       (undo_all st (history ++ by b r.0 ∷ []) undo.world undo.grown.legal undo.grown.world_is next still)
 
-erase_own : (b : ℕ) (acts : List Act) → erase b (map (by b) acts) ≡ []
+pub erase_own : (b : ℕ) (acts : List Act) → erase b (map (by b) acts) ≡ []
 erase_own b [] = refl
 erase_own b (act ∷ acts) = ap (λ t. cond (not t) (by b act ∷ erase b (map (by b) acts)) (erase b (map (by b) acts))) (eq-eqb b b refl) ∙ erase_own b acts
 
@@ -98,12 +105,16 @@ undone limits history b w legal at_w rest =
     let others : erase b (history ++ undoing b history) ≡ erase b history = erase_events b history (reverse (open_entries b history)) in
     let world_is : replay limits (history ++ undoing b history) ≡ replay limits (erase b history) =
     ended.world_is ∙ sym (emptied limits b (history ++ undoing b history) ended.world ended.legal ended.world_is ended.kept.open_is) ∙ ap (replay limits) others in
+    let left : replay limits (erase b history) ≡ Some (without w b) = (leaves_no_trace limits history b legal).1 ∙ ap (option_map (λ x. without x b)) at_w in
     record {
       legal = ended.legal;
-      world_is = world_is;
+      all = subst (λ st. length (events b st) ≡ length st) stack (counted limits b (opening limits) [] k.0 w k.1.chained) ∙ length-reverse (open_entries b history);
+      after = without w b;
+      after_is = world_is ∙ left;
+      world_is = left;
       same_others = others;
       none_open = ended.kept.open_is;
-      left = world_is ∙ (leaves_no_trace limits history b legal).1 ∙ ap (option_map (λ x. without x b)) at_w;
+      left = refl;
       free = free_set-without limits b history w legal at_w;
       others = λ other apart. part_of-without b other w apart;
     }

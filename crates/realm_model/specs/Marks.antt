@@ -41,11 +41,13 @@ above mark history = drop mark.depth (open_entries mark.build history)
 abbrev pub rolling_back : Mark → List Event → List Event
 rolling_back mark history = map (by mark.build) (reverses (reverse (above mark history)))
 
--- What the build opened above the mark is undone: the world owns the same as that of the history without what the build
--- did after the mark, and but for the build's part the two are equal in full.
+-- What the build opened above the mark is undone, by one reverse for each act: the world owns the same as that of the
+-- history without what the build did after the mark, and but for the build's part the two are equal in full.
 pub record IsRolledBack (limits : Limits) (mark : Mark) (history : List Event) : Type 0 where
   pub legal : IsLegal limits (history ++ rolling_back mark history)
   pub erased : IsLegal limits (erase_after mark.build mark.place history)
+  pub same : erase_after mark.build mark.place (history ++ rolling_back mark history) ≡ erase_after mark.build mark.place history
+  pub all : length (rolling_back mark history) ≡ length (above mark history)
   pub world : World
   pub world_is : replay limits (history ++ rolling_back mark history) ≡ Some world
   pub other : World

@@ -1,5 +1,5 @@
 -- What comes of an act: the command that it stands for, and what its own fields say besides.
-use Rattle.std.specs.Prelude.{ℕ, ◌-◌, ◌%◌, ◌^◌, ◌==◌, nat_eq, nat_le, List, [], ◌∷◌, map, Bool, true, false, ◌&&◌, Option, Some, None, Ok, Err, is_none, slice_index}
+use Rattle.std.specs.Prelude.{ℕ, ◌-◌, ◌%◌, ◌^◌, ◌==◌, nat_eq, nat_le, nat_lt, List, [], ◌∷◌, map, Bool, true, false, ◌&&◌, Option, Some, None, Ok, Err, is_none, slice_index}
 use Rattle.std.specs.List.{list_all}
 use Rattle.std.specs.Option.{option_eq}
 use Rattle.std.specs.FinMap.{get}
@@ -71,12 +71,15 @@ is_block_start order first = nat_le order 9 && first % 2 ^ order == 0
 abbrev pub leads_to : Option Row → ℕ → Bool
 leads_to row granule = elim row [ Some r ↦ option_eq nat_eq r.granule (Some granule) | None ↦ false ]
 
--- A block begins where one may, and is UNDELEGATED where it is given back. The byte of a Peek is the one seen. A build
--- has one realm at most. A reverse names what its command takes away. A REC gets the next number.
+-- A block begins where one may, and is UNDELEGATED where it is given back. Values are bytes, offsets are inside a page, and
+-- the byte of a Peek is the one seen. A build has one realm at most. A reverse names what its command takes away. A REC
+-- gets the next number.
 unfoldable pub fits : Act → Option Seen → List Seen → Bool
 fits (Take order first) realm gs = is_block_start order first
 fits (UnTake order first) realm gs = is_block_start order first && list_all is_undelegated gs
-fits (Peek granule offset byte) realm gs = list_all (λ g. slice_index g.cell.bytes offset == byte) gs
+fits (Fill granule value) realm gs = nat_lt value 256
+fits (Peek granule offset byte) realm gs = nat_lt offset 4096 && list_all (λ g. slice_index g.cell.bytes offset == byte) gs
+fits (Poke number ipa offset value) realm gs = nat_lt offset 4096 && nat_lt value 256
 fits (Realm rd root vmid) realm gs = is_none realm
 fits (UnRealm rd root vmid) realm gs = realm_is realm (λ d r. d.number == rd && r.root == root && r.vmid == vmid)
 fits (UnRtt granule ipa level) realm gs = realm_is realm (λ d r. leads_to (row_at r.rows (level - 1) ipa) granule)

@@ -1,5 +1,5 @@
 -- What can be undone, and all of it undone.
-use Rattle.std.specs.Prelude.{◌≡◌, ◌≢◌, ◌↔◌, ◌⊎◌, ℕ, List, [], ◌∷◌, ◌++◌, map, reverse, Bool, false, Option, Some, None}
+use Rattle.std.specs.Prelude.{◌≡◌, ◌≢◌, ◌↔◌, ◌⊎◌, ℕ, List, [], ◌∷◌, ◌++◌, length, map, reverse, Bool, false, Option, Some, None}
 use Rattle.std.specs.List.{last_or, Contains}
 use Rattle.std.specs.FinMap.{get}
 use Rattle.realm_model.specs.declared.act.Act.{Act}
@@ -42,16 +42,19 @@ pub record IsUndoneNext (limits : Limits) (history : List Event) (build : ℕ) (
   pub legal : IsLegal limits (history ++ by build back ∷ [])
   pub left_open : open_entries build (history ++ by build back ∷ []) ++ act ∷ [] ≡ open_entries build history
 
--- All that a build has open is undone: the world is that of the history without the build, so the one before without what
--- the build had. The build's pages are free, what was free is, and what others have stays.
+-- All that a build has open is undone, by one reverse for each act: the world is that of the history without the build,
+-- so the one before without what the build had. The build's pages are free, what was free is, and what others have stays.
 pub record IsUndone (limits : Limits) (history : List Event) (build : ℕ) (world : World) : Type 0 where
   pub legal : IsLegal limits (history ++ undoing build history)
-  pub world_is : replay limits (history ++ undoing build history) ≡ replay limits (erase build history)
+  pub all : length (undoing build history) ≡ length (open_entries build history)
+  pub after : World
+  pub after_is : replay limits (history ++ undoing build history) ≡ Some after
+  pub world_is : replay limits (erase build history) ≡ Some after
   pub same_others : erase build (history ++ undoing build history) ≡ erase build history
   pub none_open : open_entries build (history ++ undoing build history) ≡ []
-  pub left : replay limits (history ++ undoing build history) ≡ Some (without world build)
-  pub free : (granule : ℕ) → Contains (free_set (without world build)) granule ↔ (Contains (free_set world) granule ⊎ Contains (pages_of build history) granule)
-  pub others : (other : ℕ) → other ≢ build → part_of (without world build) other ≡ part_of world other
+  pub left : after ≡ without world build
+  pub free : (granule : ℕ) → Contains (free_set after) granule ↔ (Contains (free_set world) granule ⊎ Contains (pages_of build history) granule)
+  pub others : (other : ℕ) → other ≢ build → part_of after other ≡ part_of world other
 
 -- ---- laws, for every legal history and the world that it leads to
 

@@ -84,6 +84,7 @@ is_of_other build (Some other) = not (other == build)
 abbrev pub without : World → ℕ → World
 without world build = masked (is_of build) world
 
--- The part of a build: the world with nothing but what it leases.
+-- The part of a build: the world without what others lease. In a world that a history leads to, free granules are blank, so
+-- nothing is in it but what the build leases.
 abbrev pub part_of : World → ℕ → World
 part_of world build = masked (is_of_other build) world

@@ -4,8 +4,10 @@ ghost use Rattle.std.specs.Prelude.{◌≡◌};
 use arrayvec::ArrayVec;
 use granule_addr::{BuildId, Gran, IpaGran, Level, Order, PageOff, RecNo, Vmid};
 
-/// What one accepted command did, with the granules that it named and the answer that it got. An act whose name
-/// begins with `Un` is the reverse of the one without.
+/// What one accepted command did, with the granules that it named and the answer that it got.
+///
+/// `UnTake`, `Undelegate`, `UnRealm`, `UnRtt`, `UnData` and `UnRec` are reverses; `UnData` is that of `Data` and of
+/// `Unknown`.
 #[derive(Debug, PartialEq, Eq, Drop)]
 pub enum Act {
     /// A block of free pages is leased.

@@ -53,7 +53,7 @@ pub fn other_acts_own_the_same()
     ensures { (limits : Limits) (world : World) (build : ℕ) (act : Act) (next : World) → OtherActOwnsSame limits build world act next }
 {}
 
-/// The newest open act of a build can be undone, whatever others did since.
+/// The newest open act of a build can be undone, whatever others did since, unless it is a REC that runs.
 pub fn newest_can_be_undone()
     ensures { (limits : Limits) (history : List Event) (world : World) (build : ℕ) (act : Act) → IsLegal limits history → replay limits history ≡ Some world → NewestCanBeUndone limits history build world act }
 {}
@@ -63,7 +63,7 @@ pub fn nothing_open_is_no_trace()
     ensures { (limits : Limits) (history : List Event) (world : World) (build : ℕ) → IsLegal limits history → replay limits history ≡ Some world → NothingOpenIsNoTrace limits history build world }
 {}
 
-/// All that a build has open can be undone, and then it leaves no trace.
+/// Where no REC of a build runs, all that it has open can be undone, newest first, and then it leaves no trace.
 pub fn all_can_be_undone()
     ensures { (limits : Limits) (history : List Event) (world : World) (build : ℕ) → IsLegal limits history → replay limits history ≡ Some world → AllCanBeUndone limits history build world }
 {}
@@ -78,7 +78,7 @@ pub fn marks_stand_on()
     ensures { (mark : Mark) (history : List Event) (event : Event) → StandsOn mark history event }
 {}
 
-/// A build can be rolled back to a mark that stands.
+/// A build can be rolled back to a mark that stands, where no REC that it made since runs.
 pub fn marks_can_be_rolled_back_to()
     ensures { (limits : Limits) (history : List Event) (world : World) (mark : Mark) → IsLegal limits history → replay limits history ≡ Some world → CanRollBack limits history mark world }
 {}

@@ -1,4 +1,5 @@
 use Rattle.std.proofs.Common.{◌∙◌, refl, ap, sym, Some}
+use Rattle.std.proofs.Math.Facts.{Fits-lt-pow}
 use Rattle.std.proofs.lemmas.Result.{err_from_is_err_and}
 use Rattle.rmi_monitor.specs.View.{MonitorView}
 use Rattle.realm_host.specs.Whole.{host_of}
@@ -33,13 +34,13 @@ returns-in-Err g c = (
 )
 
 pub record-requires-clause-in_turn : goal.record-requires-clause-in_turn
-record-requires-clause-in_turn g c = turn c.self.inside.monitor c.self.inside.books c.args.self.now c.self.view_is c.self.invariant c.args.build c.args.page c.in_ok-granule.granule c.args.value c.in_ok-check_build.ensures c.in_ok-granule.ensures c.in_ok-check_room.ensures c.in_default.ensures.answer
+record-requires-clause-in_turn g c = turn c.self.inside.monitor c.self.inside.books c.args.self.now c.self.view_is c.self.invariant c.args.build c.args.page c.in_ok-granule.granule c.args.value c.in_ok-check_build.ensures c.in_ok-granule.ensures c.in_ok-check_room.ensures c.in_default.ensures.answer (Fits-lt-pow c.ranges.value)
 
 pub record-requires-clause-room : goal.record-requires-clause-room
-record-requires-clause-room g c = room c.self.inside.monitor c.self.inside.books c.args.self.now c.self.view_is c.self.invariant c.args.build c.args.page c.in_ok-granule.granule c.args.value c.in_ok-check_build.ensures c.in_ok-granule.ensures c.in_ok-check_room.ensures c.in_default.ensures.answer
+record-requires-clause-room g c = room c.self.inside.monitor c.self.inside.books c.args.self.now c.self.view_is c.self.invariant c.args.build c.args.page c.in_ok-granule.granule c.args.value c.in_ok-check_build.ensures c.in_ok-granule.ensures c.in_ok-check_room.ensures c.in_default.ensures.answer (Fits-lt-pow c.ranges.value)
 
 pub invariant_of-self-2 : goal.invariant_of-self-2
-invariant_of-self-2 g c = whole_filled c.self.inside.monitor c.self.inside.books c.args.self.now c.self.view_is c.self.invariant c.args.build c.args.page c.in_ok-granule.granule c.args.value c.in_ok-check_build.ensures c.in_ok-granule.ensures c.in_ok-check_room.ensures c.in_default.ensures.answer c.host_fill.new.self c.record.new.self c.host_fill.ensures.machine c.record.ensures
+invariant_of-self-2 g c = whole_filled c.self.inside.monitor c.self.inside.books c.args.self.now c.self.view_is c.self.invariant c.args.build c.args.page c.in_ok-granule.granule c.args.value c.in_ok-check_build.ensures c.in_ok-granule.ensures c.in_ok-check_room.ensures c.in_default.ensures.answer (Fits-lt-pow c.ranges.value) c.host_fill.new.self c.record.new.self c.host_fill.ensures.machine c.record.ensures
 
 pub returns : goal.returns
-returns g c = (refl, accepted c.self.inside.monitor c.self.inside.books c.args.self.now c.self.view_is c.self.invariant c.args.build c.args.page c.in_ok-granule.granule c.args.value c.in_ok-check_build.ensures c.in_ok-granule.ensures c.in_ok-check_room.ensures c.in_default.ensures.answer c.host_fill.new.self c.record.new.self c.host_fill.ensures.machine c.record.ensures)
+returns g c = (refl, accepted c.self.inside.monitor c.self.inside.books c.args.self.now c.self.view_is c.self.invariant c.args.build c.args.page c.in_ok-granule.granule c.args.value c.in_ok-check_build.ensures c.in_ok-granule.ensures c.in_ok-check_room.ensures c.in_default.ensures.answer (Fits-lt-pow c.ranges.value) c.host_fill.new.self c.record.new.self c.host_fill.ensures.machine c.record.ensures)

@@ -1,0 +1,38 @@
+-- What the monitor keeps of a realm and of a REC beside their granules. RMM 1.0, Realm and REC attributes.
+use Rattle.std.specs.Prelude.{ℕ, List}
+use Rattle.std.specs.FinMap.{FinMap}
+use Rattle.std.specs.Ordering.{nat_cmp}
+use Rattle.realm_model.specs.declared.states.RealmState.{RealmState}
+use Rattle.realm_model.specs.declared.states.RecState.{RecState}
+use Rattle.realm_model.specs.Rows.{Rows}
+use Rattle.realm_model.specs.Machine.{RealmRow, RecRow}
+
+-- A realm's own attributes: state, VMID, root table, the number of its next REC, measurement.
+pub record RealmAttributes : Type 0 where
+  pub state : RealmState
+  pub vmid : ℕ
+  pub root : ℕ
+  pub next : ℕ
+  pub measurement : List ℕ
+
+-- A REC's own attributes: its number in the realm, state, and auxiliary granules.
+pub record RecAttributes : Type 0 where
+  pub number : ℕ
+  pub state : RecState
+  pub auxiliaries : List ℕ
+
+-- the row of a realm that has these RECs and this translation
+abbrev pub realm_row : RealmAttributes → FinMap nat_cmp RecRow → Rows → RealmRow
+realm_row realm recs rows = record {
+  state = realm.state;
+  vmid = realm.vmid;
+  root = realm.root;
+  next = realm.next;
+  measurement = realm.measurement;
+  recs = recs;
+  rows = rows;
+}
+
+-- the row of a REC in that granule
+abbrev pub rec_row : ℕ → RecAttributes → RecRow
+rec_row granule rec = record { granule = granule; auxiliaries = rec.auxiliaries; state = rec.state }

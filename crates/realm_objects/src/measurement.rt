@@ -1,0 +1,68 @@
+//! The initial measurement of a realm, and the events that extend it.
+ghost use Rattle.std.specs.Prelude.{◌≡◌};
+ghost use Rattle.realm_model.specs.Measurement as measured;
+
+use granule_addr::{IpaGran, RecNo};
+use sha2::{Digest, Sha256};
+
+// The first byte of an event tells its kind: this of a page of data, and the next two of RIPAS and of a REC.
+const DATA: u8 = 1;
+
+const RIPAS: u8 = 2;
+
+const REC: u8 = 3;
+
+/// The measurement after an event: SHA-256 of the old measurement followed by the event's bytes.
+///
+/// RMM 1.0, Realm measurement.
+#[tactic(auto, unfolding(realm_model::specs::Measurement::measurement_after))]
+pub fn extend_measurement(old: &[u8; 32], event: &[u8]) -> [u8; 32]
+    ensures { result ≡ measured.measurement_after old.now event.now }
+{
+    let mut hasher = Sha256::new();
+    hasher.update(old.as_slice());
+    hasher.update(event);
+    hasher.finalize()
+}
+
+/// The bytes of a data event: 1, the IPA granule of the page as four bytes, big endian, and SHA-256 of the page.
+///
+/// RMM 1.0, Realm measurement, RMI_DATA_CREATE; the bytes are this profile's own.
+#[tactic(auto, unfolding(realm_model::specs::Measurement::data_event))]
+pub fn data_event(ipa: IpaGran, page: &[u8]) -> [u8; 37]
+    ensures { result ≡ measured.data_event ipa page.now }
+{
+    let mut event = [0; 37];
+    event[0] = DATA;
+    event[1..5].copy_from_slice(&ipa.number().to_be_bytes());
+    event[5..].copy_from_slice(&Sha256::digest(page));
+    event
+}
+
+/// The bytes of a RIPAS event: 2, the first IPA granule, and how many IPA granules become RAM. Both numbers are four
+/// bytes, big endian.
+///
+/// RMM 1.0, Realm measurement, RMI_RTT_INIT_RIPAS; the bytes are this profile's own.
+#[tactic(auto, unfolding(realm_model::specs::Measurement::ripas_event))]
+pub fn ripas_event(ipa: IpaGran, count: u16) -> [u8; 9]
+    ensures { result ≡ measured.ripas_event ipa count }
+{
+    let mut event = [0; 9];
+    event[0] = RIPAS;
+    event[1..5].copy_from_slice(&ipa.number().to_be_bytes());
+    event[5..].copy_from_slice(&u32::from(count).to_be_bytes());
+    event
+}
+
+/// The bytes of a REC event: 3, and the number of the REC as four bytes, big endian.
+///
+/// RMM 1.0, Realm measurement, RMI_REC_CREATE; the bytes are this profile's own.
+#[tactic(auto, unfolding(realm_model::specs::Measurement::rec_event))]
+pub fn rec_event(number: RecNo) -> [u8; 5]
+    ensures { result ≡ measured.rec_event number }
+{
+    let mut event = [0; 5];
+    event[0] = REC;
+    event[1..].copy_from_slice(&u32::from(number.number()).to_be_bytes());
+    event
+}

@@ -1,0 +1,139 @@
+//! Realm descriptors.
+ghost use Rattle.std.specs.Prelude.{◌≡◌, ◌+◌, ◌<◌};
+ghost use Rattle.std.specs.FinMap.{FinMap, empty};
+ghost use Rattle.std.specs.Ordering.{nat_cmp};
+ghost use Rattle.realm_model.specs.Rows.{Rows, root_rows};
+ghost use Rattle.realm_model.specs.Machine.{RecRow};
+ghost use Rattle.realm_model.specs.Measurement.{zero_measurement, measurement_after};
+ghost use Rattle.realm_model.specs.Command.Check as checks;
+ghost use Rattle.realm_model.specs.Command.Realm.{new_realm};
+ghost use Rattle.realm_model.specs.declared.states.RealmState.TheVariants.{New, Active};
+ghost use Rattle.realm_objects.specs.Attributes.{realm_row};
+
+use crate::extend_measurement;
+use granule_addr::{Gran, RecNo, Vmid};
+use realm_model::RealmState;
+use std::marker::Model;
+
+/// A realm descriptor: what the monitor keeps of a realm beside its RECs and its tables.
+///
+/// RMM 1.0, Realm attributes.
+#[derive(Debug, Drop)]
+pub struct RealmDesc {
+    state: RealmState,
+    vmid: Vmid,
+    root: Gran,
+    next: RecNo,
+    measurement: [u8; 32],
+}
+
+impl Model for RealmDesc {
+    ghost use Rattle.realm_objects.specs.Attributes.{RealmAttributes};
+
+    ghost Value = { RealmAttributes };
+
+    ghost view = { λ d. record {
+      state = d.state;
+      vmid = d.vmid;
+      root = d.root;
+      next = d.next;
+      measurement = d.measurement;
+    } };
+}
+
+impl RealmDesc {
+    /// A realm that has just been made: NEW, with no REC yet, and a measurement of 32 zero bytes.
+    ///
+    /// `root` is the granule of its root table. RMM 1.0, RMI_REALM_CREATE.
+    #[tactic(auto, unfolding(realm_model::specs::Measurement::zero_measurement, realm_model::specs::Command::Realm::new_realm))]
+    pub fn new(vmid: Vmid, root: Gran) -> RealmDesc
+        ensures attributes { result ≡ record {
+          state = New;
+          vmid = vmid;
+          root = root;
+          next = 0;
+          measurement = zero_measurement;
+        } }
+        ensures row { realm_row result empty root_rows ≡ new_realm vmid root }
+    {
+        RealmDesc {
+            state: RealmState::New,
+            vmid,
+            root,
+            next: RecNo::new(0),
+            measurement: [0; 32],
+        }
+    }
+
+    /// NEW or ACTIVE. RMM 1.0, Realm state.
+    pub fn state(&self) -> RealmState
+        ensures { result ≡ self.now.state }
+    {
+        self.state
+    }
+
+    /// Whether the realm is NEW: only then it gets RECs, and contents that are measured.
+    pub fn is_new(&self) -> bool
+        ensures { (recs : FinMap nat_cmp RecRow) (rows : Rows) →
+            result ≡ checks.is_new (realm_row self.now recs rows) }
+    {
+        matches!(self.state, RealmState::New)
+    }
+
+    /// The VMID, which no other realm has meanwhile.
+    pub fn vmid(&self) -> Vmid
+        ensures { result ≡ self.now.vmid }
+    {
+        self.vmid
+    }
+
+    /// The granule of the root table.
+    pub fn root(&self) -> Gran
+        ensures { result ≡ self.now.root }
+    {
+        self.root
+    }
+
+    /// The number that the realm's next REC gets. RMM 1.0, REC index.
+    pub fn next_number(&self) -> RecNo
+        ensures { result ≡ self.now.next }
+    {
+        self.next
+    }
+
+    /// The measurement of what the realm was made of so far. RMM 1.0, Realm measurement.
+    pub fn measurement(&self) -> &[u8; 32]
+        ensures { result.now ≡ self.now.measurement }
+    {
+        &self.measurement
+    }
+
+    /// The realm is ACTIVE from now on. RMM 1.0, RMI_REALM_ACTIVATE.
+    pub fn activate(&mut self)
+        ensures { self.new ≡ record self.old { state = Active } }
+    {
+        self.state = RealmState::Active;
+    }
+
+    /// Answers the number of the realm's next REC, and raises it by one. No number is used again.
+    ///
+    /// RMM 1.0, RMI_REC_CREATE.
+    pub fn next_rec(&mut self) -> RecNo
+        requires { self.old.next < 65535 }
+        ensures number { result ≡ self.old.next }
+        ensures raised { self.new ≡ record self.old { next = self.old.next + 1 } }
+    {
+        let number = self.next;
+        self.next = RecNo::new(number.number() + 1);
+        number
+    }
+
+    /// Extends the measurement by the bytes of an event. RMM 1.0, Realm measurement.
+    pub fn measure(&mut self, event: &[u8])
+        ensures { self.new ≡ record self.old {
+          measurement = measurement_after self.old.measurement event.now;
+        } }
+    {
+        self.measurement = extend_measurement(&self.measurement, event);
+    }
+}

@@ -1,0 +1,94 @@
+//! Realm execution contexts.
+ghost use Rattle.std.specs.Prelude.{◌≡◌, ◌≤◌, ℕ, length};
+ghost use Rattle.realm_model.specs.Command.Check as checks;
+ghost use Rattle.realm_model.specs.declared.states.RecState.TheVariants.{Ready, Running};
+ghost use Rattle.realm_objects.specs.Attributes.{rec_row};
+
+use arrayvec::ArrayVec;
+use granule_addr::{Gran, RecNo};
+use realm_model::RecState;
+use std::marker::Model;
+
+/// A realm execution context (REC): what the monitor keeps of one beside its granule.
+///
+/// RMM 1.0, REC attributes.
+#[derive(Debug, Drop)]
+pub struct Rec {
+    number: RecNo,
+    state: RecState,
+    auxiliaries: ArrayVec<Gran, 16>,
+}
+
+impl Model for Rec {
+    ghost use Rattle.realm_objects.specs.Attributes.{RecAttributes};
+
+    ghost Value = { RecAttributes };
+
+    ghost view = { λ r. record {
+      number = r.number;
+      state = r.state;
+      auxiliaries = r.auxiliaries.items;
+    } };
+}
+
+impl Rec {
+    /// A REC that has just been made: READY, with that number in its realm and those auxiliary granules.
+    ///
+    /// RMM 1.0, RMI_REC_CREATE.
+    pub fn new(number: RecNo, auxiliaries: ArrayVec<Gran, 16>) -> Rec
+        ensures { result ≡ record {
+          number = number;
+          state = Ready;
+          auxiliaries = auxiliaries.items;
+        } }
+    {
+        Rec {
+            number,
+            state: RecState::Ready,
+            auxiliaries,
+        }
+    }
+
+    /// The number of the REC in its realm. RMM 1.0, REC index.
+    pub fn number(&self) -> RecNo
+        ensures { result ≡ self.now.number }
+    {
+        self.number
+    }
+
+    /// READY or RUNNING. RMM 1.0, REC state.
+    pub fn state(&self) -> RecState
+        ensures { result ≡ self.now.state }
+    {
+        self.state
+    }
+
+    /// Whether the REC is READY: it may be entered or destroyed only then.
+    pub fn is_ready(&self) -> bool
+        ensures { (granule : ℕ) → result ≡ checks.is_ready (rec_row granule self.now) }
+    {
+        matches!(self.state, RecState::Ready)
+    }
+
+    /// The auxiliary granules, in the order in which the REC got them. RMM 1.0, Auxiliary granules.
+    pub fn auxiliaries(&self) -> &[Gran]
+        ensures value { result.now ≡ self.now.auxiliaries }
+        ensures few { length result.now ≤ 16 }
+    {
+        self.auxiliaries.as_slice()
+    }
+
+    /// The REC runs from now on. RMM 1.0, RMI_REC_ENTER.
+    pub fn enter(&mut self)
+        ensures { self.new ≡ record self.old { state = Running } }
+    {
+        self.state = RecState::Running;
+    }
+
+    /// The REC stops running, and can be entered again. RMM 1.0, REC exit.
+    pub fn exit(&mut self)
+        ensures { self.new ≡ record self.old { state = Ready } }
+    {
+        self.state = RecState::Ready;
+    }
+}
