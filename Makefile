@@ -12,5 +12,5 @@ run: ## proves what has to be, builds the program, and replays PLAN
 test: ## the whole gate from nothing: proofs, must-fail edits, tests, the program
 	rt ci
 
-allocations: ## refuses each allocation of the stored run in turn
+allocations: ## refuses each allocation of the program in turn, over each plan (needs a C compiler)
 	@tests/allocations
