@@ -72,7 +72,7 @@ impl RealmDesc {
         self.state
     }
 
-    /// Whether the realm is NEW: only then it gets RECs, and contents that are measured.
+    /// Whether the realm is NEW.
     pub fn is_new(&self) -> bool
         ensures { (recs : FinMap nat_cmp RecRow) (rows : Rows) →
             result ≡ checks.is_new (realm_row self.now recs rows) }
@@ -80,7 +80,7 @@ impl RealmDesc {
         matches!(self.state, RealmState::New)
     }
 
-    /// The VMID, which no other realm has meanwhile.
+    /// The VMID.
     pub fn vmid(&self) -> Vmid
         ensures { result ≡ self.now.vmid }
     {
@@ -115,7 +115,7 @@ impl RealmDesc {
         self.state = RealmState::Active;
     }
 
-    /// Answers the number of the realm's next REC, and raises it by one. No number is used again.
+    /// Answers the number of the realm's next REC, and raises it by one.
     ///
     /// RMM 1.0, RMI_REC_CREATE.
     pub fn next_rec(&mut self) -> RecNo

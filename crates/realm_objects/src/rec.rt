@@ -63,7 +63,7 @@ impl Rec {
         self.state
     }
 
-    /// Whether the REC is READY: it may be entered or destroyed only then.
+    /// Whether the REC is READY.
     pub fn is_ready(&self) -> bool
         ensures { (granule : ℕ) → result ≡ checks.is_ready (rec_row granule self.now) }
     {

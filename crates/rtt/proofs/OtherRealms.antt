@@ -1,0 +1,41 @@
+-- What a call on one realm's tables leaves of the others.
+use Rattle.std.proofs.Common.{◌≡◌, ◌≢◌, ℕ, List, Option, Some, sym, ap, ◌∙◌}
+use Rattle.granule_table.specs.Granules.{granule_at, IsIn}
+use Rattle.granule_table.specs.declared.granule.Granule.{Granule}
+use Rattle.page_arena.specs.Page.{page_at}
+use Rattle.realm_model.specs.declared.states.GranuleState.{GranuleState}
+use Rattle.realm_model.specs.declared.states.GranuleState.TheVariants.{Rtt as InRtt}
+use Rattle.rtt.specs.Realm.{HasTables, IsTableOf, LeavesOthers}
+use Rattle.rtt.proofs.Owned.{Moves, apart_realms}
+
+-- a table of a realm is in RTT of it
+pub table_in : (pages : List (List ℕ)) (granules : List Granule) (rd root granule : ℕ) → HasTables pages granules rd root → IsTableOf pages root granule → IsIn granules granule InRtt (Some rd)
+table_in pages granules rd root granule tables is = tables.own.tables is.level is.ipa granule is.inside is.at
+
+-- a granule of one realm is in no state of another
+of_one_realm : (granules : List Granule) (rd other granule : ℕ) (state : GranuleState) → other ≢ rd → IsIn granules granule InRtt (Some rd) → IsIn granules granule state (Some other) → ⊥
+of_one_realm granules rd other granule state apart its others = apart_realms granules granule granule state InRtt other rd others its apart (λ i. granule)
+
+-- no granule but one moves, and that one is not another realm's
+pub others_left : (pages new_pages : List (List ℕ)) (granules new_granules : List Granule) (rd moved : ℕ) (state new_state : GranuleState) (realm new_realm : Option ℕ)
+    → IsIn granules moved state realm → ((other : ℕ) → other ≢ rd → realm ≢ Some other) → Moves granules new_granules moved new_state new_realm
+    → ((granule : ℕ) → granule ≢ moved → ¬ (IsIn granules granule InRtt (Some rd)) → page_at new_pages granule ≡ page_at pages granule)
+    → LeavesOthers rd pages granules new_pages new_granules
+others_left pages new_pages granules new_granules rd moved state new_state realm new_realm was free moves changed other apart =
+    let beside : (granule : ℕ) (its : GranuleState) → IsIn granules granule its (Some other) → granule ≢ moved = λ granule its is same.
+    free other apart (ap (λ (x : Granule). x.realm) (sym was.is ∙ ap (granule_at granules) (sym same) ∙ is.is)) in
+    record {
+      page = λ granule is. changed granule (beside granule _ is) (λ its. of_one_realm granules rd other granule _ apart its is);
+      table = λ granule is. moves.others granule _ _ (beside granule _ is) is;
+      «data» = λ granule is. moves.others granule _ _ (beside granule _ is) is;
+    }
+
+-- no granule moves at all
+pub others_kept : (pages new_pages : List (List ℕ)) (granules : List Granule) (rd : ℕ)
+    → ((granule : ℕ) → ¬ (IsIn granules granule InRtt (Some rd)) → page_at new_pages granule ≡ page_at pages granule)
+    → LeavesOthers rd pages granules new_pages granules
+others_kept pages new_pages granules rd changed other apart = record {
+  page = λ granule is. changed granule (λ its. of_one_realm granules rd other granule _ apart its is);
+  table = λ granule is. is;
+  «data» = λ granule is. is;
+}

@@ -1,0 +1,76 @@
+-- Several rows of a level, put or tested at once.
+use Rattle.std.proofs.Common.{◌≡◌, ◌≢◌, ℕ, zero, suc, ◌+◌, ◌*◌, ◌<◌, Bool, true, false, cond, ◌&&◌, Option, Some, None, inl, inr, ⊎_elim, refl, sym, ap, ◌∙◌, arith}
+use Rattle.std.specs.FinMap.{get, insert, get-insert}
+use Rattle.std.proofs.lemmas.Bool.{cases_eq, and_from}
+use Rattle.granule_addr.specs.Ipa.{covered_count}
+use Rattle.realm_model.specs.Rows.{Row, Rows, all_rows, put_rows}
+use Rattle.realm_model.proofs.Maps.{place_total}
+use Rattle.realm_model.proofs.Rows.{is_place as is_at, get-put_rows_other, all_rows_at}
+use Rattle.realm_model.proofs.Booleans.{false_from}
+use Rattle.std.proofs.lemmas.Option.{same_Some}
+use Rattle.rtt.specs.FiniteRowsLaws.{place_tells}
+
+pub get-insert_row : (rows : Rows) (place q : ℕ × ℕ) (row : Row) → get (insert rows place row) q ≡ cond (is_at q place) (Some row) (get rows q)
+get-insert_row rows place q row = get-insert place_total rows place row q
+
+-- a place of those put
+pub get-put_rows_at : (change : Option Row → Row) (rows : Rows) (level first n k : ℕ) → k < n
+    → get (put_rows change rows level first n) (level, first + k * covered_count level) ≡ Some (change (get rows (level, first + k * covered_count level)))
+unfolding put_rows
+get-put_rows_at change rows level first zero k lt = absurd (omega arith)
+get-put_rows_at change rows level first (suc n) k lt =
+    let here : ℕ × ℕ = (level, first + k * covered_count level) in
+    let last : ℕ × ℕ = (level, first + n * covered_count level) in
+    let rest = get (put_rows change rows level first n) here in
+    get-insert_row (put_rows change rows level first n) last here (change (get rows last))
+    ∙ elim (place_tells here last) [
+      | inl t ↦ ap (λ b. cond b (Some (change (get rows last))) rest) t.0 ∙ ap (λ q. Some (change (get rows q))) (sym t.1)
+      | inr t ↦ ap (λ b. cond b (Some (change (get rows last))) rest) t.0
+          ∙ get-put_rows_at change rows level first n k (⊎_elim (λ (s : k ≡ n). absurd (t.1 (ap (λ (j : ℕ). (level, first + j * covered_count level)) s))) (λ (ne : k ≢ n). omega arith) (cases_eq k n))
+    ]
+
+-- and any other place
+pub get-put_rows_beside : (change : Option Row → Row) (rows : Rows) (level first n : ℕ) (q : ℕ × ℕ)
+    → ((k : ℕ) → k < n → q ≡ (level, first + k * covered_count level) → ⊥) → get (put_rows change rows level first n) q ≡ get rows q
+get-put_rows_beside change rows level first n q out =
+    get-put_rows_other change rows level first n q (λ k lt. ⊎_elim (λ t. absurd (out k lt t.1)) (λ t. t.0) (place_tells q (level, first + k * covered_count level)))
+
+-- ---- rows that are those of a function
+
+module _ (test : Row → Bool) (rows : Rows) (level first n : ℕ) (row : ℕ → Row)
+    (are : (k : ℕ) → k < n → get rows (level, first + k * covered_count level) ≡ Some (row k)) where
+  -- each passes where all do
+  pub all_rows_each : all_rows test rows level first n ≡ true → (k : ℕ) → k < n → test (row k) ≡ true
+  all_rows_each all k lt =
+      let found = all_rows_at test rows level first n k all lt in
+      ap test (same_Some _ _ (sym (are k lt) ∙ found.1)) ∙ found.2
+
+  -- all pass where each does
+  pub all_rows_true : ((k : ℕ) → k < n → test (row k) ≡ true) → all_rows test rows level first n ≡ true
+  unfolding all_rows
+  all_rows_true each = first_ones n (λ k lt. lt)
+    where
+      first_ones : (m : ℕ) → ((k : ℕ) → k < m → k < n) → all_rows test rows level first m ≡ true
+      first_ones zero few = refl
+      first_ones (suc m) few =
+          let lt : m < n = few m (omega arith) in
+          and_from _ _ (ap (λ o. elim o [ Some row ↦ test row | None ↦ false ]) (are m lt) ∙ each m lt) (first_ones m (λ k h. few k (omega arith)))
+
+  -- and not all do where one does not
+  pub all_rows_false : (k : ℕ) → k < n → test (row k) ≡ false → all_rows test rows level first n ≡ false
+  all_rows_false k lt fails = false_from _ (λ all. let clash : false ≡ true = sym fails ∙ all_rows_each all k lt in cc)
+
+  -- where not all pass there is one that does not
+  pub all_rows_fails : all_rows test rows level first n ≡ false → (k : ℕ) × (k < n) × (test (row k) ≡ false)
+  unfolding all_rows
+  all_rows_fails fails = first_ones n (λ k lt. lt) fails
+    where
+      first_ones : (m : ℕ) → ((k : ℕ) → k < m → k < n) → all_rows test rows level first m ≡ false → (k : ℕ) × (k < n) × (test (row k) ≡ false)
+      first_ones zero few e = cc
+      first_ones (suc m) few e =
+          let lt : m < n = few m (omega arith) in
+          let here : elim (get rows (level, first + m * covered_count level)) [ Some row ↦ test row | None ↦ false ] ≡ test (row m) = ap (λ o. elim o [ Some row ↦ test row | None ↦ false ]) (are m lt) in
+          elim (test (row m)) as (λ b. test (row m) ≡ b → (k : ℕ) × (k < n) × (test (row k) ≡ false)) [
+            | true ↦ λ passes. first_ones m (λ k h. few k (omega arith)) (sym (ap (λ b. b && all_rows test rows level first m) (here ∙ passes)) ∙ e)
+            | false ↦ λ fails. (m, lt, fails)
+          ] refl

@@ -1,0 +1,29 @@
+use Rattle.std.proofs.Common.{◌≡◌, Some, set, sym, ap, arith, rules}
+use Rattle.granule_table.specs.Granules.{granule_at}
+use Rattle.granule_table.specs.declared.granule.Granule.{Granule}
+use Rattle.realm_model.specs.declared.states.GranuleState.TheVariants.{Delegated, Data as InData}
+use Rattle.realm_model.specs.Rows.{assigned}
+use Rattle.rtt.proofs.DataPages.{Mapped, mapped}
+use Rattle.rtt.proofs.tables.Tables.map.Given.{Over}
+use Rattle.rtt.proofs.tables.Tables.map.Goals as goal
+
+done : (g : Over) (c : goal.After-shift g) → Mapped (g.S.PageStore.page_bytes c.args.store.now) (g.S.PageStore.page_bytes c.write.new.store) c.args.granules.now c.shift.new.self c.args.self.now.rd c.args.self.now.root c.args.ipa (assigned c.args.ripas c.args.page)
+done g c =
+    let was : (granule_at c.args.granules.now c.args.page).state ≡ Delegated = ap (λ (x : Granule). x.state) c.requires.delegated.is in
+    let granules_are : c.shift.new.self ≡ set c.args.granules.now c.args.page (record { state = InData; realm = Some c.args.self.now.rd }) = search rules in
+    mapped (g.S.PageStore.page_bytes c.args.store.now) (g.S.PageStore.page_bytes c.write.new.store) (g.S.PageStore.free_flags c.args.store.now) c.args.granules.now c.shift.new.self
+    c.args.self.now.rd c.args.self.now.root c.find-table.result.level c.args.ipa c.find-table.result.table c.index_at.result c.args.page c.args.ripas c.find-table.result.entry c.assigned.result
+    (g.met.S.PageStore.sized c.args.store.now) c.requires.backed c.requires.tables c.find-table.ensures.inside (omega arith) c.find-table.ensures.table c.find-table.ensures.within c.index_at.ensures.value
+    c.find-table.ensures.entry (sym c.if-not-is_unassigned.ensures) c.requires.delegated c.assigned.ensures c.write.ensures.written granules_are
+
+pub returns-clause-rows : goal.returns-clause-rows
+returns-clause-rows g c = (done g c).rows_are
+
+pub returns-clause-tables : goal.returns-clause-tables
+returns-clause-tables g c = (done g c).tables
+
+pub returns-clause-others : goal.returns-clause-others
+returns-clause-others g c = (done g c).others
+
+pub returns-clause-other_realms : goal.returns-clause-other_realms
+returns-clause-other_realms g c = (done g c).other_realms

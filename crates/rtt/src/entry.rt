@@ -1,0 +1,147 @@
+//! Entries of translation tables, and their words.
+ghost use Rattle.std.specs.Prelude.{◌≡◌};
+ghost use Rattle.realm_model.specs.Rows as rows;
+ghost use Rattle.rtt.specs.Tables.{table_of, data_of};
+ghost use Rattle.rtt.specs.Word.{entry_word, entry_of};
+
+use granule_addr::{Gran, MOST_PAGES};
+use realm_model::{Hipas, Ripas};
+use std::marker::Model;
+
+/// An entry of a translation table. RMM 1.0, RTT entry.
+#[derive(Clone, Copy, Debug, PartialEq, Eq)]
+pub struct Entry {
+    pub hipas: Hipas,
+    pub ripas: Ripas,
+    /// The granule that the entry leads to.
+    pub pa: Option<Gran>,
+}
+
+impl Model for Entry {
+    ghost use Rattle.realm_model.specs.Rows.{Row};
+    ghost use Rattle.realm_model.specs.Codes.{row_code};
+    ghost use Rattle.rtt.specs.Word.{IsSaid};
+
+    ghost Value = { Row };
+
+    ghost coded = { row_code };
+
+    ghost view = { λ e. record { hipas = e.hipas; ripas = e.ripas; granule = e.pa } };
+
+    ghost invariant = { λ e. IsSaid e.hipas e.ripas e.pa };
+
+    ghost inverse = { λ row. record { hipas = row.hipas; ripas = row.ripas; pa = row.granule } };
+}
+
+impl Entry {
+    /// An entry that leads to nothing.
+    pub fn unassigned(ripas: Ripas) -> Entry
+        ensures { result ≡ rows.unassigned ripas }
+    {
+        Entry {
+            hipas: Hipas::Unassigned,
+            ripas,
+            pa: None,
+        }
+    }
+
+    /// An entry that leads to a page of data.
+    pub fn assigned(ripas: Ripas, page: Gran) -> Entry
+        ensures { result ≡ rows.assigned ripas page }
+    {
+        Entry {
+            hipas: Hipas::Assigned,
+            ripas,
+            pa: Some(page),
+        }
+    }
+
+    /// An entry that leads to a table.
+    pub fn table(table: Gran) -> Entry
+        ensures { result ≡ rows.table table }
+    {
+        Entry {
+            hipas: Hipas::Table,
+            ripas: Ripas::Empty,
+            pa: Some(table),
+        }
+    }
+
+    pub fn is_unassigned(self) -> bool
+        ensures { result ≡ rows.is_unassigned self }
+    {
+        matches!(self.hipas, Hipas::Unassigned)
+    }
+
+    pub fn is_assigned(self) -> bool
+        ensures { result ≡ rows.is_assigned self }
+    {
+        matches!(self.hipas, Hipas::Assigned)
+    }
+
+    pub fn is_table(self) -> bool
+        ensures { result ≡ rows.is_table self }
+    {
+        matches!(self.hipas, Hipas::Table)
+    }
+
+    /// The granule of the table that the entry leads to.
+    pub fn child(self) -> Option<Gran>
+        ensures { result ≡ table_of self }
+    {
+        match self.hipas {
+            Hipas::Table => self.pa,
+            _ => None,
+        }
+    }
+
+    /// The granule of the page of data that the entry leads to.
+    pub fn page(self) -> Option<Gran>
+        ensures { result ≡ data_of self }
+    {
+        match self.hipas {
+            Hipas::Assigned => self.pa,
+            _ => None,
+        }
+    }
+
+    /// The word of the entry.
+    pub fn to_word(self) -> u64
+        ensures { result ≡ entry_word self }
+    {
+        let kind = match self.hipas {
+            Hipas::Unassigned => 0,
+            Hipas::Assigned => 1,
+            Hipas::Table => 2,
+        };
+        let ripas = match self.ripas {
+            Ripas::Empty => 0,
+            Ripas::Ram => 1,
+            Ripas::Destroyed => 2,
+        };
+        let address = match self.pa {
+            Some(granule) => granule.number() as u64 * 4096,
+            None => 0,
+        };
+        kind + ripas * 4 + address
+    }
+
+    /// The entry that a word is read as, whatever the word.
+    pub fn from_word(word: u64) -> Entry
+        ensures { result ≡ entry_of word }
+    {
+        let ripas = match word / 4 % 4 {
+            1 => Ripas::Ram,
+            2 => Ripas::Destroyed,
+            _ => Ripas::Empty,
+        };
+        let Some(granule) = Gran::new((word / 4096 % 4096) as u16, MOST_PAGES) else {
+            return Entry::unassigned(ripas);
+        };
+        match word % 4 {
+            1 => Entry::assigned(ripas, granule),
+            2 => Entry::table(granule),
+            _ => Entry::unassigned(ripas),
+        }
+    }
+}

@@ -1,0 +1,169 @@
+//! Pages of data, and RIPAS.
+ghost use Rattle.std.specs.Prelude.{◌≡◌, ℕ, ◌+◌, ◌-◌, ◌/◌, ◌≤◌, Some, None, OnOk, OnErr};
+ghost use Rattle.granule_table.specs.Granules.{IsIn};
+ghost use Rattle.granule_addr.specs.Page.{zero_page};
+ghost use Rattle.page_arena.specs.Page.{page_at};
+ghost use Rattle.realm_model.specs.Rows.{assigned, put_row, with_ram, unmapped_ripas};
+ghost use Rattle.rtt.specs.Tables.{rows};
+ghost use Rattle.rtt.specs.Realm.{IsBacked, HasTables, LeavesOthers};
+ghost use Rattle.rtt.specs.Refusal.{IsRefused};
+ghost use Rattle.rtt.specs.Calls.{with_state, LeadsTo, ChangesTablesOnly, ChangesTablesAnd, LosesPage, map_refusal, unmap_refusal, ripas_refusal};
+
+use crate::pages::{all_unassigned, fill_entries, write};
+use crate::tables::{Place, find};
+use crate::{Entry, Rtt, Tables};
+use granule_addr::{Gran, IpaGran, Level, index_at};
+use granule_table::GranuleTable;
+use page_arena::PageStore;
+use realm_model::{GranuleState, Ripas};
+
+impl Tables {
+    /// Maps a DELEGATED granule at an IPA granule, as a page of data. Its bytes stay.
+    ///
+    /// RMM 1.0, RMI_DATA_CREATE. RMI_ERROR_RTT comes with the level where the walk ended, unless that is 3 and the entry
+    /// there is UNASSIGNED. A refusal changes nothing.
+    pub fn map<S: PageStore>(
+        &self,
+        store: &mut S,
+        granules: &mut GranuleTable,
+        page: Gran,
+        ipa: IpaGran,
+        ripas: Ripas,
+    ) -> Result<(), Rtt>
+        requires backed { IsBacked (S.page_bytes store.old) (S.free_flags store.old) granules.old }
+        requires tables { HasTables (S.page_bytes store.old) granules.old self.now.rd self.now.root }
+        requires delegated { IsIn granules.old page GranuleState.Delegated None }
+        ensures answer { IsRefused result (map_refusal (rows (S.page_bytes store.old) self.now.root) ipa) }
+        ensures rows { OnOk result (rows (S.page_bytes store.new) self.now.root
+            ≡ put_row (rows (S.page_bytes store.old) self.now.root) 3 ipa (assigned ripas page)) }
+        ensures moved { OnOk result
+            (granules.new ≡ with_state granules.old page GranuleState.Data (Some self.now.rd)) }
+        ensures unchanged { OnErr result
+            ((S.page_bytes store.new ≡ S.page_bytes store.old) × (granules.new ≡ granules.old)) }
+        ensures tables { HasTables (S.page_bytes store.new) granules.new self.now.rd self.now.root }
+        ensures backed { IsBacked (S.page_bytes store.new) (S.free_flags store.new) granules.new }
+        ensures flags { S.free_flags store.new ≡ S.free_flags store.old }
+        ensures others { ChangesTablesOnly self.now.root (S.page_bytes store.old) (S.page_bytes store.new) }
+        ensures other_realms { LeavesOthers self.now.rd (S.page_bytes store.old) granules.old (S.page_bytes store.new) granules.new }
+    {
+        let realm = Some(self.rd);
+        let Place {
+            table,
+            level,
+            entry,
+        } = find(*self, store, granules, ipa, Level::last());
+        if level.number() != 3 || !entry.is_unassigned() {
+            return Err(Rtt { level });
+        }
+        write(
+            store,
+            table,
+            index_at(ipa, level),
+            Entry::assigned(ripas, page),
+        );
+        granules.shift(page, GranuleState::Delegated, GranuleState::Data, realm);
+        Ok(())
+    }
+
+    /// Unmaps the page of data at an IPA granule: it is zero and DELEGATED from now on.
+    ///
+    /// RMM 1.0, RMI_DATA_DESTROY. RMI_ERROR_RTT comes with the level where the walk ended, unless that is 3 and the entry
+    /// there is ASSIGNED. A refusal changes nothing.
+    pub fn unmap<S: PageStore>(
+        &self,
+        store: &mut S,
+        granules: &mut GranuleTable,
+        ipa: IpaGran,
+    ) -> Result<(), Rtt>
+        requires backed { IsBacked (S.page_bytes store.old) (S.free_flags store.old) granules.old }
+        requires tables { HasTables (S.page_bytes store.old) granules.old self.now.rd self.now.root }
+        ensures answer { IsRefused result (unmap_refusal (rows (S.page_bytes store.old) self.now.root) ipa) }
+        ensures rows { OnOk result
+            (LosesPage (rows (S.page_bytes store.old) self.now.root) ipa (rows (S.page_bytes store.new) self.now.root)) }
+        ensures moved { OnOk result
+            ((page : ℕ) → LeadsTo (rows (S.page_bytes store.old) self.now.root) 3 ipa page
+            → granules.new ≡ with_state granules.old page GranuleState.Delegated None) }
+        ensures cleared { OnOk result
+            ((page : ℕ) → LeadsTo (rows (S.page_bytes store.old) self.now.root) 3 ipa page
+            → page_at (S.page_bytes store.new) page ≡ zero_page) }
+        ensures unchanged { OnErr result
+            ((S.page_bytes store.new ≡ S.page_bytes store.old) × (granules.new ≡ granules.old)) }
+        ensures tables { HasTables (S.page_bytes store.new) granules.new self.now.rd self.now.root }
+        ensures backed { IsBacked (S.page_bytes store.new) (S.free_flags store.new) granules.new }
+        ensures flags { S.free_flags store.new ≡ S.free_flags store.old }
+        ensures others { ChangesTablesAnd (LeadsTo (rows (S.page_bytes store.old) self.now.root) 3 ipa)
+            self.now.root (S.page_bytes store.old) (S.page_bytes store.new) }
+        ensures other_realms { LeavesOthers self.now.rd (S.page_bytes store.old) granules.old (S.page_bytes store.new) granules.new }
+    {
+        let Place {
+            table,
+            level,
+            entry,
+        } = find(*self, store, granules, ipa, Level::last());
+        if level.number() != 3 {
+            return Err(Rtt { level });
+        }
+        let Some(page) = entry.page() else {
+            return Err(Rtt { level });
+        };
+        store.fill(page, 0);
+        let ripas = unmapped(entry.ripas);
+        write(store, table, index_at(ipa, level), Entry::unassigned(ripas));
+        granules.shift(page, GranuleState::Data, GranuleState::Delegated, None);
+        Ok(())
+    }
+
+    /// Gives RAM to `count` IPA granules that one table of level 3 serves: all of them, or none.
+    ///
+    /// RMM 1.0, RMI_RTT_INIT_RIPAS. RMI_ERROR_RTT comes with the level where the walk ended, unless that is 3 and all the
+    /// entries are UNASSIGNED. A refusal changes nothing.
+    pub fn init_ripas<S: PageStore>(
+        &self,
+        store: &mut S,
+        granules: &GranuleTable,
+        ipa: IpaGran,
+        count: u16,
+    ) -> Result<(), Rtt>
+        requires backed { IsBacked (S.page_bytes store.old) (S.free_flags store.old) granules.now }
+        requires tables { HasTables (S.page_bytes store.old) granules.now self.now.rd self.now.root }
+        requires some { 1 ≤ count }
+        requires few { count ≤ 512 }
+        requires one_table { ipa / 512 ≡ (ipa + count - 1) / 512 }
+        ensures answer { IsRefused result (ripas_refusal (rows (S.page_bytes store.old) self.now.root) ipa count) }
+        ensures rows { OnOk result (rows (S.page_bytes store.new) self.now.root
+            ≡ with_ram (rows (S.page_bytes store.old) self.now.root) ipa count) }
+        ensures unchanged { OnErr result (S.page_bytes store.new ≡ S.page_bytes store.old) }
+        ensures tables { HasTables (S.page_bytes store.new) granules.now self.now.rd self.now.root }
+        ensures backed { IsBacked (S.page_bytes store.new) (S.free_flags store.new) granules.now }
+        ensures flags { S.free_flags store.new ≡ S.free_flags store.old }
+        ensures others { ChangesTablesOnly self.now.root (S.page_bytes store.old) (S.page_bytes store.new) }
+        ensures other_realms { LeavesOthers self.now.rd (S.page_bytes store.old) granules.now (S.page_bytes store.new) granules.now }
+    {
+        let place = find(*self, store, granules, ipa, Level::last());
+        if place.level.number() != 3 {
+            return Err(Rtt { level: place.level });
+        }
+        let first = index_at(ipa, place.level);
+        if !all_unassigned(store, place.table, first, count) {
+            return Err(Rtt { level: place.level });
+        }
+        fill_entries(
+            store,
+            place.table,
+            first,
+            count,
+            Entry::unassigned(Ripas::Ram),
+        );
+        Ok(())
+    }
+}
+
+// The RIPAS that stays where a page is unmapped.
+fn unmapped(ripas: Ripas) -> Ripas
+    ensures { result ≡ unmapped_ripas ripas }
+{
+    match ripas {
+        Ripas::Empty => Ripas::Empty,
+        Ripas::Ram | Ripas::Destroyed => Ripas::Destroyed,
+    }
+}
