@@ -182,38 +182,50 @@ fn three_levels<S: PageStore>(
     assert_eq!(rt; made, Ok(()));
 }
 
+// The same, and maps granule 4 at IPA granule 0, with RAM.
+fn with_page<S: PageStore>(
+    rt: &impl Abort,
+    tables: &Tables,
+    store: &mut S,
+    granules: &mut GranuleTable,
+)
+    requires { IsBacked (S.page_bytes store.old) (S.free_flags store.old) granules.old }
+    ensures backed { IsBacked (S.page_bytes store.new) (S.free_flags store.new) granules.new }
+    ensures tables { HasTables (S.page_bytes store.new) granules.new tables.now.rd tables.now.root }
+{
+    let page = Gran::new(4, 8).unwrap();
+    let first = IpaGran::new(0, 39).unwrap();
+    three_levels(rt, tables, store, granules);
+    let mapped = map(rt, tables, store, granules, page, first, Ripas::Ram);
+    assert_eq!(rt; mapped, Ok(()));
+}
+
+fn realm() -> Tables {
+    Tables {
+        rd: Gran::new(0, 8).unwrap(),
+        root: Gran::new(1, 8).unwrap(),
+    }
+}
+
 #[test]
 fn a_page_comes_and_goes(rt: HostRuntime) -> Result<(), Fail> {
     let (mut store, mut granules) = machine(&rt, rt.alloc())?;
-    let tables = &Tables {
-        rd: Gran::new(0, 8).unwrap(),
-        root: Gran::new(1, 8).unwrap(),
-    };
-    let page = Gran::new(4, 8).unwrap();
+    let tables = &realm();
     let first = IpaGran::new(0, 39).unwrap();
-    let middle = Level::last().above();
-    three_levels(&rt, tables, &mut store, &mut granules);
-    let mapped = map(
-        &rt,
-        tables,
-        &mut store,
-        &mut granules,
-        page,
-        first,
-        Ripas::Ram,
-    );
-    assert_eq!(rt; mapped, Ok(()));
+    let last = Level::last();
+    with_page(&rt, tables, &mut store, &mut granules);
     assert_eq!(rt; word(&rt, &store, 1), 8194);
     assert_eq!(rt; word(&rt, &store, 2), 12_290);
     assert_eq!(rt; word(&rt, &store, 3), 16_389);
     assert_eq!(rt; tables.unmap(&mut store, &mut granules, first), Ok(()));
     assert_eq!(rt; word(&rt, &store, 3), 8);
-    let gone = destroy(&rt, tables, &mut store, &mut granules, first, Level::last());
+    let gone = destroy(&rt, tables, &mut store, &mut granules, first, last);
     assert_eq!(rt; gone, Ok(()));
     assert!(rt; is_zero(&rt, &store, 3));
     assert_eq!(rt; word(&rt, &store, 2), 8);
-    let gone = destroy(&rt, tables, &mut store, &mut granules, first, middle);
+    let gone = destroy(&rt, tables, &mut store, &mut granules, first, last.above());
     assert_eq!(rt; gone, Ok(()));
+    assert!(rt; is_zero(&rt, &store, 2));
     assert_eq!(rt; word(&rt, &store, 1), 8);
     assert!(rt; tables.close_root(&mut store, &mut granules));
     assert!(rt; is_zero(&rt, &store, 1));
@@ -221,43 +233,66 @@ fn a_page_comes_and_goes(rt: HostRuntime) -> Result<(), Fail> {
 }
 
 #[test]
-fn refusals(rt: HostRuntime) -> Result<(), Fail> {
+fn walks_end_at_each_level(rt: HostRuntime) -> Result<(), Fail> {
     let (mut store, mut granules) = machine(&rt, rt.alloc())?;
-    let tables = &Tables {
-        rd: Gran::new(0, 8).unwrap(),
-        root: Gran::new(1, 8).unwrap(),
-    };
+    let tables = &realm();
     let page = Gran::new(4, 8).unwrap();
+    let first = IpaGran::new(0, 39).unwrap();
+    let last = Level::last();
+    with_page(&rt, tables, &mut store, &mut granules);
+    let end = tables.walk(&store, &granules, first, last);
+    assert_eq!(rt; end.level, last);
+    assert_eq!(rt; end.entry, Entry::assigned(Ripas::Ram, page));
+    for (number, level) in [(512, 2), (262_144, 1)] {
+        let end = tables.walk(&store, &granules, IpaGran::new(number, 39).unwrap(), last);
+        assert_eq!(rt; end.level.number(), level);
+        assert_eq!(rt; end.entry, Entry::unassigned(Ripas::Empty));
+    }
+    Ok(())
+}
+
+#[test]
+fn refused_tables_change_nothing(rt: HostRuntime) -> Result<(), Fail> {
+    let (mut store, mut granules) = machine(&rt, rt.alloc())?;
+    let tables = &realm();
     let spare = Gran::new(6, 8).unwrap();
     let first = IpaGran::new(0, 39).unwrap();
-    let second = IpaGran::new(1, 39).unwrap();
     let far = IpaGran::new(262_144, 39).unwrap();
     let last = Level::last();
     let middle = last.above();
     let at = |level: Level| Err(Rtt { level });
-    three_levels(&rt, tables, &mut store, &mut granules);
-    let mapped = map(
-        &rt,
-        tables,
-        &mut store,
-        &mut granules,
-        page,
-        first,
-        Ripas::Ram,
-    );
-    assert_eq!(rt; mapped, Ok(()));
+    with_page(&rt, tables, &mut store, &mut granules);
     let made = create(&rt, tables, &mut store, &mut granules, spare, first, last);
     assert_eq!(rt; made, at(middle));
     let made = create(&rt, tables, &mut store, &mut granules, spare, far, last);
     assert_eq!(rt; made, at(Level::start()));
-    assert_eq!(rt;
-        init(&rt, tables, &mut store, &granules, first, 1),
-        at(last)
-    );
-    assert_eq!(rt;
-        init(&rt, tables, &mut store, &granules, second, 511),
-        Ok(())
-    );
+    let gone = destroy(&rt, tables, &mut store, &mut granules, first, last);
+    assert_eq!(rt; gone, at(last));
+    let gone = destroy(&rt, tables, &mut store, &mut granules, first, middle);
+    assert_eq!(rt; gone, at(middle));
+    assert!(rt; !tables.close_root(&mut store, &mut granules));
+    assert_eq!(rt; word(&rt, &store, 1), 8194);
+    assert_eq!(rt; word(&rt, &store, 2), 12_290);
+    assert_eq!(rt; word(&rt, &store, 3), 16_389);
+    assert!(rt; is_delegated(&granules, spare));
+    Ok(())
+}
+
+#[test]
+fn refused_pages_change_nothing(rt: HostRuntime) -> Result<(), Fail> {
+    let (mut store, mut granules) = machine(&rt, rt.alloc())?;
+    let tables = &realm();
+    let spare = Gran::new(6, 8).unwrap();
+    let first = IpaGran::new(0, 39).unwrap();
+    let second = IpaGran::new(1, 39).unwrap();
+    let refused = Err(Rtt {
+        level: Level::last(),
+    });
+    with_page(&rt, tables, &mut store, &mut granules);
+    let given = init(&rt, tables, &mut store, &granules, first, 1);
+    assert_eq!(rt; given, refused);
+    let given = init(&rt, tables, &mut store, &granules, second, 511);
+    assert_eq!(rt; given, Ok(()));
     let mapped = map(
         &rt,
         tables,
@@ -267,7 +302,9 @@ fn refusals(rt: HostRuntime) -> Result<(), Fail> {
         first,
         Ripas::Empty,
     );
-    assert_eq!(rt; mapped, at(last));
+    assert_eq!(rt; mapped, refused);
+    assert!(rt; is_delegated(&granules, spare));
+    assert_eq!(rt; word(&rt, &store, 3), 16_389);
     let mapped = map(
         &rt,
         tables,
@@ -279,21 +316,7 @@ fn refusals(rt: HostRuntime) -> Result<(), Fail> {
     );
     assert_eq!(rt; mapped, Ok(()));
     assert_eq!(rt; tables.unmap(&mut store, &mut granules, second), Ok(()));
-    assert_eq!(rt; tables.unmap(&mut store, &mut granules, second), at(last));
-    let gone = destroy(&rt, tables, &mut store, &mut granules, first, last);
-    assert_eq!(rt; gone, at(last));
-    let gone = destroy(&rt, tables, &mut store, &mut granules, first, middle);
-    assert_eq!(rt; gone, at(middle));
-    assert!(rt; !tables.close_root(&mut store, &mut granules));
-    assert_eq!(rt; word(&rt, &store, 1), 8194);
-    assert_eq!(rt; word(&rt, &store, 2), 12_290);
-    assert_eq!(rt; word(&rt, &store, 3), 16_389);
-    assert_eq!(rt;
-        tables.walk(&store, &granules, far, last).level,
-        Level::start()
-    );
-    let end = tables.walk(&store, &granules, first, last);
-    assert_eq!(rt; end.level, last);
-    assert_eq!(rt; end.entry, Entry::assigned(Ripas::Ram, page));
+    let gone = tables.unmap(&mut store, &mut granules, second);
+    assert_eq!(rt; gone, refused);
     Ok(())
 }
