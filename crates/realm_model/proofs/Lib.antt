@@ -35,6 +35,7 @@ pub mod Rows
 pub mod TablePlaces
 pub mod TableBack
 pub mod SoundRows
+pub mod FullRows
 pub mod SoundCells
 pub mod SoundParts
 pub mod Roles

@@ -24,9 +24,10 @@ use Rattle.realm_model.specs.Act.{named}
 use Rattle.realm_model.specs.Outcome.{outcome_of}
 use Rattle.realm_model.specs.World.{World, updated, updated_all}
 use Rattle.realm_model.specs.Ownership.{mapping_of_row}
-use Rattle.realm_model.specs.Sound.{look, IsShaped, is_table_kind, is_host_state, is_rd_state, IsSoundRows}
+use Rattle.realm_model.specs.Sound.{look, IsShaped, is_table_kind, is_host_state, is_rd_state, IsSoundRows, IsFull}
 use Rattle.realm_model.proofs.Booleans.{guarded, not_true, true_false}
 use Rattle.realm_model.proofs.SoundRows.{root_sound, put_sound, with_table_sound, without_table_sound, with_ram_sound}
+use Rattle.realm_model.proofs.FullRows.{root_full, put_full, with_table_full, without_table_full, with_ram_full}
 use Rattle.realm_model.proofs.RealmOf.{IsAt}
 use Rattle.realm_model.proofs.Outcomes.{Yields, Yields-Ok, Yields-Err, Yields-with_rec, Yields-with_realm, Yields-with_end, Yields-check, Yields-with_granule}
 use Rattle.realm_model.proofs.Walks.{walk_at}
@@ -134,6 +135,7 @@ module _ (limits : Limits) (w : World) (o : ℕ) (sound : AllCells o w) where
   rec_kept : (d : RealmRow) (n : ℕ) (rec new : RecRow) → IsSoundRealm d → get d.recs n ≡ Some rec → IsSoundRealm (record d { recs = insert d.recs n new })
   rec_kept d n rec new h there = record {
     rows = h.rows;
+    full = h.full;
     recs = λ k r e. elim (eq_by_cmp nat_cmp k n) as (λ t. eq_by_cmp nat_cmp k n ≡ t → cond t (Some new) (get d.recs k) ≡ Some r → k < d.next) [
       | true ↦ λ same e. subst (λ x. x < d.next) (sym (nat_place k n same)) (h.recs n rec there)
       | false ↦ λ same e. h.recs k r e
@@ -143,6 +145,7 @@ module _ (limits : Limits) (w : World) (o : ℕ) (sound : AllCells o w) where
   rec_new : (d : RealmRow) (new : RecRow) (m : List ℕ) → IsSoundRealm d → IsSoundRealm (record d { recs = insert d.recs d.next new; next = d.next + 1; measurement = m })
   rec_new d new m h = record {
     rows = h.rows;
+    full = h.full;
     recs = λ k r e. elim (eq_by_cmp nat_cmp k d.next) as (λ t. eq_by_cmp nat_cmp k d.next ≡ t → cond t (Some new) (get d.recs k) ≡ Some r → k < d.next + 1) [
       | true ↦ λ same e. let at : k ≡ d.next = nat_place k d.next same in omega arith
       | false ↦ λ same e. let less : k < d.next = h.recs k r e in omega arith
@@ -152,6 +155,7 @@ module _ (limits : Limits) (w : World) (o : ℕ) (sound : AllCells o w) where
   rec_gone : (d : RealmRow) (n : ℕ) → IsSoundRealm d → IsSoundRealm (record d { recs = remove d.recs n })
   rec_gone d n h = record {
     rows = h.rows;
+    full = h.full;
     recs = λ k r e. elim (eq_by_cmp nat_cmp k n) as (λ t. cond t None (get d.recs k) ≡ Some r → k < d.next) [
       | true ↦ λ e. cc
       | false ↦ λ e. h.recs k r e
@@ -159,20 +163,23 @@ module _ (limits : Limits) (w : World) (o : ℕ) (sound : AllCells o w) where
   }
 
   -- other rows
-  rows_put : (d : RealmRow) (rows : Rows) (m : List ℕ) → IsSoundRealm d → IsSoundRows (look rows) → IsSoundRealm (record d { rows = rows; measurement = m })
-  rows_put d rows m h sound = record { rows = sound; recs = h.recs }
+  rows_put : (d : RealmRow) (rows : Rows) (m : List ℕ) → IsSoundRealm d → IsSoundRows (look rows) → IsFull (look rows) → IsSoundRealm (record d { rows = rows; measurement = m })
+  rows_put d rows m h sound full = record { rows = sound; full = full; recs = h.recs }
 
-  leaf_put : (d : RealmRow) (ipa : ℕ) (old new : Row) → IsSoundRealm d → row_at d.rows 3 ipa ≡ Some old → is_table_kind (Some (mapping_of_row old)) ≡ false → IsShaped 3 (Some (mapping_of_row new))
-      → IsSoundRows (look (put_row d.rows 3 ipa new))
-  leaf_put d ipa old new h there plain shaped =
-      put_sound d.rows (3, first_covered 3 ipa) new h.rows (ap (λ o. is_some (option_map mapping_of_row o)) there) (ap (λ o. is_table_kind (option_map mapping_of_row o)) there ∙ plain) shaped
+  -- a row of the last level
+  leaf_put : (d : RealmRow) (ipa : ℕ) (old new : Row) (m : List ℕ) → IsSoundRealm d → row_at d.rows 3 ipa ≡ Some old → is_table_kind (Some (mapping_of_row old)) ≡ false
+      → IsShaped 3 (Some (mapping_of_row new)) → is_table_kind (Some (mapping_of_row new)) ≡ false → IsSoundRealm (record d { rows = put_row d.rows 3 ipa new; measurement = m })
+  leaf_put d ipa old new m h there plain shaped leaf =
+      let place : ℕ × ℕ = (3, first_covered 3 ipa) in
+      let sound = put_sound d.rows place new h.rows (ap (λ o. is_some (option_map mapping_of_row o)) there) (ap (λ o. is_table_kind (option_map mapping_of_row o)) there ∙ plain) shaped in
+      rows_put d (insert d.rows place new) m h sound (put_full d.rows place new h.full leaf)
 
   abbrev G : List Update → Type 0
   G = AllGood o
 
   new_sound : (vmid root : ℕ) → IsSoundRealm (new_realm vmid root)
   unfolding new_realm
-  new_sound vmid root = record { rows = root_sound; recs = λ n r e. absurd (true_false _ (ap is_some e) (ap is_some (get-empty {X = RecRow} nat_cmp n))) }
+  new_sound vmid root = record { rows = root_sound; full = root_full; recs = λ n r e. absurd (true_false _ (ap is_some e) (ap is_some (get-empty {X = RecRow} nat_cmp n))) }
 
   pub good : (act : Act) (realm : Option Seen) → StandsAt o act → IsAt w.machine realm → Yields G (outcome_of limits act realm (map (seen w.machine) (named act)))
   unfolding outcome_of named
@@ -193,42 +200,45 @@ module _ (limits : Limits) (w : World) (o : ℕ) (sound : AllCells o w) where
   good (UnRealm rd root v) realm stands at = Yields-with_realm G _ _ (λ d is. Yields-check G _ _ _ (λ _. Yields-Ok G _ (left_sound o rd, (left_sound o d.root, tt))))
   good Activate None stands at = Yields-Err G _
   good Activate (Some rd) stands at = Yields-with_realm G _ _ (λ d is. Yields-check G _ _ _ (λ _. Yields-Ok G _
-      (let h = realm_is_sound rd d at is in realm_put rd d (record d { state = Active }) at is (record { rows = h.rows; recs = h.recs }), tt)))
+      (let h = realm_is_sound rd d at is in realm_put rd d (record d { state = Active }) at is (record { rows = h.rows; full = h.full; recs = h.recs }), tt)))
   good (Rtt g ipa level) None stands at = Yields-Err G _
   good (Rtt g ipa level) (Some rd) stands at = Yields-with_realm G _ _ (λ d is. Yields-check G _ _ _ (λ place. Yields-with_end G _ _ _ _ (λ end e. Yields-check G _ _ _ (λ last. Yields-check G _ _ _ (λ plain.
       let h = realm_is_sound rd d at is in
-      let made = with_table_sound d.rows level ipa end.row h.rows (table_place ipa level (and_parts _ _ (and_parts _ _ place).0).1)
+      let spot = table_place ipa level (and_parts _ _ (and_parts _ _ place).0).1 in
+      let made = with_table_sound d.rows level ipa end.row h.rows spot
       (walk_at d.rows ipa (level - 1) end e (eqb-true end.level (level - 1) last)) g end.row.ripas (not_true _ plain) in
-      Yields-Ok G _ (held_sound InRtt g rd.number refl refl (rd_is rd d at is), (realm_put rd d _ at is (rows_put d _ d.measurement h made), tt)))))))
+      Yields-Ok G _ (held_sound InRtt g rd.number refl refl (rd_is rd d at is), (realm_put rd d _ at is (rows_put d _ d.measurement h made (with_table_full d.rows level ipa spot h.full g end.row.ripas)), tt)))))))
   good (UnRtt g ipa level) None stands at = Yields-Err G _
   good (UnRtt g ipa level) (Some rd) stands at = Yields-with_realm G _ _ (λ d is. Yields-check G _ _ _ (λ place. Yields-with_end G _ _ _ _ (λ end e. Yields-check G _ _ _ (λ last. Yields-check G _ _ _ (λ table. Yields-check G _ _ _ (λ unused. Yields-with_granule G _ _ (λ pa there.
       let h = realm_is_sound rd d at is in
-      let gone = without_table_sound d.rows level ipa end.row h.rows (table_place ipa level (and_parts _ _ place).0)
+      let spot = table_place ipa level (and_parts _ _ place).0 in
+      let gone = without_table_sound d.rows level ipa end.row h.rows spot
       (walk_at d.rows ipa (level - 1) end e (eqb-true end.level (level - 1) last)) unused in
-      Yields-Ok G _ (left_sound o pa, (realm_put rd d _ at is (rows_put d _ d.measurement h gone), tt)))))))))
+      Yields-Ok G _ (left_sound o pa, (realm_put rd d _ at is (rows_put d _ d.measurement h gone (without_table_full d.rows level ipa spot h.full)), tt)))))))))
   good (Ripas ipa n) None stands at = Yields-Err G _
   good (Ripas ipa n) (Some rd) stands at = Yields-with_realm G _ _ (λ d is. Yields-check G _ _ _ (λ _. Yields-check G _ _ _ (λ _. Yields-with_end G _ _ _ _ (λ end e. Yields-check G _ _ _ (λ _. Yields-check G _ _ _ (λ all.
       let h = realm_is_sound rd d at is in
-      Yields-Ok G _ (realm_put rd d _ at is (rows_put d _ (measurement_after d.measurement (ripas_event ipa n)) h (with_ram_sound d.rows ipa n h.rows all)), tt)))))))
+      Yields-Ok G _ (realm_put rd d _ at is (rows_put d _ (measurement_after d.measurement (ripas_event ipa n)) h (with_ram_sound d.rows ipa n h.rows all) (with_ram_full d.rows ipa n h.full all)), tt)))))))
   good (Data g ipa source) None stands at = Yields-Err G _
   good (Data g ipa source) (Some rd) stands at = Yields-with_realm G _ _ (λ d is. Yields-check G _ _ _ (λ _. Yields-check G _ _ _ (λ _. Yields-with_end G _ _ _ _ (λ end e. Yields-check G _ _ _ (λ last. Yields-check G _ _ _ (λ free.
       let h = realm_is_sound rd d at is in
       let c = held_sound InData g rd.number refl refl (rd_is rd d at is) in
-      let rows = leaf_put d ipa end.row (assigned Ram g) h (walk_at d.rows ipa 3 end e (eqb-true end.level 3 last)) (plain_unassigned end.row free) (refl, refl) in
+      let new = leaf_put d ipa end.row (assigned Ram g) (measurement_after d.measurement (data_event ipa (cell_at w.machine source).bytes)) h
+      (walk_at d.rows ipa 3 end e (eqb-true end.level 3 last)) (plain_unassigned end.row free) (refl, refl) refl in
       Yields-Ok G _ (
         record { realm = c.realm; descriptor = c.descriptor; alone = c.alone; itself = c.itself; row = c.row },
-        (realm_put rd d _ at is (rows_put d _ (measurement_after d.measurement (data_event ipa (cell_at w.machine source).bytes)) h rows), tt),
+        (realm_put rd d _ at is new, tt),
       )))))))
   good (Unknown g ipa) None stands at = Yields-Err G _
   good (Unknown g ipa) (Some rd) stands at = Yields-with_realm G _ _ (λ d is. Yields-check G _ _ _ (λ _. Yields-with_end G _ _ _ _ (λ end e. Yields-check G _ _ _ (λ last. Yields-check G _ _ _ (λ free.
       let h = realm_is_sound rd d at is in
-      let rows = leaf_put d ipa end.row (assigned end.row.ripas g) h (walk_at d.rows ipa 3 end e (eqb-true end.level 3 last)) (plain_unassigned end.row free) (refl, refl) in
-      Yields-Ok G _ (held_sound InData g rd.number refl refl (rd_is rd d at is), (realm_put rd d _ at is (rows_put d _ d.measurement h rows), tt)))))))
+      let new = leaf_put d ipa end.row (assigned end.row.ripas g) d.measurement h (walk_at d.rows ipa 3 end e (eqb-true end.level 3 last)) (plain_unassigned end.row free) (refl, refl) refl in
+      Yields-Ok G _ (held_sound InData g rd.number refl refl (rd_is rd d at is), (realm_put rd d _ at is new, tt)))))))
   good (UnData g ipa) None stands at = Yields-Err G _
   good (UnData g ipa) (Some rd) stands at = Yields-with_realm G _ _ (λ d is. Yields-check G _ _ _ (λ _. Yields-with_end G _ _ _ _ (λ end e. Yields-check G _ _ _ (λ last. Yields-check G _ _ _ (λ used. Yields-with_granule G _ _ (λ pa there.
       let h = realm_is_sound rd d at is in
-      let rows = leaf_put d ipa end.row (unassigned (unmapped_ripas end.row.ripas)) h (walk_at d.rows ipa 3 end e (eqb-true end.level 3 last)) (plain_assigned end.row used) refl in
-      Yields-Ok G _ (left_sound o pa, (realm_put rd d _ at is (rows_put d _ d.measurement h rows), tt))))))))
+      let new = leaf_put d ipa end.row (unassigned (unmapped_ripas end.row.ripas)) d.measurement h (walk_at d.rows ipa 3 end e (eqb-true end.level 3 last)) (plain_assigned end.row used) refl refl in
+      Yields-Ok G _ (left_sound o pa, (realm_put rd d _ at is new, tt))))))))
   good (Rec g aux n) None stands at = Yields-Err G _
   good (Rec g aux n) (Some rd) stands at = Yields-with_realm G _ _ (λ d is. Yields-check G _ _ _ (λ _. Yields-check G _ _ _ (λ _. Yields-Ok G _ (
     held_sound InRec g rd.number refl refl (rd_is rd d at is),

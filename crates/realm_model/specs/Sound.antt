@@ -1,5 +1,5 @@
 -- Sound rows, and states of granules.
-use Rattle.std.specs.Prelude.{◌≡◌, ℕ, ◌-◌, ◌^◌, ◌<◌, ◌≤◌, ◌==◌, ◌||◌, Bool, true, false, Option, Some, None, is_some, option_map}
+use Rattle.std.specs.Prelude.{◌≡◌, ℕ, ◌+◌, ◌-◌, ◌^◌, ◌<◌, ◌≤◌, ◌==◌, ◌||◌, Bool, true, false, Option, Some, None, is_some, option_map}
 use Rattle.std.specs.FinMap.{get}
 use Rattle.granule_addr.specs.Ipa.{first_covered}
 use Rattle.realm_model.specs.declared.states.GranuleState.{GranuleState}
@@ -44,6 +44,11 @@ pub record IsSoundRows (rows : ℕ × ℕ → Option (Hipas × Option ℕ)) : Ty
   pub placed : (place : ℕ × ℕ) → is_some (rows place) ≡ true → IsPlace place
   pub shaped : (place : ℕ × ℕ) → IsShaped place.0 (rows place)
   pub below : (place : ℕ × ℕ) → is_some (rows place) ≡ true → has_table rows place ≡ true
+
+-- the root has a row for each of its places, and so has each table: at every place below a TABLE row there is a row
+pub record IsFull (rows : ℕ × ℕ → Option (Hipas × Option ℕ)) : Type 0 where
+  pub root : (ipa : ℕ) → ipa < 2 ^ 27 → is_some (rows (1, first_covered 1 ipa)) ≡ true
+  pub tables : (level ipa : ℕ) → is_table_kind (rows (level, first_covered level ipa)) ≡ true → is_some (rows (level + 1, first_covered (level + 1) ipa)) ≡ true
 
 abbrev pub is_host_state : GranuleState → Bool
 is_host_state Undelegated = true

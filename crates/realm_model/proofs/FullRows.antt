@@ -1,0 +1,230 @@
+-- The commands keep the rows of a realm full: none of the root or of a table is missing.
+use Rattle.std.proofs.Common.{◌/◌, ◌^◌, ◌≡◌, ◌≢◌, ℕ, zero, suc, ◌+◌, ◌-◌, ◌*◌, ◌<◌, ◌≤◌, Bool, true, false, cond, not, inl, inr, Some, None, refl, sym, ap, ◌∙◌, subst, arith}
+use Rattle.std.specs.Prelude.{option_map, is_some, ◌==◌}
+use Rattle.std.specs.FinMap.{get, insert, empty, get-empty}
+use Rattle.std.proofs.lemmas.Bool.{and_parts, eqb-true, eqb-false}
+use Rattle.std.proofs.lemmas.Option.{same_Some}
+use Rattle.granule_addr.specs.Ipa.{covered_count, first_covered}
+use Rattle.realm_model.specs.declared.states.Hipas.TheVariants.{Unassigned}
+use Rattle.realm_model.specs.declared.states.Ripas.{Ripas}
+use Rattle.realm_model.specs.declared.states.Ripas.TheVariants.{Empty, Destroyed}
+use Rattle.realm_model.specs.Rows.{Row, Rows, Walk, place_cmp, row_at, walk, put_rows, drop_rows, put_row, with_table, without_table, with_ram, root_rows, unassigned, table, is_table, is_unassigned, all_rows}
+use Rattle.realm_model.specs.Ownership.{mapping_of_row}
+use Rattle.realm_model.specs.Sound.{look, is_table_kind, IsFull}
+use Rattle.realm_model.proofs.Maps.{same_place}
+use Rattle.realm_model.proofs.Rows.{is_among, is_place, place_self, look-insert, put_kinds, put_there, get-drop_rows, same_rows}
+use Rattle.realm_model.proofs.TablePlaces.{IsTablePlace}
+use Rattle.realm_model.proofs.Walks.{walk_end}
+use Rattle.realm_model.proofs.Booleans.{true_false}
+use Rattle.realm_model.proofs.RowKinds.{kind_of_table}
+
+pub root_full : IsFull (look root_rows)
+unfolding root_rows
+root_full = record {
+  root = λ ipa inside. ap is_some (ap (λ n. look (put_rows (λ _. unassigned Empty) empty 1 0 512) (1, n)) (whole ipa) ∙ put_there (unassigned Empty) empty 1 0 512 (ipa / 262144) (less ipa inside));
+  tables = λ level ipa h. absurd (true_false _ h (no_table (level, first_covered level ipa)));
+}
+  where
+    whole : (ipa : ℕ) → ipa / 262144 * 262144 ≡ 0 + ipa / 262144 * 262144
+    whole ipa = omega arith
+
+    less : (ipa : ℕ) → ipa < 134217728 → ipa / 262144 < 512
+    less ipa inside = omega arith
+
+    no_table : (q : ℕ × ℕ) → is_table_kind (look (put_rows (λ _. unassigned Empty) empty 1 0 512) q) ≡ false
+    no_table q = elim (put_kinds (unassigned Empty) empty 1 0 512 q) [
+      | inl none ↦ ap is_table_kind (none ∙ ap (option_map mapping_of_row) (get-empty place_cmp q))
+      | inr new ↦ ap is_table_kind new.0
+    ]
+
+-- ---- a row put
+
+some_stays : (rows : Rows) (place : ℕ × ℕ) (row : Row) (q : ℕ × ℕ) → is_some (look rows q) ≡ true → is_some (look (insert rows place row) q) ≡ true
+some_stays rows place row q some = ap is_some (look-insert rows place q row)
+    ∙ elim (is_place q place) as (λ t. is_some (cond t (Some (mapping_of_row row)) (look rows q)) ≡ true) [ true ↦ refl | false ↦ some ]
+
+-- one that is no table, at any place
+pub put_full : (rows : Rows) (place : ℕ × ℕ) (row : Row) → IsFull (look rows) → is_table_kind (Some (mapping_of_row row)) ≡ false → IsFull (look (insert rows place row))
+put_full rows place row full plain = record {
+  root = λ ipa inside. some_stays rows place row (1, first_covered 1 ipa) (full.root ipa inside);
+  tables = λ level ipa h. some_stays rows place row (level + 1, first_covered (level + 1) ipa) (full.tables level ipa (was_table (level, first_covered level ipa) h));
+}
+  where
+    was_table : (q : ℕ × ℕ) → is_table_kind (look (insert rows place row) q) ≡ true → is_table_kind (look rows q) ≡ true
+    was_table q h = elim (is_place q place) as (λ t. is_table_kind (cond t (Some (mapping_of_row row)) (look rows q)) ≡ true → is_table_kind (look rows q) ≡ true) [
+      | true ↦ λ h. absurd (true_false _ h plain)
+      | false ↦ λ h. h
+    ] (ap is_table_kind (sym (look-insert rows place q row)) ∙ h)
+
+-- rows that become RAM
+pub with_ram_full : (rows : Rows) (ipa n : ℕ) → IsFull (look rows) → all_rows is_unassigned rows 3 ipa n ≡ true → IsFull (look (with_ram rows ipa n))
+unfolding with_ram
+with_ram_full rows ipa n full all = subst IsFull (λ i q. same_rows rows ipa n all q i) full
+
+-- ---- tables
+
+-- what covers the first granule of an entry covers all of it
+above_covers : (level i : ℕ) → 1 ≤ level - 1 → level - 1 ≤ 2 → first_covered (level - 1) (first_covered level i) ≡ first_covered (level - 1) i
+above_covers level i low high = elim (level == 2) as (λ t. (level == 2) ≡ t → first_covered (level - 1) (first_covered level i) ≡ first_covered (level - 1) i) [
+  | true ↦ λ e. subst (λ l. first_covered (l - 1) (first_covered l i) ≡ first_covered (l - 1) i) (sym (eqb-true level 2 e)) (two i)
+  | false ↦ λ e.
+      let other : level ≢ 2 = eqb-false level 2 e in
+      let last : level ≡ 3 = omega arith in
+      subst (λ l. first_covered (l - 1) (first_covered l i) ≡ first_covered (l - 1) i) (sym last) (three i)
+] refl
+  where
+    two : (i : ℕ) → i / 512 * 512 / 262144 * 262144 ≡ i / 262144 * 262144
+    two i = omega arith
+
+    three : (i : ℕ) → i / 1 * 1 / 512 * 512 ≡ i / 512 * 512
+    three i = omega arith
+
+module _ (rows : Rows) (level ipa : ℕ) (at : IsTablePlace ipa level) (full : IsFull (look rows)) where
+  abbrev up : ℕ × ℕ
+  up = (level - 1, first_covered (level - 1) ipa)
+
+  -- what the row above covers is below it, at the table's level
+  below_up : (l i : ℕ) → is_place (l, first_covered l i) up ≡ true → (l + 1 ≡ level) × (first_covered (level - 1) (first_covered level i) ≡ ipa)
+  below_up l i e =
+      let same : (l, first_covered l i) ≡ up = same_place (l, first_covered l i) up e in
+      let levels : l ≡ level - 1 = ap (λ (x : ℕ × ℕ). x.0) same in
+      let firsts : first_covered (level - 1) i ≡ ipa = ap (λ n. first_covered n i) (sym levels) ∙ ap (λ (x : ℕ × ℕ). x.1) same ∙ at.first in
+      (ap (λ n. n + 1) levels ∙ at.low.2, above_covers level i at.low.0 at.low.1 ∙ firsts)
+
+  -- and the other way round
+  up_above : (l i : ℕ) → l + 1 ≡ level → first_covered (level - 1) (first_covered level i) ≡ ipa → is_place (l, first_covered l i) up ≡ true
+  up_above l i lower under =
+      let low = at.low in
+      let levels : l ≡ level - 1 = omega (arith, lower, low) in
+      let firsts : first_covered l i ≡ first_covered (level - 1) ipa = ap (λ n. first_covered n i) levels ∙ sym (above_covers level i low.0 low.1) ∙ under ∙ sym at.first in
+      subst (λ (p : ℕ × ℕ). is_place p up ≡ true) (sym (λ j. (levels j, firsts j))) (place_self up)
+
+  -- ---- a new one
+
+  module _ (granule : ℕ) (ripas : Ripas) where
+    abbrev topped : Rows
+    topped = put_row rows (level - 1) ipa (table granule)
+
+    abbrev made : Rows
+    made = put_rows (λ _. unassigned ripas) topped level ipa 512
+
+    made_some : (q : ℕ × ℕ) → is_some (look rows q) ≡ true → is_some (look made q) ≡ true
+    made_some q some = elim (put_kinds (unassigned ripas) topped level ipa 512 q) [
+      | inl same ↦ ap is_some same ∙ some_stays rows up (table granule) q some
+      | inr new ↦ ap is_some new.0
+    ]
+
+    -- a table then is that one, or was one
+    made_table : (q : ℕ × ℕ) → is_place q up ≡ false → is_table_kind (look made q) ≡ true → is_table_kind (look rows q) ≡ true
+    made_table q e h = elim (put_kinds (unassigned ripas) topped level ipa 512 q) [
+      | inl same ↦ let other = same ∙ look-insert rows up q (table granule) ∙ ap (λ t. cond t (Some (mapping_of_row (table granule))) (look rows q)) e in ap is_table_kind (sym other) ∙ h
+      | inr new ↦ absurd (true_false _ h (ap is_table_kind new.0))
+    ]
+
+    made_below : (l i : ℕ) → is_place (l, first_covered l i) up ≡ true → is_some (look made (l + 1, first_covered (l + 1) i)) ≡ true
+    made_below l i e =
+        let there = below_up l i e in
+        let k = at.aligned i there.1 in
+        ap (λ n. is_some (look made (n, first_covered n i))) there.0 ∙ ap (λ n. is_some (look made (level, n))) k.2
+        ∙ ap is_some (put_there (unassigned ripas) topped level ipa 512 k.0 k.1)
+
+  pub with_table_full : (granule : ℕ) (ripas : Ripas) → IsFull (look (with_table rows level ipa granule ripas))
+  unfolding with_table
+  with_table_full granule ripas = record {
+    root = λ i inside. made_some granule ripas (1, first_covered 1 i) (full.root i inside);
+    tables = λ l i h. elim (is_place (l, first_covered l i) up) as (λ t. is_place (l, first_covered l i) up ≡ t → is_some (look (made granule ripas) (l + 1, first_covered (l + 1) i)) ≡ true) [
+      | true ↦ λ e. made_below granule ripas l i e
+      | false ↦ λ e. made_some granule ripas (l + 1, first_covered (l + 1) i) (full.tables l i (made_table granule ripas (l, first_covered l i) e h))
+    ] refl;
+  }
+
+  -- ---- one that goes
+
+  abbrev under : ℕ × ℕ → Bool
+  under q = is_among level ipa (512 * covered_count level) q
+
+  abbrev dropped : Rows
+  dropped = drop_rows rows level ipa (512 * covered_count level)
+
+  abbrev left_rows : Rows
+  left_rows = put_row dropped (level - 1) ipa (unassigned Destroyed)
+
+  look-dropped : (q : ℕ × ℕ) → look dropped q ≡ cond (not (under q)) (look rows q) None
+  look-dropped q = ap (option_map mapping_of_row) (get-drop_rows rows level ipa (512 * covered_count level) q)
+      ∙ elim (under q) as (λ t. option_map mapping_of_row (cond (not t) (get rows q) None) ≡ cond (not t) (look rows q) None) [ true ↦ refl | false ↦ refl ]
+
+  under_is : (l i : ℕ) → under (l, first_covered l i) ≡ true → (l ≡ level) × (first_covered (level - 1) (first_covered level i) ≡ ipa)
+  under_is l i u =
+      let same : l ≡ level = eqb-true l level (and_parts _ _ (and_parts _ _ u).0).0 in
+      (same, at.from_among (first_covered level i) (subst (λ n. under (n, first_covered n i) ≡ true) same u))
+
+  left_some : (q : ℕ × ℕ) → under q ≡ false → is_some (look rows q) ≡ true → is_some (look left_rows q) ≡ true
+  left_some q u some = some_stays dropped up (unassigned Destroyed) q (ap is_some (look-dropped q ∙ ap (λ t. cond (not t) (look rows q) None) u) ∙ some)
+
+  dropped_table : (q : ℕ × ℕ) → is_table_kind (look dropped q) ≡ true → is_table_kind (look rows q) ≡ true
+  dropped_table q h = elim (under q) as (λ t. is_table_kind (cond (not t) (look rows q) None) ≡ true → is_table_kind (look rows q) ≡ true) [
+    | true ↦ λ h. cc
+    | false ↦ λ h. h
+  ] (ap is_table_kind (sym (look-dropped q)) ∙ h)
+
+  -- a table then was one, and is not the one that is gone
+  left_table : (q : ℕ × ℕ) → is_table_kind (look left_rows q) ≡ true → (is_place q up ≡ false) × (is_table_kind (look rows q) ≡ true)
+  left_table q h = elim (is_place q up) as (λ t. is_table_kind (cond t (Some (Unassigned, None)) (look dropped q)) ≡ true → (t ≡ false) × (is_table_kind (look rows q) ≡ true)) [
+    | true ↦ λ h. cc
+    | false ↦ λ h. (refl, dropped_table q h)
+  ] (ap is_table_kind (sym (look-insert dropped up q (unassigned Destroyed))) ∙ h)
+
+  pub without_table_full : IsFull (look (without_table rows level ipa))
+  unfolding without_table
+  without_table_full = record {
+    root = λ i inside. elim (under (1, first_covered 1 i)) as (λ t. under (1, first_covered 1 i) ≡ t → is_some (look left_rows (1, first_covered 1 i)) ≡ true) [
+      | true ↦ λ u. let low = at.low in let first : 1 ≡ level = (under_is 1 i u).0 in absurd (omega (arith, first, low))
+      | false ↦ λ u. left_some (1, first_covered 1 i) u (full.root i inside)
+    ] refl;
+    tables = λ l i h.
+        let was = left_table (l, first_covered l i) h in
+        elim (under (l + 1, first_covered (l + 1) i)) as (λ t. under (l + 1, first_covered (l + 1) i) ≡ t → is_some (look left_rows (l + 1, first_covered (l + 1) i)) ≡ true) [
+          | true ↦ λ u. let there = under_is (l + 1) i u in absurd (true_false _ (up_above l i there.0 there.1) was.0)
+          | false ↦ λ u. left_some (l + 1, first_covered (l + 1) i) u (full.tables l i was.1)
+        ] refl;
+  }
+
+-- ---- walks
+
+-- every one ends at a row
+pub walk_ends : (rows : Rows) → IsFull (look rows) → (ipa level : ℕ) → ipa < 2 ^ 27 → 1 ≤ level → is_some (walk rows ipa level) ≡ true
+unfolding walk
+walk_ends rows full ipa zero inside low = absurd (omega arith)
+walk_ends rows full ipa (suc zero) inside low =
+    elim (row_at rows 1 ipa) as (λ o. is_some (option_map mapping_of_row o) ≡ true → is_some {T = Walk} (elim o [ Some row ↦ Some (record { level = 1; row = row }) | None ↦ None ]) ≡ true) [
+      | Some row ↦ λ there. refl
+      | None ↦ λ there. there
+    ] (full.root ipa inside)
+walk_ends rows full ipa (suc (suc level)) inside low =
+    elim (row_at rows (suc (suc level)) ipa) as (λ o. is_some {T = Walk} (elim o [ Some row ↦ Some (record { level = suc (suc level); row = row }) | None ↦ walk rows ipa (suc level) ]) ≡ true) [
+      | Some row ↦ refl
+      | None ↦ walk_ends rows full ipa (suc level) inside (omega arith)
+    ]
+
+-- one that ends above its level ends at a row that is no table
+pub walk_ends_above : (rows : Rows) → IsFull (look rows) → (ipa level : ℕ) (end : Walk) → walk rows ipa level ≡ Some end → end.level < level → is_table end.row ≡ false
+unfolding walk
+walk_ends_above rows full ipa zero end e above = absurd (omega arith)
+walk_ends_above rows full ipa (suc level) end e above =
+    elim (row_at rows (suc level) ipa) as (λ o. row_at rows (suc level) ipa ≡ o → elim o [ Some row ↦ Some (record { level = suc level; row = row }) | None ↦ walk rows ipa level ] ≡ Some end → is_table end.row ≡ false) [
+      | Some row ↦ λ there e. let same : suc level ≡ end.level = ap (λ (x : Walk). x.level) (same_Some _ _ e) in absurd (omega arith)
+      | None ↦ λ none e. elim (end.level == level) as (λ t. (end.level == level) ≡ t → is_table end.row ≡ false) [
+        | true ↦ λ last. plain none e (eqb-true end.level level last)
+        | false ↦ λ more. let other : end.level ≢ level = eqb-false end.level level more in walk_ends_above rows full ipa level end e (omega arith)
+      ] refl
+    ] refl e
+  where
+    -- a table would have a row of the next level there
+    plain : row_at rows (suc level) ipa ≡ None → walk rows ipa level ≡ Some end → end.level ≡ level → is_table end.row ≡ false
+    plain none e last = elim (is_table end.row) as (λ t. is_table end.row ≡ t → t ≡ false) [
+      | true ↦ λ table.
+          let next : end.level + 1 ≡ suc level = omega arith in
+          let found = full.tables end.level ipa (ap (λ o. is_table_kind (option_map mapping_of_row o)) (walk_end rows ipa level end e) ∙ kind_of_table end.row ∙ table) in
+          absurd (true_false _ found (ap (λ n. is_some (look rows (n, first_covered n ipa))) next ∙ ap (λ o. is_some (option_map mapping_of_row o)) none))
+      | false ↦ λ other. refl
+    ] refl
