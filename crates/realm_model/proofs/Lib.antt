@@ -65,6 +65,10 @@ pub mod Progress
 pub mod PairsLeadBack
 pub mod AtRest
 pub mod UndoAll
+-- what becomes of ownership
+pub mod LookSame
+pub mod Alike
+pub mod OwnFollows
 -- marks
 pub mod StaysThere
 pub mod OthersGoOn

@@ -34,6 +34,18 @@ own_chain u v w h k = record {
   cells = λ g. record { state = (h.cells g).state ∙ (k.cells g).state; realm = (h.cells g).realm ∙ (k.cells g).realm; descriptor = descriptor_chain _ _ _ (h.cells g).descriptor (k.cells g).descriptor };
 }
 
+descriptor_turned : (o p : Option RealmRow) → SameDescriptor o p → SameDescriptor p o
+descriptor_turned None None h = tt
+descriptor_turned None (Some s) h = absurd h
+descriptor_turned (Some r) None h = absurd h
+descriptor_turned (Some r) (Some s) h = record { vmid = sym h.vmid; root = sym h.root; recs = λ n. sym (h.recs n); rows = λ k. sym (h.rows k) }
+
+pub own_turned : (w v : World) → OwnsSame w v → OwnsSame v w
+own_turned w v h = record {
+  leases = sym h.leases;
+  cells = λ g. record { state = sym (h.cells g).state; realm = sym (h.cells g).realm; descriptor = descriptor_turned _ _ (h.cells g).descriptor };
+}
+
 pub same_bare : (c d : Cell) → c.state ≡ d.state → c.realm ≡ None → d.realm ≡ None → c.descriptor ≡ None → d.descriptor ≡ None → SameCell c d
 same_bare c d state rc rd dc dd = record { state = state; realm = rc ∙ sym rd; descriptor = subst (λ o. SameDescriptor o d.descriptor) (sym dc) (subst (λ o. SameDescriptor None o) (sym dd) tt) }
 

@@ -86,3 +86,8 @@ PairLeadsBack limits build world act back middle =
 abbrev pub OtherActOwnsSame : Limits → ℕ → World → Act → World → Type 0
 OtherActOwnsSame limits build world act next =
     is_paired act ≡ false → is_reverse act ≡ false → step limits world (by build act) ≡ Some next → OwnsSame world next
+
+-- what an act makes of ownership depends on ownership alone
+abbrev pub OwnershipFollows : Limits → ℕ → Act → World → World → World → World → Type 0
+OwnershipFollows limits build act w v next other =
+    OwnsSame w v → step limits w (by build act) ≡ Some next → step limits v (by build act) ≡ Some other → OwnsSame next other

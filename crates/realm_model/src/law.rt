@@ -11,7 +11,7 @@ ghost use Rattle.realm_model.specs.Pages.{PagesAreLeased};
 ghost use Rattle.realm_model.specs.Reachable.{IsReachable};
 ghost use Rattle.realm_model.specs.Room.{RoomIsTaken};
 ghost use Rattle.realm_model.specs.Marks.{Mark, mark_at, Stands, StandsOn, CanRollBack};
-ghost use Rattle.realm_model.specs.Undoing.{NewestCanBeUndone, AllCanBeUndone, NothingOpenIsNoTrace, PairLeadsBack, OtherActOwnsSame};
+ghost use Rattle.realm_model.specs.Undoing.{NewestCanBeUndone, AllCanBeUndone, NothingOpenIsNoTrace, PairLeadsBack, OtherActOwnsSame, OwnershipFollows};
 
 /// A legal history without the events of a build is legal, and gives the world without that build's part.
 pub fn builds_can_be_left_out()
@@ -51,6 +51,11 @@ pub fn pairs_lead_back()
 /// Any other act leads to a world that owns the same.
 pub fn other_acts_own_the_same()
     ensures { (limits : Limits) (world : World) (build : ℕ) (act : Act) (next : World) → OtherActOwnsSame limits build world act next }
+{}
+
+/// What an act makes of ownership is a function of ownership and of the act's fields: worlds that own the same still do after it.
+pub fn ownership_follows()
+    ensures { (limits : Limits) (history past : List Event) (world twin : World) (build : ℕ) (act : Act) (next other : World) → replay limits history ≡ Some world → replay limits past ≡ Some twin → OwnershipFollows limits build act world twin next other }
 {}
 
 /// The newest open act of a build can be undone, whatever others did since, unless it is a REC that runs.
