@@ -42,6 +42,18 @@ impl Rmi {
         index: 0,
     };
 
+    /// The refusal by the state of a realm.
+    pub const REALM: Rmi = Rmi {
+        status: Status::Realm,
+        index: 0,
+    };
+
+    /// The refusal by the state of a REC.
+    pub const REC: Rmi = Rmi {
+        status: Status::Rec,
+        index: 0,
+    };
+
     /// The result word: the status in bits 0 to 7, the index in bits 8 to 15.
     pub fn word(self) -> u64
         ensures { result ≡ result_word self }

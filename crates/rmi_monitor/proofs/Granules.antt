@@ -1,116 +1,146 @@
 -- The commands on single granules, over the fields of a monitor.
-use Rattle.std.proofs.Common.{◌≡◌, ℕ, ◌<◌, Bool, true, false, List, [], ◌∷◌, length, set, Ok, None, sym, ap, ◌∙◌, subst}
+use Rattle.std.proofs.Common.{◌≡◌, ℕ, ◌<◌, Bool, true, false, List, [], ◌∷◌, length, set, Ok, None, refl, sym, ap, ◌∙◌, subst}
+use Rattle.std.proofs.lemmas.List.{set-get_or}
 use Rattle.page_arena.specs.Page.{page_at, is_free}
-use Rattle.granule_table.specs.Granules.{granule_at}
+use Rattle.granule_table.specs.Granules.{granule_at, undelegated}
 use Rattle.granule_table.specs.declared.granule.Granule.{Granule}
+use Rattle.realm_model.specs.declared.states.GranuleState.{GranuleState}
 use Rattle.realm_model.specs.declared.states.GranuleState.TheVariants.{Undelegated, Delegated}
-use Rattle.granule_addr.specs.Page.{page_of}
+use Rattle.granule_addr.specs.Page.{page_of, zero_page}
 use Rattle.realm_model.specs.Machine.{Cell, Machine, left, cell_at}
-use Rattle.realm_model.specs.Update.{Update, Put, machine_after_all, machine_after_command}
+use Rattle.realm_model.specs.Update.{Update, Outcome, Put, machine_after_all, machine_after_command}
 use Rattle.realm_model.specs.Command.Check.{check, error_input, is_undelegated, is_delegated}
 use Rattle.realm_model.specs.Command.Granule.{granule_delegate, granule_undelegate, host_fill}
 use Rattle.rmi_monitor.specs.View.{MonitorView, IsTaken, seen_in, after_command}
 use Rattle.realm_model.specs.Sound.{is_host_state}
-use Rattle.rmi_monitor.specs.Inside.{cell_of, bytes_of, machine_of, stands_for, IsWhole}
-use Rattle.rmi_monitor.proofs.Machines.{length-machine_of, cell_at-machine_of, machine_of-set, machine_of-set_granule, machine_of-set_page}
+use Rattle.rmi_monitor.specs.Inside.{Fields, cell_of, machine_of, seen_as, IsWhole}
+use Rattle.rmi_monitor.proofs.Machines.{length-machine_of, cell_at-machine_of}
+use Rattle.rmi_monitor.proofs.HostMoves.{moved, whole_moved, machine_of-moved, host_cell, cell_of-host}
 use Rattle.rmi_monitor.proofs.Checks.{machine_done, machine_refused, undelegated_test, delegated_test, not_undelegated, not_delegated}
 
-module _ (monitor : MonitorView) (vmids aux : ℕ) (granules : List Granule) (pages : List (List ℕ)) (free : List Bool)
-    (view_is : stands_for vmids aux granules pages free ≡ monitor) (whole : IsWhole granules pages) where
-  abbrev machine : Machine
-  machine = machine_of granules pages
+module _ (monitor : MonitorView) (fields : Fields) (view_is : seen_as fields ≡ monitor) (whole : IsWhole fields) where
+  pub machine_is : machine_of fields ≡ monitor.machine
+  machine_is = ap (λ (m : MonitorView). m.machine) view_is
 
-  pub as_many_granules : length monitor.machine ≡ length granules
-  as_many_granules = ap (λ (m : MonitorView). length m.machine) (sym view_is) ∙ length-machine_of granules pages whole.as_many
+  pub as_many_granules : length monitor.machine ≡ length fields.granules
+  as_many_granules = ap length (sym machine_is) ∙ length-machine_of fields
 
-  pub as_many_pages : length monitor.machine ≡ length pages
-  as_many_pages = as_many_granules ∙ whole.as_many
+  pub as_many_pages : length monitor.machine ≡ length fields.pages
+  as_many_pages = as_many_granules ∙ whole.backed.as_many
 
-  pub cell_is : (g : ℕ) → g < length monitor.machine → cell_at monitor.machine g ≡ cell_of (granule_at granules g) (page_at pages g)
-  cell_is g h =
-      ap (λ (m : MonitorView). cell_at m.machine g) (sym view_is)
-      ∙ cell_at-machine_of granules pages whole.as_many g (subst (λ n. g < n) as_many_granules h)
+  pub cell_is : (g : ℕ) → g < length monitor.machine → cell_at monitor.machine g ≡ cell_of fields g
+  cell_is g h = ap (λ m. cell_at m g) (sym machine_is) ∙ cell_at-machine_of fields g (subst (λ n. g < n) as_many_granules h)
+
+  -- the monitor after a command, by the machine after it
+  pub after_by : (outcome : Outcome) (new : Fields) → new.vmids ≡ fields.vmids → new.aux ≡ fields.aux → new.free ≡ fields.free
+      → machine_of new ≡ machine_after_command outcome monitor.machine → seen_as new ≡ after_command outcome monitor
+  after_by outcome new vmids aux free made =
+      (λ i. record { vmids = vmids i; aux = aux i; machine = made i; free = free i })
+      ∙ ap (λ (m : MonitorView). record m { machine = machine_after_command outcome monitor.machine }) view_is
 
   module _ (g : ℕ) (taken : IsTaken monitor g) where
-    pub in_granules : g < length granules
+    pub in_granules : g < length fields.granules
     in_granules = subst (λ n. g < n) as_many_granules taken.inside
 
-    pub in_pages : g < length pages
+    pub in_pages : g < length fields.pages
     in_pages = subst (λ n. g < n) as_many_pages taken.inside
 
-    pub not_free : is_free free g ≡ false
+    pub not_free : is_free fields.free g ≡ false
     not_free = ap (λ (m : MonitorView). is_free m.free g) view_is ∙ taken.taken
 
-    state_is : (seen_in monitor g).cell.state ≡ (granule_at granules g).state
+    pub state_is : (seen_in monitor g).cell.state ≡ (granule_at fields.granules g).state
     state_is = ap (λ (c : Cell). c.state) (cell_is g taken.inside)
 
     -- the checks of the commands, by the granule's state
-    pub is_undelegated_there : (granule_at granules g).state ≡ Undelegated → is_undelegated (seen_in monitor g) ≡ true
+    pub is_undelegated_there : (granule_at fields.granules g).state ≡ Undelegated → is_undelegated (seen_in monitor g) ≡ true
     is_undelegated_there was = ap undelegated_test (state_is ∙ was)
 
-    pub is_not_undelegated : ((granule_at granules g).state ≡ Undelegated → ⊥) → is_undelegated (seen_in monitor g) ≡ false
-    is_not_undelegated was = ap undelegated_test state_is ∙ not_undelegated (granule_at granules g).state was
+    pub is_not_undelegated : ((granule_at fields.granules g).state ≡ Undelegated → ⊥) → is_undelegated (seen_in monitor g) ≡ false
+    is_not_undelegated was = ap undelegated_test state_is ∙ not_undelegated (granule_at fields.granules g).state was
 
-    pub is_delegated_there : (granule_at granules g).state ≡ Delegated → is_delegated (seen_in monitor g) ≡ true
+    pub is_delegated_there : (granule_at fields.granules g).state ≡ Delegated → is_delegated (seen_in monitor g) ≡ true
     is_delegated_there was = ap delegated_test (state_is ∙ was)
 
-    pub is_not_delegated : ((granule_at granules g).state ≡ Delegated → ⊥) → is_delegated (seen_in monitor g) ≡ false
-    is_not_delegated was = ap delegated_test state_is ∙ not_delegated (granule_at granules g).state was
-
-    -- the machine where one granule is put
-    put_done : (cell : Cell) (new : Machine) → set machine g cell ≡ new → machine_after_all (Put g cell ∷ []) monitor.machine ≡ new
-    unfolding machine_after_all
-    put_done cell new e = ap (λ (m : MonitorView). set m.machine g cell) (sym view_is) ∙ e
-
-    -- the monitor after a command whose check holds, and which puts one granule
-    after_done : (holds : Bool) (cell : Cell) (new : Machine) → holds ≡ true → set machine g cell ≡ new
-        → record { vmids = vmids; aux = aux; machine = new; free = free } ≡ after_command (check holds error_input (Ok (Put g cell ∷ []))) monitor
-    after_done holds cell new h e =
-        let made : machine_after_command (check holds error_input (Ok (Put g cell ∷ []))) monitor.machine ≡ new =
-        machine_done error_input (Put g cell ∷ []) monitor.machine holds h ∙ put_done cell new e in
-        ap (λ (m : Machine). record { vmids = vmids; aux = aux; machine = m; free = free }) (sym made)
-        ∙ ap (λ (m : MonitorView). record m { machine = machine_after_command (check holds error_input (Ok (Put g cell ∷ []))) monitor.machine }) view_is
+    pub is_not_delegated : ((granule_at fields.granules g).state ≡ Delegated → ⊥) → is_delegated (seen_in monitor g) ≡ false
+    is_not_delegated was = ap delegated_test state_is ∙ not_delegated (granule_at fields.granules g).state was
 
     -- a command whose check fails changes nothing
     pub after_refused : (holds : Bool) (updates : List Update) → holds ≡ false → monitor ≡ after_command (check holds error_input (Ok updates)) monitor
     after_refused holds updates h =
         ap (λ (m : Machine). record monitor { machine = m }) (sym (machine_refused error_input updates monitor.machine holds h))
 
-    pub delegated_done : (new : List Granule) (new_pages : List (List ℕ)) (new_free : List Bool) → (granule_at granules g).state ≡ Undelegated
-        → new ≡ set granules g (record { state = Delegated; realm = None }) → new_pages ≡ set pages g (page_of 0) → new_free ≡ free
-        → stands_for vmids aux new new_pages new_free ≡ after_command (granule_delegate (seen_in monitor g)) monitor
-    delegated_done new new_pages new_free was shifted filled kept =
-        (λ i. stands_for vmids aux (shifted i) (filled i) (kept i))
-        ∙ after_done (is_undelegated (seen_in monitor g)) left _ (is_undelegated_there was)
-        (sym (machine_of-set granules pages whole.as_many g (record { state = Delegated; realm = None }) (page_of 0)))
+    -- ---- a granule is moved from one state of the host's to another
 
-    -- ---- undelegate
+    module _ (state : GranuleState) (page : List ℕ) (was : is_host_state (granule_at fields.granules g).state ≡ true) (is : is_host_state state ≡ true)
+        (zero : state ≡ Delegated → page ≡ zero_page) where
+      pub whole_after : (new : Fields) → new ≡ moved fields g state page → IsWhole new
+      whole_after new e = subst IsWhole (sym e) (whole_moved fields whole g in_granules not_free state page was is zero)
 
-    undelegated_cell : (granule_at granules g).state ≡ Delegated → record (cell_at monitor.machine g) { state = Undelegated } ≡ cell_of (record { state = Undelegated; realm = None }) (page_at pages g)
-    undelegated_cell was =
-        ap (λ (c : Cell). record c { state = Undelegated }) (cell_is g taken.inside)
-        ∙ (λ i. record { state = Undelegated; realm = whole.no_realm g (ap is_host_state was) i; bytes = bytes_of (was i) (page_at pages g); descriptor = None })
+      -- the monitor after a command whose check holds, and which puts that one granule
+      pub moved_after : (new : Fields) → new ≡ moved fields g state page → (holds : Bool) (cell : Cell) → holds ≡ true → host_cell state page ≡ cell
+          → seen_as new ≡ after_command (check holds error_input (Ok (Put g cell ∷ []))) monitor
+      unfolding machine_after_all
+      moved_after new e holds cell h same =
+          ap seen_as e
+          ∙ after_by (check holds error_input (Ok (Put g cell ∷ []))) (moved fields g state page) refl refl refl
+          (machine_of-moved fields whole g in_granules not_free state page was is zero
+          ∙ ap (λ c. set (machine_of fields) g c) same
+          ∙ ap (λ m. set m g cell) machine_is
+          ∙ sym (machine_done error_input (Put g cell ∷ []) monitor.machine holds h))
 
-    pub undelegated_done : (new : List Granule) → (granule_at granules g).state ≡ Delegated → new ≡ set granules g (record { state = Undelegated; realm = None })
-        → stands_for vmids aux new pages free ≡ after_command (granule_undelegate (seen_in monitor g)) monitor
-    undelegated_done new was shifted =
-        ap (λ gs. stands_for vmids aux gs pages free) shifted
-        ∙ after_done (is_delegated (seen_in monitor g)) (record (cell_at monitor.machine g) { state = Undelegated }) _ (is_delegated_there was)
-        (ap (set machine g) (undelegated_cell was) ∙ sym (machine_of-set_granule granules pages whole.as_many g (record { state = Undelegated; realm = None })))
+    -- ---- the commands, by what the calls below leave
 
-    -- ---- fill
+    abbrev after_calls : List Granule → List (List ℕ) → List Bool → Fields
+    after_calls granules pages free = record fields { granules = granules; pages = pages; free = free }
 
-    filled_cell : (value : ℕ) → (granule_at granules g).state ≡ Undelegated → record (cell_at monitor.machine g) { bytes = page_of value } ≡ cell_of (granule_at granules g) (page_of value)
-    filled_cell value was =
-        let page : page_of value ≡ bytes_of (granule_at granules g).state (page_of value) =
-        sym (ap (λ s. bytes_of s (page_of value)) was) in
-        ap (λ (c : Cell). record c { bytes = page_of value }) (cell_is g taken.inside)
-        ∙ (λ i. record { state = (granule_at granules g).state; realm = (granule_at granules g).realm; bytes = page i; descriptor = None })
+    module _ (was : (granule_at fields.granules g).state ≡ Undelegated) (granules : List Granule) (pages : List (List ℕ)) (free : List Bool) (kept : free ≡ fields.free) where
+      module _ (shifted : granules ≡ set fields.granules g (record { state = Delegated; realm = None })) (filled : pages ≡ set fields.pages g (page_of 0)) where
+        delegated : after_calls granules pages free ≡ moved fields g Delegated (page_of 0)
+        delegated i = after_calls (shifted i) (filled i) (kept i)
 
-    pub filled_done : (value : ℕ) (new_pages : List (List ℕ)) (new_free : List Bool) → (granule_at granules g).state ≡ Undelegated
-        → new_pages ≡ set pages g (page_of value) → new_free ≡ free
-        → stands_for vmids aux granules new_pages new_free ≡ after_command (host_fill (seen_in monitor g) value) monitor
-    filled_done value new_pages new_free was filled kept =
-        (λ i. stands_for vmids aux granules (filled i) (kept i))
-        ∙ after_done (is_undelegated (seen_in monitor g)) (record (cell_at monitor.machine g) { bytes = page_of value }) _ (is_undelegated_there was)
-        (ap (set machine g) (filled_cell value was) ∙ sym (machine_of-set_page granules pages whole.as_many g (page_of value)))
+        pub whole_delegated : IsWhole (after_calls granules pages free)
+        whole_delegated = whole_after Delegated (page_of 0) (ap is_host_state was) refl (λ e. refl) (after_calls granules pages free) delegated
+
+        pub delegated_done : seen_as (after_calls granules pages free) ≡ after_command (granule_delegate (seen_in monitor g)) monitor
+        delegated_done =
+            moved_after Delegated (page_of 0) (ap is_host_state was) refl (λ e. refl) (after_calls granules pages free) delegated
+            (is_undelegated (seen_in monitor g)) left (is_undelegated_there was) refl
+
+      module _ (value : ℕ) (same : granules ≡ fields.granules) (filled : pages ≡ set fields.pages g (page_of value)) where
+        granule_is : granule_at fields.granules g ≡ record { state = Undelegated; realm = None }
+        granule_is i = record { state = was i; realm = (whole.each g).host (ap is_host_state was) i }
+
+        filled_fields : after_calls granules pages free ≡ moved fields g Undelegated (page_of value)
+        filled_fields =
+            (λ i. after_calls (same i) (filled i) (kept i))
+            ∙ ap (λ gs. after_calls gs (set fields.pages g (page_of value)) fields.free)
+            (sym (set-get_or fields.granules g undelegated) ∙ ap (set fields.granules g) granule_is)
+
+        pub whole_filled : IsWhole (after_calls granules pages free)
+        whole_filled = whole_after Undelegated (page_of value) (ap is_host_state was) refl (λ e. cc) (after_calls granules pages free) filled_fields
+
+        filled_cell : host_cell Undelegated (page_of value) ≡ record (seen_in monitor g).cell { bytes = page_of value }
+        filled_cell = ap (λ (c : Cell). record c { bytes = page_of value }) (sym (cell_is g taken.inside ∙ cell_of-host fields g (whole.each g) was refl refl))
+
+        pub filled_done : seen_as (after_calls granules pages free) ≡ after_command (host_fill (seen_in monitor g) value) monitor
+        filled_done =
+            moved_after Undelegated (page_of value) (ap is_host_state was) refl (λ e. cc) (after_calls granules pages free) filled_fields
+            (is_undelegated (seen_in monitor g)) (record (seen_in monitor g).cell { bytes = page_of value }) (is_undelegated_there was) filled_cell
+
+    module _ (was : (granule_at fields.granules g).state ≡ Delegated) (granules : List Granule) (shifted : granules ≡ set fields.granules g (record { state = Undelegated; realm = None })) where
+      undelegated_fields : after_calls granules fields.pages fields.free ≡ moved fields g Undelegated (page_at fields.pages g)
+      undelegated_fields =
+          ap (λ gs. after_calls gs fields.pages fields.free) shifted
+          ∙ ap (λ pages. after_calls (set fields.granules g (record { state = Undelegated; realm = None })) pages fields.free) (sym (set-get_or fields.pages g []))
+
+      pub whole_undelegated : IsWhole (after_calls granules fields.pages fields.free)
+      whole_undelegated =
+          whole_after Undelegated (page_at fields.pages g) (ap is_host_state was) refl (λ e. cc) (after_calls granules fields.pages fields.free) undelegated_fields
+
+      undelegated_cell : host_cell Undelegated (page_at fields.pages g) ≡ record (seen_in monitor g).cell { state = Undelegated }
+      undelegated_cell = ap (λ (c : Cell). record c { state = Undelegated }) (sym (cell_is g taken.inside ∙ cell_of-host fields g (whole.each g) was refl refl))
+
+      pub undelegated_done : seen_as (after_calls granules fields.pages fields.free) ≡ after_command (granule_undelegate (seen_in monitor g)) monitor
+      undelegated_done =
+          moved_after Undelegated (page_at fields.pages g) (ap is_host_state was) refl (λ e. cc) (after_calls granules fields.pages fields.free) undelegated_fields
+          (is_delegated (seen_in monitor g)) (record (seen_in monitor g).cell { state = Undelegated }) (is_delegated_there was) undelegated_cell

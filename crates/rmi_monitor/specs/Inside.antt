@@ -1,36 +1,140 @@
--- The machine that a monitor's fields stand for, and what always holds of them.
-use Rattle.std.specs.Prelude.{◌≡◌, ℕ, List, length, Bool, true, None}
-use Rattle.granule_table.specs.Granules.{granule_at}
+-- What a monitor keeps, the machine that it stands for, and what always holds of it.
+use Rattle.std.specs.Prelude.{◌≡◌, ◌<◌, ℕ, List, length, map, Bool, true, false, nat_eq, Option, Some, None, is_some, option_map, slice_index_or, slice_get, if◌then◌else◌}
+use Rattle.std.specs.List.{range_with_len}
+use Rattle.std.specs.Option.{option_eq}
+use Rattle.std.specs.FinMap.{FinMap, get}
+use Rattle.std.specs.Ordering.{nat_cmp}
+use Rattle.granule_table.specs.Granules.{granule_at, IsIn}
 use Rattle.granule_table.specs.declared.granule.Granule.{Granule}
+use Rattle.page_arena.specs.Page.{page_at}
 use Rattle.realm_model.specs.declared.states.GranuleState.{GranuleState}
-use Rattle.realm_model.specs.declared.states.GranuleState.TheVariants.{Rtt}
+use Rattle.realm_model.specs.declared.states.GranuleState.TheVariants.{Delegated, Rec as InRec, RecAux as InRecAux, Rtt as InRtt}
 use Rattle.granule_addr.specs.Page.{zero_page}
-use Rattle.realm_model.specs.Machine.{Cell, Machine}
-use Rattle.realm_model.specs.Sound.{is_host_state}
-use Rattle.realm_model.specs.World.{each}
+use Rattle.realm_model.specs.Machine.{Cell, Machine, RealmRow, RecRow}
+use Rattle.realm_model.specs.Sound.{is_host_state, is_rd_state}
+use Rattle.realm_objects.specs.Attributes.{RealmAttributes, RecAttributes, realm_row, rec_row}
+use Rattle.rtt.specs.Tables.{rows}
+use Rattle.rtt.specs.Realm.{IsBacked, HasTables}
 use Rattle.rmi_monitor.specs.View.{MonitorView}
+use Rattle.rmi_monitor.specs.Gathered.{gathered, IsOnce}
+
+-- Of each granule: its state and realm, the bytes of its page, whether it is free, and the realm or the REC that it is.
+pub record Fields : Type 0 where
+  pub vmids : ℕ
+  pub aux : ℕ
+  pub granules : List Granule
+  pub pages : List (List ℕ)
+  pub free : List Bool
+  pub realms : List (Option RealmAttributes)
+  pub recs : List (Option RecAttributes)
+
+abbrev pub fields_of : ℕ → ℕ → List Granule → List (List ℕ) → List Bool → List (Option RealmAttributes) → List (Option RecAttributes) → Fields
+fields_of vmids aux granules pages free realms recs = record {
+  vmids = vmids;
+  aux = aux;
+  granules = granules;
+  pages = pages;
+  free = free;
+  realms = realms;
+  recs = recs;
+}
+
+-- the realm whose RD a granule is
+abbrev pub realm_at : Fields → ℕ → Option RealmAttributes
+realm_at fields rd = slice_index_or fields.realms rd None
+
+-- the REC that a granule is
+abbrev pub rec_at : Fields → ℕ → Option RecAttributes
+rec_at fields granule = slice_index_or fields.recs granule None
+
+-- ---- the machine
+
+abbrev pub is_of_realm : List Granule → ℕ → ℕ → Bool
+is_of_realm granules rd granule = option_eq nat_eq (granule_at granules granule).realm (Some rd)
+
+-- the REC that a granule is, with its number, where it is one of the realm
+abbrev pub rec_of : List Granule → List (Option RecAttributes) → ℕ → ℕ → Option (ℕ × RecRow)
+rec_of granules recs rd granule =
+    if is_of_realm granules rd granule then option_map (λ rec. (rec.number, rec_row granule rec)) (slice_index_or recs granule None) else None
+
+-- a realm's RECs by number
+unfoldable pub recs_of : List Granule → List (Option RecAttributes) → ℕ → FinMap nat_cmp RecRow
+recs_of granules recs rd = gathered (rec_of granules recs rd) (length granules)
+
+-- no two granules hold RECs of the realm with one number
+abbrev pub IsNumbered : List Granule → List (Option RecAttributes) → ℕ → Type 0
+IsNumbered granules recs rd = IsOnce (rec_of granules recs rd) (length granules)
+
+-- the granule holds the realm's REC of that number
+pub record IsRecAt (granules : List Granule) (recs : List (Option RecAttributes)) (rd number granule : ℕ) : Type 0 where
+  pub inside : granule < length granules
+  pub row : RecRow
+  pub at : rec_of granules recs rd granule ≡ Some (number, row)
+  pub found : get (recs_of granules recs rd) number ≡ Some row
+
+-- the realm that stands at a granule, with its RECs and its translation
+abbrev pub descriptor_of : Fields → ℕ → Option RealmRow
+descriptor_of fields rd =
+    option_map (λ realm. realm_row realm (recs_of fields.granules fields.recs rd) (rows fields.pages realm.root)) (realm_at fields rd)
 
 -- the bytes of a granule: those of its page, and of a table none, since its contents are rows
 abbrev pub bytes_of : GranuleState → List ℕ → List ℕ
-bytes_of Rtt page = zero_page
+bytes_of InRtt page = zero_page
 bytes_of _ page = page
 
-abbrev pub cell_of : Granule → List ℕ → Cell
-cell_of granule page = record {
-  state = granule.state;
-  realm = granule.realm;
-  bytes = bytes_of granule.state page;
-  descriptor = None;
+abbrev pub cell_of : Fields → ℕ → Cell
+cell_of fields granule = record {
+  state = (granule_at fields.granules granule).state;
+  realm = (granule_at fields.granules granule).realm;
+  bytes = bytes_of (granule_at fields.granules granule).state (page_at fields.pages granule);
+  descriptor = descriptor_of fields granule;
 }
 
-unfoldable pub machine_of : List Granule → List (List ℕ) → Machine
-machine_of granules pages = each cell_of granules pages
-
--- There is a page for each granule, and those that the host may use belong to no realm.
-pub record IsWhole (granules : List Granule) (pages : List (List ℕ)) : Type 0 where
-  pub as_many : length granules ≡ length pages
-  pub no_realm : (granule : ℕ) → is_host_state (granule_at granules granule).state ≡ true → (granule_at granules granule).realm ≡ None
+unfoldable pub machine_of : Fields → Machine
+machine_of fields = map (cell_of fields) (range_with_len 0 (length fields.granules))
 
 -- what a monitor with these fields is seen as
-abbrev pub stands_for : ℕ → ℕ → List Granule → List (List ℕ) → List Bool → MonitorView
-stands_for vmids aux granules pages free = record { vmids = vmids; aux = aux; machine = machine_of granules pages; free = free }
+abbrev pub seen_as : Fields → MonitorView
+seen_as fields = record { vmids = fields.vmids; aux = fields.aux; machine = machine_of fields; free = fields.free }
+
+-- ---- what always holds
+
+abbrev pub is_rec_state : GranuleState → Bool
+is_rec_state InRec = true
+is_rec_state _ = false
+
+-- An UNDELEGATED or DELEGATED granule belongs to no realm, and a DELEGATED one is zero. A realm stands at a granule exactly
+-- where it is in RD, and a REC exactly where it is in REC.
+pub record IsSoundAt (fields : Fields) (granule : ℕ) : Type 0 where
+  pub host : is_host_state (granule_at fields.granules granule).state ≡ true → (granule_at fields.granules granule).realm ≡ None
+  pub zero : (granule_at fields.granules granule).state ≡ Delegated → page_at fields.pages granule ≡ zero_page
+  pub rd : is_some (realm_at fields granule) ≡ is_rd_state (granule_at fields.granules granule).state
+  pub rec : is_some (rec_at fields granule) ≡ is_rec_state (granule_at fields.granules granule).state
+
+-- the granule of a REC belongs to a realm that is there, and its number is below the realm's next
+pub record IsRecOf (fields : Fields) (granule : ℕ) (rec : RecAttributes) : Type 0 where
+  pub rd : ℕ
+  pub of : (granule_at fields.granules granule).realm ≡ Some rd
+  pub realm : RealmAttributes
+  pub there : realm_at fields rd ≡ Some realm
+  pub below : rec.number < realm.next
+
+-- RECs belong to realms, and two of one realm have different numbers. Their auxiliaries are in REC_AUX of the same realm,
+-- and none is there twice.
+pub record HasRecs (fields : Fields) : Type 0 where
+  pub of : (granule : ℕ) (rec : RecAttributes) → rec_at fields granule ≡ Some rec → IsRecOf fields granule rec
+  pub once : (g h : ℕ) (rec other : RecAttributes) → rec_at fields g ≡ Some rec → rec_at fields h ≡ Some other
+      → (granule_at fields.granules g).realm ≡ (granule_at fields.granules h).realm → rec.number ≡ other.number → g ≡ h
+  pub auxiliaries : (granule : ℕ) (rec : RecAttributes) (i auxiliary : ℕ) → rec_at fields granule ≡ Some rec → slice_get rec.auxiliaries i ≡ Some auxiliary
+      → IsIn fields.granules auxiliary InRecAux (granule_at fields.granules granule).realm
+  pub auxiliaries_once : (g h : ℕ) (rec other : RecAttributes) (i j auxiliary : ℕ) → rec_at fields g ≡ Some rec → rec_at fields h ≡ Some other
+      → slice_get rec.auxiliaries i ≡ Some auxiliary → slice_get other.auxiliaries j ≡ Some auxiliary → (g ≡ h) × (i ≡ j)
+
+pub record IsWhole (fields : Fields) : Type 0 where
+  -- There is a page, a place for a realm and one for a REC for each granule. What is not UNDELEGATED is taken.
+  pub backed : IsBacked fields.pages fields.free fields.granules
+  pub realm_places : length fields.realms ≡ length fields.granules
+  pub rec_places : length fields.recs ≡ length fields.granules
+  pub each : (granule : ℕ) → IsSoundAt fields granule
+  pub tables : (rd : ℕ) (realm : RealmAttributes) → realm_at fields rd ≡ Some realm → HasTables fields.pages fields.granules rd realm.root
+  pub recs : HasRecs fields

@@ -1,3 +1,5 @@
 pub mod View
 pub mod Codes
+pub mod Gathered
 pub mod Inside
+pub mod Places

@@ -1,12 +1,17 @@
 -- What a contract sees of a monitor, and of its answers.
-use Rattle.std.specs.Prelude.{◌≡◌, ◌≢◌, ℕ, ◌+◌, ◌^◌, ◌<◌, ◌≤◌, Bool, true, false, List, length, replicate, Result, Ok, Err}
+use Rattle.std.specs.Prelude.{◌≡◌, ◌≢◌, ℕ, ◌+◌, ◌^◌, ◌<◌, ◌≤◌, Bool, true, false, not, List, length, replicate, Option, Some, option_and_then, Result, Ok, Err}
+use Rattle.std.specs.List.{list_any}
+use Rattle.std.specs.FinMap.{get}
 use Rattle.page_arena.specs.Page.{is_free}
 use Rattle.page_arena.specs.Block.{IsTakenBlock, with_run, with_taken, with_given}
 use Rattle.realm_model.specs.declared.rmi.Rmi.{Rmi}
-use Rattle.realm_model.specs.declared.states.GranuleState.TheVariants.{Rtt}
-use Rattle.realm_model.specs.Machine.{Cell, Machine, Seen, seen, blank}
+use Rattle.realm_model.specs.declared.states.GranuleState.TheVariants.{Rec as InRec, Rtt}
+use Rattle.realm_model.specs.Machine.{Limits, RealmRow, RecRow, Cell, Machine, Seen, seen, blank, cell_at}
 use Rattle.realm_model.specs.Update.{Outcome, machine_after_command}
-use Rattle.realm_model.specs.Command.Check.{is_undelegated}
+use Rattle.realm_model.specs.Command.Check.{check, error_input, is_undelegated}
+use Rattle.realm_model.specs.Command.Realm.{realm_create}
+use Rattle.realm_model.specs.Step.{has_vmid}
+use Rattle.realm_objects.specs.Attributes.{RealmAttributes}
 
 -- How many VMIDs and auxiliary granules of a REC there are, the machine, and of each granule whether it is free.
 pub record MonitorView : Type 0 where
@@ -34,6 +39,47 @@ Answers (Err refusal) (Err rmi) = refusal ≡ rmi
 -- the monitor after a command
 abbrev pub after_command : Outcome → MonitorView → MonitorView
 after_command outcome monitor = record monitor { machine = machine_after_command outcome monitor.machine }
+
+-- ---- realms
+
+-- the limits of a monitor; builds are the host's
+abbrev pub limits_of : MonitorView → Limits
+limits_of monitor = record { pages = length monitor.machine; vmids = monitor.vmids; aux = monitor.aux; builds = 0 }
+
+-- What comes of making a realm: a VMID that a realm uses is an input error too. RMM 1.0, RMI_REALM_CREATE.
+abbrev pub create_realm : MonitorView → ℕ → ℕ → ℕ → Outcome
+create_realm monitor rd root vmid =
+    check (not (list_any (has_vmid vmid) monitor.machine)) error_input
+    (realm_create (limits_of monitor) (seen_in monitor rd) (seen_in monitor root) vmid)
+
+-- a realm's own attributes
+abbrev pub attributes_of : RealmRow → RealmAttributes
+attributes_of realm = record {
+  state = realm.state;
+  vmid = realm.vmid;
+  root = realm.root;
+  next = realm.next;
+  measurement = realm.measurement;
+}
+
+-- a granule is the REC of that number in the realm of that RD
+pub record IsRec (machine : Machine) (rd number granule : ℕ) : Type 0 where
+  pub realm : RealmRow
+  pub there : (cell_at machine rd).descriptor ≡ Some realm
+  pub rec : RecRow
+  pub numbered : get realm.recs number ≡ Some rec
+  pub is : rec.granule ≡ granule
+
+-- the REC of that number in the realm of that RD
+abbrev pub rec_in : Machine → ℕ → ℕ → Option RecRow
+rec_in machine rd number = option_and_then (λ realm. get realm.recs number) (cell_at machine rd).descriptor
+
+-- What comes of a command on a REC is what its definition says of the realm and the number; a granule that is no REC is an
+-- input error.
+pub record IsOnRec {A : Type 0} (command : Seen → ℕ → Outcome) (old : MonitorView) (granule : ℕ) (result : Result A Rmi) (new : MonitorView) : Type 0 where
+  pub answer : (rd number : ℕ) → IsRec old.machine rd number granule → Answers result (command (seen_in old rd) number)
+  pub machine : (rd number : ℕ) → IsRec old.machine rd number granule → new ≡ after_command (command (seen_in old rd) number) old
+  pub none : (cell_at old.machine granule).state ≢ InRec → (result ≡ Err error_input) × (new ≡ old)
 
 -- ---- blocks
 

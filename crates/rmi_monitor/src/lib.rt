@@ -6,7 +6,11 @@
 #![tactic(auto)]
 
 mod granule;
+mod inputs;
 mod monitor;
+mod places;
+mod realm;
+mod recs;
 
 pub use monitor::Monitor;
 

@@ -1,8 +1,9 @@
 //! The monitor, its memory, and blocks of pages.
-ghost use Rattle.std.specs.Prelude.{◌≡◌, ◌<◌, ◌≤◌, ◌↔◌, ℕ, Bool, true, List, length, filter, replicate, sum, IsTrue, IfOk, IfErr, IfSome, IfNone};
+ghost use Rattle.std.specs.Prelude.{◌≡◌, ◌<◌, ◌≤◌, ◌↔◌, ℕ, Bool, true, List, length, filter, replicate, sum, None, IsTrue, IfOk, IfErr, IfSome, IfNone};
 ghost use Rattle.std.specs.Bool.{OnTrue, OnFalse};
 ghost use Rattle.page_arena.specs.Block.{IsFreeBlock};
 ghost use Rattle.granule_addr.specs.Page.{zero_page};
+ghost use Rattle.granule_table.specs.Granules.{undelegated};
 ghost use Rattle.realm_model.specs.Machine.{cell_at, blank};
 ghost use Rattle.rmi_monitor.specs.View.{IsGivable, IsPageOf, fresh, with_block, without_block};
 
@@ -10,6 +11,7 @@ use granule_addr::{Gran, Order};
 use granule_table::GranuleTable;
 use page_arena::PageStore;
 use realm_model::GranuleState;
+use realm_objects::{RealmDesc, Rec};
 use std::alloc::{AllocError, Global};
 use std::marker::Model;
 
@@ -18,22 +20,25 @@ use std::marker::Model;
 pub struct Monitor<S: PageStore> {
     pub(crate) store: S,
     pub(crate) granules: GranuleTable,
-    vmids: u8,
-    aux: u8,
+    // Of each granule, the realm whose RD it is, and the REC that it is.
+    pub(crate) realms: Vec<Option<RealmDesc>>,
+    pub(crate) recs: Vec<Option<Rec>>,
+    pub(crate) vmids: u8,
+    pub(crate) aux: u8,
 }
 
 impl<S: PageStore> Model for Monitor<S> {
     ghost use Rattle.rmi_monitor.specs.View.{MonitorView};
     ghost use Rattle.rmi_monitor.specs.Codes.{monitor_code};
-    ghost use Rattle.rmi_monitor.specs.Inside.{stands_for, IsWhole};
+    ghost use Rattle.rmi_monitor.specs.Inside.{fields_of, seen_as, IsWhole};
 
     ghost Value = { MonitorView };
 
     ghost coded = { monitor_code };
 
-    ghost view = { λ m. stands_for m.vmids m.aux m.granules (S.page_bytes m.store) (S.free_flags m.store) };
+    ghost view = { λ m. seen_as (fields_of m.vmids m.aux m.granules (S.page_bytes m.store) (S.free_flags m.store) m.realms.items m.recs.items) };
 
-    ghost invariant = { λ m. IsWhole m.granules (S.page_bytes m.store) };
+    ghost invariant = { λ m. IsWhole (fields_of m.vmids m.aux m.granules (S.page_bytes m.store) (S.free_flags m.store) m.realms.items m.recs.items) };
 }
 
 impl<S: PageStore> Monitor<S> {
@@ -47,10 +52,12 @@ impl<S: PageStore> Monitor<S> {
         ensures ok { IfOk result (λ m. m ≡ fresh vmids aux (length (S.page_bytes store))) }
         ensures err { IfErr result (λ e. e.1 ≡ store) }
     {
-        match GranuleTable::build(alloc, store.pages()) {
-            Ok(granules) => Ok(Monitor {
+        match places(alloc, store.pages()) {
+            Ok((granules, realms, recs)) => Ok(Monitor {
                 store,
                 granules,
+                realms,
+                recs,
                 vmids,
                 aux,
             }),
@@ -125,6 +132,34 @@ impl<S: PageStore> Monitor<S> {
             _ => sum_of(self.store.bytes(granule)),
         }
     }
+}
+
+// As many places, with nothing in them.
+fn nothing<T: Drop>(alloc: Global, count: u16) -> Result<Vec<Option<T>>, AllocError>
+    ensures { IfOk result (λ places. places.items ≡ replicate count None) }
+{
+    let mut places = Vec::with_capacity(alloc, count as usize)?;
+    for _i in 0..count {
+        places.push(None)?;
+    }
+    Ok(places)
+}
+
+// The granules of a machine of so many pages, and a place for a realm and one for a REC at each.
+fn places(
+    alloc: Global,
+    pages: u16,
+) -> Result<(GranuleTable, Vec<Option<RealmDesc>>, Vec<Option<Rec>>), AllocError>
+    requires some { 1 ≤ pages }
+    requires few { pages ≤ 4096 }
+    ensures granules { IfOk result (λ all. all.0 ≡ replicate pages undelegated) }
+    ensures realms { IfOk result (λ all. all.1.items ≡ replicate pages None) }
+    ensures recs { IfOk result (λ all. all.2.items ≡ replicate pages None) }
+{
+    let granules = GranuleTable::build(alloc, pages)?;
+    let realms = nothing(alloc, pages)?;
+    let recs = nothing(alloc, pages)?;
+    Ok((granules, realms, recs))
 }
 
 // The sum of the bytes of a page.

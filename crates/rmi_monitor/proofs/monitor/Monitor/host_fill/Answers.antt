@@ -1,31 +1,34 @@
-use Rattle.std.proofs.Common.{[], ◌∷◌, sym, ◌∙◌}
+use Rattle.std.proofs.Common.{[], ◌∷◌, refl, sym, ◌∙◌}
 use Rattle.granule_addr.specs.Page.{page_of}
 use Rattle.realm_model.specs.Machine.{cell_at}
 use Rattle.realm_model.specs.Update.{Put}
 use Rattle.realm_model.specs.Command.Check.{error_input}
 use Rattle.rmi_monitor.proofs.Checks.{answers_done, answers_refused}
-use Rattle.rmi_monitor.proofs.Granules.{in_granules, in_pages, is_undelegated_there, is_not_undelegated, after_refused, filled_done}
+use Rattle.rmi_monitor.proofs.Granules.{in_granules, in_pages, is_undelegated_there, is_not_undelegated, after_refused, whole_filled, filled_done}
 use Rattle.rmi_monitor.proofs.monitor.Monitor.host_fill.Goals as goal
 
 pub state-requires : goal.state-requires
-state-requires g c = in_granules c.args.self.now c.self.inside.vmids c.self.inside.aux c.self.inside.granules (g.S.PageStore.page_bytes c.self.inside.store) (g.S.PageStore.free_flags c.self.inside.store) c.self.view_is c.self.invariant c.args.granule c.requires
+state-requires g c = in_granules c.args.self.now _ c.self.view_is c.self.invariant c.args.granule c.requires
 
 pub fill-requires-clause-inside : goal.fill-requires-clause-inside
-fill-requires-clause-inside g c = in_pages c.args.self.now c.self.inside.vmids c.self.inside.aux c.self.inside.granules (g.S.PageStore.page_bytes c.self.inside.store) (g.S.PageStore.free_flags c.self.inside.store) c.self.view_is c.self.invariant c.args.granule c.requires
+fill-requires-clause-inside g c = in_pages c.args.self.now _ c.self.view_is c.self.invariant c.args.granule c.requires
+
+pub invariant_of-self : goal.invariant_of-self
+invariant_of-self g c = whole_filled c.args.self.now _ c.self.view_is c.self.invariant c.args.granule c.requires (sym c.in-Undelegated.ensures) _ _ _ c.fill.ensures.flags c.args.value refl c.fill.ensures.filled
 
 pub returns-in-Undelegated-clause-answer : goal.returns-in-Undelegated-clause-answer
 returns-in-Undelegated-clause-answer g c =
     answers_done error_input (Put c.args.granule (record (cell_at c.args.self.now.machine c.args.granule) { bytes = page_of c.args.value }) ∷ []) {A = Unit {0}} tt _
-    (is_undelegated_there c.args.self.now c.self.inside.vmids c.self.inside.aux c.self.inside.granules (g.S.PageStore.page_bytes c.self.inside.store) (g.S.PageStore.free_flags c.self.inside.store) c.self.view_is c.self.invariant c.args.granule c.requires (sym c.in-Undelegated.ensures))
+    (is_undelegated_there c.args.self.now _ c.self.view_is c.self.invariant c.args.granule c.requires (sym c.in-Undelegated.ensures))
 
 pub returns-in-Undelegated-clause-machine : goal.returns-in-Undelegated-clause-machine
 returns-in-Undelegated-clause-machine g c =
-    filled_done c.args.self.now c.self.inside.vmids c.self.inside.aux c.self.inside.granules (g.S.PageStore.page_bytes c.self.inside.store) (g.S.PageStore.free_flags c.self.inside.store) c.self.view_is c.self.invariant c.args.granule c.requires c.args.value _ _ (sym c.in-Undelegated.ensures) c.fill.ensures.filled c.fill.ensures.flags
+    filled_done c.args.self.now _ c.self.view_is c.self.invariant c.args.granule c.requires (sym c.in-Undelegated.ensures) _ _ _ c.fill.ensures.flags c.args.value refl c.fill.ensures.filled
 
 pub returns-in_default : goal.returns-in_default
 returns-in_default g c =
-    let not_there = is_not_undelegated c.args.self.now c.self.inside.vmids c.self.inside.aux c.self.inside.granules (g.S.PageStore.page_bytes c.self.inside.store) (g.S.PageStore.free_flags c.self.inside.store) c.self.view_is c.self.invariant c.args.granule c.requires (λ e. c.in_default.not-Undelegated (c.state.ensures ∙ e)) in
+    let not_there = is_not_undelegated c.args.self.now _ c.self.view_is c.self.invariant c.args.granule c.requires (λ e. c.in_default.not-Undelegated (c.state.ensures ∙ e)) in
     record {
       answer = answers_refused error_input (Put c.args.granule (record (cell_at c.args.self.now.machine c.args.granule) { bytes = page_of c.args.value }) ∷ []) (Unit {0}) _ not_there;
-      machine = after_refused c.args.self.now c.self.inside.vmids c.self.inside.aux c.self.inside.granules (g.S.PageStore.page_bytes c.self.inside.store) (g.S.PageStore.free_flags c.self.inside.store) c.self.view_is c.self.invariant c.args.granule c.requires _ (Put c.args.granule (record (cell_at c.args.self.now.machine c.args.granule) { bytes = page_of c.args.value }) ∷ []) not_there;
+      machine = after_refused c.args.self.now _ c.self.view_is c.self.invariant c.args.granule c.requires _ (Put c.args.granule (record (cell_at c.args.self.now.machine c.args.granule) { bytes = page_of c.args.value }) ∷ []) not_there;
     }

@@ -1,0 +1,135 @@
+-- What comes of removing a realm, by the places of a monitor.
+use Rattle.std.proofs.Common.{◌≡◌, ◌≢◌, ℕ, ◌<◌, Bool, true, false, List, [], ◌∷◌, length, set, Option, Some, None, Ok, Err, refl, sym, ap, ◌∙◌, subst}
+use Rattle.std.specs.Prelude.{◌==◌, ◌&&◌, ◌↔◌, IsTrue, not}
+use Rattle.std.specs.Bool.{OnTrue}
+use Rattle.std.specs.FinMap.{len}
+use Rattle.std.proofs.lemmas.List.{length-set}
+use Rattle.granule_table.specs.Granules.{granule_at}
+use Rattle.granule_table.specs.declared.granule.Granule.{Granule}
+use Rattle.granule_addr.specs.Page.{page_of, zero_page}
+use Rattle.realm_model.specs.declared.states.GranuleState.TheVariants.{Delegated, Rd as InRd}
+use Rattle.realm_model.specs.Rows.{has_root_table}
+use Rattle.realm_model.specs.Machine.{RealmRow, left}
+use Rattle.realm_model.specs.Update.{Update, Outcome, Put, machine_after_all}
+use Rattle.realm_model.specs.Command.Check.{check, error_input, error_realm}
+use Rattle.realm_model.specs.Command.Realm.{realm_destroy}
+use Rattle.realm_objects.specs.Attributes.{RealmAttributes, RecAttributes, realm_row}
+use Rattle.rtt.specs.Tables.{rows}
+use Rattle.rtt.specs.Realm.{HasTables}
+use Rattle.rtt.specs.Calls.{with_state}
+use Rattle.rmi_monitor.specs.View.{MonitorView, IsTaken, seen_in, after_command}
+use Rattle.rmi_monitor.specs.Inside.{Fields, realm_at, rec_at, recs_of, machine_of, seen_as, IsWhole}
+use Rattle.rmi_monitor.proofs.Granules.{machine_is, in_granules, in_pages}
+use Rattle.rmi_monitor.proofs.NoRecs.{no_rec_of}
+use Rattle.rmi_monitor.proofs.RealmPlaces.{in_rd}
+use Rattle.rmi_monitor.proofs.Answered.{after_done, with_no_realm, with_that_realm}
+use Rattle.rmi_monitor.proofs.RealmDestroys.{rd_still, whole_destroyed, machine_destroyed}
+
+module _ (monitor : MonitorView) (fields : Fields) (view_is : seen_as fields ≡ monitor) (whole : IsWhole fields) (rd : ℕ) (taken : IsTaken monitor rd) where
+  abbrev outcome : Outcome
+  outcome = realm_destroy (seen_in monitor rd)
+
+  pub destroy_none : realm_at fields rd ≡ None → outcome ≡ Err error_input
+  destroy_none none = with_no_realm monitor fields view_is whole rd taken none _
+
+  module _ (realm : RealmAttributes) (there : realm_at fields rd ≡ Some realm) where
+    abbrev row : RealmRow
+    row = realm_row realm (recs_of fields.granules fields.recs rd) (rows fields.pages realm.root)
+
+    abbrev updates : List Update
+    updates = Put rd left ∷ Put realm.root left ∷ []
+
+    checked : (none tables : Bool) → (len row.recs == 0) ≡ none → has_root_table row.rows ≡ tables → outcome ≡ check (none && not tables) error_realm (Ok updates)
+    checked none tables n t =
+        with_that_realm monitor fields view_is whole rd taken realm there _ ∙ (λ i. check (n i && not (t i)) error_realm (Ok updates))
+
+    -- the realm has a REC
+    pub destroy_with_rec : true ≡ not (len row.recs == 0) → outcome ≡ Err error_realm
+    unfolding check
+    destroy_with_rec some = checked false (has_root_table row.rows) (none_of (len row.recs == 0) some) refl
+      where
+        none_of : (b : Bool) → true ≡ not b → b ≡ false
+        none_of true h = cc
+        none_of false h = refl
+
+    module _ (none : false ≡ not (len row.recs == 0)) where
+      no_recs : (len row.recs == 0) ≡ true
+      no_recs = all_of (len row.recs == 0) none
+        where
+          all_of : (b : Bool) → false ≡ not b → b ≡ true
+          all_of true h = refl
+          all_of false h = cc
+
+      no_rec : (g : ℕ) (rec : RecAttributes) → rec_at fields g ≡ Some rec → (granule_at fields.granules g).realm ≡ Some rd → ⊥
+      no_rec = no_rec_of fields whole rd no_recs
+
+      module _ (root : ℕ) (root_is : root ≡ realm.root) where
+        pub destroy_tables : HasTables fields.pages fields.granules rd root
+        destroy_tables = subst (HasTables fields.pages fields.granules rd) (sym root_is) (whole.tables rd realm there)
+
+        -- the root leads to a table
+        pub destroy_with_table : false ≡ not (has_root_table (rows fields.pages root)) → outcome ≡ Err error_realm
+        unfolding check
+        destroy_with_table some = checked true true no_recs (has_one (has_root_table row.rows) (some ∙ ap (λ r. not (has_root_table (rows fields.pages r))) root_is))
+          where
+            has_one : (b : Bool) → false ≡ not b → b ≡ true
+            has_one true h = refl
+            has_one false h = cc
+
+        module _ (closed : true ≡ not (has_root_table (rows fields.pages root))) where
+          pub destroy_done : outcome ≡ Ok updates
+          unfolding check
+          destroy_done = checked true false no_recs (has_none (has_root_table row.rows) (closed ∙ ap (λ r. not (has_root_table (rows fields.pages r))) root_is))
+            where
+              has_none : (b : Bool) → true ≡ not b → b ≡ false
+              has_none true h = cc
+              has_none false h = refl
+
+          -- after the root is closed
+          module _ (granules : List Granule) (pages : List (List ℕ)) (moved : granules ≡ with_state fields.granules root Delegated None) (cleared : pages ≡ set fields.pages root zero_page) where
+            pub rd_in_pages : rd < length pages
+            rd_in_pages =
+                subst (λ n. rd < n) (sym (ap length cleared ∙ length-set fields.pages root zero_page)) (in_pages monitor fields view_is whole rd taken)
+
+            pub rd_in_granules : rd < length granules
+            rd_in_granules =
+                subst (λ n. rd < n) (sym (ap length moved ∙ length-set fields.granules root (record { state = Delegated; realm = None }))) (in_granules monitor fields view_is whole rd taken)
+
+            still_rd : (granule_at granules rd).state ≡ InRd
+            still_rd =
+                ap (λ gs. (granule_at gs rd).state) (moved ∙ ap (λ r. with_state fields.granules r Delegated None) root_is)
+                ∙ ap (λ (x : Granule). x.state) (rd_still fields whole rd realm there no_rec) ∙ in_rd fields whole rd realm there
+
+            -- the RD is moved, since it was in RD
+            pub destroy_shifted : (done : Bool) (shifted : List Granule) → (IsTrue done ↔ ((granule_at granules rd).state ≡ InRd))
+                → OnTrue done (shifted ≡ with_state granules rd Delegated None) → shifted ≡ with_state granules rd Delegated None
+            destroy_shifted true shifted answer is = is
+            destroy_shifted false shifted answer is = absurd (let told = answer.1 still_rd in cc)
+
+            module _ (shifted : List Granule) (filled : List (List ℕ)) (free : List Bool) (n : ℕ) (shift : shifted ≡ with_state granules rd Delegated None)
+                (fill : filled ≡ set pages rd (page_of 0)) (flags : free ≡ fields.free) (n_is : n ≡ rd) where
+              abbrev after_destroy : List Granule → List (List ℕ) → List Bool → ℕ → Fields
+              after_destroy gs ps fs place = record fields { granules = gs; pages = ps; free = fs; realms = set fields.realms place None }
+
+              granules_are : shifted ≡ with_state (with_state fields.granules realm.root Delegated None) rd Delegated None
+              granules_are = shift ∙ ap (λ gs. with_state gs rd Delegated None) (moved ∙ ap (λ r. with_state fields.granules r Delegated None) root_is)
+
+              pages_are : filled ≡ set (set fields.pages realm.root zero_page) rd zero_page
+              pages_are = fill ∙ ap (λ ps. set ps rd zero_page) (cleared ∙ ap (λ r. set fields.pages r zero_page) root_is)
+
+              abbrev now : Fields
+              now = after_destroy (with_state (with_state fields.granules realm.root Delegated None) rd Delegated None) (set (set fields.pages realm.root zero_page) rd zero_page) fields.free rd
+
+              written : after_destroy shifted filled free n ≡ now
+              written i = after_destroy (granules_are i) (pages_are i) (flags i) (n_is i)
+
+              pub whole_after_destroy : IsWhole (after_destroy shifted filled free n)
+              whole_after_destroy = subst IsWhole (sym written) (whole_destroyed fields whole rd realm there no_rec)
+
+              machine_after : machine_of now ≡ machine_after_all updates monitor.machine
+              unfolding machine_after_all
+              machine_after =
+                  machine_destroyed fields whole rd realm there no_rec ∙ ap (λ m. set (set m rd left) realm.root left) (machine_is monitor fields view_is whole)
+
+              pub seen_after_destroy : seen_as (after_destroy shifted filled free n) ≡ after_command outcome monitor
+              seen_after_destroy = ap seen_as written ∙ after_done monitor fields view_is whole now updates outcome destroy_done refl refl refl machine_after

@@ -1,0 +1,149 @@
+-- What stays of a monitor's fields where a command changes some granules, and so what always holds, holds still.
+use Rattle.std.proofs.Common.{◌≡◌, ◌≢◌, ℕ, ◌<◌, ◌≤◌, Bool, true, false, cond, List, length, Option, Some, None, option_map, refl, sym, ap, ◌∙◌, subst, arith}
+use Rattle.std.specs.Prelude.{is_some, nat_eq, slice_get}
+use Rattle.std.specs.Option.{option_eq}
+use Rattle.granule_table.specs.Granules.{granule_at, IsIn}
+use Rattle.granule_table.specs.declared.granule.Granule.{Granule}
+use Rattle.page_arena.specs.Page.{page_at, is_free}
+use Rattle.granule_addr.specs.Page.{zero_page}
+use Rattle.realm_model.specs.declared.states.GranuleState.{GranuleState}
+use Rattle.realm_model.specs.declared.states.GranuleState.TheVariants.{Delegated, Data as InData, Rec as InRec, RecAux as InRecAux, Rtt as InRtt}
+use Rattle.realm_model.specs.Sound.{is_host_state, is_rd_state}
+use Rattle.realm_model.specs.Machine.{RecRow}
+use Rattle.realm_objects.specs.Attributes.{RealmAttributes, RecAttributes, rec_row}
+use Rattle.rtt.specs.Realm.{IsBacked, LeavesAlone}
+use Rattle.rmi_monitor.specs.Inside.{Fields, realm_at, rec_at, is_of_realm, rec_of, recs_of, is_rec_state, IsSoundAt, IsRecOf, HasRecs}
+use Rattle.rmi_monitor.specs.Gathered.{gathered}
+use Rattle.rmi_monitor.proofs.Gathered.{gathered-same}
+
+-- The granules that are not touched stay, but for the pages of tables.
+pub record Stays (old new : Fields) (touched : ℕ → Bool) : Type 0 where
+  pub free : new.free ≡ old.free
+  pub granule_count : length new.granules ≡ length old.granules
+  pub page_count : length new.pages ≡ length old.pages
+  pub granule : (g : ℕ) → touched g ≡ false → granule_at new.granules g ≡ granule_at old.granules g
+  pub page : (g : ℕ) → touched g ≡ false → (granule_at old.granules g).state ≢ InRtt → page_at new.pages g ≡ page_at old.pages g
+  pub realm : (g : ℕ) → touched g ≡ false → realm_at new g ≡ realm_at old g
+  pub rec : (g : ℕ) → touched g ≡ false → rec_at new g ≡ rec_at old g
+
+module _ (old new : Fields) (touched : ℕ → Bool) (stays : Stays old new touched) where
+  -- each granule is sound, where those touched are
+  pub sound_after : ((g : ℕ) → IsSoundAt old g) → ((g : ℕ) → touched g ≡ true → IsSoundAt new g) → (g : ℕ) → IsSoundAt new g
+  sound_after was now g = elim (touched g) as (λ t. touched g ≡ t → IsSoundAt new g) [ true ↦ now g | false ↦ kept ] refl
+    where
+      kept : touched g ≡ false → IsSoundAt new g
+      kept e =
+          let same : (granule_at new.granules g).state ≡ (granule_at old.granules g).state = ap (λ (x : Granule). x.state) (stays.granule g e) in
+          let of : (granule_at new.granules g).realm ≡ (granule_at old.granules g).realm = ap (λ (x : Granule). x.realm) (stays.granule g e) in
+          record {
+            host = λ h. of ∙ (was g).host (sym (ap is_host_state same) ∙ h);
+            zero = λ h. stays.page g e (λ is. cc) ∙ (was g).zero (sym same ∙ h);
+            rd = ap is_some (stays.realm g e) ∙ (was g).rd ∙ sym (ap is_rd_state same);
+            rec = ap is_some (stays.rec g e) ∙ (was g).rec ∙ sym (ap is_rec_state same);
+          }
+
+  -- what is not UNDELEGATED is taken, where what is touched is
+  pub backed_after : IsBacked old.pages old.free old.granules → ((g : ℕ) → touched g ≡ true → is_free old.free g ≡ false) → IsBacked new.pages new.free new.granules
+  backed_after was taken = record {
+    as_many = stays.granule_count ∙ was.as_many ∙ sym stays.page_count;
+    taken = λ g inside used.
+        ap (λ flags. is_free flags g) stays.free
+        ∙ elim (touched g) as (λ t. touched g ≡ t → is_free old.free g ≡ false) [
+          | true ↦ taken g
+          | false ↦ λ e. was.taken g (subst (λ n. g < n) stays.granule_count inside) (λ is. used (ap (λ (x : Granule). x.state) (stays.granule g e) ∙ is))
+        ] refl;
+  }
+
+  -- A realm is left alone where no page of a table is changed, and no granule in RTT or DATA is touched.
+  pub alone_after : ((g : ℕ) → (granule_at old.granules g).state ≡ InRtt → page_at new.pages g ≡ page_at old.pages g)
+      → ((g : ℕ) → (granule_at old.granules g).state ≡ InRtt → touched g ≡ false)
+      → ((g : ℕ) → (granule_at old.granules g).state ≡ InData → touched g ≡ false)
+      → (rd : ℕ) → LeavesAlone rd old.pages old.granules new.pages new.granules
+  alone_after pages tables data_pages rd = record {
+    page = λ g is. pages g (ap (λ (x : Granule). x.state) is.is);
+    table = λ g is. moved g (tables g (ap (λ (x : Granule). x.state) is.is)) InRtt is;
+    «data» = λ g is. moved g (data_pages g (ap (λ (x : Granule). x.state) is.is)) InData is;
+  }
+    where
+      moved : (g : ℕ) → touched g ≡ false → (state : GranuleState) → IsIn old.granules g state (Some rd) → IsIn new.granules g state (Some rd)
+      moved g e state is = record { inside = subst (λ n. g < n) (sym stays.granule_count) is.inside; is = stays.granule g e ∙ is.is }
+
+-- ---- RECs
+
+-- The RECs stay, and the granules of RECs do.
+pub record StayRecs (old new : Fields) : Type 0 where
+  pub granule_count : length new.granules ≡ length old.granules
+  pub rec : (g : ℕ) → rec_at new g ≡ rec_at old g
+  pub granule : (g : ℕ) → (granule_at old.granules g).state ≡ InRec → granule_at new.granules g ≡ granule_at old.granules g
+  pub auxiliary : (g : ℕ) → (granule_at old.granules g).state ≡ InRecAux → granule_at new.granules g ≡ granule_at old.granules g
+
+module _ (old new : Fields) (stay : StayRecs old new) (sound : (g : ℕ) → IsSoundAt old g) where
+  in_rec : (g : ℕ) (rec : RecAttributes) → rec_at old g ≡ Some rec → (granule_at old.granules g).state ≡ InRec
+  in_rec g rec e = rec_state (granule_at old.granules g).state (sym ((sound g).rec) ∙ ap is_some e)
+    where
+      rec_state : (state : GranuleState) → is_rec_state state ≡ true → state ≡ InRec
+      rec_state InRec h = refl
+      rec_state _ h = cc
+
+  rec_granule : (g : ℕ) (rec : RecAttributes) → rec_at old g ≡ Some rec → granule_at new.granules g ≡ granule_at old.granules g
+  rec_granule g rec e = stay.granule g (in_rec g rec e)
+
+  -- each realm has the same RECs
+  pub recs_of_stay : (rd : ℕ) → recs_of new.granules new.recs rd ≡ recs_of old.granules old.recs rd
+  unfolding recs_of
+  recs_of_stay rd =
+      ap (λ n. gathered (rec_of new.granules new.recs rd) n) stay.granule_count
+      ∙ gathered-same (rec_of new.granules new.recs rd) (rec_of old.granules old.recs rd) (length old.granules) (λ g h. same g)
+    where
+      numbered : ℕ → RecAttributes → ℕ × RecRow
+      numbered g rec = (rec.number, rec_row g rec)
+
+      none : (b : Bool) → ◌≡◌ {A = Option (ℕ × RecRow)} (cond b None None) None
+      none true = refl
+      none false = refl
+
+      same : (g : ℕ) → rec_of new.granules new.recs rd g ≡ rec_of old.granules old.recs rd g
+      same g = elim (rec_at old g) as (λ o. rec_at old g ≡ o → rec_of new.granules new.recs rd g ≡ rec_of old.granules old.recs rd g) [
+        | Some rec ↦ λ e.
+            ap (λ o. cond (is_of_realm new.granules rd g) (option_map (numbered g) o) None) (stay.rec g)
+            ∙ ap (λ (x : Granule). cond (option_eq nat_eq x.realm (Some rd)) (option_map (numbered g) (rec_at old g)) None) (rec_granule g rec e)
+        | None ↦ λ e.
+            ap (λ o. cond (is_of_realm new.granules rd g) (option_map (numbered g) o) None) (stay.rec g ∙ e)
+            ∙ none (is_of_realm new.granules rd g)
+            ∙ sym (ap (λ o. cond (is_of_realm old.granules rd g) (option_map (numbered g) o) None) e ∙ none (is_of_realm old.granules rd g))
+      ] refl
+
+  -- RECs are as they should be, where the realms that have some are there still
+  pub HasRecs_stay : HasRecs old
+      → ((g rd : ℕ) (rec : RecAttributes) (realm : RealmAttributes) → rec_at old g ≡ Some rec → (granule_at old.granules g).realm ≡ Some rd → realm_at old rd ≡ Some realm
+      → (now : RealmAttributes) × (realm_at new rd ≡ Some now) × (realm.next ≤ now.next))
+      → HasRecs new
+  HasRecs_stay was there = record {
+    of = of;
+    once = λ g h rec other e e' same numbers.
+        let at : rec_at old g ≡ Some rec = sym (stay.rec g) ∙ e in
+        let at' : rec_at old h ≡ Some other = sym (stay.rec h) ∙ e' in
+        was.once g h rec other at at' (sym (realm_same g rec at) ∙ same ∙ realm_same h other at') numbers;
+    auxiliaries = λ g rec i auxiliary e listed.
+        let at : rec_at old g ≡ Some rec = sym (stay.rec g) ∙ e in
+        let is = was.auxiliaries g rec i auxiliary at listed in
+        record {
+          inside = subst (λ n. auxiliary < n) (sym stay.granule_count) is.inside;
+          is = stay.auxiliary auxiliary (ap (λ (x : Granule). x.state) is.is) ∙ is.is ∙ ap (λ realm. record { state = InRecAux; realm = realm }) (sym (realm_same g rec at));
+        };
+    auxiliaries_once = λ g h rec other i j auxiliary e e'.
+        was.auxiliaries_once g h rec other i j auxiliary (sym (stay.rec g) ∙ e) (sym (stay.rec h) ∙ e');
+  }
+    where
+      realm_same : (g : ℕ) (rec : RecAttributes) → rec_at old g ≡ Some rec → (granule_at new.granules g).realm ≡ (granule_at old.granules g).realm
+      realm_same g rec e = ap (λ (x : Granule). x.realm) (rec_granule g rec e)
+
+      nat_within : (a b c : ℕ) → a < b → b ≤ c → a < c
+      nat_within a b c h k = omega (arith, h, k)
+
+      of : (g : ℕ) (rec : RecAttributes) → rec_at new g ≡ Some rec → IsRecOf new g rec
+      of g rec e =
+          let at : rec_at old g ≡ Some rec = sym (stay.rec g) ∙ e in
+          let before : IsRecOf old g rec = was.of g rec at in
+          let after = there g before.rd rec before.realm at before.of before.there in
+          record { rd = before.rd; of = realm_same g rec at ∙ before.of; realm = after.0; there = after.1; below = nat_within rec.number before.realm.next after.0.next before.below after.2 }

@@ -1,0 +1,158 @@
+-- A granule of the host's is moved: it is UNDELEGATED or DELEGATED before and after, and its page may change.
+use Rattle.std.proofs.Common.{◌≡◌, ◌≢◌, ℕ, ◌<◌, Bool, true, false, List, [], length, set, Option, Some, None, option_map, refl, sym, ap, ◌∙◌, subst, arith}
+use Rattle.std.specs.Prelude.{◌==◌, is_some}
+use Rattle.std.proofs.lemmas.Bool.{eqb-true, eqb-false}
+use Rattle.std.proofs.lemmas.List.{length-set, get_or-set_same, get_or-set_other}
+use Rattle.granule_table.specs.Granules.{granule_at, undelegated}
+use Rattle.granule_table.specs.declared.granule.Granule.{Granule}
+use Rattle.page_arena.specs.Page.{page_at, is_free}
+use Rattle.granule_addr.specs.Page.{zero_page}
+use Rattle.realm_model.specs.declared.states.GranuleState.{GranuleState}
+use Rattle.realm_model.specs.declared.states.GranuleState.TheVariants.{Undelegated, Delegated, Data as InData, Rec as InRec, RecAux as InRecAux, Rtt as InRtt}
+use Rattle.realm_model.specs.Machine.{Cell}
+use Rattle.realm_model.specs.Sound.{is_host_state, is_rd_state}
+use Rattle.realm_objects.specs.Attributes.{RealmAttributes, realm_row}
+use Rattle.rtt.specs.Tables.{rows}
+use Rattle.rtt.specs.Realm.{LeavesAlone}
+use Rattle.rtt.specs.FrameLaws.{rows-alone, HasTables-alone}
+use Rattle.rmi_monitor.specs.Inside.{Fields, realm_at, recs_of, descriptor_of, bytes_of, cell_of, machine_of, is_rec_state, IsSoundAt, IsWhole}
+use Rattle.rmi_monitor.proofs.Machines.{one_put, cell_stays, descriptor_stays}
+use Rattle.rmi_monitor.proofs.Frames.{Stays, StayRecs, sound_after, backed_after, alone_after, recs_of_stay, HasRecs_stay}
+
+-- the fields with another state and another page of a granule that belongs to no realm
+abbrev pub moved : Fields → ℕ → GranuleState → List ℕ → Fields
+moved fields g state page = record fields {
+  granules = set fields.granules g (record { state = state; realm = None });
+  pages = set fields.pages g page;
+}
+
+-- a granule of no realm
+abbrev pub host_cell : GranuleState → List ℕ → Cell
+host_cell state page = record { state = state; realm = None; bytes = page; descriptor = None }
+
+-- a state of the host's is none of a realm's
+not_in : (state wanted : GranuleState) → is_host_state wanted ≡ false → is_host_state state ≡ true → state ≡ wanted → ⊥
+not_in state wanted held own is = absurd (true_is_not_false (sym own ∙ ap is_host_state is ∙ held))
+  where
+    true_is_not_false : true ≡ false → ⊥
+    true_is_not_false e = cc
+
+-- no realm and no REC stands at a granule of the host's
+pub not_rd : (s : GranuleState) → is_host_state s ≡ true → is_rd_state s ≡ false
+not_rd Undelegated h = refl
+not_rd Delegated h = refl
+not_rd _ h = cc
+
+pub not_rec : (s : GranuleState) → is_host_state s ≡ true → is_rec_state s ≡ false
+not_rec Undelegated h = refl
+not_rec Delegated h = refl
+not_rec _ h = cc
+
+pub no_realm : (fields : Fields) (g : ℕ) → IsSoundAt fields g → is_host_state (granule_at fields.granules g).state ≡ true → realm_at fields g ≡ None
+no_realm fields g sound is = none (realm_at fields g) (sound.rd ∙ not_rd (granule_at fields.granules g).state is)
+  where
+    none : (o : Option RealmAttributes) → is_some o ≡ false → o ≡ None
+    none (Some r) h = cc
+    none None h = refl
+
+-- the cell of a granule of the host's
+pub cell_of-host : (fields : Fields) (g : ℕ) → IsSoundAt fields g → {state : GranuleState} → (granule_at fields.granules g).state ≡ state → is_host_state state ≡ true
+    → {page : List ℕ} → page_at fields.pages g ≡ page → cell_of fields g ≡ host_cell state page
+cell_of-host fields g sound {state} at is {page} page_is =
+    let bytes : bytes_of state page ≡ page = plain state is in
+    let host : is_host_state (granule_at fields.granules g).state ≡ true = ap is_host_state at ∙ is in
+    let row : descriptor_of fields g ≡ None =
+    ap (λ o. option_map (λ r. realm_row r (recs_of fields.granules fields.recs g) (rows fields.pages r.root)) o) (no_realm fields g sound host) in
+    (λ i. record { state = at i; realm = sound.host host i; bytes = bytes_of (at i) (page_is i); descriptor = row i })
+    ∙ ap (λ b. record { state = state; realm = None; bytes = b; descriptor = None }) bytes
+  where
+    plain : (s : GranuleState) → is_host_state s ≡ true → bytes_of s page ≡ page
+    plain Undelegated h = refl
+    plain Delegated h = refl
+    plain _ h = cc
+
+module _ (old : Fields) (whole : IsWhole old) (g : ℕ) (inside : g < length old.granules) (taken : is_free old.free g ≡ false)
+    (state : GranuleState) (page : List ℕ) (was : is_host_state (granule_at old.granules g).state ≡ true) (is : is_host_state state ≡ true)
+    (zero : state ≡ Delegated → page ≡ zero_page) where
+  abbrev new : Fields
+  new = moved old g state page
+
+  abbrev touched : ℕ → Bool
+  touched h = h == g
+
+  other : (h : ℕ) → touched h ≡ false → h ≢ g
+  other h e = eqb-false h g e
+
+  stays : Stays old new touched
+  stays = record {
+    free = refl;
+    granule_count = length-set old.granules g (record { state = state; realm = None });
+    page_count = length-set old.pages g page;
+    granule = λ h e. get_or-set_other old.granules g h (record { state = state; realm = None }) undelegated (other h e);
+    page = λ h e not_table. get_or-set_other old.pages g h page [] (other h e);
+    realm = λ h e. refl;
+    rec = λ h e. refl;
+  }
+
+  granule_is : granule_at new.granules g ≡ record { state = state; realm = None }
+  granule_is = get_or-set_same old.granules g (record { state = state; realm = None }) undelegated inside
+
+  state_is : (granule_at new.granules g).state ≡ state
+  state_is = ap (λ (x : Granule). x.state) granule_is
+
+  page_is : page_at new.pages g ≡ page
+  page_is = get_or-set_same old.pages g page [] (subst (λ n. g < n) whole.backed.as_many inside)
+
+  sound : IsSoundAt new g
+  sound = record {
+    host = λ h. ap (λ (x : Granule). x.realm) granule_is;
+    zero = λ h. page_is ∙ zero (sym state_is ∙ h);
+    rd = (whole.each g).rd ∙ not_rd (granule_at old.granules g).state was ∙ sym (ap is_rd_state state_is ∙ not_rd state is);
+    rec = (whole.each g).rec ∙ not_rec (granule_at old.granules g).state was ∙ sym (ap is_rec_state state_is ∙ not_rec state is);
+  }
+
+  not_touched : (wanted : GranuleState) → is_host_state wanted ≡ false → (h : ℕ) → (granule_at old.granules h).state ≡ wanted → touched h ≡ false
+  not_touched wanted held h at = elim (touched h) as (λ t. touched h ≡ t → touched h ≡ false) [
+    | true ↦ λ e. absurd (not_in (granule_at old.granules g).state wanted held was (ap (λ k. (granule_at old.granules k).state) (sym (eqb-true h g e)) ∙ at))
+    | false ↦ λ e. e
+  ] refl
+
+  alone : (rd : ℕ) → LeavesAlone rd old.pages old.granules new.pages new.granules
+  alone = alone_after old new touched stays
+      (λ h at. get_or-set_other old.pages g h page [] (other h (not_touched InRtt refl h at)))
+      (not_touched InRtt refl) (not_touched InData refl)
+
+  stay_recs : StayRecs old new
+  stay_recs = record {
+    granule_count = stays.granule_count;
+    rec = λ h. refl;
+    granule = λ h at. stays.granule h (not_touched InRec refl h at);
+    auxiliary = λ h at. stays.granule h (not_touched InRecAux refl h at);
+  }
+
+  pub whole_moved : IsWhole (moved old g state page)
+  whole_moved = record {
+    backed = backed_after old new touched stays whole.backed (λ h e. ap (is_free old.free) (eqb-true h g e) ∙ taken);
+    realm_places = whole.realm_places ∙ sym stays.granule_count;
+    rec_places = whole.rec_places ∙ sym stays.granule_count;
+    each = sound_after old new touched stays whole.each (λ h e. subst (IsSoundAt new) (sym (eqb-true h g e)) sound);
+    tables = λ rd realm there. HasTables-alone old.pages old.granules new.pages new.granules rd realm.root (whole.tables rd realm there) (alone rd);
+    recs = HasRecs_stay old new stay_recs whole.each whole.recs (λ h rd rec realm at of there. (realm, there, omega arith));
+  }
+
+  descriptor_is : (h : ℕ) → descriptor_of new h ≡ descriptor_of old h
+  descriptor_is h = descriptor_stays old new h refl (recs_of_stay old new stay_recs whole.each h)
+      (λ realm there. rows-alone old.pages old.granules new.pages new.granules h realm.root (whole.tables h realm there) (alone h))
+
+  cell_is : cell_of new g ≡ host_cell state page
+  cell_is = cell_of-host new g sound state_is is page_is
+
+  -- the machine has that one granule in its place
+  pub machine_of-moved : machine_of (moved old g state page) ≡ set (machine_of old) g (host_cell state page)
+  machine_of-moved =
+      one_put old new stays.granule_count g (host_cell state page) inside cell_is (λ h within differs.
+      let e : touched h ≡ false = not_same h g differs in
+      cell_stays old new h (stays.granule h e) (stays.page h e) (descriptor_is h))
+    where
+      not_same : (a b : ℕ) → (a ≡ b → ⊥) → (a == b) ≡ false
+      not_same a b h = elim (a == b) as (λ t. (a == b) ≡ t → (a == b) ≡ false) [ true ↦ λ e. absurd (h (eqb-true a b e)) | false ↦ λ e. e ] refl

@@ -1,0 +1,214 @@
+-- A realm is gone, over the fields of a monitor.
+use Rattle.std.proofs.Common.{◌≡◌, ◌≢◌, ℕ, ◌<◌, Bool, true, false, List, [], length, set, Option, Some, None, is_some, option_map, refl, sym, ap, ◌∙◌, subst, arith}
+use Rattle.std.specs.Prelude.{◌==◌, ◌||◌}
+use Rattle.std.proofs.lemmas.Bool.{eqb-true, eqb-false}
+use Rattle.std.proofs.lemmas.List.{length-set, get_or-set_same, get_or-set_other}
+use Rattle.granule_table.specs.Granules.{granule_at, undelegated, IsIn}
+use Rattle.granule_table.specs.declared.granule.Granule.{Granule}
+use Rattle.page_arena.specs.Page.{page_at, is_free}
+use Rattle.granule_addr.specs.Page.{zero_page}
+use Rattle.realm_model.specs.declared.states.GranuleState.{GranuleState}
+use Rattle.realm_model.specs.declared.states.GranuleState.TheVariants.{Undelegated, Delegated, Data as InData, Rd as InRd, Rec as InRec, RecAux as InRecAux, Rtt as InRtt}
+use Rattle.realm_model.specs.Machine.{Cell, left}
+use Rattle.realm_model.specs.Sound.{is_host_state, is_rd_state}
+use Rattle.realm_objects.specs.Attributes.{RealmAttributes, RecAttributes, realm_row}
+use Rattle.rtt.specs.Tables.{rows, table_at}
+use Rattle.rtt.specs.Realm.{IsBacked, LeavesAlone, LeavesOthers}
+use Rattle.rtt.specs.FrameLaws.{rows-alone, HasTables-alone}
+use Rattle.rtt.specs.Calls.{with_state}
+use Rattle.rmi_monitor.specs.Inside.{Fields, realm_at, rec_at, recs_of, descriptor_of, bytes_of, cell_of, machine_of, is_rec_state, IsSoundAt, IsWhole}
+use Rattle.rmi_monitor.proofs.Machines.{two_put, cell_stays, descriptor_stays}
+use Rattle.rmi_monitor.proofs.Frames.{Stays, StayRecs, sound_after, backed_after, recs_of_stay, HasRecs_stay}
+use Rattle.rmi_monitor.proofs.HostMoves.{cell_of-host}
+use Rattle.rmi_monitor.proofs.TwoPlaces.{or_left, or_right, or_rest, neither}
+use Rattle.rmi_monitor.proofs.RealmPlaces.{realm_inside, in_rd, no_realm_there}
+
+-- the states of the RD and of the root
+abbrev is_realm_state : GranuleState → Bool
+is_realm_state InRd = true
+is_realm_state InRtt = true
+is_realm_state _ = false
+
+module _ (old : Fields) (whole : IsWhole old) (rd : ℕ) (realm : RealmAttributes) (there : realm_at old rd ≡ Some realm)
+    (no_rec : (g : ℕ) (rec : RecAttributes) → rec_at old g ≡ Some rec → (granule_at old.granules g).realm ≡ Some rd → ⊥) where
+  abbrev root : ℕ
+  root = realm.root
+
+  rd_inside : rd < length old.granules
+  rd_inside = realm_inside old whole rd realm there
+
+  rd_was : (granule_at old.granules rd).state ≡ InRd
+  rd_was = in_rd old whole rd realm there
+
+  root_in : IsIn old.granules root InRtt (Some rd)
+  unfolding table_at
+  root_in = (whole.tables rd realm there).own.tables 1 0 root (record { least = omega arith; most = omega arith; below = omega arith }) refl
+
+  root_was : (granule_at old.granules root).state ≡ InRtt
+  root_was = ap (λ (x : Granule). x.state) root_in.is
+
+  apart : rd ≢ root
+  apart e = let differ : InRd ≡ InRtt = sym rd_was ∙ ap (λ g. (granule_at old.granules g).state) e ∙ root_was in cc
+
+  pub root_inside : root < length old.granules
+  root_inside = root_in.inside
+
+  -- the root is DELEGATED first, and then the RD
+  abbrev without_root : List Granule
+  without_root = with_state old.granules root Delegated None
+
+  abbrev without_both : List Granule
+  without_both = with_state without_root rd Delegated None
+
+  count_root : length without_root ≡ length old.granules
+  count_root = length-set old.granules root (record { state = Delegated; realm = None })
+
+  count : length without_both ≡ length old.granules
+  count = length-set without_root rd (record { state = Delegated; realm = None }) ∙ count_root
+
+  pub rd_still : granule_at without_root rd ≡ granule_at old.granules rd
+  rd_still = get_or-set_other old.granules root rd (record { state = Delegated; realm = None }) undelegated apart
+
+  rd_is : granule_at without_both rd ≡ record { state = Delegated; realm = None }
+  rd_is = get_or-set_same without_root rd (record { state = Delegated; realm = None }) undelegated (subst (λ n. rd < n) (sym count_root) rd_inside)
+
+  root_is : granule_at without_both root ≡ record { state = Delegated; realm = None }
+  root_is = get_or-set_other without_root rd root (record { state = Delegated; realm = None }) undelegated (λ e. apart (sym e))
+      ∙ get_or-set_same old.granules root (record { state = Delegated; realm = None }) undelegated root_in.inside
+
+  granule_other : (g : ℕ) → g ≢ rd → g ≢ root → granule_at without_both g ≡ granule_at old.granules g
+  granule_other g not_rd not_root =
+      get_or-set_other without_root rd g (record { state = Delegated; realm = None }) undelegated not_rd
+      ∙ get_or-set_other old.granules root g (record { state = Delegated; realm = None }) undelegated not_root
+
+  -- the pages after both are cleared
+  abbrev pages_without : List (List ℕ)
+  pages_without = set (set old.pages root zero_page) rd zero_page
+
+  page_count_root : length (set old.pages root zero_page) ≡ length old.pages
+  page_count_root = length-set old.pages root zero_page
+
+  page_rd : page_at pages_without rd ≡ zero_page
+  page_rd = get_or-set_same (set old.pages root zero_page) rd zero_page [] (subst (λ n. rd < n) (whole.backed.as_many ∙ sym page_count_root) rd_inside)
+
+  page_root : page_at pages_without root ≡ zero_page
+  page_root = get_or-set_other (set old.pages root zero_page) rd root zero_page [] (λ e. apart (sym e))
+      ∙ get_or-set_same old.pages root zero_page [] (subst (λ n. root < n) whole.backed.as_many root_in.inside)
+
+  page_other : (g : ℕ) → g ≢ rd → g ≢ root → page_at pages_without g ≡ page_at old.pages g
+  page_other g not_rd not_root =
+      get_or-set_other (set old.pages root zero_page) rd g zero_page [] not_rd ∙ get_or-set_other old.pages root g zero_page [] not_root
+
+  abbrev new : Fields
+  new = record old { granules = without_both; pages = pages_without; realms = set old.realms rd None }
+
+  abbrev touched : ℕ → Bool
+  touched g = (g == root) || (g == rd)
+
+  untouched : (g : ℕ) → touched g ≡ false → (g ≢ root) × (g ≢ rd)
+  untouched g e = (eqb-false g root (or_left (g == root) (g == rd) e), eqb-false g rd (or_right (g == root) (g == rd) e))
+
+  no_realm_now : realm_at new rd ≡ None
+  no_realm_now = get_or-set_same old.realms rd None None (subst (λ n. rd < n) (sym whole.realm_places) rd_inside)
+
+  realm_other : (g : ℕ) → g ≢ rd → realm_at new g ≡ realm_at old g
+  realm_other g differs = get_or-set_other old.realms rd g None None differs
+
+  stays : Stays old new touched
+  stays = record {
+    free = refl;
+    granule_count = count;
+    page_count = length-set (set old.pages root zero_page) rd zero_page ∙ page_count_root;
+    granule = λ g e. granule_other g (untouched g e).1 (untouched g e).0;
+    page = λ g e not_table. page_other g (untouched g e).1 (untouched g e).0;
+    realm = λ g e. realm_other g (untouched g e).1;
+    rec = λ g e. refl;
+  }
+
+  not_realm : (wanted : GranuleState) → is_realm_state wanted ≡ false → (g : ℕ) → (granule_at old.granules g).state ≡ wanted → (g ≢ rd) × (g ≢ root)
+  not_realm wanted other g at =
+      (λ e. let differ : true ≡ false = ap is_realm_state (sym rd_was ∙ ap (λ k. (granule_at old.granules k).state) (sym e) ∙ at) ∙ other in cc,
+      λ e. let differ : true ≡ false = ap is_realm_state (sym root_was ∙ ap (λ k. (granule_at old.granules k).state) (sym e) ∙ at) ∙ other in cc)
+
+  -- another realm's table is neither
+  not_own : (g h : ℕ) → g ≢ rd → IsIn old.granules h InRtt (Some g) → (h ≢ rd) × (h ≢ root)
+  not_own g h differs is =
+      (λ e. let differ : InRd ≡ InRtt = sym rd_was ∙ ap (λ k. (granule_at old.granules k).state) (sym e) ∙ ap (λ (x : Granule). x.state) is.is in cc,
+      λ e. differs (some_same g rd (sym (ap (λ (x : Granule). x.realm) is.is) ∙ ap (λ k. (granule_at old.granules k).realm) e ∙ ap (λ (x : Granule). x.realm) root_in.is)))
+    where
+      some_same : (a b : ℕ) → ◌≡◌ {A = Option ℕ} (Some a) (Some b) → a ≡ b
+      some_same a b e = ap (λ o. elim o [ Some z ↦ z | None ↦ a ]) e
+
+  alone : (g : ℕ) → g ≢ rd → LeavesAlone g old.pages old.granules pages_without without_both
+  alone g differs = record {
+    page = λ h is. let away = not_own g h differs is in page_other h away.0 away.1;
+    table = λ h is. let away = not_own g h differs is in record { inside = subst (λ n. h < n) (sym count) is.inside; is = granule_other h away.0 away.1 ∙ is.is };
+    «data» = λ h is. let away = not_realm InData refl h (ap (λ (x : Granule). x.state) is.is) in record { inside = subst (λ n. h < n) (sym count) is.inside; is = granule_other h away.0 away.1 ∙ is.is };
+  }
+
+  sound_rd : IsSoundAt new rd
+  sound_rd =
+      let state : (granule_at without_both rd).state ≡ Delegated = ap (λ (x : Granule). x.state) rd_is in
+      record {
+        host = λ h. ap (λ (x : Granule). x.realm) rd_is;
+        zero = λ h. page_rd;
+        rd = ap is_some no_realm_now ∙ sym (ap is_rd_state state);
+        rec = (whole.each rd).rec ∙ ap is_rec_state rd_was ∙ sym (ap is_rec_state state);
+      }
+
+  sound_root : IsSoundAt new root
+  sound_root =
+      let state : (granule_at without_both root).state ≡ Delegated = ap (λ (x : Granule). x.state) root_is in
+      record {
+        host = λ h. ap (λ (x : Granule). x.realm) root_is;
+        zero = λ h. page_root;
+        rd = ap is_some (realm_other root (λ e. apart (sym e)) ∙ no_realm_there old root (whole.each root) (ap is_rd_state root_was)) ∙ sym (ap is_rd_state state);
+        rec = (whole.each root).rec ∙ ap is_rec_state root_was ∙ sym (ap is_rec_state state);
+      }
+
+  sound_touched : (g : ℕ) → touched g ≡ true → IsSoundAt new g
+  sound_touched g e = elim (g == root) as (λ t. (g == root) ≡ t → IsSoundAt new g) [
+    | true ↦ λ at. subst (IsSoundAt new) (sym (eqb-true g root at)) sound_root
+    | false ↦ λ at. subst (IsSoundAt new) (sym (eqb-true g rd (or_rest (g == root) (g == rd) at e))) sound_rd
+  ] refl
+
+  taken_touched : (g : ℕ) → touched g ≡ true → is_free old.free g ≡ false
+  taken_touched g e = elim (g == root) as (λ t. (g == root) ≡ t → is_free old.free g ≡ false) [
+    | true ↦ λ at. ap (is_free old.free) (eqb-true g root at) ∙ whole.backed.taken root root_in.inside (λ is. let differ : Undelegated ≡ InRtt = sym is ∙ root_was in cc)
+    | false ↦ λ at. ap (is_free old.free) (eqb-true g rd (or_rest (g == root) (g == rd) at e)) ∙ whole.backed.taken rd rd_inside (λ is. let differ : Undelegated ≡ InRd = sym is ∙ rd_was in cc)
+  ] refl
+
+  stay_recs : StayRecs old new
+  stay_recs = record {
+    granule_count = count;
+    rec = λ g. refl;
+    granule = λ g at. let away = not_realm InRec refl g at in granule_other g away.0 away.1;
+    auxiliary = λ g at. let away = not_realm InRecAux refl g at in granule_other g away.0 away.1;
+  }
+
+  -- a realm that is there now is another one
+  not_gone : (g : ℕ) (r : RealmAttributes) → realm_at new g ≡ Some r → g ≢ rd
+  not_gone g r at e = let differ : None ≡ Some r = sym no_realm_now ∙ ap (realm_at new) (sym e) ∙ at in cc
+
+  pub whole_destroyed : IsWhole new
+  whole_destroyed = record {
+    backed = backed_after old new touched stays whole.backed taken_touched;
+    realm_places = length-set old.realms rd None ∙ whole.realm_places ∙ sym count;
+    rec_places = whole.rec_places ∙ sym count;
+    each = sound_after old new touched stays whole.each sound_touched;
+    tables = λ g r at.
+        let differs = not_gone g r at in
+        HasTables-alone old.pages old.granules pages_without without_both g r.root (whole.tables g r (sym (realm_other g differs) ∙ at)) (alone g differs);
+    recs = HasRecs_stay old new stay_recs whole.each whole.recs (λ h g rec r at of is. (r, realm_other g (λ e. no_rec h rec at (of ∙ ap Some e)) ∙ is, omega arith));
+  }
+
+  pub machine_destroyed : machine_of new ≡ set (set (machine_of old) rd left) root left
+  machine_destroyed =
+      two_put old new count rd root left left rd_inside root_in.inside apart
+      (cell_of-host new rd sound_rd (ap (λ (x : Granule). x.state) rd_is) refl page_rd)
+      (cell_of-host new root sound_root (ap (λ (x : Granule). x.state) root_is) refl page_root)
+      (λ g within not_rd not_root.
+      let e : touched g ≡ false = neither g root rd not_root not_rd in
+      cell_stays old new g (stays.granule g e) (stays.page g e)
+      (descriptor_stays old new g (realm_other g not_rd) (recs_of_stay old new stay_recs whole.each g)
+      (λ r is. rows-alone old.pages old.granules pages_without without_both g r.root (whole.tables g r is) (alone g not_rd))))
