@@ -22,3 +22,10 @@ pub mod Destroys
 pub mod Readings
 pub mod Sums
 pub mod Kept
+pub mod RecFound
+pub mod RecReads
+pub mod RecChanges
+pub mod RecRuns
+pub mod RecNumbers
+pub mod DataBytes
+pub mod GuestWrites

@@ -6,10 +6,12 @@
 #![tactic(auto)]
 
 mod granule;
+mod guest;
 mod inputs;
 mod monitor;
 mod places;
 mod realm;
+mod rec;
 mod recs;
 
 pub use monitor::Monitor;

@@ -1,0 +1,44 @@
+-- The REC of a number in a realm: what the machine has is what stands at a granule.
+use Rattle.std.proofs.Common.{◌≡◌, ℕ, ◌<◌, List, length, get_or, Option, Some, None, option_map, refl, sym, ap, ◌∙◌, subst}
+use Rattle.std.specs.Prelude.{option_and_then}
+use Rattle.std.specs.FinMap.{get}
+use Rattle.std.proofs.lemmas.List.{get_or_read}
+use Rattle.std.proofs.lemmas.Option.{same_Some}
+use Rattle.realm_model.specs.Machine.{Cell, RealmRow}
+use Rattle.realm_objects.specs.Attributes.{RealmAttributes, RecAttributes, rec_row}
+use Rattle.rmi_monitor.specs.View.{MonitorView, rec_in}
+use Rattle.rmi_monitor.specs.Inside.{Fields, realm_at, rec_at, recs_of, seen_as, IsRecAt, IsWhole}
+use Rattle.rmi_monitor.proofs.Granules.{cell_is}
+use Rattle.rmi_monitor.proofs.RecFound.{is_place, row_of, descriptor_there}
+
+module _ (monitor : MonitorView) (fields : Fields) (view_is : seen_as fields ≡ monitor) (whole : IsWhole fields) (rd number : ℕ) where
+  -- a number that no granule has
+  pub rec_in-none : rd < length monitor.machine → get (recs_of fields.granules fields.recs rd) number ≡ None → rec_in monitor.machine rd number ≡ None
+  rec_in-none inside none =
+      ap (λ (c : Cell). option_and_then (λ (realm : RealmRow). get realm.recs number) c.descriptor) (cell_is monitor fields view_is whole rd inside) ∙ by (realm_at fields rd)
+    where
+      by : (o : Option RealmAttributes) → option_and_then (λ (realm : RealmRow). get realm.recs number) (option_map (row_of fields rd) o) ≡ None
+      by (Some realm) = none
+      by None = refl
+
+  module _ (granule : ℕ) where
+    -- and one that a granule has
+    pub rec_in-some : (rec : RecAttributes) → IsRecAt fields.granules fields.recs rd number granule → rec_at fields granule ≡ Some rec
+        → rec_in monitor.machine rd number ≡ Some (rec_row granule rec)
+    rec_in-some rec is at =
+        let place = is_place fields.granules fields.recs rd granule number is.row is.at in
+        let of = whole.recs.of granule place.rec place.at in
+        let there : realm_at fields rd ≡ Some of.realm = ap (realm_at fields) (same_Some rd of.rd (sym place.of ∙ of.of)) ∙ of.there in
+        let row_same : is.row ≡ rec_row granule rec = sym place.row_is ∙ ap (rec_row granule) (same_Some place.rec rec (sym place.at ∙ at)) in
+        ap (option_and_then (λ (realm : RealmRow). get realm.recs number)) (descriptor_there monitor fields view_is whole rd of.realm there)
+        ∙ is.found ∙ ap (λ r. Some r) row_same
+
+    -- as code reads it at its place
+    pub rec_in-read : (recs : List (Option RecAttributes)) (i : ℕ) (read : Option RecAttributes) (rec : RecAttributes) → recs ≡ fields.recs
+        → IsRecAt fields.granules recs rd number granule → i ≡ granule → read ≡ get_or fields.recs i read → Some rec ≡ read
+        → Some (rec_row granule rec) ≡ rec_in monitor.machine rd number
+    rec_in-read recs i read rec same is place reads some =
+        let there : IsRecAt fields.granules fields.recs rd number granule = subst (λ rs. IsRecAt fields.granules rs rd number granule) same is in
+        let inside : granule < length fields.recs = subst (λ n. granule < n) (sym whole.rec_places) there.inside in
+        sym (rec_in-some rec there
+        (ap (rec_at fields) (sym place) ∙ sym (get_or_read fields.recs i read (subst (λ k. k < length fields.recs) (sym place) inside) reads None) ∙ sym some))

@@ -1,0 +1,112 @@
+-- The commands by which a REC runs and stops, over the fields of a monitor.
+use Rattle.std.proofs.Common.{◌≡◌, ℕ, Bool, true, false, List, [], ◌∷◌, set, Ok, Err, Option, Some, None, refl, sym, ap, ◌∙◌}
+use Rattle.std.specs.Prelude.{not}
+use Rattle.std.specs.FinMap.{FinMap}
+use Rattle.std.specs.Ordering.{nat_cmp}
+use Rattle.std.proofs.lemmas.List.{set-get_or}
+use Rattle.realm_model.specs.declared.rmi.Rmi.{Rmi}
+use Rattle.realm_model.specs.declared.states.RecState.TheVariants.{Ready, Running}
+use Rattle.realm_model.specs.Rows.{Rows}
+use Rattle.realm_model.specs.Machine.{RealmRow, RecRow, Seen}
+use Rattle.realm_model.specs.Update.{Outcome}
+use Rattle.realm_model.specs.Command.Check.{check, error_input, error_realm, error_rec, is_new, is_ready, put_rec}
+use Rattle.realm_model.specs.Command.Rec.{rec_enter, rec_exit}
+use Rattle.realm_model.proofs.Outcomes.{check_true}
+use Rattle.realm_objects.specs.Attributes.{RealmAttributes, RecAttributes, realm_row, rec_row}
+use Rattle.rmi_monitor.specs.View.{MonitorView, IsTaken, IsOnRec, seen_in}
+use Rattle.rmi_monitor.specs.Inside.{Fields, rec_at, seen_as, IsWhole}
+use Rattle.rmi_monitor.proofs.RecFound.{IsKept, row_of, outcome_there, on_none, on_rec}
+use Rattle.rmi_monitor.proofs.RecChanges.{with_recs, put_back, rec_put}
+
+-- a check that fails
+pub check_fails : (holds : Bool) (rmi : Rmi) (rest : Outcome) → holds ≡ false → check holds rmi rest ≡ Err rmi
+unfolding check
+check_fails true rmi rest h = cc
+check_fails false rmi rest h = refl
+
+module _ (monitor : MonitorView) (fields : Fields) (view_is : seen_as fields ≡ monitor) (whole : IsWhole fields) (granule : ℕ) (taken : IsTaken monitor granule)
+    (recs : List (Option RecAttributes)) where
+  abbrev new : MonitorView
+  new = seen_as (with_recs fields recs)
+
+  -- a granule that is no REC
+  pub refused_none : {A : Type 0} (command : Seen → ℕ → Outcome) → rec_at fields granule ≡ None → recs ≡ set fields.recs granule None
+      → IsOnRec {A = A} command monitor granule (Err error_input) (seen_as (with_recs fields recs))
+  refused_none command gone back =
+      on_none monitor fields view_is whole command granule taken new gone
+      (ap (λ rs. seen_as (with_recs fields rs)) (back ∙ ap (set fields.recs granule) (sym gone) ∙ set-get_or fields.recs granule None) ∙ view_is)
+
+  module _ (rec : RecAttributes) (rd : ℕ) (realm : RealmAttributes) (kept : IsKept fields granule rec rd realm) where
+    abbrev row : RealmRow
+    row = row_of fields rd realm
+
+    abbrev rec_is : RecRow
+    rec_is = rec_row granule rec
+
+    -- a command that is refused leaves the REC as it was
+    refused : {A : Type 0} (command : Seen → ℕ → Outcome) (rmi : Rmi) → recs ≡ set fields.recs granule (Some rec) → command (seen_in monitor rd) rec.number ≡ Err rmi
+        → IsOnRec {A = A} command monitor granule (Err rmi) new
+    refused command rmi back comes =
+        on_rec monitor fields view_is whole command granule taken rec rd realm kept (Err rmi) (Err rmi) new comes refl
+        (ap (λ rs. seen_as (with_recs fields rs)) (back ∙ put_back fields granule rec kept.at) ∙ view_is)
+
+    -- and one that is done puts the other row
+    done : (command : Seen → ℕ → Outcome) (now : RecAttributes) → now.number ≡ rec.number → now.auxiliaries ≡ rec.auxiliaries → recs ≡ set fields.recs granule (Some now)
+        → command (seen_in monitor rd) rec.number ≡ Ok (put_rec (seen_in monitor rd) row rec.number (rec_row granule now) ∷ [])
+        → IsOnRec command monitor granule (Ok (tt {0})) new
+    done command now number auxiliaries made comes =
+        on_rec monitor fields view_is whole command granule taken rec rd realm kept (Ok tt) (Ok (put_rec (seen_in monitor rd) row rec.number (rec_row granule now) ∷ [])) new comes tt
+        (rec_put fields whole granule rec rd realm kept now number auxiliaries recs made monitor view_is)
+
+    -- ---- RMI_REC_ENTER
+
+    entered : Outcome
+    entered = Ok (put_rec (seen_in monitor rd) row rec.number (record rec_is { state = Running }) ∷ [])
+
+    enter_is : rec_enter (seen_in monitor rd) rec.number ≡ check (not (is_new row)) error_realm (check (is_ready rec_is) error_rec entered)
+    unfolding entered
+    enter_is = outcome_there monitor fields view_is whole granule rec rd realm kept
+        (λ r c. check (not (is_new r)) error_realm (check (is_ready c) error_rec (Ok (put_rec (seen_in monitor rd) r rec.number (record c { state = Running }) ∷ []))))
+
+    -- what code says of the realm's state
+    abbrev SaysNew : Bool → Type 0
+    SaysNew answer = (rs : FinMap nat_cmp RecRow) (translation : Rows) → answer ≡ is_new (realm_row realm rs translation)
+
+    says : (answer is : Bool) → SaysNew answer → answer ≡ is → is_new row ≡ is
+    says answer is told e = sym (told row.recs row.rows) ∙ e
+
+    pub enter_new : (answer : Bool) → SaysNew answer → answer ≡ true → recs ≡ set fields.recs granule (Some rec) → IsOnRec {A = Unit {0}} rec_enter monitor granule (Err error_realm) (seen_as (with_recs fields recs))
+    enter_new answer told is back = refused rec_enter error_realm back (enter_is ∙ check_fails (not (is_new row)) error_realm _ (ap not (says answer true told is)))
+
+    enter_active : is_new row ≡ false → rec_enter (seen_in monitor rd) rec.number ≡ check (is_ready rec_is) error_rec entered
+    enter_active is = enter_is ∙ check_true (not (is_new row)) error_realm _ (ap not is)
+
+    pub enter_running : (answer : Bool) → SaysNew answer → answer ≡ false → is_ready rec_is ≡ false → recs ≡ set fields.recs granule (Some rec)
+        → IsOnRec {A = Unit {0}} rec_enter monitor granule (Err error_rec) (seen_as (with_recs fields recs))
+    enter_running answer told active running back =
+        refused rec_enter error_rec back (enter_active (says answer false told active) ∙ check_fails (is_ready rec_is) error_rec entered running)
+
+    pub enter_done : (answer : Bool) → SaysNew answer → answer ≡ false → is_ready rec_is ≡ true → recs ≡ set fields.recs granule (Some (record rec { state = Running }))
+        → IsOnRec rec_enter monitor granule (Ok (tt {0})) (seen_as (with_recs fields recs))
+    unfolding entered
+    enter_done answer told active ready made =
+        done rec_enter (record rec { state = Running }) refl refl made (enter_active (says answer false told active) ∙ check_true (is_ready rec_is) error_rec entered ready)
+
+    -- ---- the exit of a REC
+
+    exited : Outcome
+    exited = Ok (put_rec (seen_in monitor rd) row rec.number (record rec_is { state = Ready }) ∷ [])
+
+    exit_is : rec_exit (seen_in monitor rd) rec.number ≡ check (not (is_ready rec_is)) error_rec exited
+    unfolding exited
+    exit_is = outcome_there monitor fields view_is whole granule rec rd realm kept
+        (λ r c. check (not (is_ready c)) error_rec (Ok (put_rec (seen_in monitor rd) r rec.number (record c { state = Ready }) ∷ [])))
+
+    pub exit_ready : is_ready rec_is ≡ true → recs ≡ set fields.recs granule (Some rec) → IsOnRec {A = Unit {0}} rec_exit monitor granule (Err error_rec) (seen_as (with_recs fields recs))
+    exit_ready ready back = refused rec_exit error_rec back (exit_is ∙ check_fails (not (is_ready rec_is)) error_rec exited (ap not ready))
+
+    pub exit_done : is_ready rec_is ≡ false → recs ≡ set fields.recs granule (Some (record rec { state = Ready }))
+        → IsOnRec rec_exit monitor granule (Ok (tt {0})) (seen_as (with_recs fields recs))
+    unfolding exited
+    exit_done running made =
+        done rec_exit (record rec { state = Ready }) refl refl made (exit_is ∙ check_true (not (is_ready rec_is)) error_rec exited (ap not running))

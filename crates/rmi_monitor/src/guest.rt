@@ -1,0 +1,57 @@
+//! What guests do.
+ghost use Rattle.realm_model.specs.Command.Rec as command;
+ghost use Rattle.rmi_monitor.specs.View.{IsTaken, IsOnRec};
+
+use crate::Monitor;
+use crate::inputs::protected;
+use granule_addr::{Gran, Level, PageOff};
+use page_arena::PageStore;
+use realm_model::{Rmi, Status};
+use rtt::Tables;
+
+impl<S: PageStore> Monitor<S> {
+    /// Lets a RUNNING REC write a byte of a page of its realm, under any RIPAS. This profile's own, for guest instructions.
+    ///
+    /// `ipa` is the number of an IPA granule. RMI_ERROR_INPUT comes where the granule is no REC or the IPA is not
+    /// protected, RMI_ERROR_REC where the REC is not RUNNING, RMI_ERROR_RTT with the level where the walk ended, unless
+    /// the entry there is ASSIGNED.
+    pub fn guest_write(
+        &mut self,
+        rec: Gran,
+        ipa: u32,
+        offset: PageOff,
+        value: u8,
+    ) -> Result<(), Rmi>
+        requires { IsTaken self.old rec }
+        ensures { IsOnRec (λ rd number. command.guest_write rd number ipa offset value) self.old rec result self.new }
+    {
+        let Some(kept) = &self.recs[rec.number() as usize] else {
+            return Err(Rmi::INPUT);
+        };
+        let Some(rd) = self.granules.realm_of(rec) else {
+            return Err(Rmi::INPUT);
+        };
+        let Some(realm) = &self.realms[rd.number() as usize] else {
+            return Err(Rmi::INPUT);
+        };
+        let Some(granule) = protected(ipa) else {
+            return Err(Rmi::INPUT);
+        };
+        if kept.is_ready() {
+            return Err(Rmi::REC);
+        }
+        let tables = Tables {
+            rd,
+            root: realm.root(),
+        };
+        let walk = tables.walk(&self.store, &self.granules, granule, Level::last());
+        let Some(page) = walk.entry.page() else {
+            return Err(Rmi {
+                status: Status::Rtt,
+                index: walk.level.number(),
+            });
+        };
+        self.store.set(page, offset, value);
+        Ok(())
+    }
+}
