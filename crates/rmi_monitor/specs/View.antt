@@ -25,6 +25,11 @@ pub record IsTaken (monitor : MonitorView) (granule : ℕ) : Type 0 where
   pub inside : granule < length monitor.machine
   pub taken : is_free monitor.free granule ≡ false
 
+-- every granule of a machine of so many is taken
+pub record AreAllTaken (monitor : MonitorView) (count : ℕ) : Type 0 where
+  pub size : length monitor.machine ≡ count
+  pub each : (granule : ℕ) → granule < count → IsTaken monitor granule
+
 -- a granule as a command sees it
 abbrev pub seen_in : MonitorView → ℕ → Seen
 seen_in monitor granule = seen monitor.machine granule

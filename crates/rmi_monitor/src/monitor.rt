@@ -1,10 +1,12 @@
 //! The monitor, its memory, and blocks of pages.
-ghost use Rattle.std.specs.Prelude.{◌≡◌, ◌<◌, ◌≤◌, ◌↔◌, ℕ, Bool, true, List, length, filter, replicate, sum, None, IsTrue, IfOk, IfErr, IfSome, IfNone};
+ghost use Rattle.std.specs.Prelude.{◌≡◌, ◌<◌, ◌≤◌, ◌↔◌, ℕ, Bool, true, List, length, filter, replicate, sum, Some, None, IsTrue, IfOk, IfErr, IfSome, IfNone};
 ghost use Rattle.std.specs.Bool.{OnTrue, OnFalse};
+ghost use Rattle.page_arena.specs.Page.{page_at};
 ghost use Rattle.page_arena.specs.Block.{IsFreeBlock};
 ghost use Rattle.granule_addr.specs.Page.{zero_page};
 ghost use Rattle.granule_table.specs.Granules.{undelegated};
-ghost use Rattle.realm_model.specs.Machine.{cell_at, blank};
+ghost use Rattle.realm_model.specs.Machine.{RealmRow, cell_at};
+ghost use Rattle.rtt.specs.RowWords.{AreWordsOf};
 ghost use Rattle.rmi_monitor.specs.View.{IsGivable, IsPageOf, fresh, with_block, without_block};
 
 use granule_addr::{Gran, Order};
@@ -120,6 +122,17 @@ impl<S: PageStore> Monitor<S> {
         ensures { IsPageOf (cell_at self.now.machine granule) result.now }
     {
         self.store.bytes(granule)
+    }
+
+    /// The store, for reading. The page of a table has the words of its realm's rows.
+    pub fn store(&self) -> &S
+        ensures free { S.free_flags result.now ≡ self.now.free }
+        ensures pages { (granule : ℕ) → granule < length self.now.machine
+            → IsPageOf (cell_at self.now.machine granule) (page_at (S.page_bytes result.now) granule) }
+        ensures words { (rd : ℕ) (realm : RealmRow) → rd < length self.now.machine
+            → (cell_at self.now.machine rd).descriptor ≡ Some realm → AreWordsOf (S.page_bytes result.now) realm.rows realm.root }
+    {
+        &self.store
     }
 
     /// The sum of the bytes of a granule; that of a table is 0.

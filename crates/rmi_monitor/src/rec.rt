@@ -62,6 +62,7 @@ impl<S: PageStore> Monitor<S> {
         requires { rd < length self.now.machine }
         ensures value { option_map (λ r. rec_row r.0 r.1.now) result ≡ rec_in self.now.machine rd number }
         ensures number { IfSome result (λ r. r.1.now.number ≡ number) }
+        ensures inside { IfSome result (λ r. r.0 < length self.now.machine) }
     {
         let granule = find_rec(&self.granules, self.recs.as_slice(), rd, number)?;
         let rec = self.recs[granule.number() as usize].as_ref()?;

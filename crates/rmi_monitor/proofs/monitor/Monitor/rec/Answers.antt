@@ -1,8 +1,9 @@
-use Rattle.std.proofs.Common.{sym, ap, ◌∙◌}
+use Rattle.std.proofs.Common.{◌<◌, sym, ap, subst, ◌∙◌}
 use Rattle.std.specs.Prelude.{option_map}
 use Rattle.std.specs.FinMap.{get}
 use Rattle.realm_objects.specs.Attributes.{rec_row}
 use Rattle.rmi_monitor.specs.Inside.{recs_of}
+use Rattle.rmi_monitor.proofs.Granules.{as_many_granules}
 use Rattle.rmi_monitor.proofs.RecNumbers.{rec_in-none, rec_in-read}
 use Rattle.rmi_monitor.proofs.monitor.Monitor.rec.Goals as goal
 
@@ -16,3 +17,7 @@ pub returns-clause-value : goal.returns-clause-value
 returns-clause-value g c =
     rec_in-read c.args.self.now _ c.self.view_is c.self.invariant c.args.rd c.args.number c.in_ok-granule.granule c.as_slice.result.now c.number.result c.index.result.now c.in_ok-rec.rec.now
     c.as_slice.ensures.value c.in_ok-granule.ensures.some c.number.ensures.value c.index.ensures c.in_ok-rec.ensures.value
+
+pub returns-clause-inside : goal.returns-clause-inside
+returns-clause-inside g c =
+    subst (λ n. c.in_ok-granule.granule < n) (sym (as_many_granules c.args.self.now _ c.self.view_is c.self.invariant)) c.in_ok-granule.ensures.some.inside
