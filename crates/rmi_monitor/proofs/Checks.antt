@@ -48,3 +48,7 @@ not_delegated _ h = refl
 pub undelegated_state : (state : GranuleState) → undelegated_test state ≡ true → state ≡ Undelegated
 undelegated_state Undelegated h = refl
 undelegated_state _ h = cc
+
+pub delegated_state : (state : GranuleState) → delegated_test state ≡ true → state ≡ Delegated
+delegated_state Delegated h = refl
+delegated_state _ h = cc

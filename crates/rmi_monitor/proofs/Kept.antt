@@ -10,7 +10,7 @@ use Rattle.realm_model.specs.Machine.{Cell, Machine, blank, cell_at}
 use Rattle.realm_model.specs.Update.{Update, Put, Outcome, granule_of, machine_after, machine_after_all, machine_after_command}
 use Rattle.realm_model.specs.Command.Check.{check, error_input, is_undelegated}
 use Rattle.realm_model.specs.Command.Granule.{host_fill}
-use Rattle.rmi_monitor.specs.View.{MonitorView, IsTaken, IsGivable, after_command, with_block, fresh, seen_in}
+use Rattle.rmi_monitor.specs.View.{MonitorView, IsTaken, AreAllTaken, IsGivable, after_command, with_block, fresh, seen_in}
 use Rattle.rmi_monitor.proofs.Checks.{undelegated_test}
 
 length_after_all : (updates : List Update) (machine : Machine) → length (machine_after_all updates machine) ≡ length machine
@@ -79,3 +79,21 @@ givable_after monitor after order first g value is givable =
       taken = givable.taken;
       undelegated = λ i low high. ap undelegated_test (fill_keeps monitor.machine g i value (is_undelegated (seen_in monitor g))) ∙ givable.undelegated i low high;
     })
+
+-- ---- a machine of which every granule is taken
+
+pub all_taken_after : (outcome : Outcome) (monitor after : MonitorView) (count : ℕ) → after ≡ after_command outcome monitor → AreAllTaken monitor count → AreAllTaken after count
+all_taken_after outcome monitor after count is all = record {
+  size = ap (λ (m : MonitorView). length m.machine) is ∙ length_after outcome monitor.machine ∙ all.size;
+  each = λ granule inside. taken_after outcome monitor after granule is (all.each granule inside);
+}
+
+-- a block of all granules is taken
+pub all_taken_at : (monitor after : MonitorView) (order : ℕ) → length monitor.machine ≡ 2 ^ order → IsFreeBlock monitor.free order 0 → after ≡ with_block monitor order 0
+    → AreAllTaken after (2 ^ order)
+all_taken_at monitor after order size block is = record {
+  size = ap (λ (m : MonitorView). length m.machine) is ∙ size;
+  each = λ granule inside.
+      subst (λ (m : MonitorView). IsTaken m granule) (sym is)
+      (record { inside = subst (λ n. granule < n) (sym size) inside; taken = get_or-with_run_inside monitor.free 0 (2 ^ order) false block.inside granule false (omega arith) (omega (arith, inside)) });
+}

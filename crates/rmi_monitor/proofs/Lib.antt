@@ -22,6 +22,15 @@ pub mod Destroys
 pub mod Readings
 pub mod Sums
 pub mod Kept
+pub mod RowRefusals
+pub mod Outcomes
+pub mod RealmRows
+pub mod RowPages
+pub mod DataPages
+pub mod DataMaps
+pub mod DataDestroys
+pub mod DataUnknown
+pub mod DataCreates
 pub mod RecFound
 pub mod RecReads
 pub mod RecChanges
@@ -29,3 +38,9 @@ pub mod RecRuns
 pub mod RecNumbers
 pub mod DataBytes
 pub mod GuestWrites
+pub mod Refusals
+pub mod RealmCommands
+pub mod LedTo
+pub mod TableCreates
+pub mod TableDestroys
+pub mod TableRipas

@@ -1,5 +1,5 @@
 //! Checks of what a command is given.
-ghost use Rattle.std.specs.Prelude.{◌≡◌, Some, None, if◌then◌else◌};
+ghost use Rattle.std.specs.Prelude.{◌≡◌, ◌+◌, ◌-◌, ◌/◌, ◌==◌, ◌&&◌, nat_le, Some, None, if◌then◌else◌};
 ghost use Rattle.realm_model.specs.Rows.{is_table_place};
 ghost use Rattle.realm_model.specs.Command.Check.{is_protected, error_rtt};
 
@@ -17,6 +17,18 @@ pub fn protected(ipa: u32) -> Option<IpaGran>
     } else {
         None
     }
+}
+
+// The first of `count` IPA granules, where it is protected, they are 1 to 512, and one table of level 3 serves all of them.
+pub fn protected_run(ipa: u32, count: u16) -> Option<IpaGran>
+    ensures { result ≡ (if nat_le 1 count && nat_le count 512 && ipa / 512 == (ipa + count - 1) / 512 && is_protected ipa
+        then Some ipa else None) }
+{
+    let first = protected(ipa)?;
+    if count == 0 || count > 512 || ipa / 512 != (ipa + u32::from(count) - 1) / 512 {
+        return None;
+    }
+    Some(first)
 }
 
 // The level of a table below the root, where one can start at that IPA granule.

@@ -5,6 +5,7 @@
 //! nothing. A caller owes that the granules which a command names are taken.
 #![tactic(auto)]
 
+mod data;
 mod granule;
 mod guest;
 mod inputs;
@@ -13,6 +14,7 @@ mod places;
 mod realm;
 mod rec;
 mod recs;
+mod table;
 
 pub use monitor::Monitor;
 

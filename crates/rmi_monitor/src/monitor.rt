@@ -126,6 +126,7 @@ impl<S: PageStore> Monitor<S> {
 
     /// The store, for reading. The page of a table has the words of its realm's rows.
     pub fn store(&self) -> &S
+        ensures size { length (S.page_bytes result.now) ≡ length self.now.machine }
         ensures free { S.free_flags result.now ≡ self.now.free }
         ensures pages { (granule : ℕ) → granule < length self.now.machine
             → IsPageOf (cell_at self.now.machine granule) (page_at (S.page_bytes result.now) granule) }

@@ -2,6 +2,9 @@ ghost use Rattle.std.specs.Prelude.{◌≡◌, ◌<◌, ◌^◌, length};
 ghost use Rattle.std.specs.Bool.{OnTrue};
 ghost use Rattle.rmi_monitor.specs.View.{IsTaken, IsGivable, fresh};
 
+mod bench;
+mod realms;
+
 use super::*;
 use granule_addr::{Gran, Order};
 use page_arena::PlainStore;

@@ -1,0 +1,137 @@
+-- A table of a realm is taken away: RMI_RTT_DESTROY over the fields of a monitor.
+use Rattle.std.proofs.Common.{◌≡◌, ℕ, ◌-◌, Bool, true, false, List, [], ◌∷◌, Some, None, Ok, Err, refl, sym, ap, ◌∙◌, subst, arith}
+use Rattle.std.specs.Prelude.{◌&&◌}
+use Rattle.std.proofs.lemmas.Bool.{and_from, and_left, and_right}
+use Rattle.granule_addr.specs.Page.{zero_page}
+use Rattle.granule_table.specs.Granules.{granule_at, IsIn}
+use Rattle.granule_table.specs.declared.granule.Granule.{Granule}
+use Rattle.page_arena.specs.Page.{page_at}
+use Rattle.realm_model.specs.declared.states.GranuleState.TheVariants.{Delegated, Rtt as InRtt}
+use Rattle.realm_model.specs.Rows.{Rows, is_table, is_table_place, is_table_unused, without_table}
+use Rattle.realm_model.specs.Machine.{Cell, left}
+use Rattle.realm_model.specs.Update.{Outcome, Put}
+use Rattle.realm_model.specs.Command.Check.{check, error_input, error_rtt, is_protected, with_row, with_granule, put_realm}
+use Rattle.realm_model.specs.Command.Table.{rtt_destroy}
+use Rattle.realm_objects.specs.Attributes.{RealmAttributes}
+use Rattle.rtt.specs.Tables.{rows}
+use Rattle.rtt.specs.Realm.{IsBacked, HasTables, LeavesOthers}
+use Rattle.rtt.specs.Calls.{with_state, LeadsTo, ChangesTablesOnly, destroy_refusal}
+use Rattle.rmi_monitor.specs.View.{MonitorView, IsTaken, Answers, seen_in, after_command}
+use Rattle.rmi_monitor.specs.Inside.{Fields, realm_at, machine_of, seen_as, IsWhole}
+use Rattle.rmi_monitor.proofs.TableMoves.{is_moved_state, whole_moved_to, machine_moved_to}
+use Rattle.rmi_monitor.proofs.LedTo.{led_granule, led_is, led_in}
+use Rattle.rmi_monitor.proofs.RealmCommands.{realms_same, row_at_rd, nowhere, somewhere, after_put_two}
+use Rattle.rmi_monitor.proofs.Refusals.{Passes, answers_ok, check_fails, check_holds, passes_from, or_passes, both_refused, both_pass}
+
+-- What the call leaves where it is not refused.
+pub record DestroyCall (rd : ℕ) (pages : List (List ℕ)) (free : List Bool) (granules : List Granule) (new_pages : List (List ℕ)) (new_free : List Bool) (new_granules : List Granule)
+    (root ipa level : ℕ) : Type 0 where
+  pub loses : rows new_pages root ≡ without_table (rows pages root) level ipa
+  pub moved : (table : ℕ) → LeadsTo (rows pages root) (level - 1) ipa table → new_granules ≡ with_state granules table Delegated None
+  pub cleared : (table : ℕ) → LeadsTo (rows pages root) (level - 1) ipa table → page_at new_pages table ≡ zero_page
+  pub tables : HasTables new_pages new_granules rd root
+  pub backed : IsBacked new_pages new_free new_granules
+  pub flags : new_free ≡ free
+  pub others : ChangesTablesOnly root pages new_pages
+  pub other_realms : LeavesOthers rd pages granules new_pages new_granules
+
+-- the same at numbers that are equal
+pub destroy_call_at : {rd : ℕ} {pages : List (List ℕ)} {free : List Bool} {granules : List Granule} {new_pages : List (List ℕ)} {new_free : List Bool} {new_granules : List Granule}
+    {root ipa level root' ipa' level' : ℕ} → root ≡ root' → ipa ≡ ipa' → level ≡ level'
+    → DestroyCall rd pages free granules new_pages new_free new_granules root ipa level → DestroyCall rd pages free granules new_pages new_free new_granules root' ipa' level'
+destroy_call_at {rd} {pages} {free} {granules} {new_pages} {new_free} {new_granules} {root} {ipa} {level} r i l call =
+    subst (λ (at : ℕ × ℕ × ℕ). DestroyCall rd pages free granules new_pages new_free new_granules at.0 at.1 at.2) (λ k. (r k, i k, l k)) call
+
+module _ (monitor : MonitorView) (fields : Fields) (view_is : seen_as fields ≡ monitor) (whole : IsWhole fields) (rd ipa level : ℕ) (taken : IsTaken monitor rd) where
+  abbrev outcome : Outcome
+  outcome = rtt_destroy (seen_in monitor rd) ipa level
+
+  pub destroy_nowhere : realm_at fields rd ≡ None → outcome ≡ Err error_input
+  destroy_nowhere none = nowhere monitor fields view_is whole rd taken _ none
+
+  module _ (realm : RealmAttributes) (there : realm_at fields rd ≡ Some realm) where
+    abbrev old_rows : Rows
+    old_rows = rows fields.pages realm.root
+
+    abbrev unused : Bool
+    unused = is_table_unused old_rows level ipa
+
+    abbrev made : ℕ → Outcome
+    made granule = Ok (Put granule left ∷ put_realm (seen_in monitor rd) (record (row_at_rd fields rd realm) { rows = without_table old_rows level ipa }) ∷ [])
+
+    abbrev looked : Outcome
+    looked = with_row old_rows ipa (level - 1) (λ above. check (is_table above) (error_rtt (level - 1)) (check unused (error_rtt level) (with_granule above made)))
+
+    found : outcome ≡ check (is_table_place ipa level && is_protected ipa) error_input looked
+    found = somewhere monitor fields view_is whole rd taken _ realm there
+
+    pub destroy_misplaced : is_table_place ipa level ≡ false → outcome ≡ Err error_input
+    destroy_misplaced h = found ∙ check_fails _ error_input looked (and_left _ _ h)
+
+    pub destroy_unprotected : is_protected ipa ≡ false → outcome ≡ Err error_input
+    destroy_unprotected h = found ∙ check_fails _ error_input looked (and_right _ _ h)
+
+    module _ (place : is_table_place ipa level ≡ true) (protected : is_protected ipa ≡ true) where
+      looks : outcome ≡ looked
+      looks = found ∙ check_holds _ error_input looked (and_from _ _ place protected)
+
+      pub destroy_refused : (l : ℕ) → destroy_refusal old_rows ipa level ≡ Some l → outcome ≡ Err (error_rtt l)
+      destroy_refused l e = looks ∙ both_refused old_rows ipa (level - 1) is_table unused level (λ above. with_granule above made) l e
+
+      -- ---- the call is not refused
+
+      module _ (accepted : destroy_refusal old_rows ipa level ≡ None) where
+        passed : Passes old_rows ipa (level - 1) is_table
+        passed = passes_from old_rows ipa (level - 1) is_table (or_passes _ unused level accepted).0
+
+        abbrev tables : HasTables fields.pages fields.granules rd realm.root
+        tables = whole.tables rd realm there
+
+        abbrev table : ℕ
+        table = led_granule fields.pages fields.granules rd realm.root level ipa tables place protected passed.row passed.at passed.pass
+
+        table_is : passed.row.granule ≡ Some table
+        table_is = led_is fields.pages fields.granules rd realm.root level ipa tables place protected passed.row passed.at passed.pass
+
+        leads : LeadsTo old_rows (level - 1) ipa table
+        leads = (passed.row, passed.at, table_is)
+
+        lies : IsIn fields.granules table InRtt (Some rd)
+        lies = led_in fields.pages fields.granules rd realm.root level ipa tables place protected passed.row passed.at passed.pass
+
+        was : is_moved_state (granule_at fields.granules table).state ≡ true
+        was = ap (λ (x : Granule). is_moved_state x.state) lies.is
+
+        granule_found : with_granule passed.row made ≡ made table
+        unfolding with_granule
+        granule_found = ap (λ o. elim o as (λ o. Outcome) [ Some granule ↦ made granule | None ↦ Err error_input ]) table_is
+
+        destroyed : outcome ≡ made table
+        destroyed =
+            looks
+            ∙ both_pass old_rows ipa (level - 1) is_table unused level (λ above. with_granule above made) passed (or_passes _ unused level accepted).1
+            ∙ granule_found
+
+        pub destroy_answers : {A : Type 0} (value : A) → Answers (Ok value) outcome
+        destroy_answers value = answers_ok value _ outcome destroyed
+
+        module _ (granules : List Granule) (pages : List (List ℕ)) (free : List Bool)
+            (call : DestroyCall rd fields.pages fields.free fields.granules pages free granules realm.root ipa level) where
+          abbrev new : Fields
+          new = record fields { granules = granules; pages = pages; free = free }
+
+          pub whole_destroyed : IsWhole new
+          whole_destroyed =
+              subst (λ rs. IsWhole (record new { realms = rs })) (realms_same fields rd realm there)
+              (whole_moved_to fields whole rd realm realm there refl (omega arith) granules pages free call.flags call.backed call.tables call.other_realms table lies.inside Delegated None (call.moved table leads)
+              was refl (λ e. refl) (λ e. call.cleared table leads) (λ g differs. call.others g))
+
+          cell_left : ◌≡◌ {A = Cell} (record { state = Delegated; realm = None; bytes = page_at pages table; descriptor = None }) left
+          cell_left = ap (λ (page : List ℕ). record { state = Delegated; realm = None; bytes = page; descriptor = None }) (call.cleared table leads)
+
+          pub destroy_done : seen_as new ≡ after_command outcome monitor
+          destroy_done =
+              after_put_two monitor fields view_is whole rd taken outcome new refl refl call.flags realm (rows pages realm.root) (without_table old_rows level ipa) table _ left cell_left call.loses destroyed
+              (ap (λ rs. machine_of (record new { realms = rs })) (sym (realms_same fields rd realm there))
+              ∙ machine_moved_to fields whole rd realm realm there refl (omega arith) granules pages free call.flags call.backed call.tables call.other_realms table lies.inside Delegated None (call.moved table leads)
+              was refl (λ e. refl) (λ e. call.cleared table leads) (λ g differs. call.others g))

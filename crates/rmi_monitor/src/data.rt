@@ -1,0 +1,124 @@
+//! Commands on pages of data.
+ghost use Rattle.std.specs.Prelude.{◌≡◌};
+ghost use Rattle.realm_model.specs.Command.Data as command;
+ghost use Rattle.rmi_monitor.specs.View.{IsTaken, Answers, seen_in, after_command};
+
+use crate::Monitor;
+use crate::inputs::{protected, rtt_refusal};
+use crate::places::{is_delegated, is_undelegated};
+use granule_addr::{Gran, Level};
+use page_arena::PageStore;
+use realm_model::{Ripas, Rmi};
+use realm_objects::data_event;
+use rtt::Tables;
+
+impl<S: PageStore> Monitor<S> {
+    /// Makes a DELEGATED granule a page of a NEW realm, with the bytes of an UNDELEGATED one, and extends the realm's
+    /// measurement.
+    ///
+    /// RMM 1.0, RMI_DATA_CREATE. RMI_ERROR_INPUT comes where `rd` is no RD, `page` is not DELEGATED, `source` is not
+    /// UNDELEGATED, or the IPA granule `ipa` is not protected. RMI_ERROR_REALM comes where the realm is not NEW.
+    /// RMI_ERROR_RTT comes with the level where the walk ended, unless that is 3 and the entry there is UNASSIGNED.
+    pub fn data_create(&mut self, rd: Gran, page: Gran, ipa: u32, source: Gran) -> Result<(), Rmi>
+        requires rd_taken { IsTaken self.old rd }
+        requires page_taken { IsTaken self.old page }
+        requires source_taken { IsTaken self.old source }
+        ensures answer { Answers result
+            (command.data_create (seen_in self.old rd) (seen_in self.old page) ipa (seen_in self.old source)) }
+        ensures machine { self.new ≡ after_command
+            (command.data_create (seen_in self.old rd) (seen_in self.old page) ipa (seen_in self.old source)) self.old }
+    {
+        let Some(realm) = &mut self.realms[rd.number() as usize] else {
+            return Err(Rmi::INPUT);
+        };
+        let Some(ipa) = protected(ipa) else {
+            return Err(Rmi::INPUT);
+        };
+        if !is_delegated(&self.granules, page) {
+            return Err(Rmi::INPUT);
+        }
+        if !is_undelegated(&self.granules, source) {
+            return Err(Rmi::INPUT);
+        }
+        if !realm.is_new() {
+            return Err(Rmi::REALM);
+        }
+        let tables = Tables {
+            rd,
+            root: realm.root(),
+        };
+        if let Err(refusal) = tables.map(
+            &mut self.store,
+            &mut self.granules,
+            page,
+            ipa,
+            Ripas::Ram,
+        ) {
+            return Err(rtt_refusal(refusal));
+        }
+        self.store.copy(page, source);
+        realm.measure(&data_event(ipa, self.store.bytes(source)));
+        Ok(())
+    }
+
+    /// Makes a DELEGATED granule a page of zeros of a realm; the RIPAS stays.
+    ///
+    /// RMM 1.0, RMI_DATA_CREATE_UNKNOWN. RMI_ERROR_INPUT comes where `rd` is no RD, `page` is not DELEGATED, or the IPA
+    /// granule `ipa` is not protected. RMI_ERROR_RTT comes with the level where the walk ended, unless that is 3 and the
+    /// entry there is UNASSIGNED.
+    pub fn data_create_unknown(&mut self, rd: Gran, page: Gran, ipa: u32) -> Result<(), Rmi>
+        requires rd_taken { IsTaken self.old rd }
+        requires page_taken { IsTaken self.old page }
+        ensures answer { Answers result (command.data_create_unknown (seen_in self.old rd) (seen_in self.old page) ipa) }
+        ensures machine { self.new
+            ≡ after_command (command.data_create_unknown (seen_in self.old rd) (seen_in self.old page) ipa) self.old }
+    {
+        let Some(realm) = &self.realms[rd.number() as usize] else {
+            return Err(Rmi::INPUT);
+        };
+        let Some(ipa) = protected(ipa) else {
+            return Err(Rmi::INPUT);
+        };
+        if !is_delegated(&self.granules, page) {
+            return Err(Rmi::INPUT);
+        }
+        let tables = Tables {
+            rd,
+            root: realm.root(),
+        };
+        let walk = tables.walk(&self.store, &self.granules, ipa, Level::last());
+        tables
+            .map(
+                &mut self.store,
+                &mut self.granules,
+                page,
+                ipa,
+                walk.entry.ripas,
+            )
+            .map_err(rtt_refusal)
+    }
+
+    /// Removes a page of a realm: it is zero and DELEGATED, and where it was RAM, the IPA granule is DESTROYED.
+    ///
+    /// RMM 1.0, RMI_DATA_DESTROY. RMI_ERROR_INPUT comes where `rd` is no RD, or the IPA granule `ipa` is not protected.
+    /// RMI_ERROR_RTT comes with the level where the walk ended, unless that is 3 and the entry there is ASSIGNED.
+    pub fn data_destroy(&mut self, rd: Gran, ipa: u32) -> Result<(), Rmi>
+        requires { IsTaken self.old rd }
+        ensures answer { Answers result (command.data_destroy (seen_in self.old rd) ipa) }
+        ensures machine { self.new ≡ after_command (command.data_destroy (seen_in self.old rd) ipa) self.old }
+    {
+        let Some(realm) = &self.realms[rd.number() as usize] else {
+            return Err(Rmi::INPUT);
+        };
+        let Some(ipa) = protected(ipa) else {
+            return Err(Rmi::INPUT);
+        };
+        let tables = Tables {
+            rd,
+            root: realm.root(),
+        };
+        tables
+            .unmap(&mut self.store, &mut self.granules, ipa)
+            .map_err(rtt_refusal)
+    }
+}

@@ -1,0 +1,114 @@
+//! Commands on translation tables.
+ghost use Rattle.std.specs.Prelude.{◌≡◌};
+ghost use Rattle.realm_model.specs.Command.Table as command;
+ghost use Rattle.rmi_monitor.specs.View.{IsTaken, Answers, seen_in, after_command};
+
+use crate::Monitor;
+use crate::inputs::{protected, protected_run, rtt_refusal, table_level};
+use crate::places::is_delegated;
+use granule_addr::Gran;
+use page_arena::PageStore;
+use realm_model::Rmi;
+use realm_objects::ripas_event;
+use rtt::Tables;
+
+impl<S: PageStore> Monitor<S> {
+    /// Makes a DELEGATED granule a table of level 2 or 3 of a realm.
+    ///
+    /// `ipa` is the first IPA granule that the table serves. RMM 1.0, RMI_RTT_CREATE. RMI_ERROR_INPUT comes where `rd` is no
+    /// RD, `table` is not DELEGATED, no table of that level starts at `ipa`, or `ipa` is not protected. RMI_ERROR_RTT comes
+    /// with the level where the walk ended, unless that is the level above and the entry there is not TABLE.
+    pub fn rtt_create(&mut self, rd: Gran, table: Gran, ipa: u32, level: u8) -> Result<(), Rmi>
+        requires rd_taken { IsTaken self.old rd }
+        requires table_taken { IsTaken self.old table }
+        ensures answer { Answers result (command.rtt_create (seen_in self.old rd) (seen_in self.old table) ipa level) }
+        ensures machine { self.new
+            ≡ after_command (command.rtt_create (seen_in self.old rd) (seen_in self.old table) ipa level) self.old }
+    {
+        let Some(realm) = &self.realms[rd.number() as usize] else {
+            return Err(Rmi::INPUT);
+        };
+        let (Some(level), Some(ipa)) = (table_level(ipa, level), protected(ipa)) else {
+            return Err(Rmi::INPUT);
+        };
+        if !is_delegated(&self.granules, table) {
+            return Err(Rmi::INPUT);
+        }
+        let tables = Tables {
+            rd,
+            root: realm.root(),
+        };
+        if let Err(refusal) = tables.create_table(
+            &mut self.store,
+            &mut self.granules,
+            table,
+            ipa,
+            level,
+        ) {
+            return Err(rtt_refusal(refusal));
+        }
+        Ok(())
+    }
+
+    /// Removes a table of level 2 or 3 of a realm: its granule is zero and DELEGATED.
+    ///
+    /// `ipa` is the first IPA granule that the table serves. RMM 1.0, RMI_RTT_DESTROY. RMI_ERROR_INPUT comes where `rd` is no
+    /// RD, no table of that level starts at `ipa`, or `ipa` is not protected. RMI_ERROR_RTT comes with the level where the
+    /// walk ended, unless that is the level above and the entry there is TABLE; then with `level`, where an entry of the
+    /// table is ASSIGNED or TABLE.
+    pub fn rtt_destroy(&mut self, rd: Gran, ipa: u32, level: u8) -> Result<(), Rmi>
+        requires { IsTaken self.old rd }
+        ensures answer { Answers result (command.rtt_destroy (seen_in self.old rd) ipa level) }
+        ensures machine { self.new ≡ after_command (command.rtt_destroy (seen_in self.old rd) ipa level) self.old }
+    {
+        let Some(realm) = &self.realms[rd.number() as usize] else {
+            return Err(Rmi::INPUT);
+        };
+        let (Some(level), Some(ipa)) = (table_level(ipa, level), protected(ipa)) else {
+            return Err(Rmi::INPUT);
+        };
+        let tables = Tables {
+            rd,
+            root: realm.root(),
+        };
+        if let Err(refusal) = tables.destroy_table(
+            &mut self.store,
+            &mut self.granules,
+            ipa,
+            level,
+        ) {
+            return Err(rtt_refusal(refusal));
+        }
+        Ok(())
+    }
+
+    /// Gives RAM to `count` IPA granules from `ipa` on, to all or none, and extends the realm's measurement.
+    ///
+    /// RMM 1.0, RMI_RTT_INIT_RIPAS. RMI_ERROR_INPUT comes where `rd` is no RD, `count` is not 1 to 512, one table of level 3
+    /// does not serve all of them, or `ipa` is not protected. RMI_ERROR_REALM comes where the realm is not NEW.
+    /// RMI_ERROR_RTT comes with the level where the walk ended, unless that is 3 and all the entries are UNASSIGNED.
+    pub fn rtt_init_ripas(&mut self, rd: Gran, ipa: u32, count: u16) -> Result<(), Rmi>
+        requires { IsTaken self.old rd }
+        ensures answer { Answers result (command.rtt_init_ripas (seen_in self.old rd) ipa count) }
+        ensures machine { self.new ≡ after_command (command.rtt_init_ripas (seen_in self.old rd) ipa count) self.old }
+    {
+        let Some(realm) = &mut self.realms[rd.number() as usize] else {
+            return Err(Rmi::INPUT);
+        };
+        let Some(first) = protected_run(ipa, count) else {
+            return Err(Rmi::INPUT);
+        };
+        if !realm.is_new() {
+            return Err(Rmi::REALM);
+        }
+        let tables = Tables {
+            rd,
+            root: realm.root(),
+        };
+        if let Err(refusal) = tables.init_ripas(&mut self.store, &self.granules, first, count) {
+            return Err(rtt_refusal(refusal));
+        }
+        realm.measure(&ripas_event(first, count));
+        Ok(())
+    }
+}

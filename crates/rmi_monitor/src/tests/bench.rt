@@ -1,0 +1,108 @@
+//! A monitor of eight granules that are all taken, and its commands by numbers.
+ghost use Rattle.std.specs.Prelude.{◌≡◌, ◌<◌, ◌≤◌};
+
+use crate::Monitor;
+use granule_addr::{Gran, Order, PageOff, RecNo, Vmid};
+use page_arena::{BuildError, PageStore, PlainStore};
+use realm_model::{GranuleState, Rmi};
+use std::alloc::Global;
+use std::marker::Model;
+
+#[derive(Drop)]
+pub struct Bench {
+    monitor: Monitor<PlainStore>,
+}
+
+impl Model for Bench {
+    ghost use Rattle.rmi_monitor.specs.View.{MonitorView, AreAllTaken};
+    ghost use Rattle.rmi_monitor.specs.Codes.{monitor_code};
+
+    ghost Value = { MonitorView };
+
+    ghost coded = { monitor_code };
+
+    ghost view = { λ b. b.monitor };
+
+    ghost invariant = { λ b. AreAllTaken b.monitor 8 };
+}
+
+// The granule of that number.
+pub fn granule(number: u16) -> Gran
+    requires { number < 8 }
+    ensures { result ≡ number }
+{
+    Gran::new(number, 8).unwrap()
+}
+
+impl Bench {
+    /// `None` where there is no memory.
+    #[tactic(auto, using(crate::proofs::Kept::all_taken_at))]
+    pub fn new(alloc: Global, aux: u8) -> Option<Bench>
+        requires { aux ≤ 16 }
+    {
+        let Ok(store) = PlainStore::build(alloc, 8) else {
+            return None;
+        };
+        let Ok(mut monitor) = Monitor::build(alloc, 2, aux, store) else {
+            return None;
+        };
+        if !monitor.take_at(Order::new(3).unwrap(), granule(0)) {
+            return None;
+        }
+        Some(Bench { monitor })
+    }
+
+    /// The state of a granule, and the sum of its bytes.
+    pub fn seen(&self, number: u16) -> (GranuleState, u32)
+        requires { number < 8 }
+    {
+        let granule = granule(number);
+        (self.monitor.state(granule), self.monitor.byte_sum(granule))
+    }
+
+    /// A word of a granule's page.
+    pub fn word(&self, number: u16, index: u16) -> u64
+        requires granule { number < 8 }
+        requires index { index < 512 }
+    {
+        self.monitor.store().word(granule(number), index)
+    }
+
+    #[tactic(auto, using(crate::proofs::Kept::all_taken_after))]
+    pub fn delegate(&mut self, number: u16) -> Result<(), Rmi>
+        requires { number < 8 }
+    {
+        self.monitor.granule_delegate(granule(number))
+    }
+
+    #[tactic(auto, using(crate::proofs::Kept::all_taken_after))]
+    pub fn fill(&mut self, number: u16, value: u8) -> Result<(), Rmi>
+        requires { number < 8 }
+    {
+        self.monitor.host_fill(granule(number), value)
+    }
+
+    #[tactic(auto, using(crate::proofs::Kept::all_taken_after))]
+    pub fn create(&mut self, rd: u16, root: u16, vmid: u8) -> Result<(), Rmi>
+        requires rd { rd < 8 }
+        requires root { root < 8 }
+        requires vmid { 1 ≤ vmid }
+    {
+        self.monitor
+            .realm_create(granule(rd), granule(root), Vmid::new(vmid).unwrap())
+    }
+
+    #[tactic(auto, using(crate::proofs::Kept::all_taken_after))]
+    pub fn activate(&mut self, rd: u16) -> Result<(), Rmi>
+        requires { rd < 8 }
+    {
+        self.monitor.realm_activate(granule(rd))
+    }
+
+    #[tactic(auto, using(crate::proofs::Kept::all_taken_after))]
+    pub fn destroy(&mut self, rd: u16) -> Result<(), Rmi>
+        requires { rd < 8 }
+    {
+        self.monitor.realm_destroy(granule(rd))
+    }
+}
