@@ -97,3 +97,9 @@ all_taken_at monitor after order size block is = record {
       subst (λ (m : MonitorView). IsTaken m granule) (sym is)
       (record { inside = subst (λ n. granule < n) (sym size) inside; taken = get_or-with_run_inside monitor.free 0 (2 ^ order) false block.inside granule false (omega arith) (omega (arith, inside)) });
 }
+
+pub all_taken_where : (monitor after : MonitorView) (order first : ℕ) (answer : Bool) → first ≡ 0 → length monitor.machine ≡ 2 ^ order
+    → (IsTrue answer ↔ IsFreeBlock monitor.free order first) → OnTrue answer (after ≡ with_block monitor order first) → OnTrue answer (AreAllTaken after (2 ^ order))
+all_taken_where monitor after order first true first_is size says is =
+    all_taken_at monitor after order size (subst (IsFreeBlock monitor.free order) first_is (says.0 refl)) (is ∙ ap (with_block monitor order) first_is)
+all_taken_where monitor after order first false first_is size says is = tt

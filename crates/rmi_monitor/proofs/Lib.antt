@@ -44,3 +44,15 @@ pub mod LedTo
 pub mod TableCreates
 pub mod TableDestroys
 pub mod TableRipas
+pub mod Sweeps
+pub mod Puts
+pub mod RecMoves
+pub mod RecEntries
+pub mod RecMade
+pub mod RecMadeAfter
+pub mod Listed
+pub mod RecGone
+pub mod RecGoneAfter
+pub mod RecOutcomes
+pub mod RecCreates
+pub mod RecDestroys

@@ -1,7 +1,10 @@
 -- Tests of what stands at the places of a monitor.
-use Rattle.std.specs.Prelude.{ℕ, ◌==◌, ◌&&◌, not, nat_le, List, Bool, true, false, Option, Some, None}
+use Rattle.std.specs.Prelude.{◌≡◌, ℕ, ◌==◌, ◌<◌, List, [], ◌∷◌, length, Bool, true, false, not, ◌&&◌, nat_le, Option, Some, None}
+use Rattle.std.specs.List.{list_any, list_all}
+use Rattle.page_arena.specs.Page.{is_free}
 use Rattle.granule_table.specs.Granules.{granule_at}
 use Rattle.granule_table.specs.declared.granule.Granule.{Granule}
+use Rattle.realm_model.specs.declared.states.GranuleState.{GranuleState}
 use Rattle.realm_model.specs.declared.states.GranuleState.TheVariants.{Undelegated, Delegated}
 use Rattle.realm_objects.specs.Attributes.{RealmAttributes}
 
@@ -19,3 +22,27 @@ are_fit_for_realm granules rd root vmid vmids =
 -- a realm with the VMID
 abbrev pub is_realm_with : ℕ → Option RealmAttributes → Bool
 is_realm_with vmid place = elim place [ Some realm ↦ realm.vmid == vmid | None ↦ false ]
+
+-- none of the others is that granule
+abbrev pub is_apart_from : ℕ → List ℕ → Bool
+is_apart_from granule others = not (list_any (λ other. granule == other) others)
+
+-- no granule is there twice
+abbrev pub are_distinct : List ℕ → Bool
+are_distinct [] = true
+are_distinct (granule ∷ others) = is_apart_from granule others && are_distinct others
+
+-- granules are DELEGATED, none is there twice, and those after the first are so many
+abbrev pub is_fit : List Granule → ℕ → List ℕ → ℕ → Bool
+is_fit granules first others count =
+    list_all (is_delegated_at granules) (first ∷ others) && are_distinct (first ∷ others) && length others == count
+
+-- a granule of the machine is in a state
+pub record IsInState (granules : List Granule) (state : GranuleState) (granule : ℕ) : Type 0 where
+  pub inside : granule < length granules
+  pub is : (granule_at granules granule).state ≡ state
+
+-- a granule has a page, and it is taken
+pub record HasPage (pages : List (List ℕ)) (flags : List Bool) (granule : ℕ) : Type 0 where
+  pub inside : granule < length pages
+  pub taken : is_free flags granule ≡ false

@@ -1,9 +1,14 @@
-//! What stands at granules.
-ghost use Rattle.std.specs.Prelude.{◌≡◌, ◌<◌, length};
-ghost use Rattle.rmi_monitor.specs.Places.{is_delegated_at, is_undelegated_at};
+//! What stands at granules, and what moves them.
+ghost use Rattle.std.specs.Prelude.{◌≡◌, ◌<◌, ◌∷◌, All, IsTrue, length, Some, None, slice_set};
+ghost use Rattle.std.specs.List.{list_all};
+ghost use Rattle.granule_addr.specs.Page.{zero_page};
+ghost use Rattle.realm_model.specs.StepLaw.{set_each};
+ghost use Rattle.realm_model.specs.declared.states.GranuleState.TheVariants.{Delegated};
+ghost use Rattle.rmi_monitor.specs.Places.{is_delegated_at, is_undelegated_at, is_apart_from, are_distinct, is_fit, IsInState, HasPage};
 
 use granule_addr::Gran;
 use granule_table::GranuleTable;
+use page_arena::PageStore;
 use realm_model::GranuleState;
 
 // Whether a granule is DELEGATED.
@@ -20,4 +25,108 @@ pub fn is_undelegated(granules: &GranuleTable, granule: Gran) -> bool
     ensures { result ≡ is_undelegated_at granules.now granule }
 {
     matches!(granules.state(granule), GranuleState::Undelegated)
+}
+
+// Whether granules are all DELEGATED.
+pub fn are_delegated(granules: &GranuleTable, all: &[Gran]) -> bool
+    requires { All (λ granule. granule < length granules.now) all.now }
+    ensures { result ≡ list_all (is_delegated_at granules.now) all.now }
+{
+    for granule in all {
+        if !is_delegated(granules, *granule) {
+            return false;
+        }
+    }
+    true
+}
+
+// Whether a granule is none of those.
+pub fn is_apart(granule: Gran, others: &[Gran]) -> bool
+    ensures { result ≡ is_apart_from granule others.now }
+{
+    for other in others {
+        if granule == *other {
+            return false;
+        }
+    }
+    true
+}
+
+// Whether no two of a granule and others are the same.
+pub fn are_different(first: Gran, others: &[Gran]) -> bool
+    ensures { result ≡ are_distinct (first ∷ others.now) }
+{
+    for i in 0..others.len() {
+        if !is_apart(others[i], &others[i + 1..]) {
+            return false;
+        }
+    }
+    is_apart(first, others)
+}
+
+// Whether a granule and others are DELEGATED, no two of them the same, and the others so many.
+pub fn are_fit(granules: &GranuleTable, first: Gran, others: &[Gran], count: u8) -> bool
+    requires first { first < length granules.now }
+    requires others { All (λ granule. granule < length granules.now) others.now }
+    ensures { result ≡ is_fit granules.now first others.now count }
+{
+    others.len() == count as usize
+        && is_delegated(granules, first)
+        && are_delegated(granules, others)
+        && are_different(first, others)
+}
+
+// Moves granules, no two the same, from one state to another of a realm.
+pub fn shift_all(
+    granules: &mut GranuleTable,
+    all: &[Gran],
+    from: GranuleState,
+    to: GranuleState,
+    rd: Gran,
+)
+    requires stand { All (IsInState granules.old from) all.now }
+    requires distinct { IsTrue (are_distinct all.now) }
+    ensures { granules.new ≡ set_each (record { state = to; realm = Some rd }) all.now granules.old }
+{
+    for granule in all {
+        granules.shift(*granule, from, to, Some(rd));
+    }
+}
+
+// Clears a granule's page, and moves the granule from its state to DELEGATED, of no realm.
+pub fn release<S: PageStore>(
+    store: &mut S,
+    granules: &mut GranuleTable,
+    granule: Gran,
+    from: GranuleState,
+)
+    requires page { HasPage (S.page_bytes store.old) (S.free_flags store.old) granule }
+    requires stands { IsInState granules.old from granule }
+    ensures cleared { S.page_bytes store.new ≡ slice_set (S.page_bytes store.old) granule zero_page }
+    ensures flags { S.free_flags store.new ≡ S.free_flags store.old }
+    ensures shifted { granules.new
+        ≡ slice_set granules.old granule (record { state = Delegated; realm = None }) }
+{
+    store.fill(granule, 0);
+    granules.shift(granule, from, GranuleState::Delegated, None);
+}
+
+// Clears the pages of granules, no two the same, and moves the granules from their state to DELEGATED, of no realm.
+pub fn release_all<S: PageStore>(
+    store: &mut S,
+    granules: &mut GranuleTable,
+    all: &[Gran],
+    from: GranuleState,
+)
+    requires pages { All (HasPage (S.page_bytes store.old) (S.free_flags store.old)) all.now }
+    requires stand { All (IsInState granules.old from) all.now }
+    requires distinct { IsTrue (are_distinct all.now) }
+    ensures cleared { S.page_bytes store.new ≡ set_each zero_page all.now (S.page_bytes store.old) }
+    ensures flags { S.free_flags store.new ≡ S.free_flags store.old }
+    ensures shifted { granules.new
+        ≡ set_each (record { state = Delegated; realm = None }) all.now granules.old }
+{
+    for granule in all {
+        release(store, granules, *granule, from);
+    }
 }

@@ -1,17 +1,74 @@
 //! Commands on RECs.
-ghost use Rattle.std.specs.Prelude.{◌≡◌, ◌<◌, length, option_map, IfSome};
+ghost use Rattle.std.specs.Prelude.{◌≡◌, ◌<◌, Some, length, map, option_map, IfOk, IfSome};
+ghost use Rattle.std.specs.List.{All};
+ghost use Rattle.realm_model.specs.Machine.{RealmRow, cell_at};
 ghost use Rattle.realm_model.specs.Command.Rec as command;
 ghost use Rattle.realm_objects.specs.Attributes.{rec_row};
-ghost use Rattle.rmi_monitor.specs.View.{IsTaken, IsOnRec, rec_in};
+ghost use Rattle.rmi_monitor.specs.View.{IsTaken, Answers, IsOnRec, seen_in, after_command, limits_of, rec_in};
 
 use crate::Monitor;
+use crate::places::{are_fit, release, release_all, shift_all};
 use crate::recs::find_rec;
+use arrayvec::ArrayVec;
 use granule_addr::{Gran, RecNo};
 use page_arena::PageStore;
-use realm_model::Rmi;
-use realm_objects::Rec;
+use realm_model::{GranuleState, Rmi};
+use realm_objects::{Rec, rec_event};
 
 impl<S: PageStore> Monitor<S> {
+    /// How many auxiliary granules a REC has. RMM 1.0, RMI_REC_AUX_COUNT; that it is the same for each realm is this
+    /// profile's own.
+    pub fn rec_aux_count(&self) -> u8
+        ensures { result ≡ self.now.aux }
+    {
+        self.aux
+    }
+
+    /// Makes DELEGATED granules a REC of a NEW realm and its auxiliaries, and answers the number of the REC.
+    ///
+    /// RMM 1.0, RMI_REC_CREATE. RMI_ERROR_INPUT comes where the first granule is no RD, one of the others is not DELEGATED,
+    /// two of these are the same, or the auxiliaries are not as many as each REC has. RMI_ERROR_REALM comes where the
+    /// realm is not NEW.
+    pub fn rec_create(
+        &mut self,
+        rd: Gran,
+        rec: Gran,
+        auxiliaries: ArrayVec<Gran, 16>,
+    ) -> Result<RecNo, Rmi>
+        requires rd_taken { IsTaken self.old rd }
+        requires rec_taken { IsTaken self.old rec }
+        requires auxiliaries_taken { All (IsTaken self.old) auxiliaries.items }
+        requires numbers { (realm : RealmRow) → (cell_at self.old.machine rd).descriptor ≡ Some realm → realm.next < 65535 }
+        ensures answer { Answers result
+            (command.rec_create (limits_of self.old) (seen_in self.old rd) (seen_in self.old rec) (map (seen_in self.old) auxiliaries.items)) }
+        ensures number { IfOk result (λ number. (realm : RealmRow) → (cell_at self.old.machine rd).descriptor ≡ Some realm → number ≡ realm.next) }
+        ensures machine { self.new ≡ after_command
+            (command.rec_create (limits_of self.old) (seen_in self.old rd) (seen_in self.old rec) (map (seen_in self.old) auxiliaries.items)) self.old }
+    {
+        let Some(realm) = &mut self.realms[rd.number() as usize] else {
+            return Err(Rmi::INPUT);
+        };
+        if !are_fit(&self.granules, rec, auxiliaries.as_slice(), self.aux) {
+            return Err(Rmi::INPUT);
+        }
+        if !realm.is_new() {
+            return Err(Rmi::REALM);
+        }
+        self.granules
+            .shift(rec, GranuleState::Delegated, GranuleState::Rec, Some(rd));
+        shift_all(
+            &mut self.granules,
+            auxiliaries.as_slice(),
+            GranuleState::Delegated,
+            GranuleState::RecAux,
+            rd,
+        );
+        let number = realm.next_rec();
+        realm.measure(&rec_event(number));
+        self.recs[rec.number() as usize] = Some(Rec::new(number, auxiliaries));
+        Ok(number)
+    }
+
     /// Lets a READY REC of an ACTIVE realm run.
     ///
     /// RMM 1.0, RMI_REC_ENTER. RMI_ERROR_INPUT comes where the granule is no REC, RMI_ERROR_REALM where its realm is not
@@ -54,6 +111,30 @@ impl<S: PageStore> Monitor<S> {
             return Err(Rmi::REC);
         }
         kept.exit();
+        Ok(())
+    }
+
+    /// Removes a READY REC: its granule and its auxiliaries are zero and DELEGATED. Its number is not used again.
+    ///
+    /// RMM 1.0, RMI_REC_DESTROY. RMI_ERROR_INPUT comes where the granule is no REC, RMI_ERROR_REC where it is not READY.
+    pub fn rec_destroy(&mut self, rec: Gran) -> Result<(), Rmi>
+        requires { IsTaken self.old rec }
+        ensures { IsOnRec command.rec_destroy self.old rec result self.new }
+    {
+        let Some(kept) = &self.recs[rec.number() as usize] else {
+            return Err(Rmi::INPUT);
+        };
+        if !kept.is_ready() {
+            return Err(Rmi::REC);
+        }
+        release(&mut self.store, &mut self.granules, rec, GranuleState::Rec);
+        release_all(
+            &mut self.store,
+            &mut self.granules,
+            kept.auxiliaries(),
+            GranuleState::RecAux,
+        );
+        self.recs[rec.number() as usize] = None;
         Ok(())
     }
 

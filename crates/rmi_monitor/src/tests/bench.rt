@@ -1,5 +1,7 @@
 //! A monitor of eight granules that are all taken, and its commands by numbers.
-ghost use Rattle.std.specs.Prelude.{◌≡◌, ◌<◌, ◌≤◌};
+ghost use Rattle.std.specs.Prelude.{◌≡◌, ◌<◌, ◌≤◌, ◌^◌, length};
+ghost use Rattle.std.specs.Bool.{OnTrue};
+ghost use Rattle.rmi_monitor.specs.View.{AreAllTaken};
 
 use crate::Monitor;
 use granule_addr::{Gran, Order, PageOff, RecNo, Vmid};
@@ -34,9 +36,16 @@ pub fn granule(number: u16) -> Gran
     Gran::new(number, 8).unwrap()
 }
 
+// Takes a whole machine.
+fn take_all(monitor: &mut Monitor<PlainStore>, order: Order) -> bool
+    requires { length monitor.old.machine ≡ 2 ^ order }
+    ensures { OnTrue result (AreAllTaken monitor.new (2 ^ order)) }
+{
+    monitor.take_at(order, granule(0))
+}
+
 impl Bench {
     /// `None` where there is no memory.
-    #[tactic(auto, using(crate::proofs::Kept::all_taken_at))]
     pub fn new(alloc: Global, aux: u8) -> Option<Bench>
         requires { aux ≤ 16 }
     {
@@ -46,7 +55,7 @@ impl Bench {
         let Ok(mut monitor) = Monitor::build(alloc, 2, aux, store) else {
             return None;
         };
-        if !monitor.take_at(Order::new(3).unwrap(), granule(0)) {
+        if !take_all(&mut monitor, Order::new(3).unwrap()) {
             return None;
         }
         Some(Bench { monitor })

@@ -1,0 +1,47 @@
+-- Lists of granules: what holds of each, that none is there twice, and what is read at a place.
+use Rattle.std.proofs.Common.{◌≡◌, ℕ, zero, suc, ◌<◌, true, not, List, [], ◌∷◌, length, set, get_or, All, Option, Some, None, refl, sym, ap, ◌∙◌, subst, arith}
+use Rattle.std.specs.Prelude.{slice_get}
+use Rattle.std.proofs.lemmas.Bool.{and_parts, and_from}
+use Rattle.std.proofs.lemmas.List.{set-get_or}
+use Rattle.std.proofs.lemmas.Option.{slice_get_within, slice_get-get_or, get_or_from_slice_get}
+use Rattle.realm_model.proofs.Booleans.{not_true, true_false, false_from}
+use Rattle.realm_model.proofs.Lists.{is_in, is_in_at, index_of}
+use Rattle.rmi_monitor.specs.Places.{are_distinct}
+
+-- what is in a list that is not there twice stands at one place
+pub once_from_distinct : (xs : List ℕ) → are_distinct xs ≡ true → (i j a : ℕ) → slice_get xs i ≡ Some a → slice_get xs j ≡ Some a → i ≡ j
+once_from_distinct [] distinct i j a h k = cc
+once_from_distinct (x ∷ xs) distinct zero zero a h k = refl
+once_from_distinct (x ∷ xs) distinct zero (suc j) a h k =
+    absurd (true_false (is_in x xs) (is_in_at xs j x (k ∙ sym h)) (not_true (is_in x xs) (and_parts _ _ distinct).0))
+once_from_distinct (x ∷ xs) distinct (suc i) zero a h k =
+    absurd (true_false (is_in x xs) (is_in_at xs i x (h ∙ sym k)) (not_true (is_in x xs) (and_parts _ _ distinct).0))
+once_from_distinct (x ∷ xs) distinct (suc i) (suc j) a h k = ap suc (once_from_distinct xs (and_parts _ _ distinct).1 i j a h k)
+
+-- and where each stands at one place, none is there twice
+pub distinct_from_once : (xs : List ℕ) → ((i j a : ℕ) → slice_get xs i ≡ Some a → slice_get xs j ≡ Some a → i ≡ j) → are_distinct xs ≡ true
+distinct_from_once [] once = refl
+distinct_from_once (x ∷ xs) once =
+    and_from _ _
+    (ap not (false_from (is_in x xs) (λ there. let found = index_of xs x there in let e : zero ≡ suc found.0 = once zero (suc found.0) x refl found.1 in omega (arith, e))))
+    (distinct_from_once xs (λ i j a h k. let e : suc i ≡ suc j = once (suc i) (suc j) a h k in omega (arith, e)))
+
+-- what holds of each element holds of what is in the list
+pub holds_in : (P : ℕ → Type 0) (xs : List ℕ) (x : ℕ) → All P xs → is_in x xs ≡ true → P x
+holds_in P xs x each there =
+    let found = index_of xs x there in
+    subst P (get_or_from_slice_get xs found.0 x x found.1) (each found.0 x (slice_get_within xs found.0 x found.1))
+
+-- what is read at a place
+pub read_at : {A : Type 0} (xs : List (Option A)) (i j : ℕ) (x : Option A) → j < length xs → i ≡ j → x ≡ get_or xs i x → get_or xs j None ≡ x
+read_at xs i j x within same e = get_or_from_slice_get xs j x None (slice_get-get_or xs j x within ∙ ap Some (sym (e ∙ ap (λ k. get_or xs k x) same)))
+
+-- and written back
+pub written_back : {A : Type 0} (xs : List (Option A)) (i : ℕ) (x : Option A) → get_or xs i None ≡ x → set xs i x ≡ xs
+written_back xs i x e = ap (set xs i) (sym e) ∙ set-get_or xs i None
+
+-- a place that has something is one of the list's
+pub inside_list : {A : Type 0} (xs : List (Option A)) (i : ℕ) (x : A) → get_or xs i None ≡ Some x → i < length xs
+inside_list [] i x e = cc
+inside_list (y ∷ ys) zero x e = omega arith
+inside_list (y ∷ ys) (suc i) x e = let below = inside_list ys i x e in omega (arith, below)

@@ -1,0 +1,245 @@
+-- RMI_REC_CREATE over the fields of a monitor: its checks, and what it changes.
+use Rattle.std.proofs.Common.{◌≡◌, ℕ, suc, ◌+◌, ◌<◌, Bool, true, false, ◌&&◌, ◌||◌, not, List, [], ◌∷◌, ◌++◌, length, map, set, get_or, All, Option, Some, None, option_map, Ok, Err, refl, sym, ap, ◌∙◌, subst}
+use Rattle.std.specs.Prelude.{◌==◌}
+use Rattle.std.specs.Prelude.{IsTrue}
+use Rattle.std.specs.Bool.{OnTrue}
+use Rattle.std.specs.List.{list_all, list_any}
+use Rattle.std.specs.FinMap.{FinMap, insert}
+use Rattle.std.specs.Ordering.{nat_cmp}
+use Rattle.std.proofs.lemmas.Bool.{OnTrue_at, and_parts, eqb-true}
+use Rattle.std.proofs.lemmas.List.{length-set, get_or-set_other}
+use Rattle.std.proofs.lemmas.Option.{same_Some, slice_get-get_or}
+use Rattle.granule_table.specs.Granules.{granule_at, undelegated}
+use Rattle.granule_table.specs.declared.granule.Granule.{Granule}
+use Rattle.page_arena.specs.Page.{is_free}
+use Rattle.realm_model.specs.declared.states.GranuleState.{GranuleState}
+use Rattle.realm_model.specs.declared.states.GranuleState.TheVariants.{Delegated, Rec as InRec, RecAux as InRecAux}
+use Rattle.realm_model.specs.declared.rmi.Rmi.{Rmi}
+use Rattle.realm_model.specs.Measurement.{measurement_after, rec_event}
+use Rattle.realm_model.specs.Machine.{Cell, RealmRow, RecRow, Seen, cell_at, held}
+use Rattle.realm_model.specs.Rows.{Rows}
+use Rattle.realm_model.specs.StepLaw.{set_each}
+use Rattle.realm_model.specs.Update.{Outcome, Update, Put, machine_after_all, machine_after_command}
+use Rattle.realm_model.specs.Command.Check.{check, error_input, error_realm, is_delegated, all_different, is_new}
+use Rattle.realm_model.specs.Command.Rec.{rec_create}
+use Rattle.realm_model.proofs.Booleans.{not_true, true_false}
+use Rattle.realm_model.proofs.Lists.{is_in, all_in, is_in_at, is_in_head, is_in_more}
+use Rattle.realm_objects.specs.Attributes.{RealmAttributes, RecAttributes, realm_row, rec_row}
+use Rattle.rtt.specs.Tables.{rows}
+use Rattle.rmi_monitor.specs.View.{MonitorView, IsTaken, seen_in, after_command, limits_of}
+use Rattle.rmi_monitor.specs.Inside.{Fields, realm_at, recs_of, descriptor_of, seen_as, IsWhole}
+use Rattle.rmi_monitor.specs.Places.{is_delegated_at, are_distinct, is_fit, IsInState}
+use Rattle.rmi_monitor.proofs.Checks.{delegated_test}
+use Rattle.rmi_monitor.proofs.Granules.{machine_is, cell_is, after_by, in_granules, not_free, state_is}
+use Rattle.rmi_monitor.proofs.Listed.{once_from_distinct, holds_in, read_at, written_back}
+use Rattle.rmi_monitor.proofs.RecOutcomes.{after_err, check_holds, check_fails, with_realm_some, with_realm_none}
+use Rattle.rmi_monitor.proofs.Puts.{either}
+use Rattle.rmi_monitor.proofs.RecMade.{CanMake, made, new_rec, with_rec_more}
+use Rattle.rmi_monitor.proofs.RecMadeAfter.{whole_made, machine_made}
+
+delegated_state : (state : GranuleState) → delegated_test state ≡ true → state ≡ Delegated
+delegated_state Delegated h = refl
+delegated_state _ h = cc
+
+-- ---- the granules that a command names, as it sees them
+
+module _ (monitor : MonitorView) where
+  numbers_seen : (xs : List ℕ) → map (λ (a : Seen). a.number) (map (seen_in monitor) xs) ≡ xs
+  numbers_seen [] = refl
+  numbers_seen (x ∷ xs) = ap (λ l. x ∷ l) (numbers_seen xs)
+
+  puts_seen : (cell : Cell) (xs : List ℕ) → map (λ (a : Seen). Put a.number cell) (map (seen_in monitor) xs) ≡ map (λ a. Put a cell) xs
+  puts_seen cell [] = refl
+  puts_seen cell (x ∷ xs) = ap (λ l. Put x cell ∷ l) (puts_seen cell xs)
+
+  length_seen : (xs : List ℕ) → length (map (seen_in monitor) xs) ≡ length xs
+  length_seen [] = refl
+  length_seen (x ∷ xs) = ap suc (length_seen xs)
+
+  any_seen : (x : ℕ) (xs : List ℕ) → list_any (λ (h : Seen). x == h.number) (map (seen_in monitor) xs) ≡ list_any (λ h. x == h) xs
+  any_seen x [] = refl
+  any_seen x (y ∷ xs) = ap (λ t. (x == y) || t) (any_seen x xs)
+
+  different_seen : (xs : List ℕ) → all_different (map (seen_in monitor) xs) ≡ are_distinct xs
+  different_seen [] = refl
+  different_seen (x ∷ xs) = λ i. not (any_seen x xs i) && different_seen xs i
+
+  delegated_seen : (granules : List Granule) (xs : List ℕ) → ((x : ℕ) → is_in x xs ≡ true → is_delegated (seen_in monitor x) ≡ is_delegated_at granules x)
+      → list_all is_delegated (map (seen_in monitor) xs) ≡ list_all (is_delegated_at granules) xs
+  delegated_seen granules [] same = refl
+  delegated_seen granules (x ∷ xs) same =
+      λ i. same x (is_in_head x xs) i && delegated_seen granules xs (λ y e. same y (is_in_more y x xs e)) i
+
+module _ (monitor : MonitorView) (fields : Fields) (view_is : seen_as fields ≡ monitor) (whole : IsWhole fields) (rd g : ℕ) (others : List ℕ)
+    (rd_taken : IsTaken monitor rd) (g_taken : IsTaken monitor g) (others_taken : All (IsTaken monitor) others) where
+  abbrev outcome : Outcome
+  outcome = rec_create (limits_of monitor) (seen_in monitor rd) (seen_in monitor g) (map (seen_in monitor) others)
+
+  abbrev fit : Bool
+  fit = is_fit fields.granules g others fields.aux
+
+  taken : (h : ℕ) → is_in h (g ∷ others) ≡ true → IsTaken monitor h
+  taken h e = either (h == g) (is_in h others) e (λ same. subst (IsTaken monitor) (sym (eqb-true h g same)) g_taken) (holds_in (IsTaken monitor) others h others_taken)
+
+  others_inside : All (λ h. h < length fields.granules) others
+  others_inside k d lt = in_granules monitor fields view_is whole (get_or others k d) (others_taken k d lt)
+
+  pub inside_by : (list : List ℕ) → list ≡ others → All (λ h. h < length fields.granules) list
+  inside_by list same = subst (λ l. All (λ h. h < length fields.granules) l) (sym same) others_inside
+
+  -- what a call answers of them
+  pub fit_by : (list : List ℕ) (answer wanted : Bool) → list ≡ others → answer ≡ is_fit fields.granules g list fields.aux → answer ≡ wanted → fit ≡ wanted
+  fit_by list answer wanted same e is = ap (λ l. is_fit fields.granules g l fields.aux) (sym same) ∙ sym e ∙ is
+
+  -- ---- the realm's place
+
+  pub rd_place : (n : ℕ) → n ≡ rd → n < length fields.realms
+  rd_place n same = subst (λ k. k < length fields.realms) (sym same) (subst (λ k. rd < k) (sym whole.realm_places) (in_granules monitor fields view_is whole rd rd_taken))
+
+  pub read_realm : (n : ℕ) (x : Option RealmAttributes) → n ≡ rd → x ≡ get_or fields.realms n x → realm_at fields rd ≡ x
+  read_realm n x same e = read_at fields.realms n rd x (rd_place rd refl) same e
+
+  -- a refusal changes nothing
+  pub refused_after : (n : ℕ) (x : Option RealmAttributes) (rmi : Rmi) → n ≡ rd → realm_at fields rd ≡ x → outcome ≡ Err rmi
+      → seen_as (record fields { realms = set fields.realms n x }) ≡ after_command outcome monitor
+  refused_after n x rmi same e refused =
+      ap (λ rs. seen_as (record fields { realms = rs })) (written_back fields.realms n x (ap (λ k. get_or fields.realms k None) same ∙ e))
+      ∙ view_is
+      ∙ after_err monitor outcome rmi refused
+
+  -- ---- its checks
+
+  descriptor_is : (cell_at monitor.machine rd).descriptor ≡ descriptor_of fields rd
+  descriptor_is = ap (λ (c : Cell). c.descriptor) (cell_is monitor fields view_is whole rd rd_taken.inside)
+
+  fit_is : (list_all is_delegated (map (seen_in monitor) (g ∷ others)) && all_different (map (seen_in monitor) (g ∷ others)) && length (map (seen_in monitor) others) == monitor.aux) ≡ fit
+  fit_is i =
+      delegated_seen monitor fields.granules (g ∷ others) (λ h e. ap delegated_test (state_is monitor fields view_is whole h (taken h e))) i
+      && different_seen monitor (g ∷ others) i
+      && length_seen monitor others i == sym (ap (λ (m : MonitorView). m.aux) view_is) i
+
+  pub refuses_no_realm : realm_at fields rd ≡ None → outcome ≡ Err error_input
+  refuses_no_realm none =
+      with_realm_none (seen_in monitor rd) _
+      (descriptor_is ∙ ap (option_map (λ (a : RealmAttributes). realm_row a (recs_of fields.granules fields.recs rd) (rows fields.pages a.root))) none)
+
+  module _ (realm : RealmAttributes) (there : realm_at fields rd ≡ Some realm) where
+    abbrev pub row : RealmRow
+    row = realm_row realm (recs_of fields.granules fields.recs rd) (rows fields.pages realm.root)
+
+    pub row_is : (cell_at monitor.machine rd).descriptor ≡ Some row
+    row_is = descriptor_is ∙ ap (option_map (λ (a : RealmAttributes). realm_row a (recs_of fields.granules fields.recs rd) (rows fields.pages a.root))) there
+
+    -- what a call answers of the realm
+    pub new_by : (answer wanted : Bool) → ((recs : FinMap nat_cmp RecRow) (translation : Rows) → answer ≡ is_new (realm_row realm recs translation)) → answer ≡ wanted → is_new row ≡ wanted
+    new_by answer wanted says is = sym (says (recs_of fields.granules fields.recs rd) (rows fields.pages realm.root)) ∙ is
+
+    pub next_is : (other : RealmRow) → (cell_at monitor.machine rd).descriptor ≡ Some other → realm.next ≡ other.next
+    next_is other e = ap (λ (r : RealmRow). r.next) (same_Some row other (sym row_is ∙ e))
+
+    -- the updates, by how their parts are written
+    abbrev updates_by : List Update → List ℕ → Cell → List Update
+    updates_by puts auxiliaries cell =
+        Put g (held InRec rd) ∷ puts ++ Put rd (record cell {
+          descriptor = Some (realm_row (with_rec_more realm) (insert (recs_of fields.granules fields.recs rd) realm.next (rec_row g (new_rec realm.next auxiliaries))) (rows fields.pages realm.root));
+        }) ∷ []
+
+    abbrev updates : List Update
+    updates = updates_by (map (λ (a : Seen). Put a.number (held InRecAux rd)) (map (seen_in monitor) others)) (map (λ (a : Seen). a.number) (map (seen_in monitor) others)) (cell_at monitor.machine rd)
+
+    abbrev rest : Outcome
+    rest = check (is_new row) error_realm (Ok updates)
+
+    checked : outcome ≡ check (list_all is_delegated (map (seen_in monitor) (g ∷ others)) && all_different (map (seen_in monitor) (g ∷ others)) && length (map (seen_in monitor) others) == monitor.aux) error_input rest
+    checked = with_realm_some (seen_in monitor rd) _ row row_is
+
+    pub refuses_unfit : fit ≡ false → outcome ≡ Err error_input
+    refuses_unfit e = checked ∙ check_fails error_input rest _ (fit_is ∙ e)
+
+    pub refuses_active : fit ≡ true → is_new row ≡ false → outcome ≡ Err error_realm
+    refuses_active e active = checked ∙ check_holds error_input rest _ (fit_is ∙ e) ∙ check_fails error_realm (Ok updates) (is_new row) active
+
+    pub creates : fit ≡ true → is_new row ≡ true → outcome ≡ Ok updates
+    creates e new = checked ∙ check_holds error_input rest _ (fit_is ∙ e) ∙ check_holds error_realm (Ok updates) (is_new row) new
+
+    -- ---- what it changes
+
+    module _ (e : fit ≡ true) where
+      all_delegated : (h : ℕ) → is_in h (g ∷ others) ≡ true → (granule_at fields.granules h).state ≡ Delegated
+      all_delegated h there = delegated_state (granule_at fields.granules h).state (all_in (is_delegated_at fields.granules) (g ∷ others) h (and_parts _ _ (and_parts _ _ e).0).0 there)
+
+      all_distinct : are_distinct (g ∷ others) ≡ true
+      all_distinct = (and_parts _ _ (and_parts _ _ e).0).1
+
+      pub others_distinct : are_distinct others ≡ true
+      others_distinct = (and_parts _ _ all_distinct).1
+
+      pub own : is_in g others ≡ false
+      own = not_true (is_in g others) (and_parts _ _ all_distinct).0
+
+      pub g_delegated : (granule_at fields.granules g).state ≡ Delegated
+      g_delegated = all_delegated g (is_in_head g others)
+
+      -- after the REC's granule is moved, the auxiliaries are DELEGATED still
+      pub others_stand : (granule : Granule) (then : List Granule) (list : List ℕ) → list ≡ others → then ≡ set fields.granules g granule → All (IsInState then Delegated) list
+      others_stand granule then list same made =
+          subst (λ l. All (IsInState then Delegated) l) (sym same) (subst (λ gs. All (IsInState gs Delegated) others) (sym made) (λ k d lt.
+          let x = get_or others k d in
+          let there : is_in x others ≡ true = is_in_at others k x (slice_get-get_or others k d lt) in
+          record {
+            inside = subst (λ n. x < n) (sym (length-set fields.granules g granule)) (others_inside k d lt);
+            is = ap (λ (z : Granule). z.state) (get_or-set_other fields.granules g x granule undelegated (λ is. true_false (is_in g others) (subst (λ h. is_in h others ≡ true) is there) own))
+                ∙ all_delegated x (is_in_more x g others there);
+          }))
+
+      -- the REC's granule is moved
+      pub shifted_by : (answer : Bool) (then : List Granule) (granule : Granule) → ((granule_at fields.granules g).state ≡ Delegated → IsTrue answer)
+          → OnTrue answer (then ≡ set fields.granules g granule) → then ≡ set fields.granules g granule
+      shifted_by answer then granule says made = OnTrue_at (says g_delegated) made
+
+      can : CanMake fields rd g others realm
+      can = record {
+        rd_inside = in_granules monitor fields view_is whole rd rd_taken;
+        inside = λ h k. in_granules monitor fields view_is whole h (taken h k);
+        taken = λ h k. either (h == rd) (is_in h (g ∷ others)) k
+            (λ same. subst (λ j. is_free fields.free j ≡ false) (sym (eqb-true h rd same)) (not_free monitor fields view_is whole rd rd_taken))
+            (λ k. not_free monitor fields view_is whole h (taken h k));
+        there = there;
+        delegated = all_delegated;
+        own = own;
+        once = once_from_distinct others others_distinct;
+      }
+
+      pub whole_created : IsWhole (made fields rd g others realm)
+      whole_created = whole_made fields whole rd g others realm can
+
+      pub created : is_new row ≡ true → seen_as (made fields rd g others realm) ≡ after_command outcome monitor
+      created new =
+          after_by monitor fields view_is whole outcome (made fields rd g others realm) refl refl refl
+          (machine_made fields whole rd g others realm can
+          ∙ (λ i. machine_after_all (updates_by (sym (puts_seen monitor (held InRecAux rd) others) i) (sym (numbers_seen monitor others) i) (sym (cell_is monitor fields view_is whole rd rd_taken.inside) i)) (machine_is monitor fields view_is whole i))
+          ∙ ap (λ o. machine_after_command o monitor.machine) (sym (creates e new)))
+
+-- ---- the fields as calls leave them
+
+module _ (fields : Fields) (rd g : ℕ) (others : List ℕ) (realm : RealmAttributes) where
+  abbrev fields_with : List Granule → List (Option RealmAttributes) → List (Option RecAttributes) → Fields
+  fields_with granules realms recs = record fields { granules = granules; realms = realms; recs = recs }
+
+  pub made_by : (begun granules : List Granule) (list : List ℕ) (rd' g' : ℕ) (now : RealmAttributes) (rec : RecAttributes) → begun ≡ set fields.granules g (record { state = InRec; realm = Some rd })
+      → granules ≡ set_each (record { state = InRecAux; realm = Some rd }) list begun → list ≡ others → rd' ≡ rd → g' ≡ g → now ≡ with_rec_more realm → rec ≡ new_rec realm.next others
+      → fields_with granules (set fields.realms rd' (Some now)) (set fields.recs g' (Some rec)) ≡ made fields rd g others realm
+  made_by begun granules list rd' g' now rec first then same rd_is g_is realm_is rec_is =
+      (λ i. record fields { granules = then i; realms = set fields.realms (rd_is i) (Some (realm_is i)); recs = set fields.recs (g_is i) (Some (rec_is i)) })
+      ∙ (λ i. record fields {
+        granules = set_each (record { state = InRecAux; realm = Some rd }) (same i) (first i);
+        realms = set fields.realms rd (Some (with_rec_more realm));
+        recs = set fields.recs g (Some (new_rec realm.next others));
+      })
+
+-- the realm's attributes as calls leave them
+pub more_by : (realm then now : RealmAttributes) (number : ℕ) (event : List ℕ) → number ≡ realm.next → then ≡ record realm { next = realm.next + 1 } → event ≡ rec_event number
+    → now ≡ record then { measurement = measurement_after then.measurement event } → now ≡ with_rec_more realm
+more_by realm then now number event numbered raised events measured =
+    let named : event ≡ rec_event realm.next = events ∙ ap rec_event numbered in
+    measured ∙ (λ i. record (raised i) { measurement = measurement_after (raised i).measurement (named i) })

@@ -1,0 +1,212 @@
+-- A new REC of a realm: the RECs are as they should be, and the machine is as the command says.
+use Rattle.std.proofs.Common.{◌≡◌, ◌≢◌, ℕ, ◌+◌, ◌<◌, true, false, List, [], ◌∷◌, ◌++◌, length, map, Some, None, refl, sym, ap, ◌∙◌, subst, arith}
+use Rattle.std.specs.Prelude.{◌==◌, slice_get}
+use Rattle.std.specs.FinMap.{insert}
+use Rattle.std.proofs.lemmas.Bool.{eqb-true, eqb-false}
+use Rattle.std.proofs.lemmas.Option.{same_Some}
+use Rattle.granule_table.specs.Granules.{granule_at, IsIn}
+use Rattle.granule_table.specs.declared.granule.Granule.{Granule}
+use Rattle.realm_model.specs.declared.states.GranuleState.TheVariants.{Delegated, Rec as InRec, RecAux as InRecAux}
+use Rattle.realm_model.specs.Machine.{RealmRow, held}
+use Rattle.realm_model.specs.Update.{Put, machine_after_all}
+use Rattle.realm_model.proofs.Booleans.{false_from}
+use Rattle.realm_model.proofs.Lists.{is_in, is_in_head, is_in_more, is_in_at}
+use Rattle.realm_objects.specs.Attributes.{RealmAttributes, RecAttributes, realm_row, rec_row}
+use Rattle.rtt.specs.Tables.{rows}
+use Rattle.rmi_monitor.specs.Gathered.{gathered}
+use Rattle.rmi_monitor.specs.Inside.{Fields, realm_at, rec_at, rec_of, recs_of, cell_of, machine_of, IsRecOf, HasRecs, IsWhole}
+use Rattle.rmi_monitor.proofs.Gathered.{gathered-put}
+use Rattle.rmi_monitor.proofs.Puts.{out_of, many_put}
+use Rattle.rmi_monitor.proofs.RecPlaces.{rec_of-none, rec_of-other, rec_of-some}
+use Rattle.rmi_monitor.proofs.RecMoves.{each_moved, backed_moved, tables_moved, rec_of_stays, cell_unmoved, cell_rd, zero_cell}
+use Rattle.rmi_monitor.proofs.RecEntries.{of_realm, of_other, numbered_recs}
+use Rattle.rmi_monitor.proofs.RecMade.{CanMake, made, new_rec, with_rec_more, granule_g, granule_aux, granule_out, granule_count, rec_g, rec_out, realm_rd, realm_out, no_rec, no_realm_after, zero_after, moves}
+
+module _ (old : Fields) (whole : IsWhole old) (rd g : ℕ) (others : List ℕ) (realm : RealmAttributes) (can : CanMake old rd g others realm) where
+  abbrev new : Fields
+  new = made old rd g others realm
+
+  g_realm : (granule_at new.granules g).realm ≡ Some rd
+  g_realm = ap (λ (x : Granule). x.realm) (granule_g old whole rd g others realm can)
+
+  -- the new REC, and one that was there
+  is_new : (h : ℕ) (rec : RecAttributes) → h ≡ g → rec_at new h ≡ Some rec → new_rec realm.next others ≡ rec
+  is_new h rec same e = same_Some (new_rec realm.next others) rec (sym (rec_g old whole rd g others realm can) ∙ ap (rec_at new) (sym same) ∙ e)
+
+  was_old : (h : ℕ) (rec : RecAttributes) → h ≢ g → rec_at new h ≡ Some rec → rec_at old h ≡ Some rec
+  was_old h rec differs e = sym (rec_out old whole rd g others realm can h differs) ∙ e
+
+  old_out : (h : ℕ) (rec : RecAttributes) → rec_at old h ≡ Some rec → is_in h (g ∷ others) ≡ false
+  old_out h rec at = false_from _ (λ there. let clash : None ≡ Some rec = sym (no_rec old whole rd g others realm can h there) ∙ at in cc)
+
+  old_realm : (h : ℕ) (rec : RecAttributes) → rec_at old h ≡ Some rec → (granule_at new.granules h).realm ≡ (granule_at old.granules h).realm
+  old_realm h rec at = ap (λ (x : Granule). x.realm) (granule_out old whole rd g others realm can h (old_out h rec at))
+
+  of_old : (h : ℕ) (rec : RecAttributes) → rec_at old h ≡ Some rec → IsRecOf new h rec
+  of_old h rec at =
+      let before : IsRecOf old h rec = whole.recs.of h rec at in
+      elim (before.rd == rd) as (λ t. (before.rd == rd) ≡ t → IsRecOf new h rec) [
+        | true ↦ λ e.
+            let same = eqb-true before.rd rd e in
+            let was : before.realm ≡ realm = same_Some before.realm realm (sym before.there ∙ ap (realm_at old) same ∙ can.there) in
+            record {
+              rd = rd;
+              of = old_realm h rec at ∙ before.of ∙ ap Some same;
+              realm = with_rec_more realm;
+              there = realm_rd old whole rd g others realm can;
+              below = let less : rec.number < realm.next = subst (λ (x : RealmAttributes). rec.number < x.next) was before.below in omega (arith, less);
+            }
+        | false ↦ λ e. record {
+          rd = before.rd;
+          of = old_realm h rec at ∙ before.of;
+          realm = before.realm;
+          there = realm_out old whole rd g others realm can before.rd (eqb-false before.rd rd e) ∙ before.there;
+          below = before.below;
+        }
+      ] refl
+
+  of_after : (h : ℕ) (rec : RecAttributes) → rec_at new h ≡ Some rec → IsRecOf new h rec
+  of_after h rec e = elim (h == g) as (λ t. (h == g) ≡ t → IsRecOf new h rec) [
+    | true ↦ λ s.
+        let same = eqb-true h g s in
+        record {
+          rd = rd;
+          of = ap (λ k. (granule_at new.granules k).realm) same ∙ g_realm;
+          realm = with_rec_more realm;
+          there = realm_rd old whole rd g others realm can;
+          below = subst (λ (x : RecAttributes). x.number < realm.next + 1) (is_new h rec same e) (omega arith);
+        }
+    | false ↦ λ s. of_old h rec (was_old h rec (eqb-false h g s) e)
+  ] refl
+
+  -- no other REC of the realm has the new number
+  apart : (h : ℕ) (rec : RecAttributes) → h ≢ g → rec_at new h ≡ Some rec → (granule_at new.granules h).realm ≡ Some rd → rec.number ≡ realm.next → ⊥
+  apart h rec differs e of number =
+      let at = was_old h rec differs e in
+      let before : IsRecOf old h rec = whole.recs.of h rec at in
+      let same : before.rd ≡ rd = same_Some before.rd rd (sym before.of ∙ sym (old_realm h rec at) ∙ of) in
+      let was : before.realm ≡ realm = same_Some before.realm realm (sym before.there ∙ ap (realm_at old) same ∙ can.there) in
+      let less : rec.number < realm.next = subst (λ (x : RealmAttributes). rec.number < x.next) was before.below in
+      omega (arith, less, number)
+
+  number_is : (h : ℕ) (rec : RecAttributes) → h ≡ g → rec_at new h ≡ Some rec → rec.number ≡ realm.next
+  number_is h rec same e = ap (λ (x : RecAttributes). x.number) (sym (is_new h rec same e))
+
+  realm_is : (h : ℕ) → h ≡ g → (granule_at new.granules h).realm ≡ Some rd
+  realm_is h same = ap (λ k. (granule_at new.granules k).realm) same ∙ g_realm
+
+  once_after : (h k : ℕ) (rec other : RecAttributes) → rec_at new h ≡ Some rec → rec_at new k ≡ Some other
+      → (granule_at new.granules h).realm ≡ (granule_at new.granules k).realm → rec.number ≡ other.number → h ≡ k
+  once_after h k rec other e e' of numbers =
+      elim (h == g) as (λ t. (h == g) ≡ t → h ≡ k) [
+        | true ↦ λ s. elim (k == g) as (λ t. (k == g) ≡ t → h ≡ k) [
+          | true ↦ λ s'. eqb-true h g s ∙ sym (eqb-true k g s')
+          | false ↦ λ s'. absurd (apart k other (eqb-false k g s') e' (sym of ∙ realm_is h (eqb-true h g s)) (sym numbers ∙ number_is h rec (eqb-true h g s) e))
+        ] refl
+        | false ↦ λ s. elim (k == g) as (λ t. (k == g) ≡ t → h ≡ k) [
+          | true ↦ λ s'. absurd (apart h rec (eqb-false h g s) e (of ∙ realm_is k (eqb-true k g s')) (numbers ∙ number_is k other (eqb-true k g s') e'))
+          | false ↦ λ s'.
+              let at = was_old h rec (eqb-false h g s) e in
+              let at' = was_old k other (eqb-false k g s') e' in
+              whole.recs.once h k rec other at at' (sym (old_realm h rec at) ∙ of ∙ old_realm k other at') numbers
+        ] refl
+      ] refl
+
+  -- ---- auxiliaries
+
+  listed_new : (h : ℕ) (rec : RecAttributes) (i a : ℕ) → h ≡ g → rec_at new h ≡ Some rec → slice_get rec.auxiliaries i ≡ Some a → slice_get others i ≡ Some a
+  listed_new h rec i a same e listed = subst (λ (x : RecAttributes). slice_get x.auxiliaries i ≡ Some a) (sym (is_new h rec same e)) listed
+
+  -- what is an auxiliary already is not moved
+  aux_out : (h : ℕ) (rec : RecAttributes) (i a : ℕ) → rec_at old h ≡ Some rec → slice_get rec.auxiliaries i ≡ Some a → is_in a (g ∷ others) ≡ false
+  aux_out h rec i a at listed = false_from _ (λ there.
+      let clash : Delegated ≡ InRecAux = sym (can.delegated a there) ∙ ap (λ (x : Granule). x.state) (whole.recs.auxiliaries h rec i a at listed).is in cc)
+
+  aux_after : (h : ℕ) (rec : RecAttributes) (i a : ℕ) → rec_at new h ≡ Some rec → slice_get rec.auxiliaries i ≡ Some a
+      → IsIn new.granules a InRecAux (granule_at new.granules h).realm
+  aux_after h rec i a e listed = elim (h == g) as (λ t. (h == g) ≡ t → IsIn new.granules a InRecAux (granule_at new.granules h).realm) [
+    | true ↦ λ s.
+        let same = eqb-true h g s in
+        let there : is_in a others ≡ true = is_in_at others i a (listed_new h rec i a same e listed) in
+        record {
+          inside = subst (λ n. a < n) (sym (granule_count old whole rd g others realm can)) (can.inside a (is_in_more a g others there));
+          is = granule_aux old whole rd g others realm can a there ∙ (λ j. record { state = InRecAux; realm = sym (realm_is h same) j });
+        }
+    | false ↦ λ s.
+        let at = was_old h rec (eqb-false h g s) e in
+        let is = whole.recs.auxiliaries h rec i a at listed in
+        record {
+          inside = subst (λ n. a < n) (sym (granule_count old whole rd g others realm can)) is.inside;
+          is = granule_out old whole rd g others realm can a (aux_out h rec i a at listed) ∙ is.is ∙ (λ j. record { state = InRecAux; realm = sym (old_realm h rec at) j });
+        }
+  ] refl
+
+  aux_clash : (h k : ℕ) (rec other : RecAttributes) (i j a : ℕ) → h ≡ g → k ≢ g → rec_at new h ≡ Some rec → rec_at new k ≡ Some other
+      → slice_get rec.auxiliaries i ≡ Some a → slice_get other.auxiliaries j ≡ Some a → ⊥
+  aux_clash h k rec other i j a same differs e e' listed listed' =
+      let there : is_in a (g ∷ others) ≡ true = is_in_more a g others (is_in_at others i a (listed_new h rec i a same e listed)) in
+      let clash : true ≡ false = sym there ∙ aux_out k other j a (was_old k other differs e') listed' in cc
+
+  aux_once_after : (h k : ℕ) (rec other : RecAttributes) (i j a : ℕ) → rec_at new h ≡ Some rec → rec_at new k ≡ Some other
+      → slice_get rec.auxiliaries i ≡ Some a → slice_get other.auxiliaries j ≡ Some a → (h ≡ k) × (i ≡ j)
+  aux_once_after h k rec other i j a e e' listed listed' =
+      elim (h == g) as (λ t. (h == g) ≡ t → (h ≡ k) × (i ≡ j)) [
+        | true ↦ λ s. elim (k == g) as (λ t. (k == g) ≡ t → (h ≡ k) × (i ≡ j)) [
+          | true ↦ λ s'. (
+            eqb-true h g s ∙ sym (eqb-true k g s'),
+            can.once i j a (listed_new h rec i a (eqb-true h g s) e listed) (listed_new k other j a (eqb-true k g s') e' listed'),
+          )
+          | false ↦ λ s'. absurd (aux_clash h k rec other i j a (eqb-true h g s) (eqb-false k g s') e e' listed listed')
+        ] refl
+        | false ↦ λ s. elim (k == g) as (λ t. (k == g) ≡ t → (h ≡ k) × (i ≡ j)) [
+          | true ↦ λ s'. absurd (aux_clash k h other rec j i a (eqb-true k g s') (eqb-false h g s) e' e listed' listed)
+          | false ↦ λ s'. whole.recs.auxiliaries_once h k rec other i j a (was_old h rec (eqb-false h g s) e) (was_old k other (eqb-false k g s') e') listed listed'
+        ] refl
+      ] refl
+
+  has_after : HasRecs new
+  has_after = record { of = of_after; once = once_after; auxiliaries = aux_after; auxiliaries_once = aux_once_after }
+
+  pub whole_made : IsWhole (made old rd g others realm)
+  whole_made = record {
+    backed = backed_moved old new rd g others realm (with_rec_more realm) (moves old whole rd g others realm can) whole;
+    realm_places = (moves old whole rd g others realm can).realm_count ∙ whole.realm_places ∙ sym (granule_count old whole rd g others realm can);
+    rec_places = (moves old whole rd g others realm can).rec_count ∙ whole.rec_places ∙ sym (granule_count old whole rd g others realm can);
+    each = each_moved old new rd g others realm (with_rec_more realm) (moves old whole rd g others realm can) whole;
+    tables = tables_moved old new rd g others realm (with_rec_more realm) (moves old whole rd g others realm can) whole;
+    recs = has_after;
+  }
+
+  -- ---- the machine
+
+  -- the realm has one more REC
+  recs_made : recs_of new.granules new.recs rd ≡ insert (recs_of old.granules old.recs rd) realm.next (rec_row g (new_rec realm.next others))
+  unfolding recs_of
+  recs_made =
+      let there = rec_of-some new.granules new.recs rd g (new_rec realm.next others) (of_realm new.granules rd g g_realm) (rec_g old whole rd g others realm can) in
+      gathered-put (rec_of old.granules old.recs rd) (rec_of new.granules new.recs rd) (length new.granules) g realm.next (rec_row g (new_rec realm.next others))
+      (numbered_recs new has_after rd) (subst (λ n. g < n) (sym (granule_count old whole rd g others realm can)) (can.inside g (is_in_head g others))) there
+      (λ entry e. let clash : None ≡ Some entry = sym (rec_of-none old.granules old.recs rd g (no_rec old whole rd g others realm can g (is_in_head g others))) ∙ e in cc)
+      (λ h lt differs. rec_of_stays old new rd g others realm (with_rec_more realm) (moves old whole rd g others realm can) whole rd h differs)
+      ∙ ap (λ n. insert (gathered (rec_of old.granules old.recs rd) n) realm.next (rec_row g (new_rec realm.next others))) (granule_count old whole rd g others realm can)
+
+  -- and the other realms have none at its granule
+  elsewhere : (r : ℕ) → r ≢ rd → rec_of new.granules new.recs r g ≡ rec_of old.granules old.recs r g
+  elsewhere r differs =
+      rec_of-other new.granules new.recs r g (of_other new.granules r g rd g_realm (λ e. differs (sym e)))
+      ∙ sym (rec_of-none old.granules old.recs r g (no_rec old whole rd g others realm can g (is_in_head g others)))
+
+  abbrev row_made : RealmRow
+  row_made = realm_row (with_rec_more realm) (insert (recs_of old.granules old.recs rd) realm.next (rec_row g (new_rec realm.next others))) (rows old.pages realm.root)
+
+  pub machine_made : machine_of (made old rd g others realm)
+      ≡ machine_after_all (Put g (held InRec rd) ∷ map (λ a. Put a (held InRecAux rd)) others ++ Put rd (record (cell_of old rd) { descriptor = Some row_made }) ∷ []) (machine_of old)
+  machine_made =
+      many_put old new (granule_count old whole rd g others realm can) g rd others (held InRec rd) (held InRecAux rd) (record (cell_of old rd) { descriptor = Some row_made })
+      (can.inside g (is_in_head g others)) can.rd_inside
+      (cell_rd old new rd g others realm (with_rec_more realm) (moves old whole rd g others realm can) whole row_made
+      (λ i. realm_row (with_rec_more realm) (recs_made i) (rows old.pages realm.root)))
+      (λ h within e. zero_cell new h _ (granule_aux old whole rd g others realm can h e) (zero_after old whole rd g others realm can h (is_in_more h g others e)) (no_realm_after old whole rd g others realm can h (is_in_more h g others e)))
+      (zero_cell new g _ (granule_g old whole rd g others realm can) (zero_after old whole rd g others realm can g (is_in_head g others)) (no_realm_after old whole rd g others realm can g (is_in_head g others)))
+      (λ h within differs apart out.
+      cell_unmoved old new rd g others realm (with_rec_more realm) (moves old whole rd g others realm can) whole h differs (out_of h g others apart out) (elsewhere h differs))

@@ -1,0 +1,105 @@
+use Rattle.std.proofs.Common.{◌<◌, ℕ, length, Some, sym, ap, subst, ◌∙◌, arith}
+use Rattle.realm_model.specs.Command.Check.{error_input, error_realm}
+use Rattle.rmi_monitor.specs.Inside.{seen_as, IsWhole}
+use Rattle.rmi_monitor.proofs.Granules.{in_granules}
+use Rattle.rmi_monitor.proofs.RecOutcomes.{answers_ok, answers_err}
+use Rattle.rmi_monitor.proofs.RecMade.{new_rec}
+use Rattle.rmi_monitor.proofs.RecCreates.{inside_by, fit_by, new_by, shifted_by, rd_place, read_realm, refused_after, refuses_no_realm, refuses_unfit, refuses_active, creates, row_is, next_is, others_stand, whole_created, created, made_by, more_by}
+use Rattle.rmi_monitor.proofs.monitor.Monitor.rec_create.Goals as goal
+
+pub index_mut-requires : goal.index_mut-requires
+index_mut-requires g c =
+    let inside : c.number.result < length c.self.inside.realms.items = rd_place c.args.self.now _ c.self.view_is c.self.invariant c.args.rd c.args.rec c.args.auxiliaries.items c.requires.rd_taken c.requires.rec_taken c.requires.auxiliaries_taken c.number.result c.number.ensures.value in
+    omega (arith, inside)
+
+pub returns-in_default-clause-answer : goal.returns-in_default-clause-answer
+returns-in_default-clause-answer g c =
+    answers_err ℕ _ error_input (refuses_no_realm c.args.self.now _ c.self.view_is c.self.invariant c.args.rd c.args.rec c.args.auxiliaries.items c.requires.rd_taken c.requires.rec_taken c.requires.auxiliaries_taken
+    (read_realm c.args.self.now _ c.self.view_is c.self.invariant c.args.rd c.args.rec c.args.auxiliaries.items c.requires.rd_taken c.requires.rec_taken c.requires.auxiliaries_taken c.number.result c.index_mut.result.now c.number.ensures.value c.index_mut.ensures.value ∙ c.in_default.is))
+
+pub returns-in_default-clause-machine : goal.returns-in_default-clause-machine
+returns-in_default-clause-machine g c =
+    let read = read_realm c.args.self.now _ c.self.view_is c.self.invariant c.args.rd c.args.rec c.args.auxiliaries.items c.requires.rd_taken c.requires.rec_taken c.requires.auxiliaries_taken c.number.result c.index_mut.result.now c.number.ensures.value c.index_mut.ensures.value in
+    refused_after c.args.self.now _ c.self.view_is c.self.invariant c.args.rd c.args.rec c.args.auxiliaries.items c.requires.rd_taken c.requires.rec_taken c.requires.auxiliaries_taken c.number.result c.index_mut.result.now error_input c.number.ensures.value read
+    (refuses_no_realm c.args.self.now _ c.self.view_is c.self.invariant c.args.rd c.args.rec c.args.auxiliaries.items c.requires.rd_taken c.requires.rec_taken c.requires.auxiliaries_taken (read ∙ c.in_default.is))
+
+pub are_fit-requires-clause-first : goal.are_fit-requires-clause-first
+are_fit-requires-clause-first g c = in_granules c.args.self.now _ c.self.view_is c.self.invariant c.args.rec c.requires.rec_taken
+
+pub are_fit-requires-clause-others : goal.are_fit-requires-clause-others
+are_fit-requires-clause-others g c = inside_by c.args.self.now _ c.self.view_is c.self.invariant c.args.rd c.args.rec c.args.auxiliaries.items c.requires.rd_taken c.requires.rec_taken c.requires.auxiliaries_taken c.as_slice.result.now c.as_slice.ensures.value
+
+pub returns-then-not-are_fit-clause-answer : goal.returns-then-not-are_fit-clause-answer
+returns-then-not-are_fit-clause-answer g c =
+    let there = read_realm c.args.self.now _ c.self.view_is c.self.invariant c.args.rd c.args.rec c.args.auxiliaries.items c.requires.rd_taken c.requires.rec_taken c.requires.auxiliaries_taken c.number.result c.index_mut.result.now c.number.ensures.value c.index_mut.ensures.value ∙ c.in-Some.is in
+    let fit = fit_by c.args.self.now _ c.self.view_is c.self.invariant c.args.rd c.args.rec c.args.auxiliaries.items c.requires.rd_taken c.requires.rec_taken c.requires.auxiliaries_taken c.as_slice.result.now c.are_fit.result _ c.as_slice.ensures.value c.are_fit.ensures c.if-not-are_fit.true in
+    answers_err ℕ _ error_input (refuses_unfit c.args.self.now _ c.self.view_is c.self.invariant c.args.rd c.args.rec c.args.auxiliaries.items c.requires.rd_taken c.requires.rec_taken c.requires.auxiliaries_taken c.in-Some.realm there fit)
+
+pub returns-then-not-are_fit-clause-machine : goal.returns-then-not-are_fit-clause-machine
+returns-then-not-are_fit-clause-machine g c =
+    let there = read_realm c.args.self.now _ c.self.view_is c.self.invariant c.args.rd c.args.rec c.args.auxiliaries.items c.requires.rd_taken c.requires.rec_taken c.requires.auxiliaries_taken c.number.result c.index_mut.result.now c.number.ensures.value c.index_mut.ensures.value ∙ c.in-Some.is in
+    let fit = fit_by c.args.self.now _ c.self.view_is c.self.invariant c.args.rd c.args.rec c.args.auxiliaries.items c.requires.rd_taken c.requires.rec_taken c.requires.auxiliaries_taken c.as_slice.result.now c.are_fit.result _ c.as_slice.ensures.value c.are_fit.ensures c.if-not-are_fit.true in
+    refused_after c.args.self.now _ c.self.view_is c.self.invariant c.args.rd c.args.rec c.args.auxiliaries.items c.requires.rd_taken c.requires.rec_taken c.requires.auxiliaries_taken c.number.result (Some c.in-Some.realm) error_input c.number.ensures.value there
+    (refuses_unfit c.args.self.now _ c.self.view_is c.self.invariant c.args.rd c.args.rec c.args.auxiliaries.items c.requires.rd_taken c.requires.rec_taken c.requires.auxiliaries_taken c.in-Some.realm there fit)
+
+pub returns-then-not-is_new-clause-answer : goal.returns-then-not-is_new-clause-answer
+returns-then-not-is_new-clause-answer g c =
+    let there = read_realm c.args.self.now _ c.self.view_is c.self.invariant c.args.rd c.args.rec c.args.auxiliaries.items c.requires.rd_taken c.requires.rec_taken c.requires.auxiliaries_taken c.number.result c.index_mut.result.now c.number.ensures.value c.index_mut.ensures.value ∙ c.in-Some.is in
+    let fit = fit_by c.args.self.now _ c.self.view_is c.self.invariant c.args.rd c.args.rec c.args.auxiliaries.items c.requires.rd_taken c.requires.rec_taken c.requires.auxiliaries_taken c.as_slice.result.now c.are_fit.result _ c.as_slice.ensures.value c.are_fit.ensures c.if-not-are_fit.false in
+    let new = new_by c.args.self.now _ c.self.view_is c.self.invariant c.args.rd c.args.rec c.args.auxiliaries.items c.requires.rd_taken c.requires.rec_taken c.requires.auxiliaries_taken c.in-Some.realm there c.is_new.result _ c.is_new.ensures c.if-not-is_new.true in
+    answers_err ℕ _ error_realm (refuses_active c.args.self.now _ c.self.view_is c.self.invariant c.args.rd c.args.rec c.args.auxiliaries.items c.requires.rd_taken c.requires.rec_taken c.requires.auxiliaries_taken c.in-Some.realm there fit new)
+
+pub returns-then-not-is_new-clause-machine : goal.returns-then-not-is_new-clause-machine
+returns-then-not-is_new-clause-machine g c =
+    let there = read_realm c.args.self.now _ c.self.view_is c.self.invariant c.args.rd c.args.rec c.args.auxiliaries.items c.requires.rd_taken c.requires.rec_taken c.requires.auxiliaries_taken c.number.result c.index_mut.result.now c.number.ensures.value c.index_mut.ensures.value ∙ c.in-Some.is in
+    let fit = fit_by c.args.self.now _ c.self.view_is c.self.invariant c.args.rd c.args.rec c.args.auxiliaries.items c.requires.rd_taken c.requires.rec_taken c.requires.auxiliaries_taken c.as_slice.result.now c.are_fit.result _ c.as_slice.ensures.value c.are_fit.ensures c.if-not-are_fit.false in
+    let new = new_by c.args.self.now _ c.self.view_is c.self.invariant c.args.rd c.args.rec c.args.auxiliaries.items c.requires.rd_taken c.requires.rec_taken c.requires.auxiliaries_taken c.in-Some.realm there c.is_new.result _ c.is_new.ensures c.if-not-is_new.true in
+    refused_after c.args.self.now _ c.self.view_is c.self.invariant c.args.rd c.args.rec c.args.auxiliaries.items c.requires.rd_taken c.requires.rec_taken c.requires.auxiliaries_taken c.number.result (Some c.in-Some.realm) error_realm c.number.ensures.value there
+    (refuses_active c.args.self.now _ c.self.view_is c.self.invariant c.args.rd c.args.rec c.args.auxiliaries.items c.requires.rd_taken c.requires.rec_taken c.requires.auxiliaries_taken c.in-Some.realm there fit new)
+
+pub shift_all-requires-clause-stand : goal.shift_all-requires-clause-stand
+shift_all-requires-clause-stand g c =
+    let there = read_realm c.args.self.now _ c.self.view_is c.self.invariant c.args.rd c.args.rec c.args.auxiliaries.items c.requires.rd_taken c.requires.rec_taken c.requires.auxiliaries_taken c.number.result c.index_mut.result.now c.number.ensures.value c.index_mut.ensures.value ∙ c.in-Some.is in
+    let fit = fit_by c.args.self.now _ c.self.view_is c.self.invariant c.args.rd c.args.rec c.args.auxiliaries.items c.requires.rd_taken c.requires.rec_taken c.requires.auxiliaries_taken c.as_slice.result.now c.are_fit.result _ c.as_slice.ensures.value c.are_fit.ensures c.if-not-are_fit.false in
+    let shifted = shifted_by c.args.self.now _ c.self.view_is c.self.invariant c.args.rd c.args.rec c.args.auxiliaries.items c.requires.rd_taken c.requires.rec_taken c.requires.auxiliaries_taken c.in-Some.realm there fit c.shift.result c.shift.new.self _ c.shift.ensures.answer.1 c.shift.ensures.shifted in
+    others_stand c.args.self.now _ c.self.view_is c.self.invariant c.args.rd c.args.rec c.args.auxiliaries.items c.requires.rd_taken c.requires.rec_taken c.requires.auxiliaries_taken c.in-Some.realm there fit _ c.shift.new.self c.as_slice-2.result.now c.as_slice-2.ensures.value shifted
+
+pub next_rec-number-requires : goal.next_rec-number-requires
+next_rec-number-requires g c =
+    let there = read_realm c.args.self.now _ c.self.view_is c.self.invariant c.args.rd c.args.rec c.args.auxiliaries.items c.requires.rd_taken c.requires.rec_taken c.requires.auxiliaries_taken c.number.result c.index_mut.result.now c.number.ensures.value c.index_mut.ensures.value ∙ c.in-Some.is in
+    c.requires.numbers _ (row_is c.args.self.now _ c.self.view_is c.self.invariant c.args.rd c.args.rec c.args.auxiliaries.items c.requires.rd_taken c.requires.rec_taken c.requires.auxiliaries_taken c.in-Some.realm there)
+
+pub invariant_of-self-2 : goal.invariant_of-self-2
+invariant_of-self-2 g c =
+    let there = read_realm c.args.self.now _ c.self.view_is c.self.invariant c.args.rd c.args.rec c.args.auxiliaries.items c.requires.rd_taken c.requires.rec_taken c.requires.auxiliaries_taken c.number.result c.index_mut.result.now c.number.ensures.value c.index_mut.ensures.value ∙ c.in-Some.is in
+    let fit = fit_by c.args.self.now _ c.self.view_is c.self.invariant c.args.rd c.args.rec c.args.auxiliaries.items c.requires.rd_taken c.requires.rec_taken c.requires.auxiliaries_taken c.as_slice.result.now c.are_fit.result _ c.as_slice.ensures.value c.are_fit.ensures c.if-not-are_fit.false in
+    let shifted = shifted_by c.args.self.now _ c.self.view_is c.self.invariant c.args.rd c.args.rec c.args.auxiliaries.items c.requires.rd_taken c.requires.rec_taken c.requires.auxiliaries_taken c.in-Some.realm there fit c.shift.result c.shift.new.self _ c.shift.ensures.answer.1 c.shift.ensures.shifted in
+    subst IsWhole (sym (made_by _ c.args.rd c.args.rec c.args.auxiliaries.items c.in-Some.realm c.shift.new.self c.shift_all.new.granules c.as_slice-2.result.now c.number.result c.number-2.result c.measure.new.self c.new.result
+    shifted c.shift_all.ensures c.as_slice-2.ensures.value c.number.ensures.value c.number-2.ensures.value
+    (more_by c.in-Some.realm c.next_rec-number.new.self c.measure.new.self c.next_rec-number.result c.rec_event.result c.next_rec-number.ensures.number c.next_rec-number.ensures.raised c.rec_event.ensures c.measure.ensures)
+    (c.new.ensures ∙ ap (λ n. new_rec n c.args.auxiliaries.items) c.next_rec-number.ensures.number)))
+    (whole_created c.args.self.now _ c.self.view_is c.self.invariant c.args.rd c.args.rec c.args.auxiliaries.items c.requires.rd_taken c.requires.rec_taken c.requires.auxiliaries_taken c.in-Some.realm there fit)
+
+pub returns-clause-answer : goal.returns-clause-answer
+returns-clause-answer g c =
+    let there = read_realm c.args.self.now _ c.self.view_is c.self.invariant c.args.rd c.args.rec c.args.auxiliaries.items c.requires.rd_taken c.requires.rec_taken c.requires.auxiliaries_taken c.number.result c.index_mut.result.now c.number.ensures.value c.index_mut.ensures.value ∙ c.in-Some.is in
+    let fit = fit_by c.args.self.now _ c.self.view_is c.self.invariant c.args.rd c.args.rec c.args.auxiliaries.items c.requires.rd_taken c.requires.rec_taken c.requires.auxiliaries_taken c.as_slice.result.now c.are_fit.result _ c.as_slice.ensures.value c.are_fit.ensures c.if-not-are_fit.false in
+    let new = new_by c.args.self.now _ c.self.view_is c.self.invariant c.args.rd c.args.rec c.args.auxiliaries.items c.requires.rd_taken c.requires.rec_taken c.requires.auxiliaries_taken c.in-Some.realm there c.is_new.result _ c.is_new.ensures c.if-not-is_new.false in
+    answers_ok c.next_rec-number.result _ _ (creates c.args.self.now _ c.self.view_is c.self.invariant c.args.rd c.args.rec c.args.auxiliaries.items c.requires.rd_taken c.requires.rec_taken c.requires.auxiliaries_taken c.in-Some.realm there fit new)
+
+pub returns-clause-number : goal.returns-clause-number
+returns-clause-number g c other is =
+    let there = read_realm c.args.self.now _ c.self.view_is c.self.invariant c.args.rd c.args.rec c.args.auxiliaries.items c.requires.rd_taken c.requires.rec_taken c.requires.auxiliaries_taken c.number.result c.index_mut.result.now c.number.ensures.value c.index_mut.ensures.value ∙ c.in-Some.is in
+    c.next_rec-number.ensures.number ∙ next_is c.args.self.now _ c.self.view_is c.self.invariant c.args.rd c.args.rec c.args.auxiliaries.items c.requires.rd_taken c.requires.rec_taken c.requires.auxiliaries_taken c.in-Some.realm there other is
+
+pub returns-clause-machine : goal.returns-clause-machine
+returns-clause-machine g c =
+    let there = read_realm c.args.self.now _ c.self.view_is c.self.invariant c.args.rd c.args.rec c.args.auxiliaries.items c.requires.rd_taken c.requires.rec_taken c.requires.auxiliaries_taken c.number.result c.index_mut.result.now c.number.ensures.value c.index_mut.ensures.value ∙ c.in-Some.is in
+    let fit = fit_by c.args.self.now _ c.self.view_is c.self.invariant c.args.rd c.args.rec c.args.auxiliaries.items c.requires.rd_taken c.requires.rec_taken c.requires.auxiliaries_taken c.as_slice.result.now c.are_fit.result _ c.as_slice.ensures.value c.are_fit.ensures c.if-not-are_fit.false in
+    let new = new_by c.args.self.now _ c.self.view_is c.self.invariant c.args.rd c.args.rec c.args.auxiliaries.items c.requires.rd_taken c.requires.rec_taken c.requires.auxiliaries_taken c.in-Some.realm there c.is_new.result _ c.is_new.ensures c.if-not-is_new.false in
+    let shifted = shifted_by c.args.self.now _ c.self.view_is c.self.invariant c.args.rd c.args.rec c.args.auxiliaries.items c.requires.rd_taken c.requires.rec_taken c.requires.auxiliaries_taken c.in-Some.realm there fit c.shift.result c.shift.new.self _ c.shift.ensures.answer.1 c.shift.ensures.shifted in
+    ap seen_as (made_by _ c.args.rd c.args.rec c.args.auxiliaries.items c.in-Some.realm c.shift.new.self c.shift_all.new.granules c.as_slice-2.result.now c.number.result c.number-2.result c.measure.new.self c.new.result
+    shifted c.shift_all.ensures c.as_slice-2.ensures.value c.number.ensures.value c.number-2.ensures.value
+    (more_by c.in-Some.realm c.next_rec-number.new.self c.measure.new.self c.next_rec-number.result c.rec_event.result c.next_rec-number.ensures.number c.next_rec-number.ensures.raised c.rec_event.ensures c.measure.ensures)
+    (c.new.ensures ∙ ap (λ n. new_rec n c.args.auxiliaries.items) c.next_rec-number.ensures.number))
+    ∙ created c.args.self.now _ c.self.view_is c.self.invariant c.args.rd c.args.rec c.args.auxiliaries.items c.requires.rd_taken c.requires.rec_taken c.requires.auxiliaries_taken c.in-Some.realm there fit new
