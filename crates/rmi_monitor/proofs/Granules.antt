@@ -64,6 +64,10 @@ module _ (monitor : MonitorView) (fields : Fields) (view_is : seen_as fields ≡
     pub is_not_delegated : ((granule_at fields.granules g).state ≡ Delegated → ⊥) → is_delegated (seen_in monitor g) ≡ false
     is_not_delegated was = ap delegated_test state_is ∙ not_delegated (granule_at fields.granules g).state was
 
+    -- the bytes of an UNDELEGATED granule are those of its page
+    pub undelegated_bytes : (granule_at fields.granules g).state ≡ Undelegated → page_at fields.pages g ≡ (seen_in monitor g).cell.bytes
+    undelegated_bytes was = sym (ap (λ (c : Cell). c.bytes) (cell_is g taken.inside ∙ cell_of-host fields g (whole.each g) was refl refl))
+
     -- a command whose check fails changes nothing
     pub after_refused : (holds : Bool) (updates : List Update) → holds ≡ false → monitor ≡ after_command (check holds error_input (Ok updates)) monitor
     after_refused holds updates h =

@@ -1,10 +1,11 @@
 //! Commands on single granules.
-ghost use Rattle.std.specs.Prelude.{◌≡◌};
+ghost use Rattle.std.specs.Prelude.{◌≡◌, IfOk, slice_index};
+ghost use Rattle.realm_model.specs.Machine.{cell_at};
 ghost use Rattle.realm_model.specs.Command.Granule as command;
 ghost use Rattle.rmi_monitor.specs.View.{IsTaken, Answers, seen_in, after_command};
 
 use crate::Monitor;
-use granule_addr::Gran;
+use granule_addr::{Gran, PageOff};
 use page_arena::PageStore;
 use realm_model::{GranuleState, Rmi};
 
@@ -61,6 +62,20 @@ impl<S: PageStore> Monitor<S> {
                 self.store.fill(granule, value);
                 Ok(())
             }
+            _ => Err(Rmi::INPUT),
+        }
+    }
+
+    /// Reads a byte of an UNDELEGATED granule. This profile's own.
+    ///
+    /// RMI_ERROR_INPUT comes where it is not UNDELEGATED.
+    pub fn host_peek(&self, granule: Gran, offset: PageOff) -> Result<u8, Rmi>
+        requires { IsTaken self.now granule }
+        ensures answer { Answers result (command.host_peek (seen_in self.now granule)) }
+        ensures byte { IfOk result (λ byte. byte ≡ slice_index (cell_at self.now.machine granule).bytes offset) }
+    {
+        match self.granules.state(granule) {
+            GranuleState::Undelegated => Ok(self.store.bytes(granule)[offset.number() as usize]),
             _ => Err(Rmi::INPUT),
         }
     }

@@ -114,4 +114,69 @@ impl Bench {
     {
         self.monitor.realm_destroy(granule(rd))
     }
+
+    pub fn peek(&self, number: u16, offset: u16) -> Result<u8, Rmi>
+        requires granule { number < 8 }
+        requires offset { offset < 4096 }
+    {
+        self.monitor
+            .host_peek(granule(number), PageOff::new(offset).unwrap())
+    }
+
+    #[tactic(auto, using(crate::proofs::Kept::all_taken_after))]
+    pub fn rtt_create(&mut self, rd: u16, table: u16, ipa: u32, level: u8) -> Result<(), Rmi>
+        requires rd { rd < 8 }
+        requires table { table < 8 }
+    {
+        self.monitor
+            .rtt_create(granule(rd), granule(table), ipa, level)
+    }
+
+    #[tactic(auto, using(crate::proofs::Kept::all_taken_after))]
+    pub fn rtt_destroy(&mut self, rd: u16, ipa: u32, level: u8) -> Result<(), Rmi>
+        requires { rd < 8 }
+    {
+        self.monitor.rtt_destroy(granule(rd), ipa, level)
+    }
+
+    #[tactic(auto, using(crate::proofs::Kept::all_taken_after))]
+    pub fn ripas(&mut self, rd: u16, ipa: u32, count: u16) -> Result<(), Rmi>
+        requires { rd < 8 }
+    {
+        self.monitor.rtt_init_ripas(granule(rd), ipa, count)
+    }
+
+    #[tactic(auto, using(crate::proofs::Kept::all_taken_after))]
+    pub fn data(&mut self, rd: u16, page: u16, ipa: u32, source: u16) -> Result<(), Rmi>
+        requires rd { rd < 8 }
+        requires page { page < 8 }
+        requires source { source < 8 }
+    {
+        self.monitor
+            .data_create(granule(rd), granule(page), ipa, granule(source))
+    }
+
+    #[tactic(auto, using(crate::proofs::Kept::all_taken_after))]
+    pub fn unknown(&mut self, rd: u16, page: u16, ipa: u32) -> Result<(), Rmi>
+        requires rd { rd < 8 }
+        requires page { page < 8 }
+    {
+        self.monitor
+            .data_create_unknown(granule(rd), granule(page), ipa)
+    }
+
+    #[tactic(auto, using(crate::proofs::Kept::all_taken_after))]
+    pub fn data_destroy(&mut self, rd: u16, ipa: u32) -> Result<(), Rmi>
+        requires { rd < 8 }
+    {
+        self.monitor.data_destroy(granule(rd), ipa)
+    }
+
+    /// The measurement of a realm.
+    pub fn measurement(&self, rd: u16) -> Option<[u8; 32]>
+        requires { rd < 8 }
+    {
+        let realm = self.monitor.realm(granule(rd))?;
+        Some(*realm.measurement())
+    }
 }
