@@ -1,16 +1,20 @@
 -- What the commands keep: a taken granule is taken, and an UNDELEGATED one that is filled is UNDELEGATED.
-use Rattle.std.proofs.Common.{◌≡◌, ℕ, zero, suc, ◌+◌, ◌^◌, ◌<◌, ◌≤◌, Bool, true, false, List, [], ◌∷◌, length, set, get_or, replicate, Ok, Err, refl, sym, ap, ◌∙◌, subst, arith}
-use Rattle.std.specs.Prelude.{IsTrue, ◌↔◌}
+use Rattle.std.proofs.Common.{◌≡◌, ℕ, zero, suc, ◌+◌, ◌^◌, ◌<◌, ◌≤◌, Bool, true, false, List, [], ◌∷◌, length, set, get_or, replicate, Option, Some, None, option_map, Ok, Err, refl, sym, ap, ◌∙◌, subst, arith}
+use Rattle.std.specs.Prelude.{IsTrue, ◌↔◌, Result, option_and_then}
+use Rattle.std.specs.List.{All}
+use Rattle.std.specs.FinMap.{get}
 use Rattle.std.specs.Bool.{OnTrue}
 use Rattle.std.proofs.lemmas.List.{length-set}
 use Rattle.page_arena.specs.Block.{IsFreeBlock}
 use Rattle.page_arena.specs.Runs.{get_or-with_run_inside, length-with_run}
 use Rattle.granule_addr.specs.Page.{page_of}
-use Rattle.realm_model.specs.Machine.{Cell, Machine, blank, cell_at}
+use Rattle.realm_model.specs.Machine.{Cell, Machine, RealmRow, RecRow, Seen, blank, cell_at}
 use Rattle.realm_model.specs.Update.{Update, Put, Outcome, granule_of, machine_after, machine_after_all, machine_after_command}
 use Rattle.realm_model.specs.Command.Check.{check, error_input, is_undelegated}
 use Rattle.realm_model.specs.Command.Granule.{host_fill}
-use Rattle.rmi_monitor.specs.View.{MonitorView, IsTaken, AreAllTaken, IsGivable, after_command, with_block, fresh, seen_in}
+use Rattle.realm_model.specs.declared.rmi.Rmi.{Rmi}
+use Rattle.realm_objects.specs.Attributes.{RealmAttributes}
+use Rattle.rmi_monitor.specs.View.{MonitorView, IsTaken, AreAllTaken, IsRec, IsOnRec, rec_in, attributes_of, IsGivable, after_command, with_block, fresh, seen_in}
 use Rattle.rmi_monitor.proofs.Checks.{undelegated_test}
 
 length_after_all : (updates : List Update) (machine : Machine) → length (machine_after_all updates machine) ≡ length machine
@@ -103,3 +107,18 @@ pub all_taken_where : (monitor after : MonitorView) (order first : ℕ) (answer 
 all_taken_where monitor after order first true first_is size says is =
     all_taken_at monitor after order size (subst (IsFreeBlock monitor.free order) first_is (says.0 refl)) (is ∙ ap (with_block monitor order) first_is)
 all_taken_where monitor after order first false first_is size says is = tt
+
+-- ---- RECs
+
+-- a REC that is read is one of the machine
+pub is_rec : (machine : Machine) (rd number : ℕ) (row : RecRow) → rec_in machine rd number ≡ Some row → IsRec machine rd number row.granule
+is_rec machine rd number row e = found (cell_at machine rd).descriptor refl
+  where
+    found : (o : Option RealmRow) → (cell_at machine rd).descriptor ≡ o → IsRec machine rd number row.granule
+    found (Some realm) at = record { realm = realm; there = at; rec = row; numbered = sym (ap (option_and_then (λ (r : RealmRow). get r.recs number)) at) ∙ e; is = refl }
+    found None at = let differ : None ≡ Some row = sym (ap (option_and_then (λ (r : RealmRow). get r.recs number)) at) ∙ e in cc
+
+pub all_taken_on_rec : {A : Type 0} (command : Seen → ℕ → Outcome) (result : Result A Rmi) (monitor after : MonitorView) (rd number granule count : ℕ)
+    → IsOnRec command monitor granule result after → IsRec monitor.machine rd number granule → AreAllTaken monitor count → AreAllTaken after count
+all_taken_on_rec command result monitor after rd number granule count done is all =
+    all_taken_after (command (seen_in monitor rd) number) monitor after count (done.machine rd number is) all

@@ -4,6 +4,7 @@ ghost use Rattle.rmi_monitor.specs.View.{IsTaken, IsGivable, fresh};
 
 mod bench;
 mod realms;
+mod recs;
 mod tables;
 
 use super::*;

@@ -1,9 +1,12 @@
 //! A monitor of eight granules that are all taken, and its commands by numbers.
-ghost use Rattle.std.specs.Prelude.{◌≡◌, ◌<◌, ◌≤◌, ◌^◌, length};
+ghost use Rattle.std.specs.Prelude.{◌≡◌, ◌<◌, ◌≤◌, ◌^◌, ℕ, Some, length, IfSome};
 ghost use Rattle.std.specs.Bool.{OnTrue};
-ghost use Rattle.rmi_monitor.specs.View.{AreAllTaken};
+ghost use Rattle.std.specs.List.{All};
+ghost use Rattle.realm_model.specs.Machine.{RealmRow, cell_at};
+ghost use Rattle.rmi_monitor.specs.View.{AreAllTaken, IsRec};
 
 use crate::Monitor;
+use arrayvec::ArrayVec;
 use granule_addr::{Gran, Order, PageOff, RecNo, Vmid};
 use page_arena::{BuildError, PageStore, PlainStore};
 use realm_model::{GranuleState, Rmi};
@@ -178,5 +181,87 @@ impl Bench {
     {
         let realm = self.monitor.realm(granule(rd))?;
         Some(*realm.measurement())
+    }
+
+    // The granule of the realm's REC of that number.
+    fn named(&self, rd: u16, number: u16) -> Option<Gran>
+        requires { rd < 8 }
+        ensures { IfSome result (λ rec. IsRec self.now.machine rd number rec × (rec < 8)) }
+    {
+        match self.monitor.rec(granule(rd), RecNo::new(number)) {
+            Some(found) => Some(found.0),
+            None => None,
+        }
+    }
+
+    // Whether the realm has a number for another REC.
+    fn has_number(&self, rd: u16) -> bool
+        requires { rd < 8 }
+        ensures { OnTrue result ((realm : RealmRow) → (cell_at self.now.machine rd).descriptor ≡ Some realm → realm.next < 65535) }
+    {
+        match self.monitor.realm(granule(rd)) {
+            Some(realm) => realm.next_number().number() < 65_535,
+            None => true,
+        }
+    }
+
+    /// The number of the REC.
+    pub fn rec(&mut self, rd: u16, rec: u16, auxiliaries: ArrayVec<Gran, 16>) -> Result<u16, Rmi>
+        requires rd { rd < 8 }
+        requires rec { rec < 8 }
+        requires auxiliaries { All (λ granule. granule < 8) auxiliaries.items }
+    {
+        if !self.has_number(rd) {
+            return Err(Rmi::REC);
+        }
+        let number = self
+            .monitor
+            .rec_create(granule(rd), granule(rec), auxiliaries)?;
+        Ok(number.number())
+    }
+
+    pub fn enter(&mut self, rd: u16, number: u16) -> Result<(), Rmi>
+        requires { rd < 8 }
+    {
+        let Some(rec) = self.named(rd, number) else {
+            return Err(Rmi::INPUT);
+        };
+        self.monitor.rec_enter(rec)
+    }
+
+    pub fn exit(&mut self, rd: u16, number: u16) -> Result<(), Rmi>
+        requires { rd < 8 }
+    {
+        let Some(rec) = self.named(rd, number) else {
+            return Err(Rmi::INPUT);
+        };
+        self.monitor.rec_exit(rec)
+    }
+
+    pub fn rec_destroy(&mut self, rd: u16, number: u16) -> Result<(), Rmi>
+        requires { rd < 8 }
+    {
+        let Some(rec) = self.named(rd, number) else {
+            return Err(Rmi::INPUT);
+        };
+        self.monitor.rec_destroy(rec)
+    }
+
+    pub fn write(
+        &mut self,
+        rd: u16,
+        number: u16,
+        ipa: u32,
+        offset: u16,
+        value: u8,
+    ) -> Result<(), Rmi>
+        requires rd { rd < 8 }
+        requires offset { offset < 4096 }
+    {
+        let Some(rec) = self.named(rd, number) else {
+            return Err(Rmi::INPUT);
+        };
+        self.monitor
+            .guest_write(rec, ipa, PageOff::new(offset).unwrap(), value)
     }
 }
