@@ -108,7 +108,7 @@ impl RealmDesc {
         &self.measurement
     }
 
-    /// The realm is ACTIVE from now on. RMM 1.0, RMI_REALM_ACTIVATE.
+    /// The realm is ACTIVE from now on. That it is NEW is for the caller to check. RMM 1.0, RMI_REALM_ACTIVATE.
     pub fn activate(&mut self)
         ensures { self.new ≡ record self.old { state = Active } }
     {

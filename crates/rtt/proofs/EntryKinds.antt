@@ -3,7 +3,7 @@ use Rattle.std.proofs.Common.{◌≡◌, ℕ, true, false, Option, Some, None, r
 use Rattle.realm_model.specs.declared.states.Hipas.{Hipas}
 use Rattle.realm_model.specs.declared.states.Hipas.TheVariants.{Unassigned, Assigned, Table}
 use Rattle.realm_model.specs.declared.states.Ripas.TheVariants.{Ram}
-use Rattle.realm_model.specs.Rows.{Row, is_unassigned, is_assigned, is_table, unassigned, as_ram}
+use Rattle.realm_model.specs.Rows.{Row, is_unassigned, is_table, unassigned, as_ram}
 use Rattle.rtt.specs.Tables.{table_of, data_of}
 
 -- no table, where the entry is not TABLE
@@ -30,9 +30,6 @@ unassigned_kind row e = by_kind row.hipas e
     by_kind Assigned e = cc
     by_kind Table e = cc
 
-pub is_unassigned-kind : (row : Row) → row.hipas ≡ Unassigned → is_unassigned row ≡ true
-is_unassigned-kind row e = ap (λ (h : Hipas). elim h [ Unassigned ↦ true | Assigned ↦ false | Table ↦ false ]) e
-
 -- the granule of an entry of a kind
 pub table_of-table : (row : Row) → is_table row ≡ true → table_of row ≡ row.granule
 table_of-table row e = by_kind row.hipas e
@@ -42,21 +39,6 @@ table_of-table row e = by_kind row.hipas e
     by_kind Assigned e = cc
     by_kind Table e = refl
 
-pub data_of-assigned : (row : Row) → is_assigned row ≡ true → data_of row ≡ row.granule
-data_of-assigned row e = by_kind row.hipas e
-  where
-    by_kind : (h : Hipas) → elim h [ Unassigned ↦ false | Assigned ↦ true | Table ↦ false ] ≡ true → ◌≡◌ {A = Option ℕ} (elim h [ Unassigned ↦ None | Assigned ↦ row.granule | Table ↦ None ]) row.granule
-    by_kind Unassigned e = cc
-    by_kind Assigned e = refl
-    by_kind Table e = cc
-
 -- an UNASSIGNED entry that becomes RAM
 pub as_ram-unassigned : (row : Row) → row.hipas ≡ Unassigned → row.granule ≡ None → as_ram (Some row) ≡ unassigned Ram
 as_ram-unassigned row kind none = λ i. record { hipas = kind i; ripas = Ram; granule = none i }
-
--- entries that differ in their RIPAS alone lead to the same
-pub table_of-same : (row other : Row) → row.hipas ≡ other.hipas → row.granule ≡ other.granule → table_of row ≡ table_of other
-table_of-same row other kind granule = λ i. table_of (record { hipas = kind i; ripas = Ram; granule = granule i })
-
-pub data_of-same : (row other : Row) → row.hipas ≡ other.hipas → row.granule ≡ other.granule → data_of row ≡ data_of other
-data_of-same row other kind granule = λ i. data_of (record { hipas = kind i; ripas = Ram; granule = granule i })

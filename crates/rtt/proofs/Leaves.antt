@@ -95,14 +95,3 @@ module _ (entries new : Entries) (granules : List Granule) (rd root ipa table : 
       (own.«data» l i other there is))
       (λ other is. absurd (nothing other is))
       (λ l i other is _ _ _. absurd (nothing other is))
-
-  -- The entry leads where it led.
-  pub leaf_same : data_of entry ≡ data_of old_entry → HasGranules new granules rd root
-  leaf_same same =
-      written granules
-      (λ granule is. is)
-      (λ l i other there is _. own.«data» l i other there is)
-      (λ other is. own.«data» 3 ipa other inside (own_data other (sym same ∙ is)))
-      (λ l i other is there was_at out.
-      let both = own.data_once l i 3 ipa other there inside was_at (own_data other (sym same ∙ is)) in
-      out both.0 (ap (λ (k : ℕ). i / covered_count k) (sym both.0) ∙ both.1))

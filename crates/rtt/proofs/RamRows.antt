@@ -15,7 +15,7 @@ use Rattle.rtt.proofs.EntryKinds.{unassigned_kind, table_of-unassigned, data_of-
 use Rattle.rtt.specs.PlaceLaws.{option_cases, index_below, place_facts, inside_place, is_place_from}
 use Rattle.rtt.proofs.TableAt.{table_at-same, entry_at-some}
 use Rattle.rtt.proofs.RowsIn.{get-rows_in, rows_in-from, row_in-place, row_in-none}
-use Rattle.rtt.proofs.RowRuns.{get-put_rows_at, get-put_rows_beside, all_rows_each, all_rows_true, all_rows_false}
+use Rattle.rtt.proofs.RowRuns.{get-put_rows_at, get-put_rows_beside, all_rows_each, all_rows_true}
 use Rattle.rtt.specs.FrameLaws.{same_table_at, HasGranules-same}
 
 module _ (entries : Entries) (root ipa table count : ℕ) (below : ipa < 2 ^ 27) (at : table_at entries root 3 ipa ≡ Some table) (fits : entry_index 3 ipa + count ≤ 512) where
@@ -52,9 +52,6 @@ module _ (entries : Entries) (root ipa table count : ℕ) (below : ipa < 2 ^ 27)
 
   pub page_unassigned : all_rows is_unassigned (rows_in entries root) 3 ipa count ≡ true → (k : ℕ) → k < count → is_unassigned (entries table (start + k)) ≡ true
   page_unassigned all = all_rows_each is_unassigned (rows_in entries root) 3 ipa count (λ k. entries table (start + k)) page_row all
-
-  pub page_in_use : (k : ℕ) → k < count → is_unassigned (entries table (start + k)) ≡ false → all_rows is_unassigned (rows_in entries root) 3 ipa count ≡ false
-  page_in_use = all_rows_false is_unassigned (rows_in entries root) 3 ipa count (λ k. entries table (start + k)) page_row
 
   module _ (new : Entries) (granules : List Granule) (rd : ℕ)
       (own : HasGranules entries granules rd root)

@@ -16,7 +16,7 @@ use Rattle.rtt.specs.Realm.{IsInside, HasGranules, served_count}
 use Rattle.rtt.specs.PlaceLaws.{index_below, place_facts, is_place_from}
 use Rattle.rtt.proofs.TableAt.{table_at-root, entry_at-some}
 use Rattle.rtt.proofs.RowsIn.{get-rows_in, rows_in-from, row_in-place, row_in-none}
-use Rattle.rtt.proofs.RowRuns.{get-put_rows_at, get-put_rows_beside, all_rows_each, all_rows_true, all_rows_false, all_rows_fails}
+use Rattle.rtt.proofs.RowRuns.{get-put_rows_at, get-put_rows_beside, all_rows_each, all_rows_fails}
 
 -- the places of the root
 root_place : (k : ℕ) → k < 512 → is_place 1 (0 + k * 262144) ≡ true
@@ -114,13 +114,6 @@ module _ (entries : Entries) (root : ℕ) where
 
   abbrev no_table : Row → Bool
   no_table row = not (is_table row)
-
-  -- There is a table below the root exactly where an entry of the root is TABLE.
-  pub has_root_table-true : (index : ℕ) → index < 512 → is_table (entries root index) ≡ true → has_root_table (rows_in entries root) ≡ true
-  has_root_table-true index few is = ap not (all_rows_false no_table (rows_in entries root) 1 0 512 (entries root) root_row index few (ap not is))
-
-  pub has_root_table-false : ((index : ℕ) → index < 512 → is_table (entries root index) ≡ false) → has_root_table (rows_in entries root) ≡ false
-  has_root_table-false none = ap not (all_rows_true no_table (rows_in entries root) 1 0 512 (entries root) root_row (λ k few. ap not (none k few)))
 
   pub no_root_table : has_root_table (rows_in entries root) ≡ false → (index : ℕ) → index < 512 → is_table (entries root index) ≡ false
   no_root_table none index few = not_true _ (all_rows_each no_table (rows_in entries root) 1 0 512 (entries root) root_row (not_false _ none) index few)

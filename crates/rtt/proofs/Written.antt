@@ -73,9 +73,6 @@ module _ (pages new_pages : List (List ℕ)) (table first count : ℕ) (row : Ro
   pub entry_filled : (index : ℕ) → first ≤ index → index < first + count → entries_of new_pages table index ≡ row
   entry_filled index low high = entry_read new_pages table index row is (written index low high)
 
-  pub exact_filled : (index : ℕ) → first ≤ index → index < first + count → IsExact new_pages table index
-  exact_filled index low high = exact_read new_pages table index row is (written index low high)
-
   -- any other word
   pub word_unfilled : (granule index : ℕ) → index < 512 → ((granule ≡ table) × (first ≤ index) × (index < first + count) → ⊥) → word_at new_pages granule index ≡ word_at pages granule index
   word_unfilled granule index few apart =

@@ -8,7 +8,8 @@ use granule_addr::{Gran, MOST_PAGES};
 use realm_model::{Hipas, Ripas};
 use std::marker::Model;
 
-/// An entry of a translation table. RMM 1.0, RTT entry.
+/// An entry of a translation table: UNASSIGNED ones lead to nothing, ASSIGNED ones to a page of data, TABLE ones to a table,
+/// and these have no RIPAS of their own. RMM 1.0, RTT entry.
 #[derive(Clone, Copy, Debug, PartialEq, Eq)]
 pub struct Entry {
     pub hipas: Hipas,
@@ -105,7 +106,7 @@ impl Entry {
         }
     }
 
-    /// The word of the entry.
+    /// The word of the entry: bits 0 and 1 are its kind, 2 and 3 its RIPAS, 12 to 47 the address of its granule.
     pub fn to_word(self) -> u64
         ensures { result ≡ entry_word self }
     {

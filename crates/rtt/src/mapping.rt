@@ -18,10 +18,11 @@ use page_arena::PageStore;
 use realm_model::{GranuleState, Ripas};
 
 impl Tables {
-    /// Maps a DELEGATED granule at an IPA granule, as a page of data. Its bytes stay.
+    /// Maps a DELEGATED granule at an IPA granule, as a page of data. Its bytes stay, and the entry gets `ripas`.
     ///
-    /// RMM 1.0, RMI_DATA_CREATE. RMI_ERROR_RTT comes with the level where the walk ended, unless that is 3 and the entry
-    /// there is UNASSIGNED. A refusal changes nothing.
+    /// RMM 1.0, RMI_DATA_CREATE, where that is RAM, and RMI_DATA_CREATE_UNKNOWN, where it is what the entry had.
+    /// RMI_ERROR_RTT comes with the level where the walk ended, unless that is 3 and the entry there is UNASSIGNED. A
+    /// refusal changes nothing.
     pub fn map<S: PageStore>(
         &self,
         store: &mut S,

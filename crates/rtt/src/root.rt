@@ -43,7 +43,7 @@ impl Tables {
     /// Clears the root table of a realm that goes: it is DELEGATED from now on. `false`, with nothing changed, comes
     /// exactly where an entry of it is TABLE.
     ///
-    /// RMM 1.0, RMI_REALM_DESTROY.
+    /// RMM 1.0, RMI_REALM_DESTROY, which answers RMI_ERROR_REALM then.
     pub fn close_root<S: PageStore>(&self, store: &mut S, granules: &mut GranuleTable) -> bool
         requires backed { IsBacked (S.page_bytes store.old) (S.free_flags store.old) granules.old }
         requires tables { HasTables (S.page_bytes store.old) granules.old self.now.rd self.now.root }

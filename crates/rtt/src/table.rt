@@ -19,7 +19,7 @@ use realm_model::{GranuleState, Ripas};
 
 impl Tables {
     /// Makes a DELEGATED granule the table of a level that serves an IPA granule: its entries are UNASSIGNED, and have
-    /// the RIPAS of the entry above.
+    /// the RIPAS of the entry above. The level is 2 or 3, and `ipa` the first IPA granule that the table serves.
     ///
     /// RMM 1.0, RMI_RTT_CREATE. RMI_ERROR_RTT comes with the level where the walk ended, unless that is the level above
     /// and the entry there is not TABLE. A refusal changes nothing.

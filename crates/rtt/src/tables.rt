@@ -16,7 +16,9 @@ use page_arena::PageStore;
 /// The tables of a realm: its RD, and its root table. Nothing is kept beside their pages.
 #[derive(Clone, Copy, Debug, PartialEq, Eq)]
 pub struct Tables {
+    /// The granule of the realm's RD.
     pub rd: Gran,
+    /// The granule of the table of level 1.
     pub root: Gran,
 }
 
@@ -29,7 +31,7 @@ pub struct Place {
 }
 
 impl Tables {
-    /// Where the walk of an IPA granule towards a level ends.
+    /// Where the walk of an IPA granule towards a level ends: at the first entry on the way that is not TABLE, or at that level.
     pub fn walk<S: PageStore>(
         &self,
         store: &S,
