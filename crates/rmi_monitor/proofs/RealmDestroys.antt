@@ -126,15 +126,17 @@ module _ (old : Fields) (whole : IsWhole old) (rd : ℕ) (realm : RealmAttribute
   }
 
   not_realm : (wanted : GranuleState) → is_realm_state wanted ≡ false → (g : ℕ) → (granule_at old.granules g).state ≡ wanted → (g ≢ rd) × (g ≢ root)
-  not_realm wanted other g at =
-      (λ e. let differ : true ≡ false = ap is_realm_state (sym rd_was ∙ ap (λ k. (granule_at old.granules k).state) (sym e) ∙ at) ∙ other in cc,
-      λ e. let differ : true ≡ false = ap is_realm_state (sym root_was ∙ ap (λ k. (granule_at old.granules k).state) (sym e) ∙ at) ∙ other in cc)
+  not_realm wanted other g at = (
+    λ e. let differ : true ≡ false = ap is_realm_state (sym rd_was ∙ ap (λ k. (granule_at old.granules k).state) (sym e) ∙ at) ∙ other in cc,
+    λ e. let differ : true ≡ false = ap is_realm_state (sym root_was ∙ ap (λ k. (granule_at old.granules k).state) (sym e) ∙ at) ∙ other in cc,
+  )
 
   -- another realm's table is neither
   not_own : (g h : ℕ) → g ≢ rd → IsIn old.granules h InRtt (Some g) → (h ≢ rd) × (h ≢ root)
-  not_own g h differs is =
-      (λ e. let differ : InRd ≡ InRtt = sym rd_was ∙ ap (λ k. (granule_at old.granules k).state) (sym e) ∙ ap (λ (x : Granule). x.state) is.is in cc,
-      λ e. differs (some_same g rd (sym (ap (λ (x : Granule). x.realm) is.is) ∙ ap (λ k. (granule_at old.granules k).realm) e ∙ ap (λ (x : Granule). x.realm) root_in.is)))
+  not_own g h differs is = (
+    λ e. let differ : InRd ≡ InRtt = sym rd_was ∙ ap (λ k. (granule_at old.granules k).state) (sym e) ∙ ap (λ (x : Granule). x.state) is.is in cc,
+    λ e. differs (some_same g rd (sym (ap (λ (x : Granule). x.realm) is.is) ∙ ap (λ k. (granule_at old.granules k).realm) e ∙ ap (λ (x : Granule). x.realm) root_in.is)),
+  )
     where
       some_same : (a b : ℕ) → ◌≡◌ {A = Option ℕ} (Some a) (Some b) → a ≡ b
       some_same a b e = ap (λ o. elim o [ Some z ↦ z | None ↦ a ]) e

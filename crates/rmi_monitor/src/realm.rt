@@ -21,9 +21,7 @@ use rtt::Tables;
 fn is_used(realms: &[Option<RealmDesc>], vmid: Vmid) -> bool
     ensures { result ≡ list_any (is_realm_with vmid) realms.now }
 {
-    realms
-        .iter()
-        .any(|place| matches!(place, Some(realm) if realm.vmid() == vmid))
+    realms.iter().any(|place| matches!(place, Some(realm) if realm.vmid() == vmid))
 }
 
 // Whether two granules and a VMID can be those of a new realm.

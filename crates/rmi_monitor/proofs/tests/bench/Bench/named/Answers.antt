@@ -7,8 +7,8 @@ use Rattle.rmi_monitor.proofs.tests.bench.Bench.named.Goals as goal
 pub returns-in-Some : goal.returns-in-Some
 returns-in-Some c = (
   subst (λ (m : MonitorView). IsRec m.machine c.args.rd c.args.number c.in-Some.found.0) c.self.view_is
-  (subst (λ n. IsRec c.self.inside.monitor.machine n c.args.number c.in-Some.found.0) c.granule.ensures
-  (is_rec c.self.inside.monitor.machine c.granule.result c.args.number (rec_row c.in-Some.found.0 c.in-Some.found.1.now)
-  (sym (ap (rec_in c.self.inside.monitor.machine c.granule.result) c.new.ensures) ∙ sym c.in-Some.ensures.value))),
+      (subst (λ n. IsRec c.self.inside.monitor.machine n c.args.number c.in-Some.found.0) c.granule.ensures
+      (is_rec c.self.inside.monitor.machine c.granule.result c.args.number (rec_row c.in-Some.found.0 c.in-Some.found.1.now)
+      (sym (ap (rec_in c.self.inside.monitor.machine c.granule.result) c.new.ensures) ∙ sym c.in-Some.ensures.value))),
   subst (λ n. c.in-Some.found.0 < n) c.self.invariant.size c.in-Some.ensures.inside,
 )
