@@ -10,9 +10,9 @@ use Rattle.rtt.specs.Tables.{rows}
 use Rattle.rtt.specs.Realm.{LeavesOthers}
 use Rattle.rmi_monitor.specs.View.{MonitorView, IsTaken, seen_in, after_command}
 use Rattle.rmi_monitor.specs.Inside.{Fields, realm_at, recs_of, cell_of, machine_of, seen_as, IsWhole}
-use Rattle.rmi_monitor.proofs.Granules.{cell_is, machine_is}
+use Rattle.rmi_monitor.proofs.Granules.{cell_is, machine_is, after_done}
 use Rattle.rmi_monitor.proofs.TableMoves.{whole_still, machine_still, with_row_of}
-use Rattle.rmi_monitor.proofs.Answered.{after_done, with_no_realm, with_that_realm}
+use Rattle.rmi_monitor.proofs.RealmFound.{row_of, nowhere, somewhere}
 
 -- the fields with other attributes of a realm
 abbrev pub with_realm_at : Fields → ℕ → RealmAttributes → Fields
@@ -23,11 +23,11 @@ module _ (monitor : MonitorView) (fields : Fields) (view_is : seen_as fields ≡
   outcome = realm_activate (seen_in monitor rd)
 
   pub activate_none : realm_at fields rd ≡ None → outcome ≡ Err error_input
-  activate_none none = with_no_realm monitor fields view_is whole rd taken none _
+  activate_none none = nowhere monitor fields view_is whole rd taken.inside none _
 
   module _ (realm : RealmAttributes) (there : realm_at fields rd ≡ Some realm) where
     abbrev row : RealmRow
-    row = realm_row realm (recs_of fields.granules fields.recs rd) (rows fields.pages realm.root)
+    row = row_of fields rd realm
 
     abbrev active : RealmAttributes
     active = record realm { state = Active }
@@ -36,7 +36,7 @@ module _ (monitor : MonitorView) (fields : Fields) (view_is : seen_as fields ≡
     update = put_realm (seen_in monitor rd) (record row { state = Active })
 
     checked : (b : Bool) → is_new row ≡ b → outcome ≡ check b error_realm (Ok (update ∷ []))
-    checked b e = with_that_realm monitor fields view_is whole rd taken realm there _ ∙ ap (λ t. check t error_realm (Ok (update ∷ []))) e
+    checked b e = somewhere monitor fields view_is whole rd realm there _ ∙ ap (λ t. check t error_realm (Ok (update ∷ []))) e
 
     pub activate_late : is_new row ≡ false → outcome ≡ Err error_realm
     unfolding check

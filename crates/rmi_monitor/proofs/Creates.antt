@@ -4,7 +4,7 @@ use Rattle.std.specs.Prelude.{◌==◌, ◌&&◌, ◌↔◌, IsTrue, not, nat_le
 use Rattle.std.specs.Bool.{OnTrue}
 use Rattle.std.specs.List.{list_any}
 use Rattle.std.specs.FinMap.{empty}
-use Rattle.std.proofs.lemmas.Bool.{eqb-true, eqb-false}
+use Rattle.std.proofs.lemmas.Bool.{eqb-true, eqb-false, and_parts}
 use Rattle.granule_table.specs.Granules.{granule_at, IsIn}
 use Rattle.granule_table.specs.declared.granule.Granule.{Granule}
 use Rattle.page_arena.specs.Page.{page_at}
@@ -24,27 +24,11 @@ use Rattle.rtt.specs.Calls.{with_state}
 use Rattle.rmi_monitor.specs.View.{MonitorView, IsTaken, seen_in, after_command, create_realm}
 use Rattle.rmi_monitor.specs.Inside.{Fields, machine_of, seen_as, IsWhole}
 use Rattle.rmi_monitor.specs.Places.{is_delegated_at, is_realm_with, are_fit_for_realm}
-use Rattle.rmi_monitor.proofs.Granules.{machine_is, in_granules, state_is}
-use Rattle.rmi_monitor.proofs.Checks.{delegated_test}
+use Rattle.rmi_monitor.proofs.Granules.{machine_is, in_granules, state_is, after_done, seen_delegated}
+use Rattle.rmi_monitor.proofs.Checks.{delegated_test, delegated_state}
 use Rattle.rmi_monitor.proofs.UsedVmids.{used_vmids}
-use Rattle.rmi_monitor.proofs.Answered.{after_done}
 use Rattle.rmi_monitor.proofs.RealmCreates.{root_delegated, backed_with_rd, whole_created, machine_created}
-
-delegated_from : (state : GranuleState) → delegated_test state ≡ true → state ≡ Delegated
-delegated_from Delegated h = refl
-delegated_from _ h = cc
-
-and_left : (a b : Bool) → (a && b) ≡ true → a ≡ true
-and_left true b h = refl
-and_left false b h = h
-
-and_right : (a b : Bool) → (a && b) ≡ true → b ≡ true
-and_right true b h = h
-and_right false b h = cc
-
-not_one : (b : Bool) → not b ≡ true → b ≡ false
-not_one true h = cc
-not_one false h = refl
+use Rattle.realm_model.proofs.Booleans.{not_true}
 
 module _ (monitor : MonitorView) (fields : Fields) (view_is : seen_as fields ≡ monitor) (whole : IsWhole fields)
     (rd root vmid : ℕ) (rd_taken : IsTaken monitor rd) (root_taken : IsTaken monitor root) where
@@ -57,13 +41,10 @@ module _ (monitor : MonitorView) (fields : Fields) (view_is : seen_as fields ≡
   abbrev updates : List Update
   updates = Put rd rd_cell ∷ Put root (held InRtt rd) ∷ []
 
-  delegated_seen : (g : ℕ) → IsTaken monitor g → is_delegated (seen_in monitor g) ≡ is_delegated_at fields.granules g
-  delegated_seen g taken = ap delegated_test (state_is monitor fields view_is whole g taken)
-
   fit_seen : (is_delegated (seen_in monitor rd) && is_delegated (seen_in monitor root) && not (rd == root) && nat_le 1 vmid && nat_le vmid monitor.vmids)
       ≡ are_fit_for_realm fields.granules rd root vmid fields.vmids
   fit_seen =
-      (λ i. delegated_seen rd rd_taken i && delegated_seen root root_taken i && not (rd == root) && nat_le 1 vmid && nat_le vmid ((ap (λ (m : MonitorView). m.vmids) (sym view_is)) i))
+      (λ i. seen_delegated monitor fields view_is whole rd rd_taken i && seen_delegated monitor fields view_is whole root root_taken i && not (rd == root) && nat_le 1 vmid && nat_le vmid ((ap (λ (m : MonitorView). m.vmids) (sym view_is)) i))
 
   used_seen : list_any (has_vmid vmid) monitor.machine ≡ list_any (is_realm_with vmid) fields.realms
   used_seen = ap (list_any (has_vmid vmid)) (sym (machine_is monitor fields view_is whole)) ∙ used_vmids fields whole vmid
@@ -91,19 +72,19 @@ module _ (monitor : MonitorView) (fields : Fields) (view_is : seen_as fields ≡
       both = is_delegated_at fields.granules rd && is_delegated_at fields.granules root
 
       two : (both && not (rd == root)) ≡ true
-      two = and_left (both && not (rd == root)) (nat_le 1 vmid) (and_left (both && not (rd == root) && nat_le 1 vmid) (nat_le vmid fields.vmids) fit)
+      two = (and_parts (both && not (rd == root)) (nat_le 1 vmid) (and_parts (both && not (rd == root) && nat_le 1 vmid) (nat_le vmid fields.vmids) fit).0).0
 
       each : both ≡ true
-      each = and_left both (not (rd == root)) two
+      each = (and_parts both (not (rd == root)) two).0
 
       rd_was : (granule_at fields.granules rd).state ≡ Delegated
-      rd_was = delegated_from (granule_at fields.granules rd).state (and_left (is_delegated_at fields.granules rd) (is_delegated_at fields.granules root) each)
+      rd_was = delegated_state (granule_at fields.granules rd).state ((and_parts (is_delegated_at fields.granules rd) (is_delegated_at fields.granules root) each).0)
 
       root_was : (granule_at fields.granules root).state ≡ Delegated
-      root_was = delegated_from (granule_at fields.granules root).state (and_right (is_delegated_at fields.granules rd) (is_delegated_at fields.granules root) each)
+      root_was = delegated_state (granule_at fields.granules root).state ((and_parts (is_delegated_at fields.granules rd) (is_delegated_at fields.granules root) each).1)
 
       apart : rd ≢ root
-      apart = eqb-false rd root (not_one (rd == root) (and_right both (not (rd == root)) two))
+      apart = eqb-false rd root (not_true (rd == root) ((and_parts both (not (rd == root)) two).1))
 
       rd_inside : rd < length fields.granules
       rd_inside = in_granules monitor fields view_is whole rd rd_taken

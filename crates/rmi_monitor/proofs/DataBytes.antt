@@ -14,8 +14,7 @@ use Rattle.rmi_monitor.specs.View.{MonitorView, after_command}
 use Rattle.rmi_monitor.specs.Inside.{Fields, descriptor_of, bytes_of, cell_of, machine_of, seen_as, IsWhole}
 use Rattle.rmi_monitor.proofs.Machines.{one_put, cell_stays, descriptor_stays}
 use Rattle.rmi_monitor.proofs.Frames.{StayRecs, recs_of_stay, HasRecs_stay}
-use Rattle.rmi_monitor.proofs.Granules.{machine_is, cell_is, after_by}
-use Rattle.rmi_monitor.proofs.RecFound.{in_machine}
+use Rattle.rmi_monitor.proofs.Granules.{machine_is, cell_is, after_by, in_machine}
 
 abbrev pub with_pages : Fields → List (List ℕ) → Fields
 with_pages fields pages = record fields { pages = pages }

@@ -23,11 +23,12 @@ use Rattle.rmi_monitor.specs.View.{MonitorView, IsTaken, seen_in, after_command}
 use Rattle.rmi_monitor.specs.Inside.{Fields, realm_at, bytes_of, seen_as, IsWhole}
 use Rattle.rmi_monitor.specs.Places.{is_delegated_at, is_undelegated_at}
 use Rattle.rmi_monitor.proofs.Checks.{delegated_test, delegated_state, undelegated_test, undelegated_state}
-use Rattle.rmi_monitor.proofs.Granules.{in_granules, state_is, cell_is}
+use Rattle.rmi_monitor.proofs.Granules.{in_granules, state_is, cell_is, seen_delegated, seen_undelegated}
 use Rattle.rmi_monitor.proofs.Outcomes.{check_false}
-use Rattle.rmi_monitor.proofs.RowRefusals.{PassesAt, row_found, row_refused, row_passed}
-use Rattle.rmi_monitor.proofs.RealmRows.{no_realm, realm_decides, row_there, with_call}
 use Rattle.rmi_monitor.proofs.DataMaps.{Mapped, no_table, rows_kept, page_written, mapped_written, mapped_whole, mapped_seen}
+use Rattle.rmi_monitor.proofs.Refusals.{Passes, passes_from, row_refused, row_passes}
+use Rattle.rmi_monitor.proofs.RealmCommands.{with_call}
+use Rattle.rmi_monitor.proofs.RealmFound.{row_of, nowhere, somewhere}
 
 module _ (monitor : MonitorView) (fields : Fields) (view_is : seen_as fields ≡ monitor) (whole : IsWhole fields) (rd : ℕ) (taken : IsTaken monitor rd)
     (g : ℕ) (page_taken : IsTaken monitor g) (source : ℕ) (source_taken : IsTaken monitor source) (ipa : ℕ) where
@@ -35,20 +36,14 @@ module _ (monitor : MonitorView) (fields : Fields) (view_is : seen_as fields ≡
   outcome = data_create (seen_in monitor rd) (seen_in monitor g) ipa (seen_in monitor source)
 
   pub create_no_realm : realm_at fields rd ≡ None → outcome ≡ Err error_input
-  create_no_realm none = no_realm monitor fields view_is whole rd taken none _
-
-  delegated_is : is_delegated (seen_in monitor g) ≡ is_delegated_at fields.granules g
-  delegated_is = ap delegated_test (state_is monitor fields view_is whole g page_taken)
-
-  undelegated_is : is_undelegated (seen_in monitor source) ≡ is_undelegated_at fields.granules source
-  undelegated_is = ap undelegated_test (state_is monitor fields view_is whole source source_taken)
+  create_no_realm none = nowhere monitor fields view_is whole rd taken.inside none _
 
   abbrev inputs : Bool
   inputs = is_delegated (seen_in monitor g) && is_undelegated (seen_in monitor source) && is_protected ipa
 
   module _ (realm : RealmAttributes) (there : realm_at fields rd ≡ Some realm) where
     abbrev row : RealmRow
-    row = row_there monitor fields view_is whole rd taken realm there
+    row = row_of fields rd realm
 
     abbrev on_row : RealmRow → Row → Outcome
     on_row d r =
@@ -58,23 +53,23 @@ module _ (monitor : MonitorView) (fields : Fields) (view_is : seen_as fields ≡
         }) ∷ [])
 
     refused_input : inputs ≡ false → outcome ≡ Err error_input
-    refused_input h = realm_decides monitor fields view_is whole rd taken realm there _ ∙ check_false inputs error_input _ h
+    refused_input h = somewhere monitor fields view_is whole rd realm there _ ∙ check_false inputs error_input _ h
 
     pub create_unprotected : is_protected ipa ≡ false → outcome ≡ Err error_input
     create_unprotected h = refused_input (and_right _ _ h)
 
     pub create_not_delegated : is_delegated_at fields.granules g ≡ false → outcome ≡ Err error_input
-    create_not_delegated h = refused_input (ap (λ t. t && is_undelegated (seen_in monitor source) && is_protected ipa) (delegated_is ∙ h))
+    create_not_delegated h = refused_input (ap (λ t. t && is_undelegated (seen_in monitor source) && is_protected ipa) (seen_delegated monitor fields view_is whole g page_taken ∙ h))
 
     pub create_not_undelegated : is_undelegated_at fields.granules source ≡ false → outcome ≡ Err error_input
     create_not_undelegated h =
-        refused_input (ap (λ t. t && is_protected ipa) (and_right (is_delegated (seen_in monitor g)) (is_undelegated (seen_in monitor source)) (undelegated_is ∙ h)))
+        refused_input (ap (λ t. t && is_protected ipa) (and_right (is_delegated (seen_in monitor g)) (is_undelegated (seen_in monitor source)) (seen_undelegated monitor fields view_is whole source source_taken ∙ h)))
 
     module _ (protected : is_protected ipa ≡ true) (delegated : is_delegated_at fields.granules g ≡ true) (undelegated : is_undelegated_at fields.granules source ≡ true) where
       passed : outcome ≡ check (is_new row) error_realm (with_row row.rows ipa 3 (λ r. check (is_unassigned r) (error_rtt 3) (on_row row r)))
       passed =
-          realm_decides monitor fields view_is whole rd taken realm there _
-          ∙ check_true inputs error_input _ (and_from _ _ (and_from _ _ (delegated_is ∙ delegated) (undelegated_is ∙ undelegated)) protected)
+          somewhere monitor fields view_is whole rd realm there _
+          ∙ check_true inputs error_input _ (and_from _ _ (and_from _ _ (seen_delegated monitor fields view_is whole g page_taken ∙ delegated) (seen_undelegated monitor fields view_is whole source source_taken ∙ undelegated)) protected)
 
       pub create_not_new : is_new row ≡ false → outcome ≡ Err error_realm
       create_not_new h = passed ∙ check_false (is_new row) error_realm _ h
@@ -87,11 +82,11 @@ module _ (monitor : MonitorView) (fields : Fields) (view_is : seen_as fields ≡
         create_refused l e = decided ∙ row_refused row.rows ipa 3 is_unassigned (on_row row) l e
 
         module _ (accepted : map_refusal (rows fields.pages realm.root) ipa ≡ None) where
-          found : PassesAt row.rows ipa 3 is_unassigned
-          found = row_found row.rows ipa 3 is_unassigned accepted
+          found : Passes row.rows ipa 3 is_unassigned
+          found = passes_from row.rows ipa 3 is_unassigned accepted
 
           done : outcome ≡ on_row row found.row
-          done = decided ∙ row_passed row.rows ipa 3 is_unassigned (on_row row) found
+          done = decided ∙ row_passes row.rows ipa 3 is_unassigned (on_row row) found
 
           pub create_done : (updates : List Update) × (outcome ≡ Ok updates)
           create_done = (_, done)
@@ -106,7 +101,7 @@ module _ (monitor : MonitorView) (fields : Fields) (view_is : seen_as fields ≡
               (made : now ≡ record realm { measurement = measurement_after realm.measurement event })
               (realms : List (Option RealmAttributes)) (put : realms ≡ set fields.realms rd (Some now)) where
             abbrev after : Fields
-            after = with_call monitor fields view_is whole rd taken realm there granules copied kept realms
+            after = with_call fields granules copied kept realms
 
             was : (granule_at fields.granules g).state ≡ Delegated
             was = delegated_state (granule_at fields.granules g).state delegated

@@ -21,40 +21,42 @@ use Rattle.rtt.specs.Realm.{IsBacked, HasTables, LeavesOthers}
 use Rattle.rtt.specs.Calls.{with_state, LeadsTo, ChangesTablesAnd, LosesPage, unmap_refusal}
 use Rattle.rmi_monitor.specs.View.{MonitorView, IsTaken, seen_in, after_command}
 use Rattle.rmi_monitor.specs.Inside.{Fields, realm_at, seen_as, IsWhole}
-use Rattle.rmi_monitor.proofs.Outcomes.{check_false, after_err, level_refused, level_none}
-use Rattle.rmi_monitor.proofs.RowRefusals.{PassesAt, row_found, row_refused, row_passed}
-use Rattle.rmi_monitor.proofs.RealmRows.{no_realm, realm_decides, row_there, realms_same, nothing_moved, with_call, whole_after_move, seen_after_move}
+use Rattle.rmi_monitor.proofs.Outcomes.{check_false, after_err}
 use Rattle.rmi_monitor.proofs.RowPages.{row_granule, page_in_data}
 use Rattle.rmi_monitor.proofs.TableMoves.{is_moved_state}
+use Rattle.rmi_monitor.proofs.Refusals.{refused_with, not_refused, Passes, passes_from, row_refused, row_passes}
+use Rattle.rmi_monitor.proofs.RealmCommands.{nothing_moved, with_call, whole_after_move, seen_after_move}
+use Rattle.rmi_monitor.proofs.Listed.{put_back}
+use Rattle.rmi_monitor.proofs.RealmFound.{row_of, nowhere, somewhere}
 
 module _ (monitor : MonitorView) (fields : Fields) (view_is : seen_as fields ≡ monitor) (whole : IsWhole fields) (rd : ℕ) (taken : IsTaken monitor rd) (ipa : ℕ) where
   abbrev outcome : Outcome
   outcome = data_destroy (seen_in monitor rd) ipa
 
   pub destroy_no_realm : realm_at fields rd ≡ None → outcome ≡ Err error_input
-  destroy_no_realm none = no_realm monitor fields view_is whole rd taken none _
+  destroy_no_realm none = nowhere monitor fields view_is whole rd taken.inside none _
 
   module _ (realm : RealmAttributes) (there : realm_at fields rd ≡ Some realm) where
     abbrev row : RealmRow
-    row = row_there monitor fields view_is whole rd taken realm there
+    row = row_of fields rd realm
 
     abbrev on_row : RealmRow → Row → Outcome
     on_row d r =
         with_granule r (λ granule. Ok (Put granule left ∷ put_realm (seen_in monitor rd) (record d { rows = put_row d.rows 3 ipa (unassigned (unmapped_ripas r.ripas)) }) ∷ []))
 
     pub destroy_unprotected : is_protected ipa ≡ false → outcome ≡ Err error_input
-    destroy_unprotected h = realm_decides monitor fields view_is whole rd taken realm there _ ∙ check_false (is_protected ipa) error_input _ h
+    destroy_unprotected h = somewhere monitor fields view_is whole rd realm there _ ∙ check_false (is_protected ipa) error_input _ h
 
     module _ (protected : is_protected ipa ≡ true) where
       decided : outcome ≡ with_row row.rows ipa 3 (λ r. check (is_assigned r) (error_rtt 3) (on_row row r))
-      decided = realm_decides monitor fields view_is whole rd taken realm there _ ∙ check_true (is_protected ipa) error_input _ protected
+      decided = somewhere monitor fields view_is whole rd realm there _ ∙ check_true (is_protected ipa) error_input _ protected
 
       pub destroy_refused : (l : ℕ) → unmap_refusal (rows fields.pages realm.root) ipa ≡ Some l → outcome ≡ Err (error_rtt l)
       destroy_refused l e = decided ∙ row_refused row.rows ipa 3 is_assigned (on_row row) l e
 
       module _ (accepted : unmap_refusal (rows fields.pages realm.root) ipa ≡ None) where
-        found : PassesAt row.rows ipa 3 is_assigned
-        found = row_found row.rows ipa 3 is_assigned accepted
+        found : Passes row.rows ipa 3 is_assigned
+        found = passes_from row.rows ipa 3 is_assigned accepted
 
         page : (page : ℕ) × (found.row.granule ≡ Some page)
         page = row_granule fields.pages fields.granules rd realm.root ipa (whole.tables rd realm there) protected found.row found.at found.holds
@@ -63,7 +65,7 @@ module _ (monitor : MonitorView) (fields : Fields) (view_is : seen_as fields ≡
         lost = record row { rows = put_row row.rows 3 ipa (unassigned (unmapped_ripas found.row.ripas)) }
 
         done : outcome ≡ Ok (Put page.0 left ∷ put_realm (seen_in monitor rd) lost ∷ [])
-        done = decided ∙ row_passed row.rows ipa 3 is_assigned (on_row row) found ∙ granule_there found.row _ page.0 page.1
+        done = decided ∙ row_passes row.rows ipa 3 is_assigned (on_row row) found ∙ granule_there found.row _ page.0 page.1
 
         pub destroy_done : (updates : List Update) × (outcome ≡ Ok updates)
         destroy_done = (_, done)
@@ -87,17 +89,17 @@ module _ (monitor : MonitorView) (fields : Fields) (view_is : seen_as fields ≡
           in_data : IsIn fields.granules page.0 InData (Some rd)
           in_data = page_in_data fields.pages fields.granules rd realm.root ipa (whole.tables rd realm there) protected found.row found.at found.holds page.0 page.1
 
-          pub destroy_whole : IsWhole (with_call monitor fields view_is whole rd taken realm there granules pages free fields.realms)
+          pub destroy_whole : IsWhole (with_call fields granules pages free fields.realms)
           destroy_whole =
               whole_after_move monitor fields view_is whole rd taken realm there realm refl (omega arith) granules pages free fields.realms
-              (sym (realms_same monitor fields view_is whole rd taken realm there)) flags backed tables alone page.0 in_data.inside Delegated None (moved page.0 leads)
+              (sym (put_back fields.realms rd None (Some realm) there)) flags backed tables alone page.0 in_data.inside Delegated None (moved page.0 leads)
               (ap (λ (x : Granule). is_moved_state x.state) in_data.is) refl (λ e. refl) (λ e. cleared page.0 leads)
               (λ g differs not_table. others g (λ l. differs (leads_once g l)) not_table)
 
-          pub destroy_seen : seen_as (with_call monitor fields view_is whole rd taken realm there granules pages free fields.realms) ≡ after_command outcome monitor
+          pub destroy_seen : seen_as (with_call fields granules pages free fields.realms) ≡ after_command outcome monitor
           destroy_seen =
               seen_after_move monitor fields view_is whole rd taken realm there realm refl (omega arith) granules pages free fields.realms
-              (sym (realms_same monitor fields view_is whole rd taken realm there)) flags backed tables alone page.0 in_data.inside Delegated None (moved page.0 leads)
+              (sym (put_back fields.realms rd None (Some realm) there)) flags backed tables alone page.0 in_data.inside Delegated None (moved page.0 leads)
               (ap (λ (x : Granule). is_moved_state x.state) in_data.is) refl (λ e. refl) (λ e. cleared page.0 leads)
               (λ g differs not_table. others g (λ l. differs (leads_once g l)) not_table)
               outcome left lost (λ i. record left { bytes = cleared page.0 leads i })
@@ -114,7 +116,7 @@ module _ (monitor : MonitorView) (fields : Fields) (view_is : seen_as fields ≡
           (others : ChangesTablesAnd (LeadsTo (rows fields.pages realm.root) 3 ipa) realm.root fields.pages pages)
           (alone : LeavesOthers rd fields.pages fields.granules pages granules) where
         abbrev after : Fields
-        after = with_call monitor fields view_is whole rd taken realm there granules pages free fields.realms
+        after = with_call fields granules pages free fields.realms
 
         both : IsWhole after × (seen_as after ≡ after_command outcome monitor)
         both = by called answer loses moved cleared unchanged
@@ -126,16 +128,16 @@ module _ (monitor : MonitorView) (fields : Fields) (view_is : seen_as fields ≡
                 → OnErr called ((pages ≡ fields.pages) × (granules ≡ fields.granules))
                 → IsWhole after × (seen_as after ≡ after_command outcome monitor)
             by (Ok tt) is loses moved cleared unchanged =
-                let accepted = level_none (unmap_refusal (rows fields.pages realm.root) ipa) is in (
+                let accepted = not_refused tt (unmap_refusal (rows fields.pages realm.root) ipa) is in (
                   destroy_whole accepted granules pages free loses moved cleared tables backed flags others alone,
                   destroy_seen accepted granules pages free loses moved cleared tables backed flags others alone,
                 )
             by (Err refusal) is loses moved cleared unchanged =
-                let same : after ≡ fields = nothing_moved monitor fields view_is whole rd taken realm there granules pages free fields.realms unchanged.1 unchanged.0 flags refl in (
+                let same : after ≡ fields = nothing_moved fields granules pages free fields.realms unchanged.1 unchanged.0 flags refl in (
                   subst IsWhole (sym same) whole,
                   ap seen_as same ∙ view_is
-                      ∙ after_err outcome (error_rtt refusal.level) monitor
-                      (destroy_refused refusal.level (level_refused (unmap_refusal (rows fields.pages realm.root) ipa) refusal is)),
+                      ∙ after_err monitor (error_rtt refusal.level) outcome
+                      (destroy_refused refusal.level (refused_with (Unit {0}) refusal (unmap_refusal (rows fields.pages realm.root) ipa) is)),
                 )
 
         pub destroy_whole_after : IsWhole after

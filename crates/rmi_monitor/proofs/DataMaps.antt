@@ -15,8 +15,8 @@ use Rattle.rtt.specs.Calls.{with_state}
 use Rattle.rmi_monitor.specs.View.{MonitorView, IsTaken, seen_in, after_command}
 use Rattle.rmi_monitor.specs.Inside.{Fields, realm_at, recs_of, seen_as, IsWhole}
 use Rattle.rmi_monitor.proofs.DataPages.{alone_twice, alone_written, tables_written, rows_written, backed_written}
-use Rattle.rmi_monitor.proofs.RealmRows.{with_call, whole_after_move, seen_after_move}
 use Rattle.rmi_monitor.proofs.TableMoves.{is_moved_state}
+use Rattle.rmi_monitor.proofs.RealmCommands.{with_call, whole_after_move, seen_after_move}
 
 -- a granule that is no table of the realm
 pub no_table : (fields : Fields) (whole : IsWhole fields) (rd : ℕ) (realm : RealmAttributes) → realm_at fields rd ≡ Some realm
@@ -72,7 +72,7 @@ module _ (monitor : MonitorView) (fields : Fields) (view_is : seen_as fields ≡
     (g : ℕ) (inside : g < length fields.granules) (was : (granule_at fields.granules g).state ≡ Delegated)
     (granules : List Granule) (pages : List (List ℕ)) (free : List Bool) (realms : List (Option RealmAttributes)) (put : realms ≡ set fields.realms rd (Some now))
     (map : Mapped fields rd realm.root g granules pages free) where
-  pub mapped_whole : IsWhole (with_call monitor fields view_is whole rd taken realm there granules pages free realms)
+  pub mapped_whole : IsWhole (with_call fields granules pages free realms)
   mapped_whole =
       whole_after_move monitor fields view_is whole rd taken realm there now root next granules pages free realms put map.flags map.backed map.tables map.alone
       g inside InData (Some rd) map.moved (ap is_moved_state was) refl (λ e. cc) (λ e. cc) map.others
@@ -81,7 +81,7 @@ module _ (monitor : MonitorView) (fields : Fields) (view_is : seen_as fields ≡
   pub mapped_seen : (outcome : Outcome) (bytes : List ℕ) (row : RealmRow) → page_at pages g ≡ bytes
       → realm_row now (recs_of fields.granules fields.recs rd) (rows pages realm.root) ≡ row
       → outcome ≡ Ok (Put g (record (held InData rd) { bytes = bytes }) ∷ put_realm (seen_in monitor rd) row ∷ [])
-      → seen_as (with_call monitor fields view_is whole rd taken realm there granules pages free realms) ≡ after_command outcome monitor
+      → seen_as (with_call fields granules pages free realms) ≡ after_command outcome monitor
   mapped_seen outcome bytes row page row_is done =
       seen_after_move monitor fields view_is whole rd taken realm there now root next granules pages free realms put map.flags map.backed map.tables map.alone
       g inside InData (Some rd) map.moved (ap is_moved_state was) refl (λ e. cc) (λ e. cc) map.others

@@ -24,11 +24,13 @@ use Rattle.rmi_monitor.specs.View.{MonitorView, IsTaken, seen_in, after_command}
 use Rattle.rmi_monitor.specs.Inside.{Fields, realm_at, seen_as, IsWhole}
 use Rattle.rmi_monitor.specs.Places.{is_delegated_at}
 use Rattle.rmi_monitor.proofs.Checks.{delegated_test, delegated_state}
-use Rattle.rmi_monitor.proofs.Granules.{in_granules, state_is}
-use Rattle.rmi_monitor.proofs.Outcomes.{check_false, after_err, level_refused, level_none}
-use Rattle.rmi_monitor.proofs.RowRefusals.{PassesAt, row_found, row_refused, row_passed}
-use Rattle.rmi_monitor.proofs.RealmRows.{no_realm, realm_decides, row_there, realms_same, nothing_moved, with_call}
+use Rattle.rmi_monitor.proofs.Granules.{in_granules, state_is, seen_delegated}
+use Rattle.rmi_monitor.proofs.Outcomes.{check_false, after_err}
 use Rattle.rmi_monitor.proofs.DataMaps.{Mapped, no_table, mapped_whole, mapped_seen}
+use Rattle.rmi_monitor.proofs.Refusals.{refused_with, not_refused, Passes, passes_from, row_refused, row_passes}
+use Rattle.rmi_monitor.proofs.RealmCommands.{nothing_moved, with_call}
+use Rattle.rmi_monitor.proofs.Listed.{put_back}
+use Rattle.rmi_monitor.proofs.RealmFound.{row_of, nowhere, somewhere}
 
 module _ (monitor : MonitorView) (fields : Fields) (view_is : seen_as fields ≡ monitor) (whole : IsWhole fields) (rd : ℕ) (taken : IsTaken monitor rd)
     (g : ℕ) (page_taken : IsTaken monitor g) (ipa : ℕ) where
@@ -36,43 +38,40 @@ module _ (monitor : MonitorView) (fields : Fields) (view_is : seen_as fields ≡
   outcome = data_create_unknown (seen_in monitor rd) (seen_in monitor g) ipa
 
   pub unknown_no_realm : realm_at fields rd ≡ None → outcome ≡ Err error_input
-  unknown_no_realm none = no_realm monitor fields view_is whole rd taken none _
-
-  delegated_is : is_delegated (seen_in monitor g) ≡ is_delegated_at fields.granules g
-  delegated_is = ap delegated_test (state_is monitor fields view_is whole g page_taken)
+  unknown_no_realm none = nowhere monitor fields view_is whole rd taken.inside none _
 
   module _ (realm : RealmAttributes) (there : realm_at fields rd ≡ Some realm) where
     abbrev row : RealmRow
-    row = row_there monitor fields view_is whole rd taken realm there
+    row = row_of fields rd realm
 
     abbrev on_row : RealmRow → Row → Outcome
     on_row d r = Ok (Put g (held InData rd) ∷ put_realm (seen_in monitor rd) (record d { rows = put_row d.rows 3 ipa (assigned r.ripas g) }) ∷ [])
 
     pub unknown_unprotected : is_protected ipa ≡ false → outcome ≡ Err error_input
     unknown_unprotected h =
-        realm_decides monitor fields view_is whole rd taken realm there _
+        somewhere monitor fields view_is whole rd realm there _
         ∙ check_false (is_delegated (seen_in monitor g) && is_protected ipa) error_input _ (and_right _ _ h)
 
     pub unknown_not_delegated : is_delegated_at fields.granules g ≡ false → outcome ≡ Err error_input
     unknown_not_delegated h =
-        realm_decides monitor fields view_is whole rd taken realm there _
-        ∙ check_false (is_delegated (seen_in monitor g) && is_protected ipa) error_input _ (ap (λ t. t && is_protected ipa) (delegated_is ∙ h))
+        somewhere monitor fields view_is whole rd realm there _
+        ∙ check_false (is_delegated (seen_in monitor g) && is_protected ipa) error_input _ (ap (λ t. t && is_protected ipa) (seen_delegated monitor fields view_is whole g page_taken ∙ h))
 
     module _ (protected : is_protected ipa ≡ true) (delegated : is_delegated_at fields.granules g ≡ true) where
       decided : outcome ≡ with_row row.rows ipa 3 (λ r. check (is_unassigned r) (error_rtt 3) (on_row row r))
       decided =
-          realm_decides monitor fields view_is whole rd taken realm there _
-          ∙ check_true (is_delegated (seen_in monitor g) && is_protected ipa) error_input _ (and_from _ _ (delegated_is ∙ delegated) protected)
+          somewhere monitor fields view_is whole rd realm there _
+          ∙ check_true (is_delegated (seen_in monitor g) && is_protected ipa) error_input _ (and_from _ _ (seen_delegated monitor fields view_is whole g page_taken ∙ delegated) protected)
 
       pub unknown_refused : (l : ℕ) → map_refusal (rows fields.pages realm.root) ipa ≡ Some l → outcome ≡ Err (error_rtt l)
       unknown_refused l e = decided ∙ row_refused row.rows ipa 3 is_unassigned (on_row row) l e
 
       module _ (accepted : map_refusal (rows fields.pages realm.root) ipa ≡ None) where
-        found : PassesAt row.rows ipa 3 is_unassigned
-        found = row_found row.rows ipa 3 is_unassigned accepted
+        found : Passes row.rows ipa 3 is_unassigned
+        found = passes_from row.rows ipa 3 is_unassigned accepted
 
         done : outcome ≡ on_row row found.row
-        done = decided ∙ row_passed row.rows ipa 3 is_unassigned (on_row row) found
+        done = decided ∙ row_passes row.rows ipa 3 is_unassigned (on_row row) found
 
         pub unknown_done : (updates : List Update) × (outcome ≡ Ok updates)
         unknown_done = (_, done)
@@ -83,7 +82,7 @@ module _ (monitor : MonitorView) (fields : Fields) (view_is : seen_as fields ≡
           (tables : HasTables pages granules rd realm.root) (backed : IsBacked pages free granules) (flags : free ≡ fields.free)
           (others : ChangesTablesOnly realm.root fields.pages pages) (alone : LeavesOthers rd fields.pages fields.granules pages granules) where
         abbrev after : Fields
-        after = with_call monitor fields view_is whole rd taken realm there granules pages free fields.realms
+        after = with_call fields granules pages free fields.realms
 
         was : (granule_at fields.granules g).state ≡ Delegated
         was = delegated_state (granule_at fields.granules g).state delegated
@@ -97,11 +96,11 @@ module _ (monitor : MonitorView) (fields : Fields) (view_is : seen_as fields ≡
             → OnErr called ((pages ≡ fields.pages) × (granules ≡ fields.granules))
             → IsWhole after × (seen_as after ≡ after_command outcome monitor)
         both (Ok tt) is gains moved unchanged =
-            let accepted = level_none (map_refusal (rows fields.pages realm.root) ipa) is in
+            let accepted = not_refused tt (map_refusal (rows fields.pages realm.root) ipa) is in
             let map : Mapped fields rd realm.root g granules pages free =
             record { moved = moved; tables = tables; backed = backed; flags = flags; others = λ h differs not_table. others h not_table; alone = alone } in
             let inside = in_granules monitor fields view_is whole g page_taken in
-            let put = sym (realms_same monitor fields view_is whole rd taken realm there) in
+            let put = sym (put_back fields.realms rd None (Some realm) there) in
             let same = same_Some _ _ (sym walked ∙ (found accepted).walked) in (
               mapped_whole monitor fields view_is whole rd taken realm there realm refl (omega arith) g inside was granules pages free fields.realms put map,
               mapped_seen monitor fields view_is whole rd taken realm there realm refl (omega arith) g inside was granules pages free fields.realms put map
@@ -109,11 +108,11 @@ module _ (monitor : MonitorView) (fields : Fields) (view_is : seen_as fields ≡
                   (λ i. record row { rows = (gains ∙ ap (λ (w : Walk). put_row (rows fields.pages realm.root) 3 ipa (assigned w.row.ripas g)) same) i }) (done accepted),
             )
         both (Err refusal) is gains moved unchanged =
-            let same : after ≡ fields = nothing_moved monitor fields view_is whole rd taken realm there granules pages free fields.realms unchanged.1 unchanged.0 flags refl in (
+            let same : after ≡ fields = nothing_moved fields granules pages free fields.realms unchanged.1 unchanged.0 flags refl in (
               subst IsWhole (sym same) whole,
               ap seen_as same ∙ view_is
-                  ∙ after_err outcome (error_rtt refusal.level) monitor
-                  (unknown_refused refusal.level (level_refused (map_refusal (rows fields.pages realm.root) ipa) refusal is)),
+                  ∙ after_err monitor (error_rtt refusal.level) outcome
+                  (unknown_refused refusal.level (refused_with (Unit {0}) refusal (map_refusal (rows fields.pages realm.root) ipa) is)),
             )
 
         module _ (called : Result (Unit {0}) Rtt) (answer : IsRefused called (map_refusal (rows fields.pages realm.root) ipa))

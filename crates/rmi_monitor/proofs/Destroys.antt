@@ -19,46 +19,39 @@ use Rattle.rtt.specs.Realm.{HasTables}
 use Rattle.rtt.specs.Calls.{with_state}
 use Rattle.rmi_monitor.specs.View.{MonitorView, IsTaken, seen_in, after_command}
 use Rattle.rmi_monitor.specs.Inside.{Fields, realm_at, rec_at, recs_of, machine_of, seen_as, IsWhole}
-use Rattle.rmi_monitor.proofs.Granules.{machine_is, in_granules, in_pages}
-use Rattle.rmi_monitor.proofs.NoRecs.{no_rec_of}
+use Rattle.rmi_monitor.proofs.Granules.{machine_is, in_granules, in_pages, after_done}
 use Rattle.rmi_monitor.proofs.RealmPlaces.{in_rd}
-use Rattle.rmi_monitor.proofs.Answered.{after_done, with_no_realm, with_that_realm}
 use Rattle.rmi_monitor.proofs.RealmDestroys.{rd_still, whole_destroyed, machine_destroyed}
+use Rattle.realm_model.proofs.Booleans.{not_true, not_false}
+use Rattle.rmi_monitor.proofs.RealmFound.{row_of, nowhere, somewhere}
+use Rattle.rmi_monitor.proofs.RealmRecs.{no_rec_of}
 
 module _ (monitor : MonitorView) (fields : Fields) (view_is : seen_as fields ≡ monitor) (whole : IsWhole fields) (rd : ℕ) (taken : IsTaken monitor rd) where
   abbrev outcome : Outcome
   outcome = realm_destroy (seen_in monitor rd)
 
   pub destroy_none : realm_at fields rd ≡ None → outcome ≡ Err error_input
-  destroy_none none = with_no_realm monitor fields view_is whole rd taken none _
+  destroy_none none = nowhere monitor fields view_is whole rd taken.inside none _
 
   module _ (realm : RealmAttributes) (there : realm_at fields rd ≡ Some realm) where
     abbrev row : RealmRow
-    row = realm_row realm (recs_of fields.granules fields.recs rd) (rows fields.pages realm.root)
+    row = row_of fields rd realm
 
     abbrev updates : List Update
     updates = Put rd left ∷ Put realm.root left ∷ []
 
     checked : (none tables : Bool) → (len row.recs == 0) ≡ none → has_root_table row.rows ≡ tables → outcome ≡ check (none && not tables) error_realm (Ok updates)
     checked none tables n t =
-        with_that_realm monitor fields view_is whole rd taken realm there _ ∙ (λ i. check (n i && not (t i)) error_realm (Ok updates))
+        somewhere monitor fields view_is whole rd realm there _ ∙ (λ i. check (n i && not (t i)) error_realm (Ok updates))
 
     -- the realm has a REC
     pub destroy_with_rec : true ≡ not (len row.recs == 0) → outcome ≡ Err error_realm
     unfolding check
-    destroy_with_rec some = checked false (has_root_table row.rows) (none_of (len row.recs == 0) some) refl
-      where
-        none_of : (b : Bool) → true ≡ not b → b ≡ false
-        none_of true h = cc
-        none_of false h = refl
+    destroy_with_rec some = checked false (has_root_table row.rows) (not_true (len row.recs == 0) (sym some)) refl
 
     module _ (none : false ≡ not (len row.recs == 0)) where
       no_recs : (len row.recs == 0) ≡ true
-      no_recs = all_of (len row.recs == 0) none
-        where
-          all_of : (b : Bool) → false ≡ not b → b ≡ true
-          all_of true h = refl
-          all_of false h = cc
+      no_recs = not_false (len row.recs == 0) (sym none)
 
       no_rec : (g : ℕ) (rec : RecAttributes) → rec_at fields g ≡ Some rec → (granule_at fields.granules g).realm ≡ Some rd → ⊥
       no_rec = no_rec_of fields whole rd no_recs
@@ -70,20 +63,12 @@ module _ (monitor : MonitorView) (fields : Fields) (view_is : seen_as fields ≡
         -- the root leads to a table
         pub destroy_with_table : false ≡ not (has_root_table (rows fields.pages root)) → outcome ≡ Err error_realm
         unfolding check
-        destroy_with_table some = checked true true no_recs (has_one (has_root_table row.rows) (some ∙ ap (λ r. not (has_root_table (rows fields.pages r))) root_is))
-          where
-            has_one : (b : Bool) → false ≡ not b → b ≡ true
-            has_one true h = refl
-            has_one false h = cc
+        destroy_with_table some = checked true true no_recs (not_false (has_root_table row.rows) (sym (some ∙ ap (λ r. not (has_root_table (rows fields.pages r))) root_is)))
 
         module _ (closed : true ≡ not (has_root_table (rows fields.pages root))) where
           pub destroy_done : outcome ≡ Ok updates
           unfolding check
-          destroy_done = checked true false no_recs (has_none (has_root_table row.rows) (closed ∙ ap (λ r. not (has_root_table (rows fields.pages r))) root_is))
-            where
-              has_none : (b : Bool) → true ≡ not b → b ≡ false
-              has_none true h = cc
-              has_none false h = refl
+          destroy_done = checked true false no_recs (not_true (has_root_table row.rows) (sym (closed ∙ ap (λ r. not (has_root_table (rows fields.pages r))) root_is)))
 
           -- after the root is closed
           module _ (granules : List Granule) (pages : List (List ℕ)) (moved : granules ≡ with_state fields.granules root Delegated None) (cleared : pages ≡ set fields.pages root zero_page) where

@@ -15,6 +15,7 @@ use Rattle.rtt.specs.Realm.{IsBacked, LeavesAlone}
 use Rattle.rmi_monitor.specs.Inside.{Fields, realm_at, rec_at, is_of_realm, rec_of, recs_of, is_rec_state, IsSoundAt, IsRecOf, HasRecs}
 use Rattle.rmi_monitor.specs.Gathered.{gathered}
 use Rattle.rmi_monitor.proofs.Gathered.{gathered-same}
+use Rattle.rmi_monitor.proofs.RecEntries.{rec_of-none}
 
 -- The granules that are not touched stay, but for the pages of tables.
 pub record Stays (old new : Fields) (touched : ℕ → Bool) : Type 0 where
@@ -70,6 +71,14 @@ module _ (old new : Fields) (touched : ℕ → Bool) (stays : Stays old new touc
 
 -- ---- RECs
 
+-- a granule that is a REC is in REC
+pub in_rec : (fields : Fields) (g : ℕ) → IsSoundAt fields g → (rec : RecAttributes) → rec_at fields g ≡ Some rec → (granule_at fields.granules g).state ≡ InRec
+in_rec fields g sound rec e = rec_state (granule_at fields.granules g).state (sym sound.rec ∙ ap is_some e)
+  where
+    rec_state : (state : GranuleState) → is_rec_state state ≡ true → state ≡ InRec
+    rec_state InRec h = refl
+    rec_state _ h = cc
+
 -- The RECs stay, and the granules of RECs do.
 pub record StayRecs (old new : Fields) : Type 0 where
   pub granule_count : length new.granules ≡ length old.granules
@@ -78,15 +87,8 @@ pub record StayRecs (old new : Fields) : Type 0 where
   pub auxiliary : (g : ℕ) → (granule_at old.granules g).state ≡ InRecAux → granule_at new.granules g ≡ granule_at old.granules g
 
 module _ (old new : Fields) (stay : StayRecs old new) (sound : (g : ℕ) → IsSoundAt old g) where
-  in_rec : (g : ℕ) (rec : RecAttributes) → rec_at old g ≡ Some rec → (granule_at old.granules g).state ≡ InRec
-  in_rec g rec e = rec_state (granule_at old.granules g).state (sym ((sound g).rec) ∙ ap is_some e)
-    where
-      rec_state : (state : GranuleState) → is_rec_state state ≡ true → state ≡ InRec
-      rec_state InRec h = refl
-      rec_state _ h = cc
-
   rec_granule : (g : ℕ) (rec : RecAttributes) → rec_at old g ≡ Some rec → granule_at new.granules g ≡ granule_at old.granules g
-  rec_granule g rec e = stay.granule g (in_rec g rec e)
+  rec_granule g rec e = stay.granule g (in_rec old g (sound g) rec e)
 
   -- each realm has the same RECs
   pub recs_of_stay : (rd : ℕ) → recs_of new.granules new.recs rd ≡ recs_of old.granules old.recs rd
@@ -98,19 +100,12 @@ module _ (old new : Fields) (stay : StayRecs old new) (sound : (g : ℕ) → IsS
       numbered : ℕ → RecAttributes → ℕ × RecRow
       numbered g rec = (rec.number, rec_row g rec)
 
-      none : (b : Bool) → ◌≡◌ {A = Option (ℕ × RecRow)} (cond b None None) None
-      none true = refl
-      none false = refl
-
       same : (g : ℕ) → rec_of new.granules new.recs rd g ≡ rec_of old.granules old.recs rd g
       same g = elim (rec_at old g) as (λ o. rec_at old g ≡ o → rec_of new.granules new.recs rd g ≡ rec_of old.granules old.recs rd g) [
         | Some rec ↦ λ e.
             ap (λ o. cond (is_of_realm new.granules rd g) (option_map (numbered g) o) None) (stay.rec g)
             ∙ ap (λ (x : Granule). cond (option_eq nat_eq x.realm (Some rd)) (option_map (numbered g) (rec_at old g)) None) (rec_granule g rec e)
-        | None ↦ λ e.
-            ap (λ o. cond (is_of_realm new.granules rd g) (option_map (numbered g) o) None) (stay.rec g ∙ e)
-            ∙ none (is_of_realm new.granules rd g)
-            ∙ sym (ap (λ o. cond (is_of_realm old.granules rd g) (option_map (numbered g) o) None) e ∙ none (is_of_realm old.granules rd g))
+        | None ↦ λ e. rec_of-none new.granules new.recs rd g (stay.rec g ∙ e) ∙ sym (rec_of-none old.granules old.recs rd g e)
       ] refl
 
   -- RECs are as they should be, where the realms that have some are there still

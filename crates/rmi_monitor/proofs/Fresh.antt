@@ -1,6 +1,6 @@
 -- A monitor that has just been built.
 use Rattle.std.proofs.Common.{◌≡◌, ℕ, zero, suc, ◌<◌, Bool, true, false, List, [], length, get_or, replicate, Option, Some, None, is_some, refl, sym, ap, ◌∙◌, subst, arith}
-use Rattle.std.proofs.lemmas.List.{length-replicate}
+use Rattle.std.proofs.lemmas.List.{length-replicate, get_or-replicate}
 use Rattle.page_arena.specs.Page.{page_at}
 use Rattle.granule_table.specs.Granules.{granule_at, undelegated}
 use Rattle.granule_table.specs.declared.granule.Granule.{Granule}
@@ -13,16 +13,8 @@ use Rattle.rmi_monitor.specs.Inside.{Fields, fields_of, realm_at, rec_at, cell_o
 use Rattle.rmi_monitor.specs.View.{fresh}
 use Rattle.rmi_monitor.proofs.Machines.{length-machine_of, cell_at-machine_of, same_machine}
 use Rattle.rmi_monitor.proofs.HostMoves.{cell_of-host}
-
-at-replicate : {A : Type 0} (n i : ℕ) (x : A) → get_or (replicate n x) i x ≡ x
-at-replicate zero i x = refl
-at-replicate (suc n) zero x = refl
-at-replicate (suc n) (suc i) x = at-replicate n i x
-
-inside-replicate : {A : Type 0} (n i : ℕ) (x d : A) → i < n → get_or (replicate n x) i d ≡ x
-inside-replicate zero i x d h = absurd (omega arith)
-inside-replicate (suc n) zero x d h = refl
-inside-replicate (suc n) (suc i) x d h = inside-replicate n i x d (omega arith)
+use Rattle.rmi_monitor.proofs.Listed.{same_each}
+use Rattle.std.proofs.lemmas.Option.{none-some}
 
 -- the fields when nothing has happened
 abbrev pub new_fields : ℕ → ℕ → ℕ → Fields
@@ -33,19 +25,16 @@ module _ (vmids aux n : ℕ) where
   new = new_fields vmids aux n
 
   granule_is : (g : ℕ) → granule_at new.granules g ≡ undelegated
-  granule_is g = at-replicate n g undelegated
+  granule_is g = same_each n g undelegated
 
   state_is : (g : ℕ) → (granule_at new.granules g).state ≡ Undelegated
   state_is g = ap (λ (x : Granule). x.state) (granule_is g)
 
   no_realm : (g : ℕ) → realm_at new g ≡ None
-  no_realm g = at-replicate n g None
+  no_realm g = same_each n g None
 
   no_rec : (g : ℕ) → rec_at new g ≡ None
-  no_rec g = at-replicate n g None
-
-  none_there : {A : Type 0} (o : Option A) (x : A) → o ≡ None → o ≡ Some x → ⊥
-  none_there o x none some = let differ : None ≡ Some x = sym none ∙ some in cc
+  no_rec g = same_each n g None
 
   sound : (g : ℕ) → IsSoundAt new g
   sound g = record {
@@ -61,12 +50,12 @@ module _ (vmids aux n : ℕ) where
     realm_places = length-replicate n None ∙ sym (length-replicate n undelegated);
     rec_places = length-replicate n None ∙ sym (length-replicate n undelegated);
     each = sound;
-    tables = λ rd realm there. absurd (none_there (realm_at new rd) realm (no_realm rd) there);
+    tables = λ rd realm there. absurd (none-some realm (sym (no_realm rd) ∙ there));
     recs = record {
-      of = λ g rec e. absurd (none_there (rec_at new g) rec (no_rec g) e);
-      once = λ g h rec other e e' same numbers. absurd (none_there (rec_at new g) rec (no_rec g) e);
-      auxiliaries = λ g rec i auxiliary e listed. absurd (none_there (rec_at new g) rec (no_rec g) e);
-      auxiliaries_once = λ g h rec other i j auxiliary e e' listed listed'. absurd (none_there (rec_at new g) rec (no_rec g) e);
+      of = λ g rec e. absurd (none-some rec (sym (no_rec g) ∙ e));
+      once = λ g h rec other e e' same numbers. absurd (none-some rec (sym (no_rec g) ∙ e));
+      auxiliaries = λ g rec i auxiliary e listed. absurd (none-some rec (sym (no_rec g) ∙ e));
+      auxiliaries_once = λ g h rec other i j auxiliary e e' listed listed'. absurd (none-some rec (sym (no_rec g) ∙ e));
     };
   }
 
@@ -76,8 +65,8 @@ module _ (vmids aux n : ℕ) where
       same_machine (machine_of new) (replicate n blank) (long ∙ sym (length-replicate n blank)) (λ g h.
       let inside : g < n = subst (λ m. g < m) long h in
       cell_at-machine_of new g (subst (λ m. g < m) (sym (length-replicate n undelegated)) inside)
-      ∙ cell_of-host new g (sound g) (state_is g) refl (inside-replicate n g zero_page [] inside)
-      ∙ sym (at-replicate n g blank))
+      ∙ cell_of-host new g (sound g) (state_is g) refl (get_or-replicate n g zero_page [] inside)
+      ∙ sym (same_each n g blank))
 
   pub seen_new : seen_as (new_fields vmids aux n) ≡ fresh vmids aux n
   seen_new i = record { vmids = vmids; aux = aux; machine = machine_new i; free = replicate n true }

@@ -16,7 +16,9 @@ use Rattle.realm_model.specs.Sound.{is_host_state}
 use Rattle.rmi_monitor.specs.Inside.{Fields, cell_of, machine_of, seen_as, IsWhole}
 use Rattle.rmi_monitor.proofs.Machines.{length-machine_of, cell_at-machine_of}
 use Rattle.rmi_monitor.proofs.HostMoves.{moved, whole_moved, machine_of-moved, host_cell, cell_of-host}
-use Rattle.rmi_monitor.proofs.Checks.{machine_done, machine_refused, undelegated_test, delegated_test, not_undelegated, not_delegated}
+use Rattle.rmi_monitor.proofs.Checks.{undelegated_test, delegated_test, not_undelegated, not_delegated}
+use Rattle.realm_model.proofs.Outcomes.{check_true}
+use Rattle.rmi_monitor.specs.Places.{is_delegated_at, is_undelegated_at}
 
 module _ (monitor : MonitorView) (fields : Fields) (view_is : seen_as fields ≡ monitor) (whole : IsWhole fields) where
   pub machine_is : machine_of fields ≡ monitor.machine
@@ -24,6 +26,9 @@ module _ (monitor : MonitorView) (fields : Fields) (view_is : seen_as fields ≡
 
   pub as_many_granules : length monitor.machine ≡ length fields.granules
   as_many_granules = ap length (sym machine_is) ∙ length-machine_of fields
+
+  pub in_machine : (g : ℕ) → g < length fields.granules → g < length monitor.machine
+  in_machine g h = subst (λ n. g < n) (sym as_many_granules) h
 
   pub as_many_pages : length monitor.machine ≡ length fields.pages
   as_many_pages = as_many_granules ∙ whole.backed.as_many
@@ -38,6 +43,11 @@ module _ (monitor : MonitorView) (fields : Fields) (view_is : seen_as fields ≡
       (λ i. record { vmids = vmids i; aux = aux i; machine = made i; free = free i })
       ∙ ap (λ (m : MonitorView). record m { machine = machine_after_command outcome monitor.machine }) view_is
 
+  -- and by its updates
+  pub after_done : (new : Fields) (updates : List Update) (outcome : Outcome) → outcome ≡ Ok updates → new.vmids ≡ fields.vmids → new.aux ≡ fields.aux → new.free ≡ fields.free
+      → machine_of new ≡ machine_after_all updates monitor.machine → seen_as new ≡ after_command outcome monitor
+  after_done new updates outcome e vmids aux free made = after_by outcome new vmids aux free (made ∙ ap (λ o. machine_after_command o monitor.machine) (sym e))
+
   module _ (g : ℕ) (taken : IsTaken monitor g) where
     pub in_granules : g < length fields.granules
     in_granules = subst (λ n. g < n) as_many_granules taken.inside
@@ -51,27 +61,28 @@ module _ (monitor : MonitorView) (fields : Fields) (view_is : seen_as fields ≡
     pub state_is : (seen_in monitor g).cell.state ≡ (granule_at fields.granules g).state
     state_is = ap (λ (c : Cell). c.state) (cell_is g taken.inside)
 
+    pub seen_delegated : is_delegated (seen_in monitor g) ≡ is_delegated_at fields.granules g
+    seen_delegated = ap delegated_test state_is
+
+    pub seen_undelegated : is_undelegated (seen_in monitor g) ≡ is_undelegated_at fields.granules g
+    seen_undelegated = ap undelegated_test state_is
+
     -- the checks of the commands, by the granule's state
     pub is_undelegated_there : (granule_at fields.granules g).state ≡ Undelegated → is_undelegated (seen_in monitor g) ≡ true
     is_undelegated_there was = ap undelegated_test (state_is ∙ was)
 
     pub is_not_undelegated : ((granule_at fields.granules g).state ≡ Undelegated → ⊥) → is_undelegated (seen_in monitor g) ≡ false
-    is_not_undelegated was = ap undelegated_test state_is ∙ not_undelegated (granule_at fields.granules g).state was
+    is_not_undelegated was = seen_undelegated ∙ not_undelegated (granule_at fields.granules g).state was
 
     pub is_delegated_there : (granule_at fields.granules g).state ≡ Delegated → is_delegated (seen_in monitor g) ≡ true
     is_delegated_there was = ap delegated_test (state_is ∙ was)
 
     pub is_not_delegated : ((granule_at fields.granules g).state ≡ Delegated → ⊥) → is_delegated (seen_in monitor g) ≡ false
-    is_not_delegated was = ap delegated_test state_is ∙ not_delegated (granule_at fields.granules g).state was
+    is_not_delegated was = seen_delegated ∙ not_delegated (granule_at fields.granules g).state was
 
     -- the bytes of an UNDELEGATED granule are those of its page
     pub undelegated_bytes : (granule_at fields.granules g).state ≡ Undelegated → page_at fields.pages g ≡ (seen_in monitor g).cell.bytes
     undelegated_bytes was = sym (ap (λ (c : Cell). c.bytes) (cell_is g taken.inside ∙ cell_of-host fields g (whole.each g) was refl refl))
-
-    -- a command whose check fails changes nothing
-    pub after_refused : (holds : Bool) (updates : List Update) → holds ≡ false → monitor ≡ after_command (check holds error_input (Ok updates)) monitor
-    after_refused holds updates h =
-        ap (λ (m : Machine). record monitor { machine = m }) (sym (machine_refused error_input updates monitor.machine holds h))
 
     -- ---- a granule is moved from one state of the host's to another
 
@@ -86,11 +97,10 @@ module _ (monitor : MonitorView) (fields : Fields) (view_is : seen_as fields ≡
       unfolding machine_after_all
       moved_after new e holds cell h same =
           ap seen_as e
-          ∙ after_by (check holds error_input (Ok (Put g cell ∷ []))) (moved fields g state page) refl refl refl
+          ∙ after_done (moved fields g state page) (Put g cell ∷ []) (check holds error_input (Ok (Put g cell ∷ []))) (check_true holds error_input _ h) refl refl refl
           (machine_of-moved fields whole g in_granules not_free state page was is zero
           ∙ ap (λ c. set (machine_of fields) g c) same
-          ∙ ap (λ m. set m g cell) machine_is
-          ∙ sym (machine_done error_input (Put g cell ∷ []) monitor.machine holds h))
+          ∙ ap (λ m. set m g cell) machine_is)
 
     -- ---- the commands, by what the calls below leave
 

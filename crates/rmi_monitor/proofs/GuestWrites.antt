@@ -23,17 +23,9 @@ use Rattle.rtt.specs.Tables.{data_of, rows}
 use Rattle.rmi_monitor.specs.View.{MonitorView, IsTaken, IsOnRec, seen_in}
 use Rattle.rmi_monitor.specs.Inside.{Fields, seen_as, IsWhole}
 use Rattle.rmi_monitor.proofs.DataBytes.{byte_put}
-use Rattle.rmi_monitor.proofs.RecFound.{IsKept, row_of, outcome_there, on_rec}
-use Rattle.rmi_monitor.proofs.RecRuns.{check_fails}
-
--- what a helper answers of an IPA
-pub is_protected_where : (holds : Bool) (ipa granule : ℕ) (answer : Option ℕ) → answer ≡ cond holds (Some ipa) None → answer ≡ Some granule → (holds ≡ true) × (granule ≡ ipa)
-is_protected_where true ipa granule answer says is = (refl, same_Some granule ipa (sym is ∙ says))
-is_protected_where false ipa granule answer says is = absurd (none-some granule (sym says ∙ is))
-
-pub is_unprotected : (holds : Bool) (ipa : ℕ) (answer : Option ℕ) → answer ≡ cond holds (Some ipa) None → answer ≡ None → holds ≡ false
-is_unprotected true ipa answer says is = absurd (none-some ipa (sym is ∙ says))
-is_unprotected false ipa answer says is = refl
+use Rattle.rmi_monitor.proofs.RecFound.{IsKept, outcome_there, on_rec}
+use Rattle.rmi_monitor.proofs.Outcomes.{check_false}
+use Rattle.rmi_monitor.proofs.RealmFound.{row_of}
 
 -- a row that leads to a page of data is ASSIGNED
 assigned_row : (row : Row) (page : ℕ) → data_of row ≡ Some page → (is_assigned row ≡ true) × (row.granule ≡ Some page)
@@ -82,12 +74,12 @@ module _ (monitor : MonitorView) (fields : Fields) (view_is : seen_as fields ≡
   refused rmi comes = on_rec monitor fields view_is whole command granule taken rec rd realm kept (Err rmi) (Err rmi) monitor comes refl refl
 
   pub write_unprotected : is_protected ipa ≡ false → IsOnRec {A = Unit {0}} (λ seen number. guest_write seen number ipa offset value) monitor granule (Err error_input) monitor
-  write_unprotected is = refused error_input (write_is ∙ check_fails (is_protected ipa) error_input here is)
+  write_unprotected is = refused error_input (write_is ∙ check_false (is_protected ipa) error_input here is)
 
   module _ (protected : is_protected ipa ≡ true) where
     pub write_ready : is_ready (rec_row granule rec) ≡ true → IsOnRec {A = Unit {0}} (λ seen number. guest_write seen number ipa offset value) monitor granule (Err error_rec) monitor
     write_ready ready =
-        refused error_rec (write_is ∙ check_true (is_protected ipa) error_input here protected ∙ check_fails (not (is_ready (rec_row granule rec))) error_rec _ (ap not ready))
+        refused error_rec (write_is ∙ check_true (is_protected ipa) error_input here protected ∙ check_false (not (is_ready (rec_row granule rec))) error_rec _ (ap not ready))
 
     module _ (running : is_ready (rec_row granule rec) ≡ false) (end : Walk) (ends : walk (rows fields.pages realm.root) ipa 3 ≡ Some end) where
       write_walks : command (seen_in monitor rd) rec.number ≡ after_walk end
@@ -104,7 +96,7 @@ module _ (monitor : MonitorView) (fields : Fields) (view_is : seen_as fields ≡
           → IsOnRec {A = Unit {0}} (λ seen number. guest_write seen number ipa offset value) monitor granule (Err (error_rtt level)) monitor
       write_unassigned level same none =
           refused (error_rtt level)
-          (write_walks ∙ check_fails (is_assigned end.row) (error_rtt end.level) _ (unassigned_row end.level end.row kind none) ∙ ap (λ n. Err (error_rtt n)) (sym same))
+          (write_walks ∙ check_false (is_assigned end.row) (error_rtt end.level) _ (unassigned_row end.level end.row kind none) ∙ ap (λ n. Err (error_rtt n)) (sym same))
 
       pub write_done : (page : ℕ) → data_of end.row ≡ Some page → IsIn fields.granules page InData (Some rd)
           → (pages : List (List ℕ)) (free : List Bool) → pages ≡ with_byte fields.pages page offset value → free ≡ fields.free

@@ -18,6 +18,8 @@ use Rattle.rtt.specs.FrameLaws.{rows-alone, HasTables-alone}
 use Rattle.rmi_monitor.specs.Inside.{Fields, realm_at, recs_of, descriptor_of, bytes_of, cell_of, machine_of, is_rec_state, IsSoundAt, IsWhole}
 use Rattle.rmi_monitor.proofs.Machines.{one_put, cell_stays, descriptor_stays}
 use Rattle.rmi_monitor.proofs.Frames.{Stays, StayRecs, sound_after, backed_after, alone_after, recs_of_stay, HasRecs_stay}
+use Rattle.realm_model.proofs.Booleans.{none_from}
+use Rattle.rmi_monitor.proofs.RealmPlaces.{no_realm_there}
 
 -- the fields with another state and another page of a granule that belongs to no realm
 abbrev pub moved : Fields → ℕ → GranuleState → List ℕ → Fields
@@ -48,13 +50,6 @@ not_rec Undelegated h = refl
 not_rec Delegated h = refl
 not_rec _ h = cc
 
-pub no_realm : (fields : Fields) (g : ℕ) → IsSoundAt fields g → is_host_state (granule_at fields.granules g).state ≡ true → realm_at fields g ≡ None
-no_realm fields g sound is = none (realm_at fields g) (sound.rd ∙ not_rd (granule_at fields.granules g).state is)
-  where
-    none : (o : Option RealmAttributes) → is_some o ≡ false → o ≡ None
-    none (Some r) h = cc
-    none None h = refl
-
 -- the cell of a granule of the host's
 pub cell_of-host : (fields : Fields) (g : ℕ) → IsSoundAt fields g → {state : GranuleState} → (granule_at fields.granules g).state ≡ state → is_host_state state ≡ true
     → {page : List ℕ} → page_at fields.pages g ≡ page → cell_of fields g ≡ host_cell state page
@@ -62,7 +57,7 @@ cell_of-host fields g sound {state} at is {page} page_is =
     let bytes : bytes_of state page ≡ page = plain state is in
     let host : is_host_state (granule_at fields.granules g).state ≡ true = ap is_host_state at ∙ is in
     let row : descriptor_of fields g ≡ None =
-    ap (λ o. option_map (λ r. realm_row r (recs_of fields.granules fields.recs g) (rows fields.pages r.root)) o) (no_realm fields g sound host) in
+    ap (λ o. option_map (λ r. realm_row r (recs_of fields.granules fields.recs g) (rows fields.pages r.root)) o) (no_realm_there fields g sound (not_rd (granule_at fields.granules g).state host)) in
     (λ i. record { state = at i; realm = sound.host host i; bytes = bytes_of (at i) (page_is i); descriptor = row i })
     ∙ ap (λ b. record { state = state; realm = None; bytes = b; descriptor = None }) bytes
   where

@@ -16,6 +16,7 @@ use Rattle.realm_model.specs.declared.rmi.Rmi.{Rmi}
 use Rattle.realm_objects.specs.Attributes.{RealmAttributes}
 use Rattle.rmi_monitor.specs.View.{MonitorView, IsTaken, AreAllTaken, IsRec, IsOnRec, rec_in, attributes_of, IsGivable, after_command, with_block, fresh, seen_in}
 use Rattle.rmi_monitor.proofs.Checks.{undelegated_test}
+use Rattle.rmi_monitor.proofs.Listed.{same_each}
 
 length_after_all : (updates : List Update) (machine : Machine) → length (machine_after_all updates machine) ≡ length machine
 unfolding machine_after_all
@@ -39,11 +40,6 @@ taken_at monitor after order granule inside block some is =
 
 -- ---- blocks that are given back
 
-blank_at : (n i : ℕ) → get_or (replicate n blank) i blank ≡ blank
-blank_at zero i = refl
-blank_at (suc n) zero = refl
-blank_at (suc n) (suc i) = blank_at n i
-
 givable_at : (vmids aux pages : ℕ) (monitor after : MonitorView) (order first : ℕ) → monitor ≡ fresh vmids aux pages → IsFreeBlock monitor.free order first
     → after ≡ with_block monitor order first → IsGivable after order first
 givable_at vmids aux pages monitor after order first new block is =
@@ -54,7 +50,7 @@ givable_at vmids aux pages monitor after order first new block is =
         inside = subst (λ n. first + 2 ^ order ≤ n) (sym (length-with_run monitor.free first (2 ^ order) false block.inside)) block.inside;
         run = record { each = λ i low high. get_or-with_run_inside monitor.free first (2 ^ order) false block.inside i false low high };
       };
-      undelegated = λ i low high. ap (λ (m : MonitorView). undelegated_test (cell_at m.machine i).state) new ∙ ap (λ (c : Cell). undelegated_test c.state) (blank_at pages i);
+      undelegated = λ i low high. ap (λ (m : MonitorView). undelegated_test (cell_at m.machine i).state) new ∙ ap (λ (c : Cell). undelegated_test c.state) (same_each pages i blank);
     })
 
 pub givable_where_taken : (vmids aux pages : ℕ) (monitor after : MonitorView) (order first : ℕ) (answer : Bool) → monitor ≡ fresh vmids aux pages

@@ -1,5 +1,6 @@
 pub mod Gathered
-pub mod RecPlaces
+pub mod RecEntries
+pub mod RealmRecs
 pub mod Machines
 pub mod Frames
 pub mod HostMoves
@@ -7,14 +8,13 @@ pub mod Checks
 pub mod Granules
 pub mod Blocks
 pub mod Fresh
-pub mod TwoPlaces
+pub mod Comparisons
 pub mod RealmPlaces
 pub mod RealmAfter
 pub mod TableMoves
-pub mod Answered
+pub mod RealmFound
 pub mod Activates
 pub mod UsedVmids
-pub mod NoRecs
 pub mod RealmCreates
 pub mod Creates
 pub mod RealmDestroys
@@ -22,9 +22,7 @@ pub mod Destroys
 pub mod Readings
 pub mod Sums
 pub mod Kept
-pub mod RowRefusals
 pub mod Outcomes
-pub mod RealmRows
 pub mod RowPages
 pub mod DataPages
 pub mod DataMaps
@@ -47,12 +45,10 @@ pub mod TableRipas
 pub mod Sweeps
 pub mod Puts
 pub mod RecMoves
-pub mod RecEntries
 pub mod RecMade
 pub mod RecMadeAfter
 pub mod Listed
 pub mod RecGone
 pub mod RecGoneAfter
-pub mod RecOutcomes
 pub mod RecCreates
 pub mod RecDestroys

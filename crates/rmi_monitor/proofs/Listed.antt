@@ -1,8 +1,8 @@
 -- Lists of granules: what holds of each, that none is there twice, and what is read at a place.
-use Rattle.std.proofs.Common.{◌≡◌, ℕ, zero, suc, ◌<◌, true, not, List, [], ◌∷◌, length, set, get_or, All, Option, Some, None, refl, sym, ap, ◌∙◌, subst, arith}
+use Rattle.std.proofs.Common.{◌≡◌, ℕ, zero, suc, ◌<◌, true, not, List, [], ◌∷◌, length, set, get_or, All, Option, Some, None, refl, sym, ap, ◌∙◌, subst, arith, replicate}
 use Rattle.std.specs.Prelude.{slice_get}
 use Rattle.std.proofs.lemmas.Bool.{and_parts, and_from}
-use Rattle.std.proofs.lemmas.List.{set-get_or}
+use Rattle.std.proofs.lemmas.List.{set-get_or, get_or_default}
 use Rattle.std.proofs.lemmas.Option.{slice_get_within, slice_get-get_or, get_or_from_slice_get}
 use Rattle.realm_model.proofs.Booleans.{not_true, true_false, false_from}
 use Rattle.realm_model.proofs.Lists.{is_in, is_in_at, index_of}
@@ -32,16 +32,22 @@ holds_in P xs x each there =
     let found = index_of xs x there in
     subst P (get_or_from_slice_get xs found.0 x x found.1) (each found.0 x (slice_get_within xs found.0 x found.1))
 
--- what is read at a place
-pub read_at : {A : Type 0} (xs : List (Option A)) (i j : ℕ) (x : Option A) → j < length xs → i ≡ j → x ≡ get_or xs i x → get_or xs j None ≡ x
-read_at xs i j x within same e = get_or_from_slice_get xs j x None (slice_get-get_or xs j x within ∙ ap Some (sym (e ∙ ap (λ k. get_or xs k x) same)))
+-- what is read at a place, by a number that is its
+pub read_at : {A : Type 0} (xs : List (Option A)) (i place : ℕ) (x y : Option A) → i ≡ place → place < length xs → x ≡ get_or xs i x → x ≡ y → get_or xs place None ≡ y
+read_at xs i place x y same inside read is = get_or_default xs place None x inside ∙ ap (λ (n : ℕ). get_or xs n x) (sym same) ∙ sym read ∙ is
 
 -- and written back
-pub written_back : {A : Type 0} (xs : List (Option A)) (i : ℕ) (x : Option A) → get_or xs i None ≡ x → set xs i x ≡ xs
-written_back xs i x e = ap (set xs i) (sym e) ∙ set-get_or xs i None
+pub put_back : {A : Type 0} (xs : List A) (i : ℕ) (d x : A) → get_or xs i d ≡ x → set xs i x ≡ xs
+put_back xs i d x e = ap (set xs i) (sym e) ∙ set-get_or xs i d
 
 -- a place that has something is one of the list's
-pub inside_list : {A : Type 0} (xs : List (Option A)) (i : ℕ) (x : A) → get_or xs i None ≡ Some x → i < length xs
-inside_list [] i x e = cc
-inside_list (y ∷ ys) zero x e = omega arith
-inside_list (y ∷ ys) (suc i) x e = let below = inside_list ys i x e in omega (arith, below)
+pub some_inside : {A : Type 0} (xs : List (Option A)) (i : ℕ) (x : A) → get_or xs i None ≡ Some x → i < length xs
+some_inside [] i x e = cc
+some_inside (y ∷ ys) zero x e = omega arith
+some_inside (y ∷ ys) (suc i) x e = let below = some_inside ys i x e in omega (arith, below)
+
+-- a list of one thing has it at each place
+pub same_each : {A : Type 0} (n i : ℕ) (x : A) → get_or (replicate n x) i x ≡ x
+same_each zero i x = refl
+same_each (suc n) zero x = refl
+same_each (suc n) (suc i) x = same_each n i x

@@ -11,11 +11,7 @@ use Rattle.realm_model.proofs.Lists.{is_in}
 use Rattle.realm_model.proofs.SetEach.{length-set_each}
 use Rattle.rmi_monitor.specs.Inside.{Fields, cell_of, machine_of}
 use Rattle.rmi_monitor.proofs.Machines.{length-machine_of, cell_at-machine_of, same_machine}
-
--- one of two tests holds
-pub either : {P : Type 0} (s t : Bool) → (s || t) ≡ true → (s ≡ true → P) → (t ≡ true → P) → P
-either true t h left right = left refl
-either false t h left right = right h
+use Rattle.rmi_monitor.proofs.Comparisons.{either}
 
 -- a number that is none of a list's
 pub out_of : (h x : ℕ) (xs : List ℕ) → h ≢ x → is_in h xs ≡ false → is_in h (x ∷ xs) ≡ false

@@ -10,11 +10,9 @@ use Rattle.rmi_monitor.specs.View.{MonitorView, IsPageOf, attributes_of}
 use Rattle.rmi_monitor.proofs.Machines.{IsPageOf-cell_of}
 use Rattle.rmi_monitor.specs.Inside.{Fields, realm_at, recs_of, descriptor_of, seen_as, IsWhole}
 use Rattle.rmi_monitor.proofs.Granules.{as_many_granules, cell_is}
+use Rattle.rmi_monitor.proofs.Comparisons.{some_map}
 
 module _ (monitor : MonitorView) (fields : Fields) (view_is : seen_as fields ≡ monitor) (whole : IsWhole fields) (rd : ℕ) (inside : rd < length monitor.machine) where
-  pub place_inside : (n : ℕ) → n ≡ rd → n < length fields.realms
-  place_inside n e = subst (λ k. n < k) (as_many_granules monitor fields view_is whole ∙ sym whole.realm_places) (subst (λ k. k < length monitor.machine) (sym e) inside)
-
   -- the attributes of the realm that stands there
   pub attributes_there : realm_at fields rd ≡ option_map attributes_of (cell_at monitor.machine rd).descriptor
   attributes_there =
@@ -32,12 +30,8 @@ module _ (monitor : MonitorView) (fields : Fields) (view_is : seen_as fields ≡
   pub pages_there : (g : ℕ) → g < length monitor.machine → IsPageOf (cell_at monitor.machine g) (page_at fields.pages g)
   pages_there g inside = subst (λ (c : Cell). IsPageOf c (page_at fields.pages g)) (sym (cell_is monitor fields view_is whole g inside)) (IsPageOf-cell_of fields g (page_at fields.pages g) refl)
 
-  some_row : (o : Option RealmAttributes) (f : RealmAttributes → RealmRow) (row : RealmRow) → option_map f o ≡ Some row → (r : RealmAttributes) × (o ≡ Some r) × (f r ≡ row)
-  some_row (Some r) f row e = (r, refl, ap (λ o. elim o [ Some x ↦ x | None ↦ row ]) e)
-  some_row None f row e = let differ : None ≡ Some row = e in cc
-
   pub words_there : (rd : ℕ) (realm : RealmRow) → rd < length monitor.machine → (cell_at monitor.machine rd).descriptor ≡ Some realm → AreWordsOf fields.pages realm.rows realm.root
   words_there rd realm inside at =
       let row : RealmAttributes → RealmRow = λ r. realm_row r (recs_of fields.granules fields.recs rd) (rows fields.pages r.root) in
-      let found = some_row (realm_at fields rd) row realm (sym (ap (λ (c : Cell). c.descriptor) (cell_is monitor fields view_is whole rd inside)) ∙ at) in
+      let found = some_map row (realm_at fields rd) realm (sym (ap (λ (c : Cell). c.descriptor) (cell_is monitor fields view_is whole rd inside)) ∙ at) in
       subst (λ (r : RealmRow). AreWordsOf fields.pages r.rows r.root) found.2 (row_words fields.pages found.0.root fields.granules rd (whole.tables rd found.0 found.1))

@@ -13,6 +13,7 @@ use Rattle.rtt.specs.FrameLaws.{rows-alone, HasTables-alone}
 use Rattle.rmi_monitor.specs.Inside.{Fields, realm_at, rec_at, recs_of, descriptor_of, cell_of, IsSoundAt, HasRecs, IsWhole}
 use Rattle.rmi_monitor.proofs.Machines.{cell_stays, descriptor_stays}
 use Rattle.rmi_monitor.proofs.Frames.{Stays, StayRecs, sound_after, recs_of_stay, HasRecs_stay}
+use Rattle.std.proofs.lemmas.Option.{same_Some}
 
 -- The realm has other attributes, but the same root. Its tables may have changed, and of the granules those that are touched.
 -- No REC is touched, and the other realms are left alone.
@@ -38,14 +39,11 @@ module _ (old new : Fields) (rd : ℕ) (realm now : RealmAttributes) (touched : 
   stay_recs : StayRecs old new
   stay_recs = record { granule_count = changes.stays.granule_count; rec = changes.rec; granule = changes.rec_granule; auxiliary = changes.auxiliary }
 
-  some_same : {A : Type 0} (x y : A) → ◌≡◌ {A = Option A} (Some x) (Some y) → x ≡ y
-  some_same x y e = ap (λ o. elim o [ Some z ↦ z | None ↦ x ]) e
-
   tables_after : (g : ℕ) (r : RealmAttributes) → realm_at new g ≡ Some r → HasTables new.pages new.granules g r.root
   tables_after g r at = elim (g == rd) as (λ t. (g == rd) ≡ t → HasTables new.pages new.granules g r.root) [
     | true ↦ λ e.
         let same = eqb-true g rd e in
-        let root : realm.root ≡ r.root = sym changes.root ∙ ap (λ (x : RealmAttributes). x.root) (some_same now r (sym changes.is ∙ ap (realm_at new) (sym same) ∙ at)) in
+        let root : realm.root ≡ r.root = sym changes.root ∙ ap (λ (x : RealmAttributes). x.root) (same_Some now r (sym changes.is ∙ ap (realm_at new) (sym same) ∙ at)) in
         subst (λ h. HasTables new.pages new.granules h r.root) (sym same) (subst (HasTables new.pages new.granules rd) root changes.tables)
     | false ↦ λ e.
         let differs = eqb-false g rd e in
@@ -56,7 +54,7 @@ module _ (old new : Fields) (rd : ℕ) (realm now : RealmAttributes) (touched : 
   still_there g r at = elim (g == rd) as (λ t. (g == rd) ≡ t → (after : RealmAttributes) × (realm_at new g ≡ Some after) × (r.next ≤ after.next)) [
     | true ↦ λ e.
         let same = eqb-true g rd e in
-        let was : realm ≡ r = some_same realm r (sym changes.there ∙ ap (realm_at old) (sym same) ∙ at) in
+        let was : realm ≡ r = same_Some realm r (sym changes.there ∙ ap (realm_at old) (sym same) ∙ at) in
         (now, ap (realm_at new) same ∙ changes.is, subst (λ (x : RealmAttributes). x.next ≤ now.next) was changes.next)
     | false ↦ λ e. (r, changes.others g (eqb-false g rd e) ∙ at, omega arith)
   ] refl

@@ -2,7 +2,7 @@
 use Rattle.std.proofs.Common.{◌≡◌, ◌≢◌, ℕ, ◌<◌, ◌≤◌, Bool, true, false, List, [], ◌∷◌, length, set, Option, Some, None, is_some, option_map, Ok, Err, refl, sym, ap, ◌∙◌, subst, arith}
 use Rattle.std.specs.Prelude.{◌==◌, ◌||◌}
 use Rattle.std.specs.FinMap.{empty}
-use Rattle.std.proofs.lemmas.Bool.{eqb-true, eqb-false}
+use Rattle.std.proofs.lemmas.Bool.{eqb-true, eqb-false, or_parts, eq-eqb, ne_eqb, or_right}
 use Rattle.std.proofs.lemmas.List.{length-set, get_or-set_same, get_or-set_other}
 use Rattle.granule_table.specs.Granules.{granule_at, undelegated, IsIn}
 use Rattle.granule_table.specs.declared.granule.Granule.{Granule}
@@ -21,9 +21,10 @@ use Rattle.rtt.specs.FrameLaws.{rows-alone, HasTables-alone}
 use Rattle.rmi_monitor.specs.Inside.{Fields, realm_at, rec_at, recs_of, descriptor_of, bytes_of, cell_of, machine_of, is_rec_state, IsSoundAt, IsWhole}
 use Rattle.rmi_monitor.proofs.Machines.{two_put, cell_stays, descriptor_stays}
 use Rattle.rmi_monitor.proofs.Frames.{Stays, StayRecs, sound_after, recs_of_stay, HasRecs_stay}
-use Rattle.rmi_monitor.proofs.TwoPlaces.{eq-same, or_left, or_right, or_rest, or_second, neither}
+use Rattle.rmi_monitor.proofs.Comparisons.{or_rest, neither}
 use Rattle.rmi_monitor.proofs.RealmPlaces.{no_realm_there}
-use Rattle.rmi_monitor.proofs.NoRecs.{recs_of-none}
+use Rattle.std.proofs.lemmas.Option.{same_Some}
+use Rattle.rmi_monitor.proofs.RealmRecs.{recs_of-none}
 
 -- the state that both granules are in before
 abbrev is_delegated_state : GranuleState → Bool
@@ -94,7 +95,7 @@ module _ (old : Fields) (whole : IsWhole old) (rd root : ℕ) (apart : rd ≢ ro
     touched g = (g == root) || (g == rd)
 
     untouched : (g : ℕ) → touched g ≡ false → (g ≢ root) × (g ≢ rd)
-    untouched g e = (eqb-false g root (or_left (g == root) (g == rd) e), eqb-false g rd (or_right (g == root) (g == rd) e))
+    untouched g e = (eqb-false g root ((or_parts (g == root) (g == rd) e).0), eqb-false g rd ((or_parts (g == root) (g == rd) e).1))
 
     realm_is : realm_at new rd ≡ Some realm
     realm_is = get_or-set_same old.realms rd (Some realm) None (subst (λ n. rd < n) (sym whole.realm_places) rd_inside)
@@ -169,14 +170,11 @@ module _ (old : Fields) (whole : IsWhole old) (rd root : ℕ) (apart : rd ≢ ro
       auxiliary = λ g at. let away = not_delegated InRecAux refl g at in granule_other g away.0 away.1;
     }
 
-    some_same : {A : Type 0} (x y : A) → ◌≡◌ {A = Option A} (Some x) (Some y) → x ≡ y
-    some_same x y e = ap (λ o. elim o [ Some z ↦ z | None ↦ x ]) e
-
     tables_after : (g : ℕ) (r : RealmAttributes) → realm_at new g ≡ Some r → HasTables pages with_root g r.root
     tables_after g r at = elim (g == rd) as (λ t. (g == rd) ≡ t → HasTables pages with_root g r.root) [
       | true ↦ λ e.
           let same = eqb-true g rd e in
-          let is : root ≡ r.root = sym realm_root ∙ ap (λ (x : RealmAttributes). x.root) (some_same realm r (sym realm_is ∙ ap (realm_at new) (sym same) ∙ at)) in
+          let is : root ≡ r.root = sym realm_root ∙ ap (λ (x : RealmAttributes). x.root) (same_Some realm r (sym realm_is ∙ ap (realm_at new) (sym same) ∙ at)) in
           subst (λ h. HasTables pages with_root h r.root) (sym same) (subst (HasTables pages with_root rd) is tables)
       | false ↦ λ e.
           let differs = eqb-false g rd e in

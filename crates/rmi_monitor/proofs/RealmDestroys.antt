@@ -1,7 +1,7 @@
 -- A realm is gone, over the fields of a monitor.
 use Rattle.std.proofs.Common.{◌≡◌, ◌≢◌, ℕ, ◌<◌, Bool, true, false, List, [], length, set, Option, Some, None, is_some, option_map, refl, sym, ap, ◌∙◌, subst, arith}
 use Rattle.std.specs.Prelude.{◌==◌, ◌||◌}
-use Rattle.std.proofs.lemmas.Bool.{eqb-true, eqb-false}
+use Rattle.std.proofs.lemmas.Bool.{eqb-true, eqb-false, or_parts, eq-eqb, ne_eqb, or_right}
 use Rattle.std.proofs.lemmas.List.{length-set, get_or-set_same, get_or-set_other}
 use Rattle.granule_table.specs.Granules.{granule_at, undelegated, IsIn}
 use Rattle.granule_table.specs.declared.granule.Granule.{Granule}
@@ -20,7 +20,7 @@ use Rattle.rmi_monitor.specs.Inside.{Fields, realm_at, rec_at, recs_of, descript
 use Rattle.rmi_monitor.proofs.Machines.{two_put, cell_stays, descriptor_stays}
 use Rattle.rmi_monitor.proofs.Frames.{Stays, StayRecs, sound_after, backed_after, recs_of_stay, HasRecs_stay}
 use Rattle.rmi_monitor.proofs.HostMoves.{cell_of-host}
-use Rattle.rmi_monitor.proofs.TwoPlaces.{or_left, or_right, or_rest, neither}
+use Rattle.rmi_monitor.proofs.Comparisons.{or_rest, neither}
 use Rattle.rmi_monitor.proofs.RealmPlaces.{realm_inside, in_rd, no_realm_there}
 
 -- the states of the RD and of the root
@@ -106,7 +106,7 @@ module _ (old : Fields) (whole : IsWhole old) (rd : ℕ) (realm : RealmAttribute
   touched g = (g == root) || (g == rd)
 
   untouched : (g : ℕ) → touched g ≡ false → (g ≢ root) × (g ≢ rd)
-  untouched g e = (eqb-false g root (or_left (g == root) (g == rd) e), eqb-false g rd (or_right (g == root) (g == rd) e))
+  untouched g e = (eqb-false g root ((or_parts (g == root) (g == rd) e).0), eqb-false g rd ((or_parts (g == root) (g == rd) e).1))
 
   no_realm_now : realm_at new rd ≡ None
   no_realm_now = get_or-set_same old.realms rd None None (subst (λ n. rd < n) (sym whole.realm_places) rd_inside)

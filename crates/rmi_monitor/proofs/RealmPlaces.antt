@@ -6,12 +6,8 @@ use Rattle.realm_model.specs.declared.states.GranuleState.TheVariants.{Rd as InR
 use Rattle.realm_model.specs.Sound.{is_rd_state}
 use Rattle.realm_objects.specs.Attributes.{RealmAttributes}
 use Rattle.rmi_monitor.specs.Inside.{Fields, realm_at, IsSoundAt, IsWhole}
-
--- what is somewhere in a list of options is inside of it
-pub some_inside : {A : Type 0} (xs : List (Option A)) (i : ℕ) (x : A) → get_or xs i None ≡ Some x → i < length xs
-some_inside [] i x h = let differ : None ≡ Some x = h in cc
-some_inside (y ∷ ys) zero x h = omega arith
-some_inside (y ∷ ys) (suc i) x h = let below = some_inside ys i x h in omega (arith, below)
+use Rattle.rmi_monitor.proofs.Listed.{some_inside}
+use Rattle.realm_model.proofs.Booleans.{none_from}
 
 rd_state : (state : GranuleState) → is_rd_state state ≡ true → state ≡ InRd
 rd_state InRd h = refl
@@ -26,8 +22,4 @@ module _ (fields : Fields) (whole : IsWhole fields) (rd : ℕ) (realm : RealmAtt
 
 -- no realm stands at a granule that is not in RD
 pub no_realm_there : (fields : Fields) (g : ℕ) → IsSoundAt fields g → is_rd_state (granule_at fields.granules g).state ≡ false → realm_at fields g ≡ None
-no_realm_there fields g sound h = none (realm_at fields g) (sound.rd ∙ h)
-  where
-    none : (o : Option RealmAttributes) → is_some o ≡ false → o ≡ None
-    none (Some r) h = cc
-    none None h = refl
+no_realm_there fields g sound h = none_from (realm_at fields g) (sound.rd ∙ h)

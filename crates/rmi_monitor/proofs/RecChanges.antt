@@ -16,16 +16,14 @@ use Rattle.rmi_monitor.specs.View.{MonitorView, seen_in, after_command}
 use Rattle.rmi_monitor.specs.Inside.{Fields, rec_at, is_of_realm, rec_of, recs_of, descriptor_of, cell_of, machine_of, seen_as, IsSoundAt, IsRecOf, HasRecs, IsWhole}
 use Rattle.rmi_monitor.proofs.Gathered.{gathered-put, gathered-same}
 use Rattle.rmi_monitor.proofs.Machines.{one_put, cell_stays, descriptor_stays}
-use Rattle.rmi_monitor.proofs.RecPlaces.{rec_of-some, rec_of-other, rec_of-number}
-use Rattle.rmi_monitor.proofs.Granules.{machine_is, cell_is, after_by}
-use Rattle.rmi_monitor.proofs.RecFound.{IsKept, some_realm, of_realm, numbered, rec_inside, realm_inside, row_of, in_machine}
+use Rattle.rmi_monitor.proofs.Granules.{machine_is, cell_is, after_by, in_machine}
+use Rattle.rmi_monitor.proofs.RecFound.{IsKept, rec_inside}
+use Rattle.rmi_monitor.proofs.RealmFound.{row_of}
+use Rattle.rmi_monitor.proofs.RealmPlaces.{realm_inside}
+use Rattle.rmi_monitor.proofs.RecEntries.{rec_of-other, rec_of-some, rec_of-number, realm_of, of_realm, numbered_recs}
 
 abbrev pub with_recs : Fields → List (Option RecAttributes) → Fields
 with_recs fields recs = record fields { recs = recs }
-
--- the REC of a granule put back as it was
-pub put_back : (fields : Fields) (granule : ℕ) (rec : RecAttributes) → rec_at fields granule ≡ Some rec → set fields.recs granule (Some rec) ≡ fields.recs
-put_back fields granule rec at = ap (set fields.recs granule) (sym at) ∙ set-get_or fields.recs granule None
 
 module _ (old : Fields) (whole : IsWhole old) (granule : ℕ) (rec : RecAttributes) (rd : ℕ) (realm : RealmAttributes) (kept : IsKept old granule rec rd realm)
     (now : RecAttributes) (number : now.number ≡ rec.number) (auxiliaries : now.auxiliaries ≡ rec.auxiliaries) where
@@ -118,7 +116,7 @@ module _ (old : Fields) (whole : IsWhole old) (granule : ℕ) (rec : RecAttribut
       (λ g lt. ⊎_elim (λ (s : g ≡ granule). none g s) (place_elsewhere other g) (cases_eq g granule))
     where
       not_of : is_of_realm old.granules other granule ≡ false
-      not_of = false_from _ (λ e. differs (same_Some other rd (sym (some_realm (granule_at old.granules granule).realm other e) ∙ kept.of)))
+      not_of = false_from _ (λ e. differs (same_Some other rd (sym (realm_of old.granules other granule e) ∙ kept.of)))
 
       none : (g : ℕ) → g ≡ granule → rec_of new.granules new.recs other g ≡ rec_of old.granules old.recs other g
       none g s =
@@ -130,7 +128,7 @@ module _ (old : Fields) (whole : IsWhole old) (granule : ℕ) (rec : RecAttribut
   unfolding recs_of
   own_recs =
       gathered-put (rec_of old.granules old.recs rd) (rec_of new.granules new.recs rd) (length old.granules) granule rec.number (rec_row granule now)
-      (numbered new rd has_recs) (rec_inside old whole granule rec kept.at)
+      (numbered_recs new has_recs rd) (rec_inside old whole granule rec kept.at)
       (rec_of-some new.granules new.recs rd granule now (of_realm old.granules rd granule kept.of) here ∙ ap (λ n. Some (n, rec_row granule now)) number)
       (λ before e. sym (rec_of-number old.granules old.recs rd granule rec before.0 before.1 kept.at e))
       (λ g lt ne. place_elsewhere rd g ne)

@@ -29,17 +29,15 @@ use Rattle.rtt.specs.Tables.{rows}
 use Rattle.rmi_monitor.specs.View.{MonitorView, IsTaken, seen_in, after_command, limits_of}
 use Rattle.rmi_monitor.specs.Inside.{Fields, realm_at, recs_of, descriptor_of, seen_as, IsWhole}
 use Rattle.rmi_monitor.specs.Places.{is_delegated_at, are_distinct, is_fit, IsInState}
-use Rattle.rmi_monitor.proofs.Checks.{delegated_test}
-use Rattle.rmi_monitor.proofs.Granules.{machine_is, cell_is, after_by, in_granules, not_free, state_is}
-use Rattle.rmi_monitor.proofs.Listed.{once_from_distinct, holds_in, read_at, written_back}
-use Rattle.rmi_monitor.proofs.RecOutcomes.{after_err, check_holds, check_fails, with_realm_some, with_realm_none}
-use Rattle.rmi_monitor.proofs.Puts.{either}
+use Rattle.rmi_monitor.proofs.Checks.{delegated_test, delegated_state}
+use Rattle.rmi_monitor.proofs.Granules.{machine_is, cell_is, after_by, in_granules, not_free, state_is, seen_delegated}
+use Rattle.rmi_monitor.proofs.Listed.{once_from_distinct, holds_in, put_back}
 use Rattle.rmi_monitor.proofs.RecMade.{CanMake, made, new_rec, with_rec_more}
 use Rattle.rmi_monitor.proofs.RecMadeAfter.{whole_made, machine_made}
-
-delegated_state : (state : GranuleState) → delegated_test state ≡ true → state ≡ Delegated
-delegated_state Delegated h = refl
-delegated_state _ h = cc
+use Rattle.rmi_monitor.proofs.Outcomes.{after_err, check_false, realm_absent}
+use Rattle.realm_model.proofs.Outcomes.{check_true, realm_there}
+use Rattle.rmi_monitor.proofs.RealmFound.{row_of, descriptor_there, nowhere, somewhere}
+use Rattle.rmi_monitor.proofs.Comparisons.{either}
 
 -- ---- the granules that a command names, as it sees them
 
@@ -91,44 +89,31 @@ module _ (monitor : MonitorView) (fields : Fields) (view_is : seen_as fields ≡
   pub fit_by : (list : List ℕ) (answer wanted : Bool) → list ≡ others → answer ≡ is_fit fields.granules g list fields.aux → answer ≡ wanted → fit ≡ wanted
   fit_by list answer wanted same e is = ap (λ l. is_fit fields.granules g l fields.aux) (sym same) ∙ sym e ∙ is
 
-  -- ---- the realm's place
-
-  pub rd_place : (n : ℕ) → n ≡ rd → n < length fields.realms
-  rd_place n same = subst (λ k. k < length fields.realms) (sym same) (subst (λ k. rd < k) (sym whole.realm_places) (in_granules monitor fields view_is whole rd rd_taken))
-
-  pub read_realm : (n : ℕ) (x : Option RealmAttributes) → n ≡ rd → x ≡ get_or fields.realms n x → realm_at fields rd ≡ x
-  read_realm n x same e = read_at fields.realms n rd x (rd_place rd refl) same e
-
   -- a refusal changes nothing
   pub refused_after : (n : ℕ) (x : Option RealmAttributes) (rmi : Rmi) → n ≡ rd → realm_at fields rd ≡ x → outcome ≡ Err rmi
       → seen_as (record fields { realms = set fields.realms n x }) ≡ after_command outcome monitor
   refused_after n x rmi same e refused =
-      ap (λ rs. seen_as (record fields { realms = rs })) (written_back fields.realms n x (ap (λ k. get_or fields.realms k None) same ∙ e))
+      ap (λ rs. seen_as (record fields { realms = rs })) (put_back fields.realms n None x (ap (λ k. get_or fields.realms k None) same ∙ e))
       ∙ view_is
-      ∙ after_err monitor outcome rmi refused
+      ∙ after_err monitor rmi outcome refused
 
   -- ---- its checks
 
-  descriptor_is : (cell_at monitor.machine rd).descriptor ≡ descriptor_of fields rd
-  descriptor_is = ap (λ (c : Cell). c.descriptor) (cell_is monitor fields view_is whole rd rd_taken.inside)
-
   fit_is : (list_all is_delegated (map (seen_in monitor) (g ∷ others)) && all_different (map (seen_in monitor) (g ∷ others)) && length (map (seen_in monitor) others) == monitor.aux) ≡ fit
   fit_is i =
-      delegated_seen monitor fields.granules (g ∷ others) (λ h e. ap delegated_test (state_is monitor fields view_is whole h (taken h e))) i
+      delegated_seen monitor fields.granules (g ∷ others) (λ h e. seen_delegated monitor fields view_is whole h (taken h e)) i
       && different_seen monitor (g ∷ others) i
       && length_seen monitor others i == sym (ap (λ (m : MonitorView). m.aux) view_is) i
 
   pub refuses_no_realm : realm_at fields rd ≡ None → outcome ≡ Err error_input
-  refuses_no_realm none =
-      with_realm_none (seen_in monitor rd) _
-      (descriptor_is ∙ ap (option_map (λ (a : RealmAttributes). realm_row a (recs_of fields.granules fields.recs rd) (rows fields.pages a.root))) none)
+  refuses_no_realm none = nowhere monitor fields view_is whole rd rd_taken.inside none _
 
   module _ (realm : RealmAttributes) (there : realm_at fields rd ≡ Some realm) where
     abbrev pub row : RealmRow
-    row = realm_row realm (recs_of fields.granules fields.recs rd) (rows fields.pages realm.root)
+    row = row_of fields rd realm
 
     pub row_is : (cell_at monitor.machine rd).descriptor ≡ Some row
-    row_is = descriptor_is ∙ ap (option_map (λ (a : RealmAttributes). realm_row a (recs_of fields.granules fields.recs rd) (rows fields.pages a.root))) there
+    row_is = descriptor_there monitor fields view_is whole rd realm there
 
     -- what a call answers of the realm
     pub new_by : (answer wanted : Bool) → ((recs : FinMap nat_cmp RecRow) (translation : Rows) → answer ≡ is_new (realm_row realm recs translation)) → answer ≡ wanted → is_new row ≡ wanted
@@ -151,16 +136,16 @@ module _ (monitor : MonitorView) (fields : Fields) (view_is : seen_as fields ≡
     rest = check (is_new row) error_realm (Ok updates)
 
     checked : outcome ≡ check (list_all is_delegated (map (seen_in monitor) (g ∷ others)) && all_different (map (seen_in monitor) (g ∷ others)) && length (map (seen_in monitor) others) == monitor.aux) error_input rest
-    checked = with_realm_some (seen_in monitor rd) _ row row_is
+    checked = somewhere monitor fields view_is whole rd realm there _
 
     pub refuses_unfit : fit ≡ false → outcome ≡ Err error_input
-    refuses_unfit e = checked ∙ check_fails error_input rest _ (fit_is ∙ e)
+    refuses_unfit e = checked ∙ check_false _ error_input rest (fit_is ∙ e)
 
     pub refuses_active : fit ≡ true → is_new row ≡ false → outcome ≡ Err error_realm
-    refuses_active e active = checked ∙ check_holds error_input rest _ (fit_is ∙ e) ∙ check_fails error_realm (Ok updates) (is_new row) active
+    refuses_active e active = checked ∙ check_true _ error_input rest (fit_is ∙ e) ∙ check_false (is_new row) error_realm (Ok updates) active
 
     pub creates : fit ≡ true → is_new row ≡ true → outcome ≡ Ok updates
-    creates e new = checked ∙ check_holds error_input rest _ (fit_is ∙ e) ∙ check_holds error_realm (Ok updates) (is_new row) new
+    creates e new = checked ∙ check_true _ error_input rest (fit_is ∙ e) ∙ check_true (is_new row) error_realm (Ok updates) new
 
     -- ---- what it changes
 

@@ -21,8 +21,12 @@ use Rattle.rtt.specs.Tables.{rows}
 use Rattle.rmi_monitor.specs.View.{MonitorView, IsTaken, IsRec, IsOnRec, Answers, seen_in, after_command}
 use Rattle.rmi_monitor.specs.Inside.{Fields, realm_at, rec_at, is_of_realm, rec_of, recs_of, is_rec_state, seen_as, HasRecs, IsNumbered, IsWhole}
 use Rattle.rmi_monitor.proofs.Gathered.{get-gathered, gathered-get}
-use Rattle.rmi_monitor.proofs.RecPlaces.{rec_of-some}
 use Rattle.rmi_monitor.proofs.Granules.{as_many_granules, cell_is}
+use Rattle.rmi_monitor.proofs.RealmFound.{row_of, somewhere}
+use Rattle.rmi_monitor.proofs.Listed.{some_inside}
+use Rattle.rmi_monitor.proofs.Comparisons.{some_map}
+use Rattle.rmi_monitor.proofs.RecEntries.{rec_of-some, IsEntry, entry_at, numbered_recs, of_realm}
+use Rattle.rmi_monitor.proofs.Frames.{in_rec}
 
 -- A granule is a REC, and belongs to a realm that is there.
 pub record IsKept (fields : Fields) (granule : ℕ) (rec : RecAttributes) (rd : ℕ) (realm : RealmAttributes) : Type 0 where
@@ -30,83 +34,19 @@ pub record IsKept (fields : Fields) (granule : ℕ) (rec : RecAttributes) (rd : 
   pub of : (granule_at fields.granules granule).realm ≡ Some rd
   pub there : realm_at fields rd ≡ Some realm
 
--- what is found in a list is inside it
-pub some_inside : {A : Type 0} (xs : List (Option A)) (i : ℕ) (x : A) → get_or xs i None ≡ Some x → i < length xs
-some_inside xs i x e = ⊎_elim (λ h. h) (λ h. absurd (none-some x (sym (get_or_past xs i None h) ∙ e))) (cases_lt i (length xs))
-
-some_map : {A B : Type 0} (f : A → B) (o : Option A) (y : B) → option_map f o ≡ Some y → (x : A) × (o ≡ Some x) × (f x ≡ y)
-some_map f None y e = absurd (none-some y e)
-some_map f (Some x) y e = (x, refl, same_Some (f x) y e)
-
--- ---- one granule's place
-
-pub some_realm : (o : Option ℕ) (rd : ℕ) → option_eq nat_eq o (Some rd) ≡ true → o ≡ Some rd
-some_realm None rd e = cc
-some_realm (Some x) rd e = ap (λ n. Some n) (eqb-true x rd e)
-
-pub of_realm : (granules : List Granule) (rd granule : ℕ) → (granule_at granules granule).realm ≡ Some rd → is_of_realm granules rd granule ≡ true
-of_realm granules rd granule of = ap (λ o. option_eq nat_eq o (Some rd)) of ∙ eq-eqb rd rd refl
-
--- the place of a REC of the realm
-pub record IsPlace (granules : List Granule) (recs : List (Option RecAttributes)) (rd granule number : ℕ) (row : RecRow) : Type 0 where
-  pub rec : RecAttributes
-  pub at : get_or recs granule None ≡ Some rec
-  pub of : (granule_at granules granule).realm ≡ Some rd
-  pub number_is : rec.number ≡ number
-  pub row_is : rec_row granule rec ≡ row
-
-pub is_place : (granules : List Granule) (recs : List (Option RecAttributes)) (rd granule number : ℕ) (row : RecRow) → rec_of granules recs rd granule ≡ Some (number, row)
-    → IsPlace granules recs rd granule number row
-is_place granules recs rd granule number row e =
-    let held = guarded (is_of_realm granules rd granule) _ _ e in
-    let found = some_map (λ (rec : RecAttributes). (rec.number, rec_row granule rec)) (get_or recs granule None) (number, row) held.1 in
-    record {
-      rec = found.0;
-      at = found.1;
-      of = some_realm (granule_at granules granule).realm rd held.0;
-      number_is = ap (λ x. x.0) found.2;
-      row_is = ap (λ x. x.1) found.2;
-    }
-
--- the RECs of a realm have different numbers
-pub numbered : (fields : Fields) (rd : ℕ) → HasRecs fields → IsNumbered fields.granules fields.recs rd
-numbered fields rd has i j key a b below below' e e' =
-    let first = is_place fields.granules fields.recs rd i key a e in
-    let second = is_place fields.granules fields.recs rd j key b e' in
-    has.once i j first.rec second.rec first.at second.at (first.of ∙ sym second.of) (first.number_is ∙ sym second.number_is)
-
 -- ---- what is inside
 
 module _ (fields : Fields) (whole : IsWhole fields) where
-  in_rec : (granule : ℕ) (rec : RecAttributes) → rec_at fields granule ≡ Some rec → (granule_at fields.granules granule).state ≡ InRec
-  in_rec granule rec e = rec_state (granule_at fields.granules granule).state (sym ((whole.each granule).rec) ∙ ap is_some e)
-    where
-      rec_state : (state : GranuleState) → is_rec_state state ≡ true → state ≡ InRec
-      rec_state InRec h = refl
-      rec_state _ h = cc
-
   pub rec_inside : (granule : ℕ) (rec : RecAttributes) → rec_at fields granule ≡ Some rec → granule < length fields.granules
   rec_inside granule rec e = subst (λ n. granule < n) whole.rec_places (some_inside fields.recs granule rec e)
 
-  pub realm_inside : (rd : ℕ) (realm : RealmAttributes) → realm_at fields rd ≡ Some realm → rd < length fields.granules
-  realm_inside rd realm e = subst (λ n. rd < n) whole.realm_places (some_inside fields.realms rd realm e)
-
--- the row of a realm
-abbrev pub row_of : Fields → ℕ → RealmAttributes → RealmRow
-row_of fields rd realm = realm_row realm (recs_of fields.granules fields.recs rd) (rows fields.pages realm.root)
+  -- a REC has a realm, which is there
+  pub kept_at : (granule : ℕ) (rec : RecAttributes) (at : rec_at fields granule ≡ Some rec) → IsKept fields granule rec (whole.recs.of granule rec at).rd (whole.recs.of granule rec at).realm
+  kept_at granule rec at = let is = whole.recs.of granule rec at in record { at = at; of = is.of; there = is.there }
 
 -- ---- the fields and the machine
 
 module _ (monitor : MonitorView) (fields : Fields) (view_is : seen_as fields ≡ monitor) (whole : IsWhole fields) where
-  pub in_machine : (g : ℕ) → g < length fields.granules → g < length monitor.machine
-  in_machine g h = subst (λ n. g < n) (sym (as_many_granules monitor fields view_is whole)) h
-
-  -- the realm of an RD, in the machine
-  pub descriptor_there : (rd : ℕ) (realm : RealmAttributes) → realm_at fields rd ≡ Some realm → (cell_at monitor.machine rd).descriptor ≡ Some (row_of fields rd realm)
-  descriptor_there rd realm there =
-      ap (λ (c : Cell). c.descriptor) (cell_is monitor fields view_is whole rd (in_machine rd (realm_inside fields whole rd realm there)))
-      ∙ ap (option_map (row_of fields rd)) there
-
   -- a realm that the machine has is there
   realm_found : (rd : ℕ) (row : RealmRow) → (cell_at monitor.machine rd).descriptor ≡ Some row → (realm : RealmAttributes) × (realm_at fields rd ≡ Some realm) × (row_of fields rd realm ≡ row)
   realm_found rd row e = ⊎_elim
@@ -120,8 +60,8 @@ module _ (monitor : MonitorView) (fields : Fields) (view_is : seen_as fields ≡
   rec_found rd number granule is =
       let realm = realm_found rd is.realm is.there in
       let at = gathered-get (rec_of fields.granules fields.recs rd) (length fields.granules) number is.rec (ap (λ (r : RealmRow). get r.recs number) realm.2 ∙ is.numbered) in
-      let place = is_place fields.granules fields.recs rd at.0 number is.rec at.2 in
-      let same : at.0 ≡ granule = ap (λ (r : RecRow). r.granule) place.row_is ∙ is.is in (
+      let place : IsEntry fields.granules fields.recs rd at.0 number is.rec = entry_at fields.granules rd at.0 fields.recs number is.rec at.2 in
+      let same : at.0 ≡ granule = ap (λ (r : RecRow). r.granule) place.is ∙ is.is in (
         place.rec,
         realm.0,
         record {
@@ -129,7 +69,7 @@ module _ (monitor : MonitorView) (fields : Fields) (view_is : seen_as fields ≡
           of = ap (λ g. (granule_at fields.granules g).realm) (sym same) ∙ place.of;
           there = realm.1;
         },
-        place.number_is,
+        place.numbered,
       )
 
   -- and what the fields have the machine has
@@ -137,14 +77,14 @@ module _ (monitor : MonitorView) (fields : Fields) (view_is : seen_as fields ≡
       → get (recs_of fields.granules fields.recs rd) rec.number ≡ Some (rec_row granule rec)
   unfolding recs_of
   row_found granule rec rd realm kept =
-      get-gathered (rec_of fields.granules fields.recs rd) (length fields.granules) granule rec.number (rec_row granule rec) (numbered fields rd whole.recs)
+      get-gathered (rec_of fields.granules fields.recs rd) (length fields.granules) granule rec.number (rec_row granule rec) (numbered_recs fields whole.recs rd)
       (rec_inside fields whole granule rec kept.at) (rec_of-some fields.granules fields.recs rd granule rec (of_realm fields.granules rd granule kept.of) kept.at)
 
   -- what a command on a REC goes on with
   pub outcome_there : (granule : ℕ) (rec : RecAttributes) (rd : ℕ) (realm : RealmAttributes) → IsKept fields granule rec rd realm → (f : RealmRow → RecRow → Outcome)
       → with_realm (seen_in monitor rd) (λ row. with_rec row rec.number (f row)) ≡ f (row_of fields rd realm) (rec_row granule rec)
   outcome_there granule rec rd realm kept f =
-      realm_there (seen_in monitor rd) (λ row. with_rec row rec.number (f row)) (row_of fields rd realm) (descriptor_there rd realm kept.there)
+      somewhere monitor fields view_is whole rd realm kept.there (λ row. with_rec row rec.number (f row))
       ∙ rec_there (row_of fields rd realm) rec.number (f (row_of fields rd realm)) (rec_row granule rec) (row_found granule rec rd realm kept)
 
   -- ---- what comes of a command on a REC
@@ -172,7 +112,7 @@ module _ (monitor : MonitorView) (fields : Fields) (view_is : seen_as fields ≡
           λ i. command (seen_in monitor (realm_same i)) (number_same i)
 
       in_other_state : {P : Type 0} → (cell_at monitor.machine granule).state ≢ InRec → P
-      in_other_state other = absurd (other (ap (λ (c : Cell). c.state) (cell_is monitor fields view_is whole granule taken.inside) ∙ in_rec fields whole granule rec kept.at))
+      in_other_state other = absurd (other (ap (λ (c : Cell). c.state) (cell_is monitor fields view_is whole granule taken.inside) ∙ in_rec fields granule (whole.each granule) rec kept.at))
 
       pub on_rec : {A : Type 0} (result : Result A Rmi) (outcome : Outcome) (new : MonitorView) → command (seen_in monitor rd) rec.number ≡ outcome → Answers result outcome
           → new ≡ after_command outcome monitor → IsOnRec command monitor granule result new

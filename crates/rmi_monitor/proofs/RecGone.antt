@@ -16,9 +16,13 @@ use Rattle.realm_model.proofs.Lists.{is_in, index_of}
 use Rattle.realm_model.proofs.SetEach.{length-set_each}
 use Rattle.realm_objects.specs.Attributes.{RealmAttributes, RecAttributes}
 use Rattle.rmi_monitor.specs.Inside.{Fields, realm_at, rec_at, is_rec_state, IsSoundAt, IsWhole}
-use Rattle.rmi_monitor.proofs.Listed.{inside_list}
-use Rattle.rmi_monitor.proofs.Puts.{either, set_each_in, set_each_out}
+use Rattle.rmi_monitor.proofs.Listed.{some_inside}
+use Rattle.rmi_monitor.proofs.Puts.{set_each_in, set_each_out}
 use Rattle.rmi_monitor.proofs.RecMoves.{Moves, is_moved_state}
+use Rattle.rmi_monitor.proofs.RecFound.{IsKept, rec_inside}
+use Rattle.rmi_monitor.proofs.RealmPlaces.{realm_inside, in_rd}
+use Rattle.rmi_monitor.proofs.Frames.{in_rec}
+use Rattle.rmi_monitor.proofs.Comparisons.{either}
 
 -- a granule of no realm, as it is after
 abbrev pub left_granule : Granule
@@ -31,13 +35,7 @@ gone old g others = record old {
   recs = set old.recs g None;
 }
 
--- the REC at a granule, and its realm
-pub record IsRecThere (old : Fields) (rd g : ℕ) (rec : RecAttributes) (realm : RealmAttributes) : Type 0 where
-  pub at : rec_at old g ≡ Some rec
-  pub of : (granule_at old.granules g).realm ≡ Some rd
-  pub there : realm_at old rd ≡ Some realm
-
-module _ (old : Fields) (whole : IsWhole old) (rd g : ℕ) (rec : RecAttributes) (realm : RealmAttributes) (is : IsRecThere old rd g rec realm) where
+module _ (old : Fields) (whole : IsWhole old) (rd g : ℕ) (rec : RecAttributes) (realm : RealmAttributes) (is : IsKept old g rec rd realm) where
   abbrev others : List ℕ
   others = rec.auxiliaries
 
@@ -46,19 +44,6 @@ module _ (old : Fields) (whole : IsWhole old) (rd g : ℕ) (rec : RecAttributes)
 
   -- ---- where they are before
 
-  pub g_inside : g < length old.granules
-  g_inside = subst (λ n. g < n) whole.rec_places (inside_list old.recs g rec is.at)
-
-  pub rd_inside : rd < length old.granules
-  rd_inside = subst (λ n. rd < n) whole.realm_places (inside_list old.realms rd realm is.there)
-
-  pub g_state : (granule_at old.granules g).state ≡ InRec
-  g_state = rec_state (granule_at old.granules g).state (sym (whole.each g).rec ∙ ap is_some is.at)
-    where
-      rec_state : (state : GranuleState) → is_rec_state state ≡ true → state ≡ InRec
-      rec_state InRec h = refl
-      rec_state _ h = cc
-
   pub aux_is : (h : ℕ) → is_in h others ≡ true → IsIn old.granules h InRecAux (granule_at old.granules g).realm
   aux_is h e = let found = index_of others h e in whole.recs.auxiliaries g rec found.0 h is.at found.1
 
@@ -66,7 +51,7 @@ module _ (old : Fields) (whole : IsWhole old) (rd g : ℕ) (rec : RecAttributes)
   aux_state h e = ap (λ (x : Granule). x.state) (aux_is h e).is
 
   pub own : is_in g others ≡ false
-  own = false_from _ (λ there. let clash : InRec ≡ InRecAux = sym g_state ∙ aux_state g there in cc)
+  own = false_from _ (λ there. let clash : InRec ≡ InRecAux = sym (in_rec old g (whole.each g) rec is.at) ∙ aux_state g there in cc)
 
   pub not_own : (h : ℕ) → is_in h others ≡ true → h ≢ g
   not_own h e same = true_false _ (subst (λ k. is_in k others ≡ true) same e) own
@@ -76,29 +61,22 @@ module _ (old : Fields) (whole : IsWhole old) (rd g : ℕ) (rec : RecAttributes)
   both P own_case aux_case h e = either (h == g) (is_in h others) e (λ same. subst P (sym (eqb-true h g same)) own_case) (aux_case h)
 
   inside : (h : ℕ) → is_in h (g ∷ others) ≡ true → h < length old.granules
-  inside = both (λ h. h < length old.granules) g_inside (λ h e. (aux_is h e).inside)
+  inside = both (λ h. h < length old.granules) (rec_inside old whole g rec is.at) (λ h e. (aux_is h e).inside)
 
   moved : (h : ℕ) → is_in h (g ∷ others) ≡ true → is_moved_state (granule_at old.granules h).state ≡ true
-  moved = both (λ h. is_moved_state (granule_at old.granules h).state ≡ true) (ap is_moved_state g_state) (λ h e. ap is_moved_state (aux_state h e))
+  moved = both (λ h. is_moved_state (granule_at old.granules h).state ≡ true) (ap is_moved_state (in_rec old g (whole.each g) rec is.at)) (λ h e. ap is_moved_state (aux_state h e))
 
   -- each of them is taken
   taken_as : (h : ℕ) (state : GranuleState) → h < length old.granules → (granule_at old.granules h).state ≡ state → (state ≡ Undelegated → ⊥) → is_free old.free h ≡ false
   taken_as h state within at used = whole.backed.taken h within (λ e. used (sym at ∙ e))
 
   pub taken_moved : (h : ℕ) → is_in h (g ∷ others) ≡ true → is_free old.free h ≡ false
-  taken_moved = both (λ h. is_free old.free h ≡ false) (taken_as g InRec g_inside g_state (λ e. cc)) (λ h e. taken_as h InRecAux (aux_is h e).inside (aux_state h e) (λ k. cc))
-
-  rd_state : is_rd_state (granule_at old.granules rd).state ≡ true
-  rd_state = sym (whole.each rd).rd ∙ ap is_some is.there
+  taken_moved = both (λ h. is_free old.free h ≡ false) (taken_as g InRec (rec_inside old whole g rec is.at) (in_rec old g (whole.each g) rec is.at) (λ e. cc)) (λ h e. taken_as h InRecAux (aux_is h e).inside (aux_state h e) (λ k. cc))
 
   taken : (h : ℕ) → is_in h (rd ∷ g ∷ others) ≡ true → is_free old.free h ≡ false
   taken h e = either (h == rd) (is_in h (g ∷ others)) e
-      (λ same. subst (λ k. is_free old.free k ≡ false) (sym (eqb-true h rd same)) (taken_as rd InRd rd_inside (in_rd (granule_at old.granules rd).state rd_state) (λ k. cc)))
+      (λ same. subst (λ k. is_free old.free k ≡ false) (sym (eqb-true h rd same)) (taken_as rd InRd (realm_inside old whole rd realm is.there) (in_rd old whole rd realm is.there) (λ k. cc)))
       (taken_moved h)
-    where
-      in_rd : (state : GranuleState) → is_rd_state state ≡ true → state ≡ InRd
-      in_rd InRd h = refl
-      in_rd _ h = cc
 
   no_realm : (h : ℕ) → is_in h (g ∷ others) ≡ true → realm_at old h ≡ None
   no_realm h e = none_from (realm_at old h) ((whole.each h).rd ∙ none (granule_at old.granules h).state (moved h e))
@@ -117,7 +95,7 @@ module _ (old : Fields) (whole : IsWhole old) (rd g : ℕ) (rec : RecAttributes)
 
   pub granule_in : (h : ℕ) → is_in h (g ∷ others) ≡ true → granule_at new.granules h ≡ left_granule
   granule_in = both (λ h. granule_at new.granules h ≡ left_granule)
-      (set_each_out left_granule others (set old.granules g left_granule) g undelegated own ∙ get_or-set_same old.granules g left_granule undelegated g_inside)
+      (set_each_out left_granule others (set old.granules g left_granule) g undelegated own ∙ get_or-set_same old.granules g left_granule undelegated (rec_inside old whole g rec is.at))
       (λ h e. set_each_in left_granule others (set old.granules g left_granule) h undelegated (subst (λ n. h < n) (sym (length-set old.granules g left_granule)) (aux_is h e).inside) e)
 
   pub granule_out : (h : ℕ) → is_in h (g ∷ others) ≡ false → granule_at new.granules h ≡ granule_at old.granules h
@@ -130,7 +108,7 @@ module _ (old : Fields) (whole : IsWhole old) (rd g : ℕ) (rec : RecAttributes)
 
   pub page_in : (h : ℕ) → is_in h (g ∷ others) ≡ true → page_at new.pages h ≡ zero_page
   page_in = both (λ h. page_at new.pages h ≡ zero_page)
-      (set_each_out zero_page others (set old.pages g zero_page) g [] own ∙ get_or-set_same old.pages g zero_page [] (in_pages g g_inside))
+      (set_each_out zero_page others (set old.pages g zero_page) g [] own ∙ get_or-set_same old.pages g zero_page [] (in_pages g (rec_inside old whole g rec is.at)))
       (λ h e. set_each_in zero_page others (set old.pages g zero_page) h [] (subst (λ n. h < n) (sym (length-set old.pages g zero_page)) (in_pages h (aux_is h e).inside)) e)
 
   page_out : (h : ℕ) → is_in h (g ∷ others) ≡ false → page_at new.pages h ≡ page_at old.pages h
@@ -139,7 +117,7 @@ module _ (old : Fields) (whole : IsWhole old) (rd g : ℕ) (rec : RecAttributes)
       set_each_out zero_page others (set old.pages g zero_page) h [] parts.1 ∙ get_or-set_other old.pages g h zero_page [] (eqb-false h g parts.0)
 
   pub rec_g : rec_at new g ≡ None
-  rec_g = get_or-set_same old.recs g None None (inside_list old.recs g rec is.at)
+  rec_g = get_or-set_same old.recs g None None (some_inside old.recs g rec is.at)
 
   pub rec_out : (h : ℕ) → h ≢ g → rec_at new h ≡ rec_at old h
   rec_out h differs = get_or-set_other old.recs g h None None differs

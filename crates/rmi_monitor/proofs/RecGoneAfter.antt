@@ -15,12 +15,14 @@ use Rattle.rmi_monitor.specs.Gathered.{gathered}
 use Rattle.rmi_monitor.specs.Inside.{Fields, rec_at, rec_of, recs_of, cell_of, machine_of, IsRecOf, HasRecs, IsWhole}
 use Rattle.rmi_monitor.proofs.Gathered.{gathered-drop}
 use Rattle.rmi_monitor.proofs.Puts.{out_of, many_put}
-use Rattle.rmi_monitor.proofs.RecPlaces.{rec_of-none, rec_of-other, rec_of-some}
 use Rattle.rmi_monitor.proofs.RecMoves.{each_moved, backed_moved, tables_moved, rec_of_stays, cell_unmoved, cell_rd, zero_cell}
-use Rattle.rmi_monitor.proofs.RecEntries.{of_realm, of_other, numbered_recs}
-use Rattle.rmi_monitor.proofs.RecGone.{IsRecThere, gone, left_granule, g_inside, rd_inside, g_state, granule_count, granule_in, granule_out, page_in, rec_g, rec_out, no_rec, no_realm_after, moves}
+use Rattle.rmi_monitor.proofs.RecEntries.{of_realm, of_other, numbered_recs, rec_of-none, rec_of-other, rec_of-some}
+use Rattle.rmi_monitor.proofs.RecGone.{gone, left_granule, granule_count, granule_in, granule_out, page_in, rec_g, rec_out, no_rec, no_realm_after, moves}
+use Rattle.rmi_monitor.proofs.RecFound.{IsKept, rec_inside}
+use Rattle.rmi_monitor.proofs.RealmPlaces.{realm_inside}
+use Rattle.rmi_monitor.proofs.Frames.{in_rec}
 
-module _ (old : Fields) (whole : IsWhole old) (rd g : ℕ) (rec : RecAttributes) (realm : RealmAttributes) (is : IsRecThere old rd g rec realm) where
+module _ (old : Fields) (whole : IsWhole old) (rd g : ℕ) (rec : RecAttributes) (realm : RealmAttributes) (is : IsKept old g rec rd realm) where
   abbrev others : List ℕ
   others = rec.auxiliaries
 
@@ -48,7 +50,7 @@ module _ (old : Fields) (whole : IsWhole old) (rd g : ℕ) (rec : RecAttributes)
       out_of a g others
       (λ same.
       let clash : InRec ≡ InRecAux =
-      sym (g_state old whole rd g rec realm is) ∙ ap (λ k. (granule_at old.granules k).state) (sym same) ∙ ap (λ (x : Granule). x.state) (whole.recs.auxiliaries h other i a at listed).is in cc)
+      sym (in_rec old g (whole.each g) rec is.at) ∙ ap (λ k. (granule_at old.granules k).state) (sym same) ∙ ap (λ (x : Granule). x.state) (whole.recs.auxiliaries h other i a at listed).is in cc)
       (false_from _ (λ there.
       let found = index_of others a there in
       differs h other e (whole.recs.auxiliaries_once h g other rec i found.0 a at is.at listed found.1).0))
@@ -87,7 +89,7 @@ module _ (old : Fields) (whole : IsWhole old) (rd g : ℕ) (rec : RecAttributes)
   recs_gone =
       ap (gathered (rec_of new.granules new.recs rd)) (granule_count old whole rd g rec realm is)
       ∙ gathered-drop (rec_of old.granules old.recs rd) (rec_of new.granules new.recs rd) (length old.granules) g rec.number (rec_row g rec)
-      (numbered_recs old whole.recs rd) (g_inside old whole rd g rec realm is)
+      (numbered_recs old whole.recs rd) (rec_inside old whole g rec is.at)
       (rec_of-some old.granules old.recs rd g rec (of_realm old.granules rd g is.of) is.at)
       (rec_of-none new.granules new.recs rd g (rec_g old whole rd g rec realm is))
       (λ h lt apart. rec_of_stays old new rd g others realm realm (moves old whole rd g rec realm is) whole rd h apart)
@@ -107,7 +109,7 @@ module _ (old : Fields) (whole : IsWhole old) (rd g : ℕ) (rec : RecAttributes)
       let zeroed : (h : ℕ) → is_in h (g ∷ others) ≡ true → cell_of new h ≡ left =
       λ h e. zero_cell new h left_granule (granule_in old whole rd g rec realm is h e) (page_in old whole rd g rec realm is h e) (no_realm_after old whole rd g rec realm is h e) in
       many_put old new (granule_count old whole rd g rec realm is) g rd others left left (record (cell_of old rd) { descriptor = Some row_gone })
-      (g_inside old whole rd g rec realm is) (rd_inside old whole rd g rec realm is)
+      (rec_inside old whole g rec is.at) (realm_inside old whole rd realm is.there)
       (cell_rd old new rd g others realm realm (moves old whole rd g rec realm is) whole row_gone (λ i. realm_row realm (recs_gone i) (rows old.pages realm.root)))
       (λ h within e. zeroed h (is_in_more h g others e))
       (zeroed g (is_in_head g others))

@@ -18,8 +18,9 @@ use Rattle.realm_model.proofs.Lists.{is_in, is_in_head, is_in_more}
 use Rattle.realm_model.proofs.SetEach.{length-set_each}
 use Rattle.realm_objects.specs.Attributes.{RealmAttributes, RecAttributes}
 use Rattle.rmi_monitor.specs.Inside.{Fields, realm_at, rec_at, is_rec_state, IsSoundAt, IsWhole}
-use Rattle.rmi_monitor.proofs.Puts.{either, set_each_in, set_each_out}
+use Rattle.rmi_monitor.proofs.Puts.{set_each_in, set_each_out}
 use Rattle.rmi_monitor.proofs.RecMoves.{Moves, is_moved_state}
+use Rattle.rmi_monitor.proofs.Comparisons.{either}
 
 -- a REC that has just been made
 abbrev pub new_rec : ℕ → List ℕ → RecAttributes

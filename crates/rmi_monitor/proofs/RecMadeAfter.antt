@@ -17,9 +17,8 @@ use Rattle.rmi_monitor.specs.Gathered.{gathered}
 use Rattle.rmi_monitor.specs.Inside.{Fields, realm_at, rec_at, rec_of, recs_of, cell_of, machine_of, IsRecOf, HasRecs, IsWhole}
 use Rattle.rmi_monitor.proofs.Gathered.{gathered-put}
 use Rattle.rmi_monitor.proofs.Puts.{out_of, many_put}
-use Rattle.rmi_monitor.proofs.RecPlaces.{rec_of-none, rec_of-other, rec_of-some}
 use Rattle.rmi_monitor.proofs.RecMoves.{each_moved, backed_moved, tables_moved, rec_of_stays, cell_unmoved, cell_rd, zero_cell}
-use Rattle.rmi_monitor.proofs.RecEntries.{of_realm, of_other, numbered_recs}
+use Rattle.rmi_monitor.proofs.RecEntries.{of_realm, of_other, numbered_recs, rec_of-none, rec_of-other, rec_of-some}
 use Rattle.rmi_monitor.proofs.RecMade.{CanMake, made, new_rec, with_rec_more, granule_g, granule_aux, granule_out, granule_count, rec_g, rec_out, realm_rd, realm_out, no_rec, no_realm_after, zero_after, moves}
 
 module _ (old : Fields) (whole : IsWhole old) (rd g : ℕ) (others : List ℕ) (realm : RealmAttributes) (can : CanMake old rd g others realm) where

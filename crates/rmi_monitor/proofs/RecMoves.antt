@@ -24,8 +24,9 @@ use Rattle.rmi_monitor.specs.Inside.{Fields, realm_at, rec_at, rec_of, recs_of, 
 use Rattle.rmi_monitor.proofs.Frames.{Stays, sound_after, backed_after, alone_after}
 use Rattle.rmi_monitor.proofs.Gathered.{gathered-same}
 use Rattle.rmi_monitor.proofs.Machines.{cell_stays, descriptor_stays}
-use Rattle.rmi_monitor.proofs.Puts.{either, out_of}
-use Rattle.rmi_monitor.proofs.RecPlaces.{rec_of-none}
+use Rattle.rmi_monitor.proofs.Puts.{out_of}
+use Rattle.rmi_monitor.proofs.RecEntries.{rec_of-none}
+use Rattle.rmi_monitor.proofs.Comparisons.{either}
 
 -- the RD, the REC and its auxiliaries
 abbrev pub touched : ℕ → ℕ → List ℕ → ℕ → Bool

@@ -9,7 +9,8 @@ use Rattle.realm_objects.specs.Attributes.{RealmAttributes, RecAttributes, rec_r
 use Rattle.rmi_monitor.specs.View.{MonitorView, rec_in}
 use Rattle.rmi_monitor.specs.Inside.{Fields, realm_at, rec_at, recs_of, seen_as, IsRecAt, IsWhole}
 use Rattle.rmi_monitor.proofs.Granules.{cell_is}
-use Rattle.rmi_monitor.proofs.RecFound.{is_place, row_of, descriptor_there}
+use Rattle.rmi_monitor.proofs.RealmFound.{row_of, descriptor_there}
+use Rattle.rmi_monitor.proofs.RecEntries.{IsEntry, entry_at}
 
 module _ (monitor : MonitorView) (fields : Fields) (view_is : seen_as fields ≡ monitor) (whole : IsWhole fields) (rd number : ℕ) where
   -- a number that no granule has
@@ -26,10 +27,10 @@ module _ (monitor : MonitorView) (fields : Fields) (view_is : seen_as fields ≡
     pub rec_in-some : (rec : RecAttributes) → IsRecAt fields.granules fields.recs rd number granule → rec_at fields granule ≡ Some rec
         → rec_in monitor.machine rd number ≡ Some (rec_row granule rec)
     rec_in-some rec is at =
-        let place = is_place fields.granules fields.recs rd granule number is.row is.at in
+        let place : IsEntry fields.granules fields.recs rd granule number is.row = entry_at fields.granules rd granule fields.recs number is.row is.at in
         let of = whole.recs.of granule place.rec place.at in
         let there : realm_at fields rd ≡ Some of.realm = ap (realm_at fields) (same_Some rd of.rd (sym place.of ∙ of.of)) ∙ of.there in
-        let row_same : is.row ≡ rec_row granule rec = sym place.row_is ∙ ap (rec_row granule) (same_Some place.rec rec (sym place.at ∙ at)) in
+        let row_same : is.row ≡ rec_row granule rec = sym place.is ∙ ap (rec_row granule) (same_Some place.rec rec (sym place.at ∙ at)) in
         ap (option_and_then (λ (realm : RealmRow). get realm.recs number)) (descriptor_there monitor fields view_is whole rd of.realm there)
         ∙ is.found ∙ ap (λ r. Some r) row_same
 

@@ -7,12 +7,8 @@ use Rattle.realm_objects.specs.Attributes.{RealmAttributes, RecAttributes}
 use Rattle.rmi_monitor.specs.View.{MonitorView, IsTaken}
 use Rattle.rmi_monitor.specs.Inside.{Fields, realm_at, rec_at, seen_as, IsWhole}
 use Rattle.rmi_monitor.proofs.Granules.{in_granules}
-use Rattle.rmi_monitor.proofs.RecFound.{IsKept, some_inside}
-
--- a place by its number
-read_at : {A : Type 0} (xs : List (Option A)) (i place : ℕ) (x y : Option A) → i ≡ place → place < length xs → x ≡ get_or xs i x → x ≡ y → get_or xs place None ≡ y
-read_at xs i place x y same inside read is =
-    ap (λ k. get_or xs k None) (sym same) ∙ sym (get_or_read xs i x (subst (λ k. k < length xs) (sym same) inside) read None) ∙ is
+use Rattle.rmi_monitor.proofs.RecFound.{IsKept}
+use Rattle.rmi_monitor.proofs.Listed.{some_inside, read_at}
 
 module _ (monitor : MonitorView) (fields : Fields) (view_is : seen_as fields ≡ monitor) (whole : IsWhole fields) (granule : ℕ) (taken : IsTaken monitor granule)
     (i : ℕ) (same : i ≡ granule) where
@@ -26,10 +22,6 @@ module _ (monitor : MonitorView) (fields : Fields) (view_is : seen_as fields ≡
   rec_read x y = read_at fields.recs i granule x y same inside
 
 module _ (fields : Fields) (whole : IsWhole fields) (granule : ℕ) (rec : RecAttributes) (at : rec_at fields granule ≡ Some rec) where
-  -- a REC has a realm
-  pub kept_at : IsKept fields granule rec (whole.recs.of granule rec at).rd (whole.recs.of granule rec at).realm
-  kept_at = let is = whole.recs.of granule rec at in record { at = at; of = is.of; there = is.there }
-
   pub no_rd : {P : Type 0} → (granule_at fields.granules granule).realm ≡ None → P
   no_rd none = let is = whole.recs.of granule rec at in absurd (none-some is.rd (sym none ∙ is.of))
 

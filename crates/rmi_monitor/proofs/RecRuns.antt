@@ -15,14 +15,11 @@ use Rattle.realm_model.proofs.Outcomes.{check_true}
 use Rattle.realm_objects.specs.Attributes.{RealmAttributes, RecAttributes, realm_row, rec_row}
 use Rattle.rmi_monitor.specs.View.{MonitorView, IsTaken, IsOnRec, seen_in}
 use Rattle.rmi_monitor.specs.Inside.{Fields, rec_at, seen_as, IsWhole}
-use Rattle.rmi_monitor.proofs.RecFound.{IsKept, row_of, outcome_there, on_none, on_rec}
-use Rattle.rmi_monitor.proofs.RecChanges.{with_recs, put_back, rec_put}
-
--- a check that fails
-pub check_fails : (holds : Bool) (rmi : Rmi) (rest : Outcome) → holds ≡ false → check holds rmi rest ≡ Err rmi
-unfolding check
-check_fails true rmi rest h = cc
-check_fails false rmi rest h = refl
+use Rattle.rmi_monitor.proofs.RecFound.{IsKept, outcome_there, on_none, on_rec}
+use Rattle.rmi_monitor.proofs.RecChanges.{with_recs, rec_put}
+use Rattle.rmi_monitor.proofs.Outcomes.{check_false}
+use Rattle.rmi_monitor.proofs.RealmFound.{row_of}
+use Rattle.rmi_monitor.proofs.Listed.{put_back}
 
 module _ (monitor : MonitorView) (fields : Fields) (view_is : seen_as fields ≡ monitor) (whole : IsWhole fields) (granule : ℕ) (taken : IsTaken monitor granule)
     (recs : List (Option RecAttributes)) where
@@ -34,7 +31,7 @@ module _ (monitor : MonitorView) (fields : Fields) (view_is : seen_as fields ≡
       → IsOnRec {A = A} command monitor granule (Err error_input) (seen_as (with_recs fields recs))
   refused_none command gone back =
       on_none monitor fields view_is whole command granule taken new gone
-      (ap (λ rs. seen_as (with_recs fields rs)) (back ∙ ap (set fields.recs granule) (sym gone) ∙ set-get_or fields.recs granule None) ∙ view_is)
+      (ap (λ rs. seen_as (with_recs fields rs)) (back ∙ put_back fields.recs granule None None gone) ∙ view_is)
 
   module _ (rec : RecAttributes) (rd : ℕ) (realm : RealmAttributes) (kept : IsKept fields granule rec rd realm) where
     abbrev row : RealmRow
@@ -48,7 +45,7 @@ module _ (monitor : MonitorView) (fields : Fields) (view_is : seen_as fields ≡
         → IsOnRec {A = A} command monitor granule (Err rmi) new
     refused command rmi back comes =
         on_rec monitor fields view_is whole command granule taken rec rd realm kept (Err rmi) (Err rmi) new comes refl
-        (ap (λ rs. seen_as (with_recs fields rs)) (back ∙ put_back fields granule rec kept.at) ∙ view_is)
+        (ap (λ rs. seen_as (with_recs fields rs)) (back ∙ put_back fields.recs granule None (Some rec) kept.at) ∙ view_is)
 
     -- and one that is done puts the other row
     done : (command : Seen → ℕ → Outcome) (now : RecAttributes) → now.number ≡ rec.number → now.auxiliaries ≡ rec.auxiliaries → recs ≡ set fields.recs granule (Some now)
@@ -76,7 +73,7 @@ module _ (monitor : MonitorView) (fields : Fields) (view_is : seen_as fields ≡
     says answer is told e = sym (told row.recs row.rows) ∙ e
 
     pub enter_new : (answer : Bool) → SaysNew answer → answer ≡ true → recs ≡ set fields.recs granule (Some rec) → IsOnRec {A = Unit {0}} rec_enter monitor granule (Err error_realm) (seen_as (with_recs fields recs))
-    enter_new answer told is back = refused rec_enter error_realm back (enter_is ∙ check_fails (not (is_new row)) error_realm _ (ap not (says answer true told is)))
+    enter_new answer told is back = refused rec_enter error_realm back (enter_is ∙ check_false (not (is_new row)) error_realm _ (ap not (says answer true told is)))
 
     enter_active : is_new row ≡ false → rec_enter (seen_in monitor rd) rec.number ≡ check (is_ready rec_is) error_rec entered
     enter_active is = enter_is ∙ check_true (not (is_new row)) error_realm _ (ap not is)
@@ -84,7 +81,7 @@ module _ (monitor : MonitorView) (fields : Fields) (view_is : seen_as fields ≡
     pub enter_running : (answer : Bool) → SaysNew answer → answer ≡ false → is_ready rec_is ≡ false → recs ≡ set fields.recs granule (Some rec)
         → IsOnRec {A = Unit {0}} rec_enter monitor granule (Err error_rec) (seen_as (with_recs fields recs))
     enter_running answer told active running back =
-        refused rec_enter error_rec back (enter_active (says answer false told active) ∙ check_fails (is_ready rec_is) error_rec entered running)
+        refused rec_enter error_rec back (enter_active (says answer false told active) ∙ check_false (is_ready rec_is) error_rec entered running)
 
     pub enter_done : (answer : Bool) → SaysNew answer → answer ≡ false → is_ready rec_is ≡ true → recs ≡ set fields.recs granule (Some (record rec { state = Running }))
         → IsOnRec rec_enter monitor granule (Ok (tt {0})) (seen_as (with_recs fields recs))
@@ -103,7 +100,7 @@ module _ (monitor : MonitorView) (fields : Fields) (view_is : seen_as fields ≡
         (λ r c. check (not (is_ready c)) error_rec (Ok (put_rec (seen_in monitor rd) r rec.number (record c { state = Ready }) ∷ [])))
 
     pub exit_ready : is_ready rec_is ≡ true → recs ≡ set fields.recs granule (Some rec) → IsOnRec {A = Unit {0}} rec_exit monitor granule (Err error_rec) (seen_as (with_recs fields recs))
-    exit_ready ready back = refused rec_exit error_rec back (exit_is ∙ check_fails (not (is_ready rec_is)) error_rec exited (ap not ready))
+    exit_ready ready back = refused rec_exit error_rec back (exit_is ∙ check_false (not (is_ready rec_is)) error_rec exited (ap not ready))
 
     pub exit_done : is_ready rec_is ≡ false → recs ≡ set fields.recs granule (Some (record rec { state = Ready }))
         → IsOnRec rec_exit monitor granule (Ok (tt {0})) (seen_as (with_recs fields recs))

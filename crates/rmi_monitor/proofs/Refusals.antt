@@ -1,7 +1,7 @@
--- A command that looks a row up, by the refusal of the call on tables that it makes.
-use Rattle.std.proofs.Common.{◌≡◌, ℕ, Bool, true, false, cond, List, Option, Some, None, Ok, Err, refl, sym, ap, ◌∙◌}
+-- What a command that calls on tables answers, by the refusal of the call.
+use Rattle.std.proofs.Common.{◌≡◌, ℕ, Bool, true, false, cond, List, Option, Some, None, Ok, Err, refl, sym, ap, ◌∙◌, subst, Result}
 use Rattle.std.specs.Prelude.{◌==◌, ◌&&◌}
-use Rattle.std.proofs.lemmas.Bool.{eqb-true, eq-eqb}
+use Rattle.std.proofs.lemmas.Bool.{eqb-true, eq-eqb, and_parts}
 use Rattle.realm_model.specs.Rows.{Row, Rows, Walk, walk, row_at}
 use Rattle.realm_model.specs.Update.{Update, Outcome}
 use Rattle.realm_model.specs.Command.Check.{check, error_rtt, with_row, with_end}
@@ -10,6 +10,10 @@ use Rattle.realm_model.proofs.Walks.{walk_at}
 use Rattle.rtt.specs.declared.refusal.Rtt.{Rtt}
 use Rattle.rtt.specs.Refusal.{refusal_at, refusal_of, or_refusal, IsRefused}
 use Rattle.rmi_monitor.specs.View.{MonitorView, Answers, after_command}
+use Rattle.std.specs.Result.{MatchResult, IsErrAnd}
+use Rattle.realm_model.proofs.Outcomes.{check_true}
+use Rattle.rmi_monitor.proofs.Outcomes.{answers_err, answers_ok, check_false}
+use Rattle.std.proofs.lemmas.Option.{same_Some}
 
 -- ---- the answer of a call
 
@@ -21,88 +25,79 @@ pub not_refused : {A : Type 0} (value : A) (level : Option ℕ) → IsRefused (O
 not_refused value None is = refl
 not_refused value (Some level) is = absurd is
 
--- ---- what a command answers and changes, by what comes of it
-
-pub answers_err : (A : Type 0) (rmi : Rmi) (outcome : Outcome) → outcome ≡ Err rmi → Answers {A = A} (Err rmi) outcome
-answers_err A rmi (Ok updates) is = let differ : Ok updates ≡ Err rmi = is in cc
-answers_err A rmi (Err other) is = let same : Err other ≡ Err rmi = is in cc
-
-pub answers_ok : {A : Type 0} (value : A) (updates : List Update) (outcome : Outcome) → outcome ≡ Ok updates → Answers (Ok value) outcome
-answers_ok value updates (Ok others) is = tt
-answers_ok value updates (Err other) is = let differ : Err other ≡ Ok updates = is in cc
-
-pub after_err : (monitor : MonitorView) (rmi : Rmi) (outcome : Outcome) → outcome ≡ Err rmi → monitor ≡ after_command outcome monitor
-after_err monitor rmi outcome is = ap (λ (o : Outcome). after_command o monitor) (sym is)
-
--- ---- checks
-
-pub check_fails : (holds : Bool) (rmi : Rmi) (rest : Outcome) → holds ≡ false → check holds rmi rest ≡ Err rmi
-unfolding check
-check_fails holds rmi rest h = ap (λ b. cond b rest (Err rmi)) h
-
-pub check_holds : (holds : Bool) (rmi : Rmi) (rest : Outcome) → holds ≡ true → check holds rmi rest ≡ rest
-unfolding check
-check_holds holds rmi rest h = ap (λ b. cond b rest (Err rmi)) h
+-- The command answers what the call does, in its own words.
+pub answers_call : (outcome : Outcome) (level : Option ℕ) → ((l : ℕ) → level ≡ Some l → outcome ≡ Err (error_rtt l)) → (level ≡ None → (updates : List Update) × (outcome ≡ Ok updates))
+    → (called : Result (Unit {0}) Rtt) (answer : Result (Unit {0}) Rmi) → IsRefused called level
+    → MatchResult called (λ x. answer ≡ Ok x) (λ e. IsErrAnd answer (λ rmi. rmi ≡ error_rtt e.level)) → Answers answer outcome
+answers_call outcome level refused done (Ok tt) answer is said =
+    let all = done (not_refused tt level is) in
+    subst (λ a. Answers a outcome) (sym said) (answers_ok tt all.0 outcome all.1)
+answers_call outcome level refused done (Err refusal) (Ok tt) is said = absurd said
+answers_call outcome level refused done (Err refusal) (Err rmi) is said =
+    answers_err (Unit {0}) rmi outcome (refused refusal.level (refused_with (Unit {0}) refusal level is) ∙ ap (λ (r : Rmi). Err r) (sym said))
 
 -- ---- a row at a level that passes a test
 
--- A walk that is not refused ends at the level, at a row that passes.
+-- the row of the level where the walk ended, and it passes
 pub record Passes (rows : Rows) (ipa level : ℕ) (passes : Row → Bool) : Type 0 where
   pub row : Row
-  pub ends : walk rows ipa level ≡ Some (record { level = level; row = row })
+  pub walked : walk rows ipa level ≡ Some (record { level = level; row = row })
   pub at : row_at rows level ipa ≡ Some row
-  pub pass : passes row ≡ true
+  pub holds : passes row ≡ true
 
-and_false : (a b : Bool) (l : ℕ) → cond (a && b) None (Some l) ≡ None → (a ≡ true) × (b ≡ true)
-and_false true true l e = (refl, refl)
-and_false true false l e = let differ : Some l ≡ None = e in cc
-and_false false b l e = let differ : Some l ≡ None = e in cc
+walk_led : (rows : Rows) (ipa level : ℕ) (f : Walk → Outcome) (o : Option Walk) → walk rows ipa level ≡ o
+    → with_end rows ipa level f ≡ elim o [ Some end ↦ f end | None ↦ Err (error_rtt 0) ]
+unfolding with_end
+walk_led rows ipa level f o e = ap (λ (o : Option Walk). elim o [ Some end ↦ f end | None ↦ Err (error_rtt 0) ]) e
+
+let_through : (t : Bool) (l : ℕ) → cond t None (Some l) ≡ None → t ≡ true
+let_through true l e = refl
+let_through false l e = cc
+
+refused_at : (level l : ℕ) (here passed : Bool) (ended : ℕ) (o : Outcome) → (here ≡ true → ended ≡ level) → cond (here && passed) None (Some ended) ≡ Some l
+    → check here (error_rtt ended) (check passed (error_rtt level) o) ≡ Err (error_rtt l)
+unfolding check
+refused_at level l true true ended o at e = cc
+refused_at level l true false ended o at e = ap (λ (n : ℕ). Err (error_rtt n)) (sym (at refl) ∙ same_Some ended l e)
+refused_at level l false passed ended o at e = ap (λ (n : ℕ). Err (error_rtt n)) (same_Some ended l e)
 
 module _ (rows : Rows) (ipa level : ℕ) (passes : Row → Bool) where
-  passes_at : (o : Option Walk) → walk rows ipa level ≡ o → refusal_at level passes o ≡ None → Passes rows ipa level passes
-  passes_at None e none = cc
-  passes_at (Some end) e none =
-      let both = and_false (end.level == level) (passes end.row) end.level none in
-      let at : end.level ≡ level = eqb-true end.level level both.0 in
-      record { row = end.row; ends = e ∙ (λ i. Some (record { level = at i; row = end.row })); at = walk_at rows ipa level end e at; pass = both.1 }
-
+  -- the row that is not refused
   pub passes_from : refusal_of rows ipa level passes ≡ None → Passes rows ipa level passes
-  passes_from none = passes_at (walk rows ipa level) refl none
+  passes_from = found (walk rows ipa level) refl
+    where
+      found : (o : Option Walk) → walk rows ipa level ≡ o → refusal_at level passes o ≡ None → Passes rows ipa level passes
+      found None is e = cc
+      found (Some end) is e =
+          let parts = and_parts (end.level == level) (passes end.row) (let_through _ end.level e) in
+          let same : end.level ≡ level = eqb-true end.level level parts.0 in
+          record {
+            row = end.row;
+            walked = is ∙ (λ i. Some (record { level = same i; row = end.row }));
+            at = walk_at rows ipa level end is same;
+            holds = parts.1;
+          }
 
-  -- the rest of a command, where the row passes
   module _ (rest : Row → Outcome) where
-    abbrev body : Outcome
-    body = with_row rows ipa level (λ row. check (passes row) (error_rtt level) (rest row))
+    abbrev pub on_row : Outcome
+    on_row = with_row rows ipa level (λ row. check (passes row) (error_rtt level) (rest row))
 
-    abbrev body_at : Option Walk → Outcome
-    body_at o = elim o [ Some end ↦ check (end.level == level) (error_rtt end.level) (check (passes end.row) (error_rtt level) (rest end.row)) | None ↦ Err (error_rtt 0) ]
-
-    refused_at : (o : Option Walk) (l : ℕ) → refusal_at level passes o ≡ Some l → body_at o ≡ Err (error_rtt l)
-    refused_at None l e = let same : 0 ≡ l = cc in ap (λ n. Err (error_rtt n)) same
-    refused_at (Some end) l e = by_tests (end.level == level) (passes end.row) refl refl
+    -- the command is refused with the level of the refusal
+    pub row_refused : (l : ℕ) → refusal_of rows ipa level passes ≡ Some l → on_row ≡ Err (error_rtt l)
+    row_refused l = refused (walk rows ipa level) refl
       where
-        by_tests : (a b : Bool) → (end.level == level) ≡ a → passes end.row ≡ b → body_at (Some end) ≡ Err (error_rtt l)
-        by_tests false b is is' =
-            let told : Some end.level ≡ Some l = ap (λ t. cond (t && passes end.row) None (Some end.level)) (sym is) ∙ e in
-            let same : end.level ≡ l = cc in
-            check_fails (end.level == level) (error_rtt end.level) (check (passes end.row) (error_rtt level) (rest end.row)) is ∙ ap (λ n. Err (error_rtt n)) same
-        by_tests true false is is' =
-            let told : Some end.level ≡ Some l = (λ i. cond (sym is i && sym is' i) None (Some end.level)) ∙ e in
-            let same : level ≡ l = sym (eqb-true end.level level is) ∙ (let s : end.level ≡ l = cc in s) in
-            check_holds (end.level == level) (error_rtt end.level) (check (passes end.row) (error_rtt level) (rest end.row)) is
-            ∙ check_fails (passes end.row) (error_rtt level) (rest end.row) is' ∙ ap (λ n. Err (error_rtt n)) same
-        by_tests true true is is' = let told : None ≡ Some l = (λ i. cond (sym is i && sym is' i) None (Some end.level)) ∙ e in cc
+        refused : (o : Option Walk) → walk rows ipa level ≡ o → refusal_at level passes o ≡ Some l → on_row ≡ Err (error_rtt l)
+        refused None is e = walk_led rows ipa level _ None is ∙ ap (λ (n : ℕ). Err (error_rtt n)) (same_Some 0 l e)
+        refused (Some end) is e =
+            walk_led rows ipa level _ (Some end) is
+            ∙ refused_at level l (end.level == level) (passes end.row) end.level (rest end.row) (eqb-true end.level level) e
 
-    pub row_refused : (l : ℕ) → refusal_of rows ipa level passes ≡ Some l → body ≡ Err (error_rtt l)
-    unfolding with_end
-    row_refused l e = refused_at (walk rows ipa level) l e
-
-    pub row_passes : (passed : Passes rows ipa level passes) → body ≡ rest passed.row
-    unfolding with_end
-    row_passes passed =
-        ap body_at passed.ends
-        ∙ check_holds (level == level) (error_rtt level) (check (passes passed.row) (error_rtt level) (rest passed.row)) (eq-eqb level level refl)
-        ∙ check_holds (passes passed.row) (error_rtt level) (rest passed.row) passed.pass
+    -- or it is decided by the row
+    pub row_passes : (found : Passes rows ipa level passes) → on_row ≡ rest found.row
+    row_passes found =
+        walk_led rows ipa level _ _ found.walked
+        ∙ check_true (level == level) _ _ (eq-eqb level level refl)
+        ∙ check_true (passes found.row) _ _ found.holds
 
 -- ---- the same, and then one more check
 
@@ -124,10 +119,10 @@ module _ (rows : Rows) (ipa level : ℕ) (passes : Row → Bool) (also : Bool) (
           let passed = passes_from rows ipa level passes is in
           let same : other ≡ l = (let told : Some other ≡ Some l = e in cc) in
           row_passes rows ipa level passes (λ row. check also (error_rtt other) (rest row)) passed
-          ∙ check_fails also (error_rtt other) (rest passed.row) holds_is ∙ ap (λ n. Err (error_rtt n)) same
+          ∙ check_false also (error_rtt other) (rest passed.row) holds_is ∙ ap (λ n. Err (error_rtt n)) same
 
   pub both_pass : (passed : Passes rows ipa level passes) → also ≡ true
       → with_row rows ipa level (λ row. check (passes row) (error_rtt level) (check also (error_rtt other) (rest row))) ≡ rest passed.row
   both_pass passed holds =
       row_passes rows ipa level passes (λ row. check also (error_rtt other) (rest row)) passed
-      ∙ check_holds also (error_rtt other) (rest passed.row) holds
+      ∙ check_true also (error_rtt other) (rest passed.row) holds

@@ -17,16 +17,8 @@ use Rattle.realm_model.specs.Command.Check.{is_protected}
 use Rattle.rtt.specs.Tables.{entries_of, data_of, in_table, table_at, entry_at, rows}
 use Rattle.rtt.specs.Realm.{IsInside, HasTables}
 use Rattle.rtt.proofs.RowsIn.{row_at-rows_in}
-
--- a protected IPA granule is in the address space
-pub protected_inside : (ipa : ℕ) → is_protected ipa ≡ true → IsInside 3 ipa
-protected_inside ipa h =
-    let below : ipa < 2 ^ 26 = ltb-true ipa (2 ^ 26) h in
-    record { least = lit≤ tt; most = lit≤ tt; below = omega (arith, below) }
-
-some_there : (o : Option ℕ) → is_some o ≡ true → (n : ℕ) × (o ≡ Some n)
-some_there (Some n) h = (n, refl)
-some_there None h = cc
+use Rattle.rmi_monitor.proofs.LedTo.{protected_inside}
+use Rattle.realm_model.proofs.Booleans.{some_is}
 
 granule_of_kind : (hipas : Hipas) (granule : Option ℕ) → is_assigned (record { hipas = hipas; ripas = Empty; granule = granule }) ≡ true → IsKind 3 hipas granule → is_some granule ≡ true
 granule_of_kind Unassigned granule h k = cc
@@ -45,16 +37,16 @@ module _ (pages : List (List ℕ)) (granules : List Granule) (rd root ipa : ℕ)
   pub row_granule : (page : ℕ) × (row.granule ≡ Some page)
   row_granule =
       let shaped : IsShaped 3 (Some (mapping_of_row row)) = subst (IsShaped 3) (ap (option_map mapping_of_row) at) (there.sound.shaped (3, first_covered 3 ipa)) in
-      some_there row.granule (granule_of_kind row.hipas row.granule leads shaped)
+      some_is row.granule (granule_of_kind row.hipas row.granule leads shaped)
 
   entry_there : entry_at (entries_of pages) root 3 ipa ≡ Some row
   unfolding rows
-  entry_there = sym (row_at-rows_in (entries_of pages) root 3 ipa (protected_inside ipa protected)) ∙ at
+  entry_there = sym (row_at-rows_in (entries_of pages) root 3 ipa (protected_inside 3 ipa (lit≤ tt) (lit≤ tt) protected)) ∙ at
 
   -- that granule is in DATA of the realm
   pub page_in_data : (page : ℕ) → row.granule ≡ Some page → IsIn granules page InData (Some rd)
   page_in_data page is =
-      there.own.«data» 3 ipa page (protected_inside ipa protected)
+      there.own.«data» 3 ipa page (protected_inside 3 ipa (lit≤ tt) (lit≤ tt) protected)
       (of_entry (table_at (entries_of pages) root 3 ipa) entry_there ∙ data_of_kind row.hipas row.granule leads ∙ is)
     where
       of_entry : (o : Option ℕ) → in_table (λ t. Some (entries_of pages t (entry_index 3 ipa))) o ≡ Some row

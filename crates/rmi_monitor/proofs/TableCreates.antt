@@ -19,11 +19,15 @@ use Rattle.rtt.specs.Calls.{with_state, ChangesTablesAnd, GainsTable, create_ref
 use Rattle.rmi_monitor.specs.Places.{is_delegated_at}
 use Rattle.rmi_monitor.specs.View.{MonitorView, IsTaken, Answers, seen_in, after_command}
 use Rattle.rmi_monitor.specs.Inside.{Fields, realm_at, machine_of, seen_as, IsWhole}
-use Rattle.rmi_monitor.proofs.Checks.{delegated_test}
-use Rattle.rmi_monitor.proofs.Granules.{in_granules, state_is}
+use Rattle.rmi_monitor.proofs.Checks.{delegated_test, delegated_state}
+use Rattle.rmi_monitor.proofs.Granules.{in_granules, state_is, seen_delegated}
 use Rattle.rmi_monitor.proofs.TableMoves.{is_moved_state, whole_moved_to, machine_moved_to}
-use Rattle.rmi_monitor.proofs.RealmCommands.{realms_same, row_at_rd, nowhere, somewhere, after_put_two}
-use Rattle.rmi_monitor.proofs.Refusals.{Passes, answers_ok, check_fails, check_holds, passes_from, row_refused, row_passes}
+use Rattle.rmi_monitor.proofs.Refusals.{Passes, passes_from, row_refused, row_passes}
+use Rattle.realm_model.proofs.Outcomes.{check_true}
+use Rattle.rmi_monitor.proofs.Outcomes.{check_false, answers_ok}
+use Rattle.rmi_monitor.proofs.RealmFound.{row_of, nowhere, somewhere}
+use Rattle.rmi_monitor.proofs.RealmCommands.{whole_after_move, seen_after_move}
+use Rattle.rmi_monitor.proofs.Listed.{put_back}
 
 -- What the call leaves where it is not refused.
 pub record CreateCall (rd table : ℕ) (pages : List (List ℕ)) (free : List Bool) (granules : List Granule) (new_pages : List (List ℕ)) (new_free : List Bool) (new_granules : List Granule)
@@ -43,20 +47,13 @@ pub create_call_at : {rd table : ℕ} {pages : List (List ℕ)} {free : List Boo
 create_call_at {rd} {table} {pages} {free} {granules} {new_pages} {new_free} {new_granules} {root} {ipa} {level} r i l call =
     subst (λ (at : ℕ × ℕ × ℕ). CreateCall rd table pages free granules new_pages new_free new_granules at.0 at.1 at.2) (λ k. (r k, i k, l k)) call
 
-delegated_state : (state : GranuleState) → delegated_test state ≡ true → state ≡ Delegated
-delegated_state Delegated h = refl
-delegated_state _ h = cc
-
 module _ (monitor : MonitorView) (fields : Fields) (view_is : seen_as fields ≡ monitor) (whole : IsWhole fields) (rd table ipa level : ℕ)
     (rd_taken : IsTaken monitor rd) (table_taken : IsTaken monitor table) where
   abbrev outcome : Outcome
   outcome = rtt_create (seen_in monitor rd) (seen_in monitor table) ipa level
 
-  seen_delegated : is_delegated (seen_in monitor table) ≡ is_delegated_at fields.granules table
-  seen_delegated = ap delegated_test (state_is monitor fields view_is whole table table_taken)
-
   pub create_nowhere : realm_at fields rd ≡ None → outcome ≡ Err error_input
-  create_nowhere none = nowhere monitor fields view_is whole rd rd_taken _ none
+  create_nowhere none = nowhere monitor fields view_is whole rd rd_taken.inside none _
 
   module _ (realm : RealmAttributes) (there : realm_at fields rd ≡ Some realm) where
     abbrev may_be : Bool
@@ -65,22 +62,22 @@ module _ (monitor : MonitorView) (fields : Fields) (view_is : seen_as fields ≡
     abbrev made : Row → Outcome
     made above =
         Ok (Put table (held InRtt rd)
-        ∷ put_realm (seen_in monitor rd) (record (row_at_rd fields rd realm) { rows = with_table (rows fields.pages realm.root) level ipa table above.ripas }) ∷ [])
+        ∷ put_realm (seen_in monitor rd) (record (row_of fields rd realm) { rows = with_table (rows fields.pages realm.root) level ipa table above.ripas }) ∷ [])
 
     abbrev looked : Outcome
     looked = with_row (rows fields.pages realm.root) ipa (level - 1) (λ above. check (not (is_table above)) (error_rtt (level - 1)) (made above))
 
     found : outcome ≡ check may_be error_input looked
-    found = somewhere monitor fields view_is whole rd rd_taken _ realm there
+    found = somewhere monitor fields view_is whole rd realm there _
 
     pub create_misplaced : is_table_place ipa level ≡ false → outcome ≡ Err error_input
-    create_misplaced h = found ∙ check_fails may_be error_input looked (and_left _ _ (and_right _ _ h))
+    create_misplaced h = found ∙ check_false may_be error_input looked (and_left _ _ (and_right _ _ h))
 
     pub create_unprotected : is_protected ipa ≡ false → outcome ≡ Err error_input
-    create_unprotected h = found ∙ check_fails may_be error_input looked (and_right _ _ h)
+    create_unprotected h = found ∙ check_false may_be error_input looked (and_right _ _ h)
 
     pub create_undelegated : is_delegated_at fields.granules table ≡ false → outcome ≡ Err error_input
-    create_undelegated h = found ∙ check_fails may_be error_input looked (and_left _ _ (and_left _ _ (seen_delegated ∙ h)))
+    create_undelegated h = found ∙ check_false may_be error_input looked (and_left _ _ (and_left _ _ (seen_delegated monitor fields view_is whole table table_taken ∙ h)))
 
     -- ---- the granule is DELEGATED, and the place is one of a table
 
@@ -95,7 +92,7 @@ module _ (monitor : MonitorView) (fields : Fields) (view_is : seen_as fields ≡
       }
 
       create_looks : outcome ≡ looked
-      create_looks = found ∙ check_holds may_be error_input looked (and_from _ _ (and_from _ _ (seen_delegated ∙ delegated) place) protected)
+      create_looks = found ∙ check_true may_be error_input looked (and_from _ _ (and_from _ _ (seen_delegated monitor fields view_is whole table table_taken ∙ delegated) place) protected)
 
       pub create_refused : (l : ℕ) → create_refusal (rows fields.pages realm.root) ipa level ≡ Some l → outcome ≡ Err (error_rtt l)
       create_refused l e = create_looks ∙ row_refused (rows fields.pages realm.root) ipa (level - 1) (λ row. not (is_table row)) made l e
@@ -119,14 +116,11 @@ module _ (monitor : MonitorView) (fields : Fields) (view_is : seen_as fields ≡
 
           pub whole_created : IsWhole new
           whole_created =
-              subst (λ rs. IsWhole (record new { realms = rs })) (realms_same fields rd realm there)
-              (whole_moved_to fields whole rd realm realm there refl (omega arith) granules pages free call.flags call.backed call.tables call.other_realms table is_in_delegated.inside InRtt (Some rd) call.moved
-              (ap is_moved_state was) refl (λ e. cc) (λ e. cc) call.others)
+              whole_after_move monitor fields view_is whole rd rd_taken realm there realm refl (omega arith) granules pages free fields.realms (sym (put_back fields.realms rd None (Some realm) there))
+              call.flags call.backed call.tables call.other_realms table is_in_delegated.inside InRtt (Some rd) call.moved (ap is_moved_state was) refl (λ e. cc) (λ e. cc) call.others
 
           pub create_done : seen_as new ≡ after_command outcome monitor
           create_done =
-              after_put_two monitor fields view_is whole rd rd_taken outcome new refl refl call.flags realm (rows pages realm.root)
-              (with_table (rows fields.pages realm.root) level ipa table passed.row.ripas) table _ (held InRtt rd) refl (call.gains passed.row passed.at) created
-              (ap (λ rs. machine_of (record new { realms = rs })) (sym (realms_same fields rd realm there))
-              ∙ machine_moved_to fields whole rd realm realm there refl (omega arith) granules pages free call.flags call.backed call.tables call.other_realms table is_in_delegated.inside InRtt (Some rd) call.moved
-              (ap is_moved_state was) refl (λ e. cc) (λ e. cc) call.others)
+              seen_after_move monitor fields view_is whole rd rd_taken realm there realm refl (omega arith) granules pages free fields.realms (sym (put_back fields.realms rd None (Some realm) there))
+              call.flags call.backed call.tables call.other_realms table is_in_delegated.inside InRtt (Some rd) call.moved (ap is_moved_state was) refl (λ e. cc) (λ e. cc) call.others
+              outcome (held InRtt rd) _ refl (λ i. record (row_of fields rd realm) { rows = call.gains passed.row passed.at i }) created

@@ -20,8 +20,12 @@ use Rattle.rmi_monitor.specs.View.{MonitorView, IsTaken, Answers, seen_in, after
 use Rattle.rmi_monitor.specs.Inside.{Fields, realm_at, machine_of, seen_as, IsWhole}
 use Rattle.rmi_monitor.proofs.TableMoves.{is_moved_state, whole_moved_to, machine_moved_to}
 use Rattle.rmi_monitor.proofs.LedTo.{led_granule, led_is, led_in}
-use Rattle.rmi_monitor.proofs.RealmCommands.{realms_same, row_at_rd, nowhere, somewhere, after_put_two}
-use Rattle.rmi_monitor.proofs.Refusals.{Passes, answers_ok, check_fails, check_holds, passes_from, or_passes, both_refused, both_pass}
+use Rattle.rmi_monitor.proofs.Refusals.{Passes, passes_from, or_passes, both_refused, both_pass}
+use Rattle.realm_model.proofs.Outcomes.{check_true}
+use Rattle.rmi_monitor.proofs.Outcomes.{check_false, answers_ok}
+use Rattle.rmi_monitor.proofs.RealmFound.{row_of, nowhere, somewhere}
+use Rattle.rmi_monitor.proofs.RealmCommands.{whole_after_move, seen_after_move}
+use Rattle.rmi_monitor.proofs.Listed.{put_back}
 
 -- What the call leaves where it is not refused.
 pub record DestroyCall (rd : ℕ) (pages : List (List ℕ)) (free : List Bool) (granules : List Granule) (new_pages : List (List ℕ)) (new_free : List Bool) (new_granules : List Granule)
@@ -47,7 +51,7 @@ module _ (monitor : MonitorView) (fields : Fields) (view_is : seen_as fields ≡
   outcome = rtt_destroy (seen_in monitor rd) ipa level
 
   pub destroy_nowhere : realm_at fields rd ≡ None → outcome ≡ Err error_input
-  destroy_nowhere none = nowhere monitor fields view_is whole rd taken _ none
+  destroy_nowhere none = nowhere monitor fields view_is whole rd taken.inside none _
 
   module _ (realm : RealmAttributes) (there : realm_at fields rd ≡ Some realm) where
     abbrev old_rows : Rows
@@ -57,23 +61,23 @@ module _ (monitor : MonitorView) (fields : Fields) (view_is : seen_as fields ≡
     unused = is_table_unused old_rows level ipa
 
     abbrev made : ℕ → Outcome
-    made granule = Ok (Put granule left ∷ put_realm (seen_in monitor rd) (record (row_at_rd fields rd realm) { rows = without_table old_rows level ipa }) ∷ [])
+    made granule = Ok (Put granule left ∷ put_realm (seen_in monitor rd) (record (row_of fields rd realm) { rows = without_table old_rows level ipa }) ∷ [])
 
     abbrev looked : Outcome
     looked = with_row old_rows ipa (level - 1) (λ above. check (is_table above) (error_rtt (level - 1)) (check unused (error_rtt level) (with_granule above made)))
 
     found : outcome ≡ check (is_table_place ipa level && is_protected ipa) error_input looked
-    found = somewhere monitor fields view_is whole rd taken _ realm there
+    found = somewhere monitor fields view_is whole rd realm there _
 
     pub destroy_misplaced : is_table_place ipa level ≡ false → outcome ≡ Err error_input
-    destroy_misplaced h = found ∙ check_fails _ error_input looked (and_left _ _ h)
+    destroy_misplaced h = found ∙ check_false _ error_input looked (and_left _ _ h)
 
     pub destroy_unprotected : is_protected ipa ≡ false → outcome ≡ Err error_input
-    destroy_unprotected h = found ∙ check_fails _ error_input looked (and_right _ _ h)
+    destroy_unprotected h = found ∙ check_false _ error_input looked (and_right _ _ h)
 
     module _ (place : is_table_place ipa level ≡ true) (protected : is_protected ipa ≡ true) where
       looks : outcome ≡ looked
-      looks = found ∙ check_holds _ error_input looked (and_from _ _ place protected)
+      looks = found ∙ check_true _ error_input looked (and_from _ _ place protected)
 
       pub destroy_refused : (l : ℕ) → destroy_refusal old_rows ipa level ≡ Some l → outcome ≡ Err (error_rtt l)
       destroy_refused l e = looks ∙ both_refused old_rows ipa (level - 1) is_table unused level (λ above. with_granule above made) l e
@@ -88,16 +92,16 @@ module _ (monitor : MonitorView) (fields : Fields) (view_is : seen_as fields ≡
         tables = whole.tables rd realm there
 
         abbrev table : ℕ
-        table = led_granule fields.pages fields.granules rd realm.root level ipa tables place protected passed.row passed.at passed.pass
+        table = led_granule fields.pages fields.granules rd realm.root level ipa tables place protected passed.row passed.at passed.holds
 
         table_is : passed.row.granule ≡ Some table
-        table_is = led_is fields.pages fields.granules rd realm.root level ipa tables place protected passed.row passed.at passed.pass
+        table_is = led_is fields.pages fields.granules rd realm.root level ipa tables place protected passed.row passed.at passed.holds
 
         leads : LeadsTo old_rows (level - 1) ipa table
         leads = (passed.row, passed.at, table_is)
 
         lies : IsIn fields.granules table InRtt (Some rd)
-        lies = led_in fields.pages fields.granules rd realm.root level ipa tables place protected passed.row passed.at passed.pass
+        lies = led_in fields.pages fields.granules rd realm.root level ipa tables place protected passed.row passed.at passed.holds
 
         was : is_moved_state (granule_at fields.granules table).state ≡ true
         was = ap (λ (x : Granule). is_moved_state x.state) lies.is
@@ -122,16 +126,11 @@ module _ (monitor : MonitorView) (fields : Fields) (view_is : seen_as fields ≡
 
           pub whole_destroyed : IsWhole new
           whole_destroyed =
-              subst (λ rs. IsWhole (record new { realms = rs })) (realms_same fields rd realm there)
-              (whole_moved_to fields whole rd realm realm there refl (omega arith) granules pages free call.flags call.backed call.tables call.other_realms table lies.inside Delegated None (call.moved table leads)
-              was refl (λ e. refl) (λ e. call.cleared table leads) (λ g differs. call.others g))
-
-          cell_left : ◌≡◌ {A = Cell} (record { state = Delegated; realm = None; bytes = page_at pages table; descriptor = None }) left
-          cell_left = ap (λ (page : List ℕ). record { state = Delegated; realm = None; bytes = page; descriptor = None }) (call.cleared table leads)
+              whole_after_move monitor fields view_is whole rd taken realm there realm refl (omega arith) granules pages free fields.realms (sym (put_back fields.realms rd None (Some realm) there))
+              call.flags call.backed call.tables call.other_realms table lies.inside Delegated None (call.moved table leads) was refl (λ e. refl) (λ e. call.cleared table leads) (λ g differs. call.others g)
 
           pub destroy_done : seen_as new ≡ after_command outcome monitor
           destroy_done =
-              after_put_two monitor fields view_is whole rd taken outcome new refl refl call.flags realm (rows pages realm.root) (without_table old_rows level ipa) table _ left cell_left call.loses destroyed
-              (ap (λ rs. machine_of (record new { realms = rs })) (sym (realms_same fields rd realm there))
-              ∙ machine_moved_to fields whole rd realm realm there refl (omega arith) granules pages free call.flags call.backed call.tables call.other_realms table lies.inside Delegated None (call.moved table leads)
-              was refl (λ e. refl) (λ e. call.cleared table leads) (λ g differs. call.others g))
+              seen_after_move monitor fields view_is whole rd taken realm there realm refl (omega arith) granules pages free fields.realms (sym (put_back fields.realms rd None (Some realm) there))
+              call.flags call.backed call.tables call.other_realms table lies.inside Delegated None (call.moved table leads) was refl (λ e. refl) (λ e. call.cleared table leads) (λ g differs. call.others g)
+              outcome left _ (λ i. record left { bytes = call.cleared table leads i }) (λ i. record (row_of fields rd realm) { rows = call.loses i }) destroyed

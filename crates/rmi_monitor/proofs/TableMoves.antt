@@ -1,7 +1,7 @@
 -- A call on a realm's tables, which moves a granule to or from the realm, or none; the realm's attributes may have changed.
 use Rattle.std.proofs.Common.{◌≡◌, ◌≢◌, ℕ, ◌<◌, ◌≤◌, Bool, true, false, List, [], length, set, Option, Some, None, option_map, refl, sym, ap, ◌∙◌, subst, arith}
 use Rattle.std.specs.Prelude.{◌==◌, ◌||◌, is_some}
-use Rattle.std.proofs.lemmas.Bool.{eqb-true, eqb-false}
+use Rattle.std.proofs.lemmas.Bool.{eqb-true, eqb-false, or_parts, eq-eqb, ne_eqb, or_right}
 use Rattle.std.proofs.lemmas.List.{length-set, get_or-set_same, get_or-set_other}
 use Rattle.granule_table.specs.Granules.{granule_at, undelegated}
 use Rattle.granule_table.specs.declared.granule.Granule.{Granule}
@@ -17,7 +17,7 @@ use Rattle.rtt.specs.Realm.{IsBacked, HasTables, IsTableOf, LeavesOthers}
 use Rattle.rmi_monitor.specs.Inside.{Fields, realm_at, rec_at, recs_of, descriptor_of, bytes_of, cell_of, machine_of, is_rec_state, IsSoundAt, IsWhole}
 use Rattle.rmi_monitor.proofs.Machines.{one_put, two_put}
 use Rattle.rmi_monitor.proofs.Frames.{Stays}
-use Rattle.rmi_monitor.proofs.TwoPlaces.{eq-same, differ-eq, or_left, or_right, or_rest, or_second, neither}
+use Rattle.rmi_monitor.proofs.Comparisons.{or_rest, neither}
 use Rattle.rmi_monitor.proofs.RealmPlaces.{realm_inside, in_rd, no_realm_there}
 use Rattle.rmi_monitor.proofs.RealmAfter.{Changes, whole_changed, recs_of_changed, cell_unchanged, descriptor_changed}
 
@@ -106,7 +106,7 @@ module _ (old : Fields) (whole : IsWhole old) (rd : ℕ) (realm now : RealmAttri
         realm = λ g e. realm_other g (eqb-false g rd e);
         rec = λ g e. refl;
       };
-      own = eq-same rd;
+      own = eq-eqb rd rd refl;
       there = there;
       is = realm_is;
       others = realm_other;
@@ -131,7 +131,7 @@ module _ (old : Fields) (whole : IsWhole old) (rd : ℕ) (realm now : RealmAttri
         one_put old new (ap length same) rd _ rd_inside
         (cell_rd (granule_same rd) (page_stays rd (not_table rd (λ e. let differ : InRd ≡ InRtt = sym (in_rd old whole rd realm there) ∙ e in cc)))
         (descriptor_changed old new rd realm now is_rd still whole (rows pages realm.root) refl))
-        (λ g inside differs. cell_unchanged old new rd realm now is_rd still whole g (differ-eq g rd differs) differs)
+        (λ g inside differs. cell_unchanged old new rd realm now is_rd still whole g (ne_eqb g rd differs) differs)
 
   -- ---- a granule is moved
 
@@ -158,7 +158,7 @@ module _ (old : Fields) (whole : IsWhole old) (rd : ℕ) (realm now : RealmAttri
     state_is = ap (λ (x : Granule). x.state) granule_is
 
     untouched : (g : ℕ) → touched g ≡ false → (g ≢ m) × (g ≢ rd)
-    untouched g e = (eqb-false g m (or_left (g == m) (g == rd) e), eqb-false g rd (or_right (g == m) (g == rd) e))
+    untouched g e = (eqb-false g m ((or_parts (g == m) (g == rd) e).0), eqb-false g rd ((or_parts (g == m) (g == rd) e).1))
 
     not_here : (wanted : GranuleState) → is_moved_state wanted ≡ false → (g : ℕ) → (granule_at old.granules g).state ≡ wanted → g ≢ m
     not_here wanted held g at e = not_moved (granule_at old.granules m).state wanted held was (ap (λ k. (granule_at old.granules k).state) (sym e) ∙ at)
@@ -193,7 +193,7 @@ module _ (old : Fields) (whole : IsWhole old) (rd : ℕ) (realm now : RealmAttri
         realm = λ g e. realm_other g (untouched g e).1;
         rec = λ g e. refl;
       };
-      own = or_second (rd == m) (rd == rd) (eq-same rd);
+      own = or_right (rd == m) (rd == rd) (eq-eqb rd rd refl);
       there = there;
       is = realm_is;
       others = realm_other;

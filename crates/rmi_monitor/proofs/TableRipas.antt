@@ -7,15 +7,18 @@ use Rattle.realm_model.specs.Measurement.{measurement_after, ripas_event}
 use Rattle.realm_model.specs.Update.{Outcome}
 use Rattle.realm_model.specs.Command.Check.{check, error_input, error_realm, error_rtt, is_new, is_protected, with_row, put_realm}
 use Rattle.realm_model.specs.Command.Table.{rtt_init_ripas}
-use Rattle.realm_objects.specs.Attributes.{RealmAttributes}
+use Rattle.realm_objects.specs.Attributes.{RealmAttributes, realm_row}
 use Rattle.rtt.specs.Tables.{rows}
 use Rattle.rtt.specs.Realm.{IsBacked, HasTables, LeavesOthers}
 use Rattle.rtt.specs.Calls.{ChangesTablesOnly, ripas_refusal}
 use Rattle.rmi_monitor.specs.View.{MonitorView, IsTaken, Answers, seen_in, after_command}
-use Rattle.rmi_monitor.specs.Inside.{Fields, realm_at, seen_as, IsWhole}
+use Rattle.rmi_monitor.specs.Inside.{Fields, realm_at, seen_as, IsWhole, recs_of}
 use Rattle.rmi_monitor.proofs.TableMoves.{whole_still, machine_still}
-use Rattle.rmi_monitor.proofs.RealmCommands.{row_at_rd, nowhere, somewhere, after_put}
-use Rattle.rmi_monitor.proofs.Refusals.{Passes, answers_ok, check_fails, check_holds, passes_from, or_passes, both_refused, both_pass}
+use Rattle.rmi_monitor.proofs.Refusals.{Passes, passes_from, or_passes, both_refused, both_pass}
+use Rattle.realm_model.proofs.Outcomes.{check_true}
+use Rattle.rmi_monitor.proofs.Outcomes.{check_false, answers_ok}
+use Rattle.rmi_monitor.proofs.RealmFound.{row_of, nowhere, somewhere}
+use Rattle.rmi_monitor.proofs.RealmCommands.{after_put}
 
 -- What the call leaves where it is not refused.
 pub record RipasCall (rd : ℕ) (pages : List (List ℕ)) (free : List Bool) (granules : List Granule) (new_pages : List (List ℕ)) (new_free : List Bool) (root ipa count : ℕ) : Type 0 where
@@ -53,7 +56,7 @@ module _ (monitor : MonitorView) (fields : Fields) (view_is : seen_as fields ≡
   outcome = rtt_init_ripas (seen_in monitor rd) ipa count
 
   pub ripas_nowhere : realm_at fields rd ≡ None → outcome ≡ Err error_input
-  ripas_nowhere none = nowhere monitor fields view_is whole rd taken _ none
+  ripas_nowhere none = nowhere monitor fields view_is whole rd taken.inside none _
 
   module _ (realm : RealmAttributes) (there : realm_at fields rd ≡ Some realm) where
     abbrev old_rows : Rows
@@ -64,7 +67,7 @@ module _ (monitor : MonitorView) (fields : Fields) (view_is : seen_as fields ≡
 
     abbrev made : Outcome
     made =
-        Ok (put_realm (seen_in monitor rd) (record (row_at_rd fields rd realm) {
+        Ok (put_realm (seen_in monitor rd) (record (row_of fields rd realm) {
           rows = with_ram old_rows ipa count;
           measurement = measurement_after realm.measurement (ripas_event ipa count);
         }) ∷ [])
@@ -73,21 +76,21 @@ module _ (monitor : MonitorView) (fields : Fields) (view_is : seen_as fields ≡
     looked = with_row old_rows ipa 3 (λ row. check unused (error_rtt 3) made)
 
     abbrev checked : Outcome
-    checked = check (is_new (row_at_rd fields rd realm)) error_realm looked
+    checked = check (is_new (row_of fields rd realm)) error_realm looked
 
     found : outcome ≡ check (is_run ipa count) error_input checked
-    found = somewhere monitor fields view_is whole rd taken _ realm there
+    found = somewhere monitor fields view_is whole rd realm there _
 
     pub ripas_no_run : is_run ipa count ≡ false → outcome ≡ Err error_input
-    ripas_no_run h = found ∙ check_fails (is_run ipa count) error_input checked h
+    ripas_no_run h = found ∙ check_false (is_run ipa count) error_input checked h
 
     module _ (run : is_run ipa count ≡ true) where
-      pub ripas_not_new : is_new (row_at_rd fields rd realm) ≡ false → outcome ≡ Err error_realm
-      ripas_not_new h = found ∙ check_holds (is_run ipa count) error_input checked run ∙ check_fails (is_new (row_at_rd fields rd realm)) error_realm looked h
+      pub ripas_not_new : is_new (row_of fields rd realm) ≡ false → outcome ≡ Err error_realm
+      ripas_not_new h = found ∙ check_true (is_run ipa count) error_input checked run ∙ check_false (is_new (row_of fields rd realm)) error_realm looked h
 
-      module _ (new_realm : is_new (row_at_rd fields rd realm) ≡ true) where
+      module _ (new_realm : is_new (row_of fields rd realm) ≡ true) where
         looks : outcome ≡ looked
-        looks = found ∙ check_holds (is_run ipa count) error_input checked run ∙ check_holds (is_new (row_at_rd fields rd realm)) error_realm looked new_realm
+        looks = found ∙ check_true (is_run ipa count) error_input checked run ∙ check_true (is_new (row_of fields rd realm)) error_realm looked new_realm
 
         pub ripas_refused : (l : ℕ) → ripas_refusal old_rows ipa count ≡ Some l → outcome ≡ Err (error_rtt l)
         unfolding check
@@ -119,6 +122,6 @@ module _ (monitor : MonitorView) (fields : Fields) (view_is : seen_as fields ≡
             pub ripas_done : seen_as (new now) ≡ after_command outcome monitor
             ripas_done =
                 ap (λ r. seen_as (new r)) now_is
-                ∙ after_put monitor fields view_is whole rd taken outcome (new (measured realm ipa count)) refl refl call.flags (measured realm ipa count) (rows pages realm.root)
-                (with_ram old_rows ipa count) call.gains gives_ram
+                ∙ after_put monitor fields view_is whole rd taken outcome (new (measured realm ipa count)) refl refl call.flags _ _
+                (λ i. realm_row (measured realm ipa count) (recs_of fields.granules fields.recs rd) (call.gains i)) gives_ram
                 (machine_still fields whole rd realm (measured realm ipa count) there refl (omega arith) fields.granules pages free call.flags call.backed call.tables call.other_realms refl call.others)

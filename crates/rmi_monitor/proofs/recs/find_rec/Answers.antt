@@ -4,9 +4,11 @@ use Rattle.std.proofs.lemmas.List.{get_or_read_under}
 use Rattle.std.proofs.lemmas.Option.{none-some}
 use Rattle.realm_model.specs.Machine.{RecRow}
 use Rattle.rmi_monitor.specs.Inside.{is_of_realm, rec_of, IsRecAt}
-use Rattle.rmi_monitor.proofs.RecPlaces.{granule_is, is_of_realm-test, rec_of-none, rec_of-other, rec_of-number, IsRecAt-there, recs_of-without}
 use Rattle.rmi_monitor.proofs.recs.find_rec.Goals as goal
 use Rattle.rmi_monitor.proofs.recs.find_rec.Goals.{else-eq-via-then-eq+else-eq-2, else-eq-via-else-eq}
+use Rattle.rmi_monitor.proofs.Comparisons.{test_held}
+use Rattle.rmi_monitor.proofs.RecEntries.{is_of_realm-test, rec_of-none, rec_of-other, rec_of-number}
+use Rattle.rmi_monitor.proofs.RealmRecs.{IsRecAt-there, recs_of-without}
 
 pub granules-preserved-in_default : goal.granules-preserved-in_default
 granules-preserved-in_default c =
@@ -21,7 +23,7 @@ returns-then-eq-2-clause-some c =
     let place = c.granules.place in
     let here : c.index-recs-place.result ≡ get_or c.args.recs.now place None =
     get_or_read_under c.args.recs.now place c.pages-place-end.result c.index-recs-place.result None c.index-recs-place.is (omega arith) (omega arith) in
-    let granule : c.unwrap-granule.result ≡ place = granule_is _ place c.unwrap-granule.result c.new.result c.new.ensures c.unwrap-granule.ensures in
+    let granule : c.unwrap-granule.result ≡ place = (test_held _ place c.unwrap-granule.result c.new.result c.new.ensures c.unwrap-granule.ensures).1 in
     let of : is_of_realm c.args.granules.now c.args.rd place ≡ true =
     is_of_realm-test c.args.granules.now c.args.rd place c.unwrap-granule.result c.realm_of.result c.eq-then-eq.result true granule c.realm_of.ensures c.eq-then-eq.ensures c.if-eq-2.true in
     let same : c.in-Some.rec.number ≡ c.args.number = sym c.number.ensures ∙ eqb-true c.number.result c.args.number (sym c.eq.ensures ∙ c.if-eq.true) in
@@ -33,7 +35,7 @@ granules-preserved c =
     let place = c.granules.place in
     let here : c.index-recs-place.result ≡ get_or c.args.recs.now place None =
     get_or_read_under c.args.recs.now place c.pages-place-end.result c.index-recs-place.result None c.index-recs-place.is (omega arith) (omega arith) in
-    let granule : c.unwrap-granule.result ≡ place = granule_is _ place c.unwrap-granule.result c.new.result c.new.ensures c.unwrap-granule.ensures in
+    let granule : c.unwrap-granule.result ≡ place = (test_held _ place c.unwrap-granule.result c.new.result c.new.ensures c.unwrap-granule.ensures).1 in
     below_more (λ k. (row : RecRow) → rec_of c.args.granules.now c.args.recs.now c.args.rd k ≡ Some (c.args.number, row) → ⊥) place c.granules.invariant
     (λ row at. elim c.else-eq.branch [
       | else-eq-via-then-eq+else-eq-2 w ↦

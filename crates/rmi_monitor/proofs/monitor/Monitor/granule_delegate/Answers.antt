@@ -1,12 +1,13 @@
-use Rattle.std.proofs.Common.{[], ◌∷◌, refl, sym, ap, subst, ◌∙◌, List}
+use Rattle.std.proofs.Common.{[], ◌∷◌, refl, sym, ap, subst, ◌∙◌, List, Ok}
 use Rattle.granule_table.specs.declared.granule.Granule.{Granule}
 use Rattle.realm_model.specs.Machine.{left}
 use Rattle.realm_model.specs.Update.{Put}
 use Rattle.realm_model.specs.Command.Check.{error_input}
 use Rattle.rmi_monitor.specs.Inside.{fields_of, seen_as, IsWhole}
-use Rattle.rmi_monitor.proofs.Checks.{answers_done, answers_refused}
-use Rattle.rmi_monitor.proofs.Granules.{in_granules, in_pages, is_undelegated_there, is_not_undelegated, after_refused, whole_delegated, delegated_done}
+use Rattle.rmi_monitor.proofs.Granules.{in_granules, in_pages, is_undelegated_there, is_not_undelegated, whole_delegated, delegated_done}
 use Rattle.rmi_monitor.proofs.monitor.Monitor.granule_delegate.Goals as goal
+use Rattle.realm_model.proofs.Outcomes.{check_true}
+use Rattle.rmi_monitor.proofs.Outcomes.{answers_ok, answers_err, after_err, check_false}
 
 pub shift-requires : goal.shift-requires
 shift-requires g c = in_granules c.args.self.now _ c.self.view_is c.self.invariant c.args.granule c.requires
@@ -16,15 +17,15 @@ invariant_of-self g c = subst (λ (gs : List Granule). IsWhole (fields_of c.self
 
 pub returns-then-not-shift-clause-answer : goal.returns-then-not-shift-clause-answer
 returns-then-not-shift-clause-answer g c =
-    answers_refused error_input (Put c.args.granule left ∷ []) (Unit {0}) _
-    (is_not_undelegated c.args.self.now _ c.self.view_is c.self.invariant c.args.granule c.requires (λ e. let told = c.if-not-shift.ensures.answer.1 e in cc))
+    answers_err (Unit {0}) error_input _ (check_false _ error_input (Ok (Put c.args.granule left ∷ []))
+    (is_not_undelegated c.args.self.now _ c.self.view_is c.self.invariant c.args.granule c.requires (λ e. let told = c.if-not-shift.ensures.answer.1 e in cc)))
 
 pub returns-then-not-shift-clause-machine : goal.returns-then-not-shift-clause-machine
 returns-then-not-shift-clause-machine g c =
     ap (λ (gs : List Granule). seen_as (fields_of c.self.inside.vmids c.self.inside.aux gs (g.S.PageStore.page_bytes c.self.inside.store) (g.S.PageStore.free_flags c.self.inside.store) c.self.inside.realms.items c.self.inside.recs.items)) c.if-not-shift.ensures.unchanged
     ∙ c.self.view_is
-    ∙ after_refused c.args.self.now _ c.self.view_is c.self.invariant c.args.granule c.requires _ (Put c.args.granule left ∷ [])
-    (is_not_undelegated c.args.self.now _ c.self.view_is c.self.invariant c.args.granule c.requires (λ e. let told = c.if-not-shift.ensures.answer.1 e in cc))
+    ∙ after_err c.args.self.now error_input _ (check_false _ error_input (Ok (Put c.args.granule left ∷ []))
+    (is_not_undelegated c.args.self.now _ c.self.view_is c.self.invariant c.args.granule c.requires (λ e. let told = c.if-not-shift.ensures.answer.1 e in cc)))
 
 pub fill-requires-clause-inside : goal.fill-requires-clause-inside
 fill-requires-clause-inside g c = in_pages c.args.self.now _ c.self.view_is c.self.invariant c.args.granule c.requires
@@ -35,8 +36,8 @@ invariant_of-self-2 g c =
 
 pub returns-clause-answer : goal.returns-clause-answer
 returns-clause-answer g c =
-    answers_done error_input (Put c.args.granule left ∷ []) {A = Unit {0}} tt _
-    (is_undelegated_there c.args.self.now _ c.self.view_is c.self.invariant c.args.granule c.requires (c.if-not-shift.ensures.answer.0 refl))
+    answers_ok {A = Unit {0}} tt (Put c.args.granule left ∷ []) _ (check_true _ error_input (Ok (Put c.args.granule left ∷ []))
+    (is_undelegated_there c.args.self.now _ c.self.view_is c.self.invariant c.args.granule c.requires (c.if-not-shift.ensures.answer.0 refl)))
 
 pub returns-clause-machine : goal.returns-clause-machine
 returns-clause-machine g c =

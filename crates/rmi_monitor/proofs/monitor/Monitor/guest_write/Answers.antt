@@ -8,8 +8,9 @@ use Rattle.rmi_monitor.proofs.Granules.{in_granules}
 use Rattle.rmi_monitor.proofs.RecFound.{on_none}
 use Rattle.rmi_monitor.proofs.RecReads.{rec_place, rec_read, no_rd, no_realm, realm_place, realm_read, kept_there}
 use Rattle.rmi_monitor.proofs.DataBytes.{page_inside, whole_written}
-use Rattle.rmi_monitor.proofs.GuestWrites.{is_protected_where, is_unprotected, write_unprotected, write_ready, write_unassigned, write_done}
+use Rattle.rmi_monitor.proofs.GuestWrites.{write_unprotected, write_ready, write_unassigned, write_done}
 use Rattle.rmi_monitor.proofs.monitor.Monitor.guest_write.Goals as goal
+use Rattle.rmi_monitor.proofs.Comparisons.{test_held, test_failed}
 
 pub index-requires : goal.index-requires
 index-requires g c =
@@ -48,14 +49,14 @@ returns-in_default-protected g c =
     let kept = kept_there _ c.self.invariant c.args.rec c.in-Some.kept at c.in-Some-realm_of.rd (sym c.realm_of.ensures ∙ c.in-Some-realm_of.is)
     c.number-2.result c.number-2.ensures.value _ c.in-Some-index.realm c.index-2.ensures c.in-Some-index.is in
     write_unprotected c.args.self.now _ c.self.view_is c.self.invariant c.args.rec c.requires c.in-Some.kept c.in-Some-realm_of.rd c.in-Some-index.realm kept c.args.ipa c.args.offset c.args.value
-    (is_unprotected (is_protected c.args.ipa) c.args.ipa c.protected.result c.protected.ensures c.in_default-protected.is)
+    (test_failed (is_protected c.args.ipa) c.args.ipa c.protected.result c.protected.ensures c.in_default-protected.is)
 
 pub returns-then-is_ready : goal.returns-then-is_ready
 returns-then-is_ready g c =
     let at = rec_read c.args.self.now _ c.self.view_is c.self.invariant c.args.rec c.requires c.number.result c.number.ensures.value _ (Some c.in-Some.kept) c.index.ensures c.in-Some.is in
     let kept = kept_there _ c.self.invariant c.args.rec c.in-Some.kept at c.in-Some-realm_of.rd (sym c.realm_of.ensures ∙ c.in-Some-realm_of.is)
     c.number-2.result c.number-2.ensures.value _ c.in-Some-index.realm c.index-2.ensures c.in-Some-index.is in
-    let protected = is_protected_where (is_protected c.args.ipa) c.args.ipa c.in-Some-protected.granule c.protected.result c.protected.ensures c.in-Some-protected.is in
+    let protected = test_held (is_protected c.args.ipa) c.args.ipa c.in-Some-protected.granule c.protected.result c.protected.ensures c.in-Some-protected.is in
     write_ready c.args.self.now _ c.self.view_is c.self.invariant c.args.rec c.requires c.in-Some.kept c.in-Some-realm_of.rd c.in-Some-index.realm kept c.args.ipa c.args.offset c.args.value
     protected.0 (sym (c.is_ready.ensures c.args.rec) ∙ c.if-is_ready.true)
 
@@ -72,7 +73,7 @@ returns-in_default-page g c =
     let at = rec_read c.args.self.now _ c.self.view_is c.self.invariant c.args.rec c.requires c.number.result c.number.ensures.value _ (Some c.in-Some.kept) c.index.ensures c.in-Some.is in
     let kept = kept_there _ c.self.invariant c.args.rec c.in-Some.kept at c.in-Some-realm_of.rd (sym c.realm_of.ensures ∙ c.in-Some-realm_of.is)
     c.number-2.result c.number-2.ensures.value _ c.in-Some-index.realm c.index-2.ensures c.in-Some-index.is in
-    let protected = is_protected_where (is_protected c.args.ipa) c.args.ipa c.in-Some-protected.granule c.protected.result c.protected.ensures c.in-Some-protected.is in
+    let protected = test_held (is_protected c.args.ipa) c.args.ipa c.in-Some-protected.granule c.protected.result c.protected.ensures c.in-Some-protected.is in
     let ends = (λ i. walk (rows (g.S.PageStore.page_bytes c.self.inside.store) (sym c.root.ensures i)) (sym protected.1 i) (sym c.last.ensures i)) ∙ c.walk-walk.ensures.walk in
     write_unassigned c.args.self.now _ c.self.view_is c.self.invariant c.args.rec c.requires c.in-Some.kept c.in-Some-realm_of.rd c.in-Some-index.realm kept c.args.ipa c.args.offset c.args.value
     protected.0 (sym (c.is_ready.ensures c.args.rec) ∙ c.if-is_ready.false) c.walk-walk.result ends
@@ -95,7 +96,7 @@ returns g c =
     let at = rec_read c.args.self.now _ c.self.view_is c.self.invariant c.args.rec c.requires c.number.result c.number.ensures.value _ (Some c.in-Some.kept) c.index.ensures c.in-Some.is in
     let kept = kept_there _ c.self.invariant c.args.rec c.in-Some.kept at c.in-Some-realm_of.rd (sym c.realm_of.ensures ∙ c.in-Some-realm_of.is)
     c.number-2.result c.number-2.ensures.value _ c.in-Some-index.realm c.index-2.ensures c.in-Some-index.is in
-    let protected = is_protected_where (is_protected c.args.ipa) c.args.ipa c.in-Some-protected.granule c.protected.result c.protected.ensures c.in-Some-protected.is in
+    let protected = test_held (is_protected c.args.ipa) c.args.ipa c.in-Some-protected.granule c.protected.result c.protected.ensures c.in-Some-protected.is in
     let ends = (λ i. walk (rows (g.S.PageStore.page_bytes c.self.inside.store) (sym c.root.ensures i)) (sym protected.1 i) (sym c.last.ensures i)) ∙ c.walk-walk.ensures.walk in
     let leads = ap (λ (w : Walk). data_of w.row) (sym c.walk.view_is) ∙ sym c.page.ensures ∙ c.in-Some-page.is in
     write_done c.args.self.now _ c.self.view_is c.self.invariant c.args.rec c.requires c.in-Some.kept c.in-Some-realm_of.rd c.in-Some-index.realm kept c.args.ipa c.args.offset c.args.value

@@ -1,11 +1,12 @@
-use Rattle.std.proofs.Common.{[], ◌∷◌, refl, sym, ◌∙◌}
+use Rattle.std.proofs.Common.{[], ◌∷◌, refl, sym, ◌∙◌, Ok}
 use Rattle.granule_addr.specs.Page.{page_of}
 use Rattle.realm_model.specs.Machine.{cell_at}
 use Rattle.realm_model.specs.Update.{Put}
 use Rattle.realm_model.specs.Command.Check.{error_input}
-use Rattle.rmi_monitor.proofs.Checks.{answers_done, answers_refused}
-use Rattle.rmi_monitor.proofs.Granules.{in_granules, in_pages, is_undelegated_there, is_not_undelegated, after_refused, whole_filled, filled_done}
+use Rattle.rmi_monitor.proofs.Granules.{in_granules, in_pages, is_undelegated_there, is_not_undelegated, whole_filled, filled_done}
 use Rattle.rmi_monitor.proofs.monitor.Monitor.host_fill.Goals as goal
+use Rattle.realm_model.proofs.Outcomes.{check_true}
+use Rattle.rmi_monitor.proofs.Outcomes.{answers_ok, answers_err, after_err, check_false}
 
 pub state-requires : goal.state-requires
 state-requires g c = in_granules c.args.self.now _ c.self.view_is c.self.invariant c.args.granule c.requires
@@ -18,8 +19,8 @@ invariant_of-self g c = whole_filled c.args.self.now _ c.self.view_is c.self.inv
 
 pub returns-in-Undelegated-clause-answer : goal.returns-in-Undelegated-clause-answer
 returns-in-Undelegated-clause-answer g c =
-    answers_done error_input (Put c.args.granule (record (cell_at c.args.self.now.machine c.args.granule) { bytes = page_of c.args.value }) ∷ []) {A = Unit {0}} tt _
-    (is_undelegated_there c.args.self.now _ c.self.view_is c.self.invariant c.args.granule c.requires (sym c.in-Undelegated.ensures))
+    answers_ok {A = Unit {0}} tt (Put c.args.granule (record (cell_at c.args.self.now.machine c.args.granule) { bytes = page_of c.args.value }) ∷ []) _ (check_true _ error_input (Ok (Put c.args.granule (record (cell_at c.args.self.now.machine c.args.granule) { bytes = page_of c.args.value }) ∷ []))
+    (is_undelegated_there c.args.self.now _ c.self.view_is c.self.invariant c.args.granule c.requires (sym c.in-Undelegated.ensures)))
 
 pub returns-in-Undelegated-clause-machine : goal.returns-in-Undelegated-clause-machine
 returns-in-Undelegated-clause-machine g c =
@@ -29,6 +30,6 @@ pub returns-in_default : goal.returns-in_default
 returns-in_default g c =
     let not_there = is_not_undelegated c.args.self.now _ c.self.view_is c.self.invariant c.args.granule c.requires (λ e. c.in_default.not-Undelegated (c.state.ensures ∙ e)) in
     record {
-      answer = answers_refused error_input (Put c.args.granule (record (cell_at c.args.self.now.machine c.args.granule) { bytes = page_of c.args.value }) ∷ []) (Unit {0}) _ not_there;
-      machine = after_refused c.args.self.now _ c.self.view_is c.self.invariant c.args.granule c.requires _ (Put c.args.granule (record (cell_at c.args.self.now.machine c.args.granule) { bytes = page_of c.args.value }) ∷ []) not_there;
+      answer = answers_err (Unit {0}) error_input _ (check_false _ error_input (Ok (Put c.args.granule (record (cell_at c.args.self.now.machine c.args.granule) { bytes = page_of c.args.value }) ∷ [])) not_there);
+      machine = after_err c.args.self.now error_input _ (check_false _ error_input (Ok (Put c.args.granule (record (cell_at c.args.self.now.machine c.args.granule) { bytes = page_of c.args.value }) ∷ [])) not_there);
     }

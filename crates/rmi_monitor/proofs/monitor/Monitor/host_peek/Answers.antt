@@ -1,8 +1,9 @@
-use Rattle.std.proofs.Common.{ℕ, List, [], sym, ap, ◌∙◌, ◌≡◌}
+use Rattle.std.proofs.Common.{ℕ, List, [], Ok, sym, ap, ◌∙◌, ◌≡◌}
 use Rattle.std.specs.Prelude.{slice_index}
 use Rattle.realm_model.specs.Machine.{Cell}
 use Rattle.realm_model.specs.Command.Check.{error_input}
-use Rattle.rmi_monitor.proofs.Checks.{answers_done, answers_refused}
+use Rattle.realm_model.proofs.Outcomes.{check_true}
+use Rattle.rmi_monitor.proofs.Outcomes.{answers_ok, answers_err, check_false}
 use Rattle.rmi_monitor.proofs.Granules.{in_granules, in_pages, is_undelegated_there, is_not_undelegated, undelegated_bytes}
 use Rattle.rmi_monitor.proofs.monitor.Monitor.host_peek.Goals as goal
 
@@ -14,7 +15,7 @@ bytes-requires g c = in_pages c.args.self.now _ c.self.view_is c.self.invariant 
 
 pub returns-in-Undelegated-clause-answer : goal.returns-in-Undelegated-clause-answer
 returns-in-Undelegated-clause-answer g c =
-    answers_done error_input [] {A = ℕ} (slice_index c.bytes.result.now c.number.result) _ (is_undelegated_there c.args.self.now _ c.self.view_is c.self.invariant c.args.granule c.requires (sym c.in-Undelegated.ensures))
+    answers_ok {A = ℕ} (slice_index c.bytes.result.now c.number.result) [] _ (check_true _ error_input (Ok []) (is_undelegated_there c.args.self.now _ c.self.view_is c.self.invariant c.args.granule c.requires (sym c.in-Undelegated.ensures)))
 
 pub returns-in-Undelegated-clause-byte : goal.returns-in-Undelegated-clause-byte
 returns-in-Undelegated-clause-byte g c =
@@ -24,7 +25,8 @@ returns-in-Undelegated-clause-byte g c =
 
 pub returns-in_default : goal.returns-in_default
 returns-in_default g c = record {
-  answer = answers_refused error_input [] ℕ _
-      (is_not_undelegated c.args.self.now _ c.self.view_is c.self.invariant c.args.granule c.requires (λ e. c.in_default.not-Undelegated (c.state.ensures ∙ e)));
+  answer = answers_err ℕ error_input _
+      (check_false _ error_input (Ok [])
+      (is_not_undelegated c.args.self.now _ c.self.view_is c.self.invariant c.args.granule c.requires (λ e. c.in_default.not-Undelegated (c.state.ensures ∙ e))));
   byte = tt;
 }

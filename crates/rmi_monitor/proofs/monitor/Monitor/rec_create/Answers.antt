@@ -1,25 +1,26 @@
-use Rattle.std.proofs.Common.{◌<◌, ℕ, length, Some, sym, ap, subst, ◌∙◌, arith}
+use Rattle.std.proofs.Common.{◌<◌, ℕ, length, Some, sym, ap, subst, ◌∙◌, arith, refl}
 use Rattle.realm_model.specs.Command.Check.{error_input, error_realm}
 use Rattle.rmi_monitor.specs.Inside.{seen_as, IsWhole}
 use Rattle.rmi_monitor.proofs.Granules.{in_granules}
-use Rattle.rmi_monitor.proofs.RecOutcomes.{answers_ok, answers_err}
 use Rattle.rmi_monitor.proofs.RecMade.{new_rec}
-use Rattle.rmi_monitor.proofs.RecCreates.{inside_by, fit_by, new_by, shifted_by, rd_place, read_realm, refused_after, refuses_no_realm, refuses_unfit, refuses_active, creates, row_is, next_is, others_stand, whole_created, created, made_by, more_by}
+use Rattle.rmi_monitor.proofs.RecCreates.{inside_by, fit_by, new_by, shifted_by, refused_after, refuses_no_realm, refuses_unfit, refuses_active, creates, row_is, next_is, others_stand, whole_created, created, made_by, more_by}
 use Rattle.rmi_monitor.proofs.monitor.Monitor.rec_create.Goals as goal
+use Rattle.rmi_monitor.proofs.Outcomes.{answers_ok, answers_err}
+use Rattle.rmi_monitor.proofs.RealmFound.{realm_place, realm_read}
 
 pub index_mut-requires : goal.index_mut-requires
 index_mut-requires g c =
-    let inside : c.number.result < length c.self.inside.realms.items = rd_place c.args.self.now _ c.self.view_is c.self.invariant c.args.rd c.args.rec c.args.auxiliaries.items c.requires.rd_taken c.requires.rec_taken c.requires.auxiliaries_taken c.number.result c.number.ensures.value in
+    let inside : c.number.result < length c.self.inside.realms.items = realm_place c.args.self.now _ c.self.view_is c.self.invariant c.args.rd c.requires.rd_taken.inside c.number.result c.number.ensures.value in
     omega (arith, inside)
 
 pub returns-in_default-clause-answer : goal.returns-in_default-clause-answer
 returns-in_default-clause-answer g c =
-    answers_err ℕ _ error_input (refuses_no_realm c.args.self.now _ c.self.view_is c.self.invariant c.args.rd c.args.rec c.args.auxiliaries.items c.requires.rd_taken c.requires.rec_taken c.requires.auxiliaries_taken
-    (read_realm c.args.self.now _ c.self.view_is c.self.invariant c.args.rd c.args.rec c.args.auxiliaries.items c.requires.rd_taken c.requires.rec_taken c.requires.auxiliaries_taken c.number.result c.index_mut.result.now c.number.ensures.value c.index_mut.ensures.value ∙ c.in_default.is))
+    answers_err ℕ error_input _ (refuses_no_realm c.args.self.now _ c.self.view_is c.self.invariant c.args.rd c.args.rec c.args.auxiliaries.items c.requires.rd_taken c.requires.rec_taken c.requires.auxiliaries_taken
+    (realm_read c.args.self.now _ c.self.view_is c.self.invariant c.args.rd c.requires.rd_taken.inside c.number.result c.index_mut.result.now _ c.number.ensures.value c.index_mut.ensures.value c.in_default.is))
 
 pub returns-in_default-clause-machine : goal.returns-in_default-clause-machine
 returns-in_default-clause-machine g c =
-    let read = read_realm c.args.self.now _ c.self.view_is c.self.invariant c.args.rd c.args.rec c.args.auxiliaries.items c.requires.rd_taken c.requires.rec_taken c.requires.auxiliaries_taken c.number.result c.index_mut.result.now c.number.ensures.value c.index_mut.ensures.value in
+    let read = realm_read c.args.self.now _ c.self.view_is c.self.invariant c.args.rd c.requires.rd_taken.inside c.number.result c.index_mut.result.now c.index_mut.result.now c.number.ensures.value c.index_mut.ensures.value refl in
     refused_after c.args.self.now _ c.self.view_is c.self.invariant c.args.rd c.args.rec c.args.auxiliaries.items c.requires.rd_taken c.requires.rec_taken c.requires.auxiliaries_taken c.number.result c.index_mut.result.now error_input c.number.ensures.value read
     (refuses_no_realm c.args.self.now _ c.self.view_is c.self.invariant c.args.rd c.args.rec c.args.auxiliaries.items c.requires.rd_taken c.requires.rec_taken c.requires.auxiliaries_taken (read ∙ c.in_default.is))
 
@@ -31,27 +32,27 @@ are_fit-requires-clause-others g c = inside_by c.args.self.now _ c.self.view_is 
 
 pub returns-then-not-are_fit-clause-answer : goal.returns-then-not-are_fit-clause-answer
 returns-then-not-are_fit-clause-answer g c =
-    let there = read_realm c.args.self.now _ c.self.view_is c.self.invariant c.args.rd c.args.rec c.args.auxiliaries.items c.requires.rd_taken c.requires.rec_taken c.requires.auxiliaries_taken c.number.result c.index_mut.result.now c.number.ensures.value c.index_mut.ensures.value ∙ c.in-Some.is in
+    let there = realm_read c.args.self.now _ c.self.view_is c.self.invariant c.args.rd c.requires.rd_taken.inside c.number.result c.index_mut.result.now _ c.number.ensures.value c.index_mut.ensures.value c.in-Some.is in
     let fit = fit_by c.args.self.now _ c.self.view_is c.self.invariant c.args.rd c.args.rec c.args.auxiliaries.items c.requires.rd_taken c.requires.rec_taken c.requires.auxiliaries_taken c.as_slice.result.now c.are_fit.result _ c.as_slice.ensures.value c.are_fit.ensures c.if-not-are_fit.true in
-    answers_err ℕ _ error_input (refuses_unfit c.args.self.now _ c.self.view_is c.self.invariant c.args.rd c.args.rec c.args.auxiliaries.items c.requires.rd_taken c.requires.rec_taken c.requires.auxiliaries_taken c.in-Some.realm there fit)
+    answers_err ℕ error_input _ (refuses_unfit c.args.self.now _ c.self.view_is c.self.invariant c.args.rd c.args.rec c.args.auxiliaries.items c.requires.rd_taken c.requires.rec_taken c.requires.auxiliaries_taken c.in-Some.realm there fit)
 
 pub returns-then-not-are_fit-clause-machine : goal.returns-then-not-are_fit-clause-machine
 returns-then-not-are_fit-clause-machine g c =
-    let there = read_realm c.args.self.now _ c.self.view_is c.self.invariant c.args.rd c.args.rec c.args.auxiliaries.items c.requires.rd_taken c.requires.rec_taken c.requires.auxiliaries_taken c.number.result c.index_mut.result.now c.number.ensures.value c.index_mut.ensures.value ∙ c.in-Some.is in
+    let there = realm_read c.args.self.now _ c.self.view_is c.self.invariant c.args.rd c.requires.rd_taken.inside c.number.result c.index_mut.result.now _ c.number.ensures.value c.index_mut.ensures.value c.in-Some.is in
     let fit = fit_by c.args.self.now _ c.self.view_is c.self.invariant c.args.rd c.args.rec c.args.auxiliaries.items c.requires.rd_taken c.requires.rec_taken c.requires.auxiliaries_taken c.as_slice.result.now c.are_fit.result _ c.as_slice.ensures.value c.are_fit.ensures c.if-not-are_fit.true in
     refused_after c.args.self.now _ c.self.view_is c.self.invariant c.args.rd c.args.rec c.args.auxiliaries.items c.requires.rd_taken c.requires.rec_taken c.requires.auxiliaries_taken c.number.result (Some c.in-Some.realm) error_input c.number.ensures.value there
     (refuses_unfit c.args.self.now _ c.self.view_is c.self.invariant c.args.rd c.args.rec c.args.auxiliaries.items c.requires.rd_taken c.requires.rec_taken c.requires.auxiliaries_taken c.in-Some.realm there fit)
 
 pub returns-then-not-is_new-clause-answer : goal.returns-then-not-is_new-clause-answer
 returns-then-not-is_new-clause-answer g c =
-    let there = read_realm c.args.self.now _ c.self.view_is c.self.invariant c.args.rd c.args.rec c.args.auxiliaries.items c.requires.rd_taken c.requires.rec_taken c.requires.auxiliaries_taken c.number.result c.index_mut.result.now c.number.ensures.value c.index_mut.ensures.value ∙ c.in-Some.is in
+    let there = realm_read c.args.self.now _ c.self.view_is c.self.invariant c.args.rd c.requires.rd_taken.inside c.number.result c.index_mut.result.now _ c.number.ensures.value c.index_mut.ensures.value c.in-Some.is in
     let fit = fit_by c.args.self.now _ c.self.view_is c.self.invariant c.args.rd c.args.rec c.args.auxiliaries.items c.requires.rd_taken c.requires.rec_taken c.requires.auxiliaries_taken c.as_slice.result.now c.are_fit.result _ c.as_slice.ensures.value c.are_fit.ensures c.if-not-are_fit.false in
     let new = new_by c.args.self.now _ c.self.view_is c.self.invariant c.args.rd c.args.rec c.args.auxiliaries.items c.requires.rd_taken c.requires.rec_taken c.requires.auxiliaries_taken c.in-Some.realm there c.is_new.result _ c.is_new.ensures c.if-not-is_new.true in
-    answers_err ℕ _ error_realm (refuses_active c.args.self.now _ c.self.view_is c.self.invariant c.args.rd c.args.rec c.args.auxiliaries.items c.requires.rd_taken c.requires.rec_taken c.requires.auxiliaries_taken c.in-Some.realm there fit new)
+    answers_err ℕ error_realm _ (refuses_active c.args.self.now _ c.self.view_is c.self.invariant c.args.rd c.args.rec c.args.auxiliaries.items c.requires.rd_taken c.requires.rec_taken c.requires.auxiliaries_taken c.in-Some.realm there fit new)
 
 pub returns-then-not-is_new-clause-machine : goal.returns-then-not-is_new-clause-machine
 returns-then-not-is_new-clause-machine g c =
-    let there = read_realm c.args.self.now _ c.self.view_is c.self.invariant c.args.rd c.args.rec c.args.auxiliaries.items c.requires.rd_taken c.requires.rec_taken c.requires.auxiliaries_taken c.number.result c.index_mut.result.now c.number.ensures.value c.index_mut.ensures.value ∙ c.in-Some.is in
+    let there = realm_read c.args.self.now _ c.self.view_is c.self.invariant c.args.rd c.requires.rd_taken.inside c.number.result c.index_mut.result.now _ c.number.ensures.value c.index_mut.ensures.value c.in-Some.is in
     let fit = fit_by c.args.self.now _ c.self.view_is c.self.invariant c.args.rd c.args.rec c.args.auxiliaries.items c.requires.rd_taken c.requires.rec_taken c.requires.auxiliaries_taken c.as_slice.result.now c.are_fit.result _ c.as_slice.ensures.value c.are_fit.ensures c.if-not-are_fit.false in
     let new = new_by c.args.self.now _ c.self.view_is c.self.invariant c.args.rd c.args.rec c.args.auxiliaries.items c.requires.rd_taken c.requires.rec_taken c.requires.auxiliaries_taken c.in-Some.realm there c.is_new.result _ c.is_new.ensures c.if-not-is_new.true in
     refused_after c.args.self.now _ c.self.view_is c.self.invariant c.args.rd c.args.rec c.args.auxiliaries.items c.requires.rd_taken c.requires.rec_taken c.requires.auxiliaries_taken c.number.result (Some c.in-Some.realm) error_realm c.number.ensures.value there
@@ -59,19 +60,19 @@ returns-then-not-is_new-clause-machine g c =
 
 pub shift_all-requires-clause-stand : goal.shift_all-requires-clause-stand
 shift_all-requires-clause-stand g c =
-    let there = read_realm c.args.self.now _ c.self.view_is c.self.invariant c.args.rd c.args.rec c.args.auxiliaries.items c.requires.rd_taken c.requires.rec_taken c.requires.auxiliaries_taken c.number.result c.index_mut.result.now c.number.ensures.value c.index_mut.ensures.value ∙ c.in-Some.is in
+    let there = realm_read c.args.self.now _ c.self.view_is c.self.invariant c.args.rd c.requires.rd_taken.inside c.number.result c.index_mut.result.now _ c.number.ensures.value c.index_mut.ensures.value c.in-Some.is in
     let fit = fit_by c.args.self.now _ c.self.view_is c.self.invariant c.args.rd c.args.rec c.args.auxiliaries.items c.requires.rd_taken c.requires.rec_taken c.requires.auxiliaries_taken c.as_slice.result.now c.are_fit.result _ c.as_slice.ensures.value c.are_fit.ensures c.if-not-are_fit.false in
     let shifted = shifted_by c.args.self.now _ c.self.view_is c.self.invariant c.args.rd c.args.rec c.args.auxiliaries.items c.requires.rd_taken c.requires.rec_taken c.requires.auxiliaries_taken c.in-Some.realm there fit c.shift.result c.shift.new.self _ c.shift.ensures.answer.1 c.shift.ensures.shifted in
     others_stand c.args.self.now _ c.self.view_is c.self.invariant c.args.rd c.args.rec c.args.auxiliaries.items c.requires.rd_taken c.requires.rec_taken c.requires.auxiliaries_taken c.in-Some.realm there fit _ c.shift.new.self c.as_slice-2.result.now c.as_slice-2.ensures.value shifted
 
 pub next_rec-number-requires : goal.next_rec-number-requires
 next_rec-number-requires g c =
-    let there = read_realm c.args.self.now _ c.self.view_is c.self.invariant c.args.rd c.args.rec c.args.auxiliaries.items c.requires.rd_taken c.requires.rec_taken c.requires.auxiliaries_taken c.number.result c.index_mut.result.now c.number.ensures.value c.index_mut.ensures.value ∙ c.in-Some.is in
+    let there = realm_read c.args.self.now _ c.self.view_is c.self.invariant c.args.rd c.requires.rd_taken.inside c.number.result c.index_mut.result.now _ c.number.ensures.value c.index_mut.ensures.value c.in-Some.is in
     c.requires.numbers _ (row_is c.args.self.now _ c.self.view_is c.self.invariant c.args.rd c.args.rec c.args.auxiliaries.items c.requires.rd_taken c.requires.rec_taken c.requires.auxiliaries_taken c.in-Some.realm there)
 
 pub invariant_of-self-2 : goal.invariant_of-self-2
 invariant_of-self-2 g c =
-    let there = read_realm c.args.self.now _ c.self.view_is c.self.invariant c.args.rd c.args.rec c.args.auxiliaries.items c.requires.rd_taken c.requires.rec_taken c.requires.auxiliaries_taken c.number.result c.index_mut.result.now c.number.ensures.value c.index_mut.ensures.value ∙ c.in-Some.is in
+    let there = realm_read c.args.self.now _ c.self.view_is c.self.invariant c.args.rd c.requires.rd_taken.inside c.number.result c.index_mut.result.now _ c.number.ensures.value c.index_mut.ensures.value c.in-Some.is in
     let fit = fit_by c.args.self.now _ c.self.view_is c.self.invariant c.args.rd c.args.rec c.args.auxiliaries.items c.requires.rd_taken c.requires.rec_taken c.requires.auxiliaries_taken c.as_slice.result.now c.are_fit.result _ c.as_slice.ensures.value c.are_fit.ensures c.if-not-are_fit.false in
     let shifted = shifted_by c.args.self.now _ c.self.view_is c.self.invariant c.args.rd c.args.rec c.args.auxiliaries.items c.requires.rd_taken c.requires.rec_taken c.requires.auxiliaries_taken c.in-Some.realm there fit c.shift.result c.shift.new.self _ c.shift.ensures.answer.1 c.shift.ensures.shifted in
     subst IsWhole (sym (made_by _ c.args.rd c.args.rec c.args.auxiliaries.items c.in-Some.realm c.shift.new.self c.shift_all.new.granules c.as_slice-2.result.now c.number.result c.number-2.result c.measure.new.self c.new.result
@@ -82,19 +83,19 @@ invariant_of-self-2 g c =
 
 pub returns-clause-answer : goal.returns-clause-answer
 returns-clause-answer g c =
-    let there = read_realm c.args.self.now _ c.self.view_is c.self.invariant c.args.rd c.args.rec c.args.auxiliaries.items c.requires.rd_taken c.requires.rec_taken c.requires.auxiliaries_taken c.number.result c.index_mut.result.now c.number.ensures.value c.index_mut.ensures.value ∙ c.in-Some.is in
+    let there = realm_read c.args.self.now _ c.self.view_is c.self.invariant c.args.rd c.requires.rd_taken.inside c.number.result c.index_mut.result.now _ c.number.ensures.value c.index_mut.ensures.value c.in-Some.is in
     let fit = fit_by c.args.self.now _ c.self.view_is c.self.invariant c.args.rd c.args.rec c.args.auxiliaries.items c.requires.rd_taken c.requires.rec_taken c.requires.auxiliaries_taken c.as_slice.result.now c.are_fit.result _ c.as_slice.ensures.value c.are_fit.ensures c.if-not-are_fit.false in
     let new = new_by c.args.self.now _ c.self.view_is c.self.invariant c.args.rd c.args.rec c.args.auxiliaries.items c.requires.rd_taken c.requires.rec_taken c.requires.auxiliaries_taken c.in-Some.realm there c.is_new.result _ c.is_new.ensures c.if-not-is_new.false in
     answers_ok c.next_rec-number.result _ _ (creates c.args.self.now _ c.self.view_is c.self.invariant c.args.rd c.args.rec c.args.auxiliaries.items c.requires.rd_taken c.requires.rec_taken c.requires.auxiliaries_taken c.in-Some.realm there fit new)
 
 pub returns-clause-number : goal.returns-clause-number
 returns-clause-number g c other is =
-    let there = read_realm c.args.self.now _ c.self.view_is c.self.invariant c.args.rd c.args.rec c.args.auxiliaries.items c.requires.rd_taken c.requires.rec_taken c.requires.auxiliaries_taken c.number.result c.index_mut.result.now c.number.ensures.value c.index_mut.ensures.value ∙ c.in-Some.is in
+    let there = realm_read c.args.self.now _ c.self.view_is c.self.invariant c.args.rd c.requires.rd_taken.inside c.number.result c.index_mut.result.now _ c.number.ensures.value c.index_mut.ensures.value c.in-Some.is in
     c.next_rec-number.ensures.number ∙ next_is c.args.self.now _ c.self.view_is c.self.invariant c.args.rd c.args.rec c.args.auxiliaries.items c.requires.rd_taken c.requires.rec_taken c.requires.auxiliaries_taken c.in-Some.realm there other is
 
 pub returns-clause-machine : goal.returns-clause-machine
 returns-clause-machine g c =
-    let there = read_realm c.args.self.now _ c.self.view_is c.self.invariant c.args.rd c.args.rec c.args.auxiliaries.items c.requires.rd_taken c.requires.rec_taken c.requires.auxiliaries_taken c.number.result c.index_mut.result.now c.number.ensures.value c.index_mut.ensures.value ∙ c.in-Some.is in
+    let there = realm_read c.args.self.now _ c.self.view_is c.self.invariant c.args.rd c.requires.rd_taken.inside c.number.result c.index_mut.result.now _ c.number.ensures.value c.index_mut.ensures.value c.in-Some.is in
     let fit = fit_by c.args.self.now _ c.self.view_is c.self.invariant c.args.rd c.args.rec c.args.auxiliaries.items c.requires.rd_taken c.requires.rec_taken c.requires.auxiliaries_taken c.as_slice.result.now c.are_fit.result _ c.as_slice.ensures.value c.are_fit.ensures c.if-not-are_fit.false in
     let new = new_by c.args.self.now _ c.self.view_is c.self.invariant c.args.rd c.args.rec c.args.auxiliaries.items c.requires.rd_taken c.requires.rec_taken c.requires.auxiliaries_taken c.in-Some.realm there c.is_new.result _ c.is_new.ensures c.if-not-is_new.false in
     let shifted = shifted_by c.args.self.now _ c.self.view_is c.self.invariant c.args.rd c.args.rec c.args.auxiliaries.items c.requires.rd_taken c.requires.rec_taken c.requires.auxiliaries_taken c.in-Some.realm there fit c.shift.result c.shift.new.self _ c.shift.ensures.answer.1 c.shift.ensures.shifted in

@@ -1,4 +1,4 @@
-use Rattle.std.proofs.Common.{◌≡◌, ◌<◌, length, Some, None, Err, sym, ap, subst, ◌∙◌, arith}
+use Rattle.std.proofs.Common.{◌≡◌, ◌<◌, length, Some, None, Err, sym, ap, subst, ◌∙◌, arith, refl}
 use Rattle.realm_model.specs.Rows.{is_table_place}
 use Rattle.realm_model.specs.Command.Check.{error_input, is_protected}
 use Rattle.realm_model.specs.Command.Table.{rtt_create}
@@ -8,16 +8,18 @@ use Rattle.rtt.specs.Calls.{create_refusal}
 use Rattle.rmi_monitor.specs.View.{seen_in}
 use Rattle.rmi_monitor.specs.Inside.{fields_of, seen_as}
 use Rattle.rmi_monitor.proofs.Granules.{in_granules}
-use Rattle.rmi_monitor.proofs.Refusals.{answers_err, after_err, refused_with, not_refused}
-use Rattle.rmi_monitor.proofs.RealmCommands.{place_inside, place_found, test_held, test_failed}
+use Rattle.rmi_monitor.proofs.Refusals.{refused_with, not_refused}
 use Rattle.rmi_monitor.proofs.TableCreates.{CreateCall, create_call_at, create_nowhere, create_misplaced, create_unprotected, create_undelegated, create_refused, create_answers, whole_created, create_done}
 use Rattle.rmi_monitor.proofs.monitor.Monitor.rtt_create.Given.{Over}
 use Rattle.rmi_monitor.proofs.monitor.Monitor.rtt_create.Goals as goal
 use Rattle.rmi_monitor.proofs.monitor.Monitor.rtt_create.Goals.{in_default-2-via-in-Some+in_default, in_default-2-via-in_default}
+use Rattle.rmi_monitor.proofs.Comparisons.{test_held, test_failed}
+use Rattle.rmi_monitor.proofs.Outcomes.{answers_err, after_err}
+use Rattle.rmi_monitor.proofs.RealmFound.{realm_place, realm_read}
 
 pub index-requires : goal.index-requires
 index-requires g c =
-    let inside : c.args.rd < length c.self.inside.realms.items = place_inside c.args.self.now _ c.self.view_is c.self.invariant c.args.rd c.requires.rd_taken in
+    let inside : c.args.rd < length c.self.inside.realms.items = realm_place c.args.self.now _ c.self.view_is c.self.invariant c.args.rd c.requires.rd_taken.inside c.args.rd refl in
     let same : c.number.result ≡ c.args.rd = c.number.ensures.value in
     let long : c.self.inside.realms.len ≡ length c.self.inside.realms.items = c.self.inside.realms.ok.0 in
     omega arith
@@ -27,7 +29,7 @@ index-requires g c =
 no_realm : (g : Over) (c : goal.In_default g) → rtt_create (seen_in c.args.self.now c.args.rd) (seen_in c.args.self.now c.args.table) c.args.ipa c.args.level ≡ Err error_input
 no_realm g c =
     create_nowhere c.args.self.now _ c.self.view_is c.self.invariant c.args.rd c.args.table c.args.ipa c.args.level c.requires.rd_taken c.requires.table_taken
-    (place_found c.args.self.now _ c.self.view_is c.self.invariant c.args.rd c.requires.rd_taken c.number.result c.index.result.now None c.number.ensures.value c.index.ensures c.in_default.is)
+    (realm_read c.args.self.now _ c.self.view_is c.self.invariant c.args.rd c.requires.rd_taken.inside c.number.result c.index.result.now None c.number.ensures.value c.index.ensures c.in_default.is)
 
 pub returns-in_default-clause-answer : goal.returns-in_default-clause-answer
 returns-in_default-clause-answer g c = answers_err (Unit {0}) error_input _ (no_realm g c)
@@ -39,7 +41,7 @@ returns-in_default-clause-machine g c = after_err c.args.self.now error_input _ 
 
 no_place : (g : Over) (c : goal.In_default-2 g) → rtt_create (seen_in c.args.self.now c.args.rd) (seen_in c.args.self.now c.args.table) c.args.ipa c.args.level ≡ Err error_input
 no_place g c =
-    let there = place_found c.args.self.now _ c.self.view_is c.self.invariant c.args.rd c.requires.rd_taken c.number.result c.index.result.now (Some c.in-Some.realm) c.number.ensures.value c.index.ensures c.in-Some.is in
+    let there = realm_read c.args.self.now _ c.self.view_is c.self.invariant c.args.rd c.requires.rd_taken.inside c.number.result c.index.result.now (Some c.in-Some.realm) c.number.ensures.value c.index.ensures c.in-Some.is in
     elim c.in_default-2.branch [
       | in_default-2-via-in-Some+in_default w ↦
           create_unprotected c.args.self.now _ c.self.view_is c.self.invariant c.args.rd c.args.table c.args.ipa c.args.level c.requires.rd_taken c.requires.table_taken c.in-Some.realm there
@@ -63,7 +65,7 @@ is_delegated-requires g c = in_granules c.args.self.now _ c.self.view_is c.self.
 not_delegated : (g : Over) (c : goal.Then-not-is_delegated g) → rtt_create (seen_in c.args.self.now c.args.rd) (seen_in c.args.self.now c.args.table) c.args.ipa c.args.level ≡ Err error_input
 not_delegated g c =
     create_undelegated c.args.self.now _ c.self.view_is c.self.invariant c.args.rd c.args.table c.args.ipa c.args.level c.requires.rd_taken c.requires.table_taken c.in-Some.realm
-    (place_found c.args.self.now _ c.self.view_is c.self.invariant c.args.rd c.requires.rd_taken c.number.result c.index.result.now (Some c.in-Some.realm) c.number.ensures.value c.index.ensures c.in-Some.is)
+    (realm_read c.args.self.now _ c.self.view_is c.self.invariant c.args.rd c.requires.rd_taken.inside c.number.result c.index.result.now (Some c.in-Some.realm) c.number.ensures.value c.index.ensures c.in-Some.is)
     (sym c.is_delegated.ensures ∙ c.if-not-is_delegated.true)
 
 pub returns-then-not-is_delegated-clause-answer : goal.returns-then-not-is_delegated-clause-answer
@@ -78,14 +80,14 @@ pub create_table-requires-clause-tables : goal.create_table-requires-clause-tabl
 create_table-requires-clause-tables g c =
     subst (λ root. HasTables (g.S.PageStore.page_bytes c.self.inside.store) c.self.inside.granules c.args.rd root) (sym c.root.ensures)
     (c.self.invariant.tables c.args.rd c.in-Some.realm
-    (place_found c.args.self.now _ c.self.view_is c.self.invariant c.args.rd c.requires.rd_taken c.number.result c.index.result.now (Some c.in-Some.realm) c.number.ensures.value c.index.ensures c.in-Some.is))
+    (realm_read c.args.self.now _ c.self.view_is c.self.invariant c.args.rd c.requires.rd_taken.inside c.number.result c.index.result.now (Some c.in-Some.realm) c.number.ensures.value c.index.ensures c.in-Some.is))
 
 refused : (g : Over) (c : goal.After-rtt_refusal g) → rtt_create (seen_in c.args.self.now c.args.rd) (seen_in c.args.self.now c.args.table) c.args.ipa c.args.level ≡ Err c.rtt_refusal.result
 refused g c =
     let level = test_held (is_table_place c.args.ipa c.args.level) c.args.level c.in-Some-Some.level c.table_level.result c.table_level.ensures c.in-Some-Some.is-0 in
     let ipa = test_held (is_protected c.args.ipa) c.args.ipa c.in-Some-Some.ipa c.protected.result c.protected.ensures c.in-Some-Some.is-1 in
     create_refused c.args.self.now _ c.self.view_is c.self.invariant c.args.rd c.args.table c.args.ipa c.args.level c.requires.rd_taken c.requires.table_taken c.in-Some.realm
-    (place_found c.args.self.now _ c.self.view_is c.self.invariant c.args.rd c.requires.rd_taken c.number.result c.index.result.now (Some c.in-Some.realm) c.number.ensures.value c.index.ensures c.in-Some.is)
+    (realm_read c.args.self.now _ c.self.view_is c.self.invariant c.args.rd c.requires.rd_taken.inside c.number.result c.index.result.now (Some c.in-Some.realm) c.number.ensures.value c.index.ensures c.in-Some.is)
     level.0 ipa.0 (sym c.is_delegated.ensures ∙ c.if-not-is_delegated.false) c.in-Err.refusal.level
     ((λ k. create_refusal (rows (g.S.PageStore.page_bytes c.self.inside.store) (sym c.root.ensures k)) (sym ipa.1 k) (sym level.1 k)) ∙ refused_with (Unit {0}) c.in-Err.refusal _ c.in-Err.ensures.answer)
     ∙ ap (λ rmi. Err rmi) (sym c.rtt_refusal.ensures)
@@ -127,7 +129,7 @@ accepted g c =
 pub invariant_of-self-2 : goal.invariant_of-self-2
 invariant_of-self-2 g c =
     whole_created c.args.self.now _ c.self.view_is c.self.invariant c.args.rd c.args.table c.args.ipa c.args.level c.requires.rd_taken c.requires.table_taken c.in-Some.realm
-    (place_found c.args.self.now _ c.self.view_is c.self.invariant c.args.rd c.requires.rd_taken c.number.result c.index.result.now (Some c.in-Some.realm) c.number.ensures.value c.index.ensures c.in-Some.is)
+    (realm_read c.args.self.now _ c.self.view_is c.self.invariant c.args.rd c.requires.rd_taken.inside c.number.result c.index.result.now (Some c.in-Some.realm) c.number.ensures.value c.index.ensures c.in-Some.is)
     (test_held (is_table_place c.args.ipa c.args.level) c.args.level c.in-Some-Some.level c.table_level.result c.table_level.ensures c.in-Some-Some.is-0).0
     (test_held (is_protected c.args.ipa) c.args.ipa c.in-Some-Some.ipa c.protected.result c.protected.ensures c.in-Some-Some.is-1).0
     (sym c.is_delegated.ensures ∙ c.if-not-is_delegated.false) (accepted g c) _ _ _ (call g c)
@@ -135,7 +137,7 @@ invariant_of-self-2 g c =
 pub returns-clause-answer : goal.returns-clause-answer
 returns-clause-answer g c =
     create_answers c.args.self.now _ c.self.view_is c.self.invariant c.args.rd c.args.table c.args.ipa c.args.level c.requires.rd_taken c.requires.table_taken c.in-Some.realm
-    (place_found c.args.self.now _ c.self.view_is c.self.invariant c.args.rd c.requires.rd_taken c.number.result c.index.result.now (Some c.in-Some.realm) c.number.ensures.value c.index.ensures c.in-Some.is)
+    (realm_read c.args.self.now _ c.self.view_is c.self.invariant c.args.rd c.requires.rd_taken.inside c.number.result c.index.result.now (Some c.in-Some.realm) c.number.ensures.value c.index.ensures c.in-Some.is)
     (test_held (is_table_place c.args.ipa c.args.level) c.args.level c.in-Some-Some.level c.table_level.result c.table_level.ensures c.in-Some-Some.is-0).0
     (test_held (is_protected c.args.ipa) c.args.ipa c.in-Some-Some.ipa c.protected.result c.protected.ensures c.in-Some-Some.is-1).0
     (sym c.is_delegated.ensures ∙ c.if-not-is_delegated.false) (accepted g c) {A = Unit {0}} tt
@@ -143,7 +145,7 @@ returns-clause-answer g c =
 pub returns-clause-machine : goal.returns-clause-machine
 returns-clause-machine g c =
     create_done c.args.self.now _ c.self.view_is c.self.invariant c.args.rd c.args.table c.args.ipa c.args.level c.requires.rd_taken c.requires.table_taken c.in-Some.realm
-    (place_found c.args.self.now _ c.self.view_is c.self.invariant c.args.rd c.requires.rd_taken c.number.result c.index.result.now (Some c.in-Some.realm) c.number.ensures.value c.index.ensures c.in-Some.is)
+    (realm_read c.args.self.now _ c.self.view_is c.self.invariant c.args.rd c.requires.rd_taken.inside c.number.result c.index.result.now (Some c.in-Some.realm) c.number.ensures.value c.index.ensures c.in-Some.is)
     (test_held (is_table_place c.args.ipa c.args.level) c.args.level c.in-Some-Some.level c.table_level.result c.table_level.ensures c.in-Some-Some.is-0).0
     (test_held (is_protected c.args.ipa) c.args.ipa c.in-Some-Some.ipa c.protected.result c.protected.ensures c.in-Some-Some.is-1).0
     (sym c.is_delegated.ensures ∙ c.if-not-is_delegated.false) (accepted g c) _ _ _ (call g c)

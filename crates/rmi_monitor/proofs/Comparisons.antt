@@ -1,0 +1,37 @@
+-- What follows from tests: of one place or another, and of what a test lets through; and from what came of an option.
+use Rattle.std.proofs.Common.{◌≡◌, ◌≢◌, ℕ, Bool, true, false, cond, Option, Some, None, refl, sym, ap, ◌∙◌, option_map}
+use Rattle.std.specs.Prelude.{◌==◌, ◌||◌}
+use Rattle.std.proofs.lemmas.Bool.{ne_eqb}
+use Rattle.realm_model.specs.Command.Check.{is_protected}
+use Rattle.std.proofs.lemmas.Option.{same_Some}
+
+-- one of two tests holds
+pub either : {P : Type 0} (s t : Bool) → (s || t) ≡ true → (s ≡ true → P) → (t ≡ true → P) → P
+either true t h left right = left refl
+either false t h left right = right h
+
+pub or_rest : (a b : Bool) → a ≡ false → (a || b) ≡ true → b ≡ true
+or_rest true b e h = cc
+or_rest false b e h = h
+
+pub neither : (g a b : ℕ) → g ≢ a → g ≢ b → ((g == a) || (g == b)) ≡ false
+neither g a b h h' = ap (λ t. t || (g == b)) (ne_eqb g a h) ∙ ne_eqb g b h'
+
+-- the number that came was let through
+pub test_held : (test : Bool) (n m : ℕ) (place : Option ℕ) → place ≡ cond test (Some n) None → place ≡ Some m → (test ≡ true) × (m ≡ n)
+test_held true n m place e is = let told : Some n ≡ Some m = sym e ∙ is in (refl, (cc))
+test_held false n m place e is = let told : None ≡ Some m = sym e ∙ is in cc
+
+-- and none came, so the test failed
+pub test_failed : (test : Bool) (n : ℕ) (place : Option ℕ) → place ≡ cond test (Some n) None → place ≡ None → test ≡ false
+test_failed true n place e is = let told : Some n ≡ None = sym e ∙ is in cc
+test_failed false n place e is = refl
+
+-- an IPA granule that is protected
+pub protected_found : (ipa given : ℕ) → Some given ≡ cond (is_protected ipa) (Some ipa) None → (is_protected given ≡ true) × (given ≡ ipa)
+protected_found ipa given e = let parts = test_held (is_protected ipa) ipa given (Some given) e refl in (ap is_protected parts.1 ∙ parts.0, parts.1)
+
+-- what came of an option's value
+pub some_map : {A B : Type 0} (f : A → B) (o : Option A) (y : B) → option_map f o ≡ Some y → (x : A) × (o ≡ Some x) × (f x ≡ y)
+some_map f None y e = cc
+some_map f (Some x) y e = (x, refl, same_Some (f x) y e)

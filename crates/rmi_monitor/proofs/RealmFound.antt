@@ -1,0 +1,48 @@
+-- The realm that an RD is: where code reads it, and what the machine and a command find there.
+use Rattle.std.proofs.Common.{◌≡◌, ℕ, ◌<◌, length, get_or, Option, Some, None, option_map, Err, refl, sym, ap, ◌∙◌, subst}
+use Rattle.realm_model.specs.Machine.{Cell, RealmRow, cell_at}
+use Rattle.realm_model.specs.Update.{Outcome}
+use Rattle.realm_model.specs.Command.Check.{error_input, with_realm}
+use Rattle.realm_model.proofs.Outcomes.{realm_there}
+use Rattle.realm_objects.specs.Attributes.{RealmAttributes, realm_row}
+use Rattle.rtt.specs.Tables.{rows}
+use Rattle.rmi_monitor.specs.View.{MonitorView, seen_in}
+use Rattle.rmi_monitor.specs.Inside.{Fields, realm_at, recs_of, descriptor_of, seen_as, IsWhole}
+use Rattle.rmi_monitor.proofs.Granules.{as_many_granules, in_machine, cell_is}
+use Rattle.rmi_monitor.proofs.Listed.{read_at}
+use Rattle.rmi_monitor.proofs.Outcomes.{realm_absent}
+use Rattle.rmi_monitor.proofs.RealmPlaces.{realm_inside}
+
+-- the row of a realm
+abbrev pub row_of : Fields → ℕ → RealmAttributes → RealmRow
+row_of fields rd realm = realm_row realm (recs_of fields.granules fields.recs rd) (rows fields.pages realm.root)
+
+module _ (monitor : MonitorView) (fields : Fields) (view_is : seen_as fields ≡ monitor) (whole : IsWhole fields) (rd : ℕ) where
+  -- a realm that is there, in the machine
+  pub descriptor_there : (realm : RealmAttributes) → realm_at fields rd ≡ Some realm → (cell_at monitor.machine rd).descriptor ≡ Some (row_of fields rd realm)
+  descriptor_there realm there =
+      ap (λ (c : Cell). c.descriptor) (cell_is monitor fields view_is whole rd (in_machine monitor fields view_is whole rd (realm_inside fields whole rd realm there)))
+      ∙ ap (option_map (row_of fields rd)) there
+
+  -- and found by a command
+  pub somewhere : (realm : RealmAttributes) → realm_at fields rd ≡ Some realm → (f : RealmRow → Outcome) → with_realm (seen_in monitor rd) f ≡ f (row_of fields rd realm)
+  somewhere realm there f = realm_there (seen_in monitor rd) f (row_of fields rd realm) (descriptor_there realm there)
+
+  module _ (inside : rd < length monitor.machine) where
+    -- a granule that is no RD
+    pub nowhere : realm_at fields rd ≡ None → (f : RealmRow → Outcome) → with_realm (seen_in monitor rd) f ≡ Err error_input
+    nowhere none f =
+        realm_absent (seen_in monitor rd) f (ap (λ (c : Cell). c.descriptor) (cell_is monitor fields view_is whole rd inside) ∙ ap (option_map (row_of fields rd)) none)
+
+    -- ---- the place, by the number that code reads it with
+
+    pub realm_place : (n : ℕ) → n ≡ rd → n < length fields.realms
+    realm_place n same = subst (λ k. n < k) (as_many_granules monitor fields view_is whole ∙ sym whole.realm_places) (subst (λ k. k < length monitor.machine) (sym same) inside)
+
+    pub realm_read : (n : ℕ) (x y : Option RealmAttributes) → n ≡ rd → x ≡ get_or fields.realms n x → x ≡ y → realm_at fields rd ≡ y
+    realm_read n x y same read is = read_at fields.realms n rd x y same (realm_place rd refl) read is
+
+    -- with the root that code reads of it
+    pub realm_rooted : (n : ℕ) (x : Option RealmAttributes) (realm : RealmAttributes) (root : ℕ) → n ≡ rd → x ≡ get_or fields.realms n x → x ≡ Some realm → root ≡ realm.root
+        → realm_at fields rd ≡ Some (record realm { root = root })
+    realm_rooted n x realm root same read is rooted = realm_read n x (Some (record realm { root = root })) same read (is ∙ (λ i. Some (record realm { root = sym rooted i })))
