@@ -1,15 +1,14 @@
 -- A realm becomes ACTIVE, over the fields of a monitor.
-use Rattle.std.proofs.Common.{◌≡◌, ℕ, Bool, true, false, List, [], ◌∷◌, set, Some, None, Ok, Err, refl, sym, ap, ◌∙◌, subst, arith}
+use Rattle.std.proofs.Common.{◌≡◌, ℕ, Bool, true, false, [], ◌∷◌, set, Some, None, Ok, Err, refl, sym, ap, ◌∙◌, subst, arith}
 use Rattle.realm_model.specs.declared.states.RealmState.TheVariants.{Active}
 use Rattle.realm_model.specs.Machine.{RealmRow}
 use Rattle.realm_model.specs.Update.{Update, Outcome, machine_after_all}
 use Rattle.realm_model.specs.Command.Check.{check, error_input, error_realm, is_new, put_realm}
 use Rattle.realm_model.specs.Command.Realm.{realm_activate}
-use Rattle.realm_objects.specs.Attributes.{RealmAttributes, realm_row}
-use Rattle.rtt.specs.Tables.{rows}
+use Rattle.realm_objects.specs.Attributes.{RealmAttributes}
 use Rattle.rtt.specs.Realm.{LeavesOthers}
 use Rattle.rmi_monitor.specs.View.{MonitorView, IsTaken, seen_in, after_command}
-use Rattle.rmi_monitor.specs.Inside.{Fields, realm_at, recs_of, cell_of, machine_of, seen_as, IsWhole}
+use Rattle.rmi_monitor.specs.Inside.{Fields, realm_at, machine_of, seen_as, IsWhole}
 use Rattle.rmi_monitor.proofs.Granules.{cell_is, machine_is, after_done}
 use Rattle.rmi_monitor.proofs.TableMoves.{whole_still, machine_still, with_row_of}
 use Rattle.rmi_monitor.proofs.RealmFound.{row_of, nowhere, somewhere}

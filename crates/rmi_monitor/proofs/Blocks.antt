@@ -8,10 +8,8 @@ use Rattle.page_arena.specs.Block.{IsFreeBlock, with_run, with_taken, with_given
 use Rattle.page_arena.specs.Runs.{inside_or_outside, length-with_run, get_or-with_run_inside, get_or-with_run_outside}
 use Rattle.granule_table.specs.Granules.{granule_at}
 use Rattle.granule_table.specs.declared.granule.Granule.{Granule}
-use Rattle.realm_model.specs.declared.states.GranuleState.{GranuleState}
-use Rattle.realm_model.specs.declared.states.GranuleState.TheVariants.{Undelegated, Rtt as InRtt}
+use Rattle.realm_model.specs.declared.states.GranuleState.TheVariants.{Undelegated}
 use Rattle.realm_model.specs.Machine.{Cell, Machine, blank, cell_at}
-use Rattle.realm_model.specs.Sound.{is_host_state}
 use Rattle.rtt.specs.Realm.{LeavesAlone}
 use Rattle.rtt.specs.FrameLaws.{rows-alone, HasTables-alone}
 use Rattle.rmi_monitor.specs.View.{MonitorView, IsGivable, with_block, without_block}
@@ -19,8 +17,8 @@ use Rattle.rmi_monitor.specs.Inside.{Fields, descriptor_of, cell_of, machine_of,
 use Rattle.rmi_monitor.proofs.Machines.{length-machine_of, cell_at-machine_of, same_machine, cell_stays, descriptor_stays}
 use Rattle.rmi_monitor.proofs.Checks.{undelegated_state}
 use Rattle.rmi_monitor.proofs.Frames.{StayRecs, recs_of_stay, HasRecs_stay}
-use Rattle.rmi_monitor.proofs.HostMoves.{host_cell, cell_of-host}
-use Rattle.rmi_monitor.proofs.Granules.{as_many_granules, as_many_pages, cell_is, machine_is}
+use Rattle.rmi_monitor.proofs.HostMoves.{cell_of-host}
+use Rattle.rmi_monitor.proofs.Granules.{as_many_pages, cell_is}
 
 -- the fields with a block cleared and free
 abbrev pub given : Fields → ℕ → ℕ → Fields

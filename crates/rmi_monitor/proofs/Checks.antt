@@ -1,12 +1,7 @@
 -- The tests of a granule's state that commands make.
-use Rattle.std.proofs.Common.{◌≡◌, Bool, true, false, List, Ok, Err, refl}
-use Rattle.realm_model.specs.declared.rmi.Rmi.{Rmi}
+use Rattle.std.proofs.Common.{◌≡◌, Bool, true, false, refl}
 use Rattle.realm_model.specs.declared.states.GranuleState.{GranuleState}
 use Rattle.realm_model.specs.declared.states.GranuleState.TheVariants.{Undelegated, Delegated}
-use Rattle.realm_model.specs.Machine.{Machine}
-use Rattle.realm_model.specs.Update.{Update, machine_after_all, machine_after_command}
-use Rattle.realm_model.specs.Command.Check.{check}
-use Rattle.rmi_monitor.specs.View.{Answers}
 
 abbrev pub undelegated_test : GranuleState → Bool
 undelegated_test state = elim state [ Undelegated ↦ true | _ ↦ false ]

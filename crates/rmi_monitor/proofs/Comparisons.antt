@@ -2,8 +2,8 @@
 use Rattle.std.proofs.Common.{◌≡◌, ◌≢◌, ℕ, Bool, true, false, cond, Option, Some, None, refl, sym, ap, ◌∙◌, option_map}
 use Rattle.std.specs.Prelude.{◌==◌, ◌||◌}
 use Rattle.std.proofs.lemmas.Bool.{ne_eqb}
-use Rattle.realm_model.specs.Command.Check.{is_protected}
 use Rattle.std.proofs.lemmas.Option.{same_Some}
+use Rattle.realm_model.specs.Command.Check.{is_protected}
 
 -- one of two tests holds
 pub either : {P : Type 0} (s t : Bool) → (s || t) ≡ true → (s ≡ true → P) → (t ≡ true → P) → P

@@ -4,12 +4,11 @@ use Rattle.std.specs.Prelude.{◌==◌, ◌&&◌, ◌↔◌, IsTrue, not, nat_le
 use Rattle.std.specs.Bool.{OnTrue}
 use Rattle.std.specs.List.{list_any}
 use Rattle.std.specs.FinMap.{empty}
-use Rattle.std.proofs.lemmas.Bool.{eqb-true, eqb-false, and_parts}
+use Rattle.std.proofs.lemmas.Bool.{eqb-false, and_parts}
 use Rattle.granule_table.specs.Granules.{granule_at, IsIn}
 use Rattle.granule_table.specs.declared.granule.Granule.{Granule}
 use Rattle.page_arena.specs.Page.{page_at}
 use Rattle.granule_addr.specs.Page.{zero_page}
-use Rattle.realm_model.specs.declared.states.GranuleState.{GranuleState}
 use Rattle.realm_model.specs.declared.states.GranuleState.TheVariants.{Delegated, Rd as InRd, Rtt as InRtt}
 use Rattle.realm_model.specs.Rows.{root_rows}
 use Rattle.realm_model.specs.Machine.{Cell, held}
@@ -17,6 +16,7 @@ use Rattle.realm_model.specs.Step.{has_vmid}
 use Rattle.realm_model.specs.Update.{Update, Outcome, Put, machine_after_all}
 use Rattle.realm_model.specs.Command.Check.{check, error_input, is_delegated}
 use Rattle.realm_model.specs.Command.Realm.{new_realm}
+use Rattle.realm_model.proofs.Booleans.{not_true}
 use Rattle.realm_objects.specs.Attributes.{RealmAttributes, realm_row}
 use Rattle.rtt.specs.Tables.{rows}
 use Rattle.rtt.specs.Realm.{IsBacked, HasTables, LeavesOthers}
@@ -24,11 +24,10 @@ use Rattle.rtt.specs.Calls.{with_state}
 use Rattle.rmi_monitor.specs.View.{MonitorView, IsTaken, seen_in, after_command, create_realm}
 use Rattle.rmi_monitor.specs.Inside.{Fields, machine_of, seen_as, IsWhole}
 use Rattle.rmi_monitor.specs.Places.{is_delegated_at, is_realm_with, are_fit_for_realm}
-use Rattle.rmi_monitor.proofs.Granules.{machine_is, in_granules, state_is, after_done, seen_delegated}
-use Rattle.rmi_monitor.proofs.Checks.{delegated_test, delegated_state}
+use Rattle.rmi_monitor.proofs.Granules.{machine_is, in_granules, after_done, seen_delegated}
+use Rattle.rmi_monitor.proofs.Checks.{delegated_state}
 use Rattle.rmi_monitor.proofs.UsedVmids.{used_vmids}
 use Rattle.rmi_monitor.proofs.RealmCreates.{root_delegated, backed_with_rd, whole_created, machine_created}
-use Rattle.realm_model.proofs.Booleans.{not_true}
 
 module _ (monitor : MonitorView) (fields : Fields) (view_is : seen_as fields ≡ monitor) (whole : IsWhole fields)
     (rd root vmid : ℕ) (rd_taken : IsTaken monitor rd) (root_taken : IsTaken monitor root) where

@@ -22,8 +22,8 @@ use Rattle.rtt.specs.Calls.{with_state, ChangesTablesOnly, map_refusal}
 use Rattle.rmi_monitor.specs.View.{MonitorView, IsTaken, seen_in, after_command}
 use Rattle.rmi_monitor.specs.Inside.{Fields, realm_at, bytes_of, seen_as, IsWhole}
 use Rattle.rmi_monitor.specs.Places.{is_delegated_at, is_undelegated_at}
-use Rattle.rmi_monitor.proofs.Checks.{delegated_test, delegated_state, undelegated_test, undelegated_state}
-use Rattle.rmi_monitor.proofs.Granules.{in_granules, state_is, cell_is, seen_delegated, seen_undelegated}
+use Rattle.rmi_monitor.proofs.Checks.{delegated_state, undelegated_state}
+use Rattle.rmi_monitor.proofs.Granules.{in_granules, cell_is, seen_delegated, seen_undelegated}
 use Rattle.rmi_monitor.proofs.Outcomes.{check_false}
 use Rattle.rmi_monitor.proofs.DataMaps.{Mapped, no_table, rows_kept, page_written, mapped_written, mapped_whole, mapped_seen}
 use Rattle.rmi_monitor.proofs.Refusals.{Passes, passes_from, row_refused, row_passes}

@@ -23,8 +23,8 @@ use Rattle.rtt.specs.Calls.{with_state, ChangesTablesOnly, map_refusal}
 use Rattle.rmi_monitor.specs.View.{MonitorView, IsTaken, seen_in, after_command}
 use Rattle.rmi_monitor.specs.Inside.{Fields, realm_at, seen_as, IsWhole}
 use Rattle.rmi_monitor.specs.Places.{is_delegated_at}
-use Rattle.rmi_monitor.proofs.Checks.{delegated_test, delegated_state}
-use Rattle.rmi_monitor.proofs.Granules.{in_granules, state_is, seen_delegated}
+use Rattle.rmi_monitor.proofs.Checks.{delegated_state}
+use Rattle.rmi_monitor.proofs.Granules.{in_granules, seen_delegated}
 use Rattle.rmi_monitor.proofs.Outcomes.{check_false, after_err}
 use Rattle.rmi_monitor.proofs.DataMaps.{Mapped, no_table, mapped_whole, mapped_seen}
 use Rattle.rmi_monitor.proofs.Refusals.{refused_with, not_refused, Passes, passes_from, row_refused, row_passes}

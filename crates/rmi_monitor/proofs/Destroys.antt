@@ -1,5 +1,5 @@
 -- What comes of removing a realm, by the places of a monitor.
-use Rattle.std.proofs.Common.{◌≡◌, ◌≢◌, ℕ, ◌<◌, Bool, true, false, List, [], ◌∷◌, length, set, Option, Some, None, Ok, Err, refl, sym, ap, ◌∙◌, subst}
+use Rattle.std.proofs.Common.{◌≡◌, ℕ, ◌<◌, Bool, true, false, List, [], ◌∷◌, length, set, Some, None, Ok, Err, refl, sym, ap, ◌∙◌, subst}
 use Rattle.std.specs.Prelude.{◌==◌, ◌&&◌, ◌↔◌, IsTrue, not}
 use Rattle.std.specs.Bool.{OnTrue}
 use Rattle.std.specs.FinMap.{len}
@@ -13,16 +13,16 @@ use Rattle.realm_model.specs.Machine.{RealmRow, left}
 use Rattle.realm_model.specs.Update.{Update, Outcome, Put, machine_after_all}
 use Rattle.realm_model.specs.Command.Check.{check, error_input, error_realm}
 use Rattle.realm_model.specs.Command.Realm.{realm_destroy}
-use Rattle.realm_objects.specs.Attributes.{RealmAttributes, RecAttributes, realm_row}
+use Rattle.realm_model.proofs.Booleans.{not_true, not_false}
+use Rattle.realm_objects.specs.Attributes.{RealmAttributes, RecAttributes}
 use Rattle.rtt.specs.Tables.{rows}
 use Rattle.rtt.specs.Realm.{HasTables}
 use Rattle.rtt.specs.Calls.{with_state}
 use Rattle.rmi_monitor.specs.View.{MonitorView, IsTaken, seen_in, after_command}
-use Rattle.rmi_monitor.specs.Inside.{Fields, realm_at, rec_at, recs_of, machine_of, seen_as, IsWhole}
+use Rattle.rmi_monitor.specs.Inside.{Fields, realm_at, rec_at, machine_of, seen_as, IsWhole}
 use Rattle.rmi_monitor.proofs.Granules.{machine_is, in_granules, in_pages, after_done}
 use Rattle.rmi_monitor.proofs.RealmPlaces.{in_rd}
 use Rattle.rmi_monitor.proofs.RealmDestroys.{rd_still, whole_destroyed, machine_destroyed}
-use Rattle.realm_model.proofs.Booleans.{not_true, not_false}
 use Rattle.rmi_monitor.proofs.RealmFound.{row_of, nowhere, somewhere}
 use Rattle.rmi_monitor.proofs.RealmRecs.{no_rec_of}
 

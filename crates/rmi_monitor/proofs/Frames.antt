@@ -1,13 +1,12 @@
 -- What stays of a monitor's fields where a command changes some granules, and so what always holds, holds still.
-use Rattle.std.proofs.Common.{◌≡◌, ◌≢◌, ℕ, ◌<◌, ◌≤◌, Bool, true, false, cond, List, length, Option, Some, None, option_map, refl, sym, ap, ◌∙◌, subst, arith}
-use Rattle.std.specs.Prelude.{is_some, nat_eq, slice_get}
+use Rattle.std.proofs.Common.{◌≡◌, ◌≢◌, ℕ, ◌<◌, ◌≤◌, Bool, true, false, cond, length, Some, None, option_map, refl, sym, ap, ◌∙◌, subst, arith}
+use Rattle.std.specs.Prelude.{is_some, nat_eq}
 use Rattle.std.specs.Option.{option_eq}
 use Rattle.granule_table.specs.Granules.{granule_at, IsIn}
 use Rattle.granule_table.specs.declared.granule.Granule.{Granule}
 use Rattle.page_arena.specs.Page.{page_at, is_free}
-use Rattle.granule_addr.specs.Page.{zero_page}
 use Rattle.realm_model.specs.declared.states.GranuleState.{GranuleState}
-use Rattle.realm_model.specs.declared.states.GranuleState.TheVariants.{Delegated, Data as InData, Rec as InRec, RecAux as InRecAux, Rtt as InRtt}
+use Rattle.realm_model.specs.declared.states.GranuleState.TheVariants.{Data as InData, Rec as InRec, RecAux as InRecAux, Rtt as InRtt}
 use Rattle.realm_model.specs.Sound.{is_host_state, is_rd_state}
 use Rattle.realm_model.specs.Machine.{RecRow}
 use Rattle.realm_objects.specs.Attributes.{RealmAttributes, RecAttributes, rec_row}

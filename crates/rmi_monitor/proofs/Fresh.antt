@@ -1,20 +1,18 @@
 -- A monitor that has just been built.
-use Rattle.std.proofs.Common.{◌≡◌, ℕ, zero, suc, ◌<◌, Bool, true, false, List, [], length, get_or, replicate, Option, Some, None, is_some, refl, sym, ap, ◌∙◌, subst, arith}
+use Rattle.std.proofs.Common.{◌≡◌, ℕ, ◌<◌, true, [], length, replicate, None, is_some, refl, sym, ap, ◌∙◌, subst}
 use Rattle.std.proofs.lemmas.List.{length-replicate, get_or-replicate}
-use Rattle.page_arena.specs.Page.{page_at}
+use Rattle.std.proofs.lemmas.Option.{none-some}
 use Rattle.granule_table.specs.Granules.{granule_at, undelegated}
 use Rattle.granule_table.specs.declared.granule.Granule.{Granule}
 use Rattle.granule_addr.specs.Page.{zero_page}
 use Rattle.realm_model.specs.declared.states.GranuleState.TheVariants.{Undelegated}
 use Rattle.realm_model.specs.Machine.{blank}
 use Rattle.realm_model.specs.Sound.{is_rd_state}
-use Rattle.realm_objects.specs.Attributes.{RealmAttributes, RecAttributes}
-use Rattle.rmi_monitor.specs.Inside.{Fields, fields_of, realm_at, rec_at, cell_of, machine_of, seen_as, is_rec_state, IsSoundAt, IsWhole}
+use Rattle.rmi_monitor.specs.Inside.{Fields, fields_of, realm_at, rec_at, machine_of, seen_as, is_rec_state, IsSoundAt, IsWhole}
 use Rattle.rmi_monitor.specs.View.{fresh}
 use Rattle.rmi_monitor.proofs.Machines.{length-machine_of, cell_at-machine_of, same_machine}
 use Rattle.rmi_monitor.proofs.HostMoves.{cell_of-host}
 use Rattle.rmi_monitor.proofs.Listed.{same_each}
-use Rattle.std.proofs.lemmas.Option.{none-some}
 
 -- the fields when nothing has happened
 abbrev pub new_fields : ℕ → ℕ → ℕ → Fields

@@ -4,21 +4,21 @@ use Rattle.std.proofs.lemmas.List.{set-get_or}
 use Rattle.page_arena.specs.Page.{page_at, is_free}
 use Rattle.granule_table.specs.Granules.{granule_at, undelegated}
 use Rattle.granule_table.specs.declared.granule.Granule.{Granule}
+use Rattle.granule_addr.specs.Page.{page_of, zero_page}
 use Rattle.realm_model.specs.declared.states.GranuleState.{GranuleState}
 use Rattle.realm_model.specs.declared.states.GranuleState.TheVariants.{Undelegated, Delegated}
-use Rattle.granule_addr.specs.Page.{page_of, zero_page}
-use Rattle.realm_model.specs.Machine.{Cell, Machine, left, cell_at}
+use Rattle.realm_model.specs.Machine.{Cell, left, cell_at}
 use Rattle.realm_model.specs.Update.{Update, Outcome, Put, machine_after_all, machine_after_command}
 use Rattle.realm_model.specs.Command.Check.{check, error_input, is_undelegated, is_delegated}
 use Rattle.realm_model.specs.Command.Granule.{granule_delegate, granule_undelegate, host_fill}
-use Rattle.rmi_monitor.specs.View.{MonitorView, IsTaken, seen_in, after_command}
 use Rattle.realm_model.specs.Sound.{is_host_state}
+use Rattle.realm_model.proofs.Outcomes.{check_true}
+use Rattle.rmi_monitor.specs.View.{MonitorView, IsTaken, seen_in, after_command}
 use Rattle.rmi_monitor.specs.Inside.{Fields, cell_of, machine_of, seen_as, IsWhole}
+use Rattle.rmi_monitor.specs.Places.{is_delegated_at, is_undelegated_at}
 use Rattle.rmi_monitor.proofs.Machines.{length-machine_of, cell_at-machine_of}
 use Rattle.rmi_monitor.proofs.HostMoves.{moved, whole_moved, machine_of-moved, host_cell, cell_of-host}
 use Rattle.rmi_monitor.proofs.Checks.{undelegated_test, delegated_test, not_undelegated, not_delegated}
-use Rattle.realm_model.proofs.Outcomes.{check_true}
-use Rattle.rmi_monitor.specs.Places.{is_delegated_at, is_undelegated_at}
 
 module _ (monitor : MonitorView) (fields : Fields) (view_is : seen_as fields ≡ monitor) (whole : IsWhole fields) where
   pub machine_is : machine_of fields ≡ monitor.machine

@@ -1,7 +1,7 @@
 -- A guest's write, over the fields of a monitor: what it is refused for, and what it does.
-use Rattle.std.proofs.Common.{◌≡◌, ℕ, Bool, true, false, cond, List, [], ◌∷◌, Ok, Err, Option, Some, None, refl, sym, ap, ◌∙◌, subst}
+use Rattle.std.proofs.Common.{◌≡◌, ℕ, Bool, true, false, List, [], ◌∷◌, Ok, Err, Option, Some, None, refl, sym, ap, ◌∙◌, subst}
 use Rattle.std.specs.Prelude.{not, option_map}
-use Rattle.std.proofs.lemmas.Option.{same_Some, none-some}
+use Rattle.std.proofs.lemmas.Option.{none-some}
 use Rattle.granule_addr.specs.Ipa.{first_covered}
 use Rattle.granule_table.specs.Granules.{IsIn}
 use Rattle.page_arena.specs.Page.{with_byte}

@@ -1,7 +1,6 @@
 -- What the commands keep: a taken granule is taken, and an UNDELEGATED one that is filled is UNDELEGATED.
-use Rattle.std.proofs.Common.{◌≡◌, ℕ, zero, suc, ◌+◌, ◌^◌, ◌<◌, ◌≤◌, Bool, true, false, List, [], ◌∷◌, length, set, get_or, replicate, Option, Some, None, option_map, Ok, Err, refl, sym, ap, ◌∙◌, subst, arith}
+use Rattle.std.proofs.Common.{◌≡◌, ℕ, zero, suc, ◌+◌, ◌^◌, ◌<◌, ◌≤◌, Bool, true, false, List, [], ◌∷◌, length, set, get_or, Option, Some, None, Ok, Err, refl, sym, ap, ◌∙◌, subst, arith}
 use Rattle.std.specs.Prelude.{IsTrue, ◌↔◌, Result, option_and_then}
-use Rattle.std.specs.List.{All}
 use Rattle.std.specs.FinMap.{get}
 use Rattle.std.specs.Bool.{OnTrue}
 use Rattle.std.proofs.lemmas.List.{length-set}
@@ -13,8 +12,7 @@ use Rattle.realm_model.specs.Update.{Update, Put, Outcome, granule_of, machine_a
 use Rattle.realm_model.specs.Command.Check.{check, error_input, is_undelegated}
 use Rattle.realm_model.specs.Command.Granule.{host_fill}
 use Rattle.realm_model.specs.declared.rmi.Rmi.{Rmi}
-use Rattle.realm_objects.specs.Attributes.{RealmAttributes}
-use Rattle.rmi_monitor.specs.View.{MonitorView, IsTaken, AreAllTaken, IsRec, IsOnRec, rec_in, attributes_of, IsGivable, after_command, with_block, fresh, seen_in}
+use Rattle.rmi_monitor.specs.View.{MonitorView, IsTaken, AreAllTaken, IsRec, IsOnRec, rec_in, IsGivable, after_command, with_block, fresh, seen_in}
 use Rattle.rmi_monitor.proofs.Checks.{undelegated_test}
 use Rattle.rmi_monitor.proofs.Listed.{same_each}
 

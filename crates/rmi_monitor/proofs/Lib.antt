@@ -1,54 +1,62 @@
+-- lists and tests
+pub mod Comparisons
+pub mod Listed
 pub mod Gathered
+-- what a command answers and leaves
+pub mod Outcomes
+pub mod Refusals
+pub mod Checks
+-- what a place says of a realm's RECs, and what these are
 pub mod RecEntries
 pub mod RealmRecs
+-- machines over the fields, and fields that stay
 pub mod Machines
 pub mod Frames
+pub mod Puts
+pub mod RealmPlaces
+pub mod RealmAfter
+-- single granules, blocks and bytes
 pub mod HostMoves
-pub mod Checks
 pub mod Granules
 pub mod Blocks
 pub mod Fresh
-pub mod Comparisons
-pub mod RealmPlaces
-pub mod RealmAfter
-pub mod TableMoves
+pub mod Kept
+pub mod Sums
+pub mod Readings
+-- realms
 pub mod RealmFound
+pub mod TableMoves
+pub mod RealmCommands
 pub mod Activates
 pub mod UsedVmids
 pub mod RealmCreates
 pub mod Creates
 pub mod RealmDestroys
 pub mod Destroys
-pub mod Readings
-pub mod Sums
-pub mod Kept
-pub mod Outcomes
+-- tables and data
+pub mod LedTo
 pub mod RowPages
+pub mod TableCreates
+pub mod TableDestroys
+pub mod TableRipas
 pub mod DataPages
 pub mod DataMaps
 pub mod DataDestroys
 pub mod DataUnknown
 pub mod DataCreates
+pub mod DataBytes
+-- RECs
 pub mod RecFound
 pub mod RecReads
+pub mod RecNumbers
 pub mod RecChanges
 pub mod RecRuns
-pub mod RecNumbers
-pub mod DataBytes
 pub mod GuestWrites
-pub mod Refusals
-pub mod RealmCommands
-pub mod LedTo
-pub mod TableCreates
-pub mod TableDestroys
-pub mod TableRipas
-pub mod Sweeps
-pub mod Puts
 pub mod RecMoves
 pub mod RecMade
 pub mod RecMadeAfter
-pub mod Listed
+pub mod RecCreates
 pub mod RecGone
 pub mod RecGoneAfter
-pub mod RecCreates
 pub mod RecDestroys
+pub mod Sweeps

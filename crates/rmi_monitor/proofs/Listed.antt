@@ -1,9 +1,9 @@
--- Lists of granules: what holds of each, that none is there twice, and what is read at a place.
+-- Lists: what holds of each, that none is there twice, and what is read at a place and put back.
 use Rattle.std.proofs.Common.{◌≡◌, ℕ, zero, suc, ◌<◌, true, not, List, [], ◌∷◌, length, set, get_or, All, Option, Some, None, refl, sym, ap, ◌∙◌, subst, arith, replicate}
 use Rattle.std.specs.Prelude.{slice_get}
 use Rattle.std.proofs.lemmas.Bool.{and_parts, and_from}
 use Rattle.std.proofs.lemmas.List.{set-get_or, get_or_default}
-use Rattle.std.proofs.lemmas.Option.{slice_get_within, slice_get-get_or, get_or_from_slice_get}
+use Rattle.std.proofs.lemmas.Option.{slice_get_within, get_or_from_slice_get}
 use Rattle.realm_model.proofs.Booleans.{not_true, true_false, false_from}
 use Rattle.realm_model.proofs.Lists.{is_in, is_in_at, index_of}
 use Rattle.rmi_monitor.specs.Places.{are_distinct}

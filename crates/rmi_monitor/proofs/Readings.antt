@@ -1,16 +1,16 @@
 -- What is read of a realm, over the fields of a monitor.
 use Rattle.std.proofs.Common.{◌≡◌, ℕ, ◌<◌, length, Option, Some, None, option_map, refl, sym, ap, ◌∙◌, subst}
+use Rattle.page_arena.specs.Page.{page_at}
 use Rattle.realm_model.specs.Machine.{Cell, RealmRow, cell_at}
 use Rattle.realm_objects.specs.Attributes.{RealmAttributes, realm_row}
 use Rattle.rtt.specs.Tables.{rows}
 use Rattle.rtt.specs.RowWords.{AreWordsOf}
 use Rattle.rtt.proofs.RowWords.{row_words}
-use Rattle.page_arena.specs.Page.{page_at}
 use Rattle.rmi_monitor.specs.View.{MonitorView, IsPageOf, attributes_of}
+use Rattle.rmi_monitor.specs.Inside.{Fields, realm_at, recs_of, seen_as, IsWhole}
 use Rattle.rmi_monitor.proofs.Machines.{IsPageOf-cell_of}
-use Rattle.rmi_monitor.specs.Inside.{Fields, realm_at, recs_of, descriptor_of, seen_as, IsWhole}
-use Rattle.rmi_monitor.proofs.Granules.{as_many_granules, cell_is}
-use Rattle.rmi_monitor.proofs.Comparisons.{some_map}
+use Rattle.rmi_monitor.proofs.Granules.{cell_is}
+use Rattle.rmi_monitor.proofs.RealmFound.{realm_found}
 
 module _ (monitor : MonitorView) (fields : Fields) (view_is : seen_as fields ≡ monitor) (whole : IsWhole fields) (rd : ℕ) (inside : rd < length monitor.machine) where
   -- the attributes of the realm that stands there
@@ -32,6 +32,5 @@ module _ (monitor : MonitorView) (fields : Fields) (view_is : seen_as fields ≡
 
   pub words_there : (rd : ℕ) (realm : RealmRow) → rd < length monitor.machine → (cell_at monitor.machine rd).descriptor ≡ Some realm → AreWordsOf fields.pages realm.rows realm.root
   words_there rd realm inside at =
-      let row : RealmAttributes → RealmRow = λ r. realm_row r (recs_of fields.granules fields.recs rd) (rows fields.pages r.root) in
-      let found = some_map row (realm_at fields rd) realm (sym (ap (λ (c : Cell). c.descriptor) (cell_is monitor fields view_is whole rd inside)) ∙ at) in
+      let found = realm_found monitor fields view_is whole rd realm at in
       subst (λ (r : RealmRow). AreWordsOf fields.pages r.rows r.root) found.2 (row_words fields.pages found.0.root fields.granules rd (whole.tables rd found.0 found.1))

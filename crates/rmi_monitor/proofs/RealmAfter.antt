@@ -1,19 +1,19 @@
 -- A command on one realm that keeps it: what is left of the others, and of it, is whole.
-use Rattle.std.proofs.Common.{◌≡◌, ◌≢◌, ℕ, ◌<◌, ◌≤◌, Bool, true, false, length, Option, Some, None, option_map, refl, sym, ap, ◌∙◌, subst, arith}
+use Rattle.std.proofs.Common.{◌≡◌, ◌≢◌, ℕ, ◌≤◌, Bool, true, false, length, Some, option_map, refl, sym, ap, ◌∙◌, subst, arith}
 use Rattle.std.specs.Prelude.{◌==◌}
 use Rattle.std.proofs.lemmas.Bool.{eqb-true, eqb-false}
+use Rattle.std.proofs.lemmas.Option.{same_Some}
 use Rattle.granule_table.specs.Granules.{granule_at}
 use Rattle.realm_model.specs.declared.states.GranuleState.TheVariants.{Rec as InRec, RecAux as InRecAux}
 use Rattle.realm_model.specs.Machine.{RealmRow}
 use Rattle.realm_model.specs.Rows.{Rows}
-use Rattle.realm_objects.specs.Attributes.{RealmAttributes, RecAttributes, realm_row}
+use Rattle.realm_objects.specs.Attributes.{RealmAttributes, realm_row}
 use Rattle.rtt.specs.Tables.{rows}
 use Rattle.rtt.specs.Realm.{IsBacked, HasTables, LeavesOthers}
 use Rattle.rtt.specs.FrameLaws.{rows-alone, HasTables-alone}
-use Rattle.rmi_monitor.specs.Inside.{Fields, realm_at, rec_at, recs_of, descriptor_of, cell_of, IsSoundAt, HasRecs, IsWhole}
+use Rattle.rmi_monitor.specs.Inside.{Fields, realm_at, rec_at, recs_of, descriptor_of, cell_of, IsSoundAt, IsWhole}
 use Rattle.rmi_monitor.proofs.Machines.{cell_stays, descriptor_stays}
 use Rattle.rmi_monitor.proofs.Frames.{Stays, StayRecs, sound_after, recs_of_stay, HasRecs_stay}
-use Rattle.std.proofs.lemmas.Option.{same_Some}
 
 -- The realm has other attributes, but the same root. Its tables may have changed, and of the granules those that are touched.
 -- No REC is touched, and the other realms are left alone.

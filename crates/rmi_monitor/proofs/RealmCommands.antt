@@ -1,7 +1,5 @@
 -- The monitor after a command on a realm, by what its call leaves.
-use Rattle.std.proofs.Common.{◌≡◌, ℕ, ◌<◌, ◌≤◌, Bool, true, List, [], ◌∷◌, length, set, Option, Some, None, option_map, Ok, Err, refl, sym, ap, ◌∙◌, subst, get_or}
-use Rattle.std.specs.Prelude.{slice_index_or}
-use Rattle.std.proofs.lemmas.List.{set-get_or, get_or_default}
+use Rattle.std.proofs.Common.{◌≡◌, ℕ, ◌<◌, ◌≤◌, Bool, true, List, [], ◌∷◌, length, set, Option, Some, None, Ok, refl, sym, ap, ◌∙◌, subst, get_or}
 use Rattle.granule_table.specs.Granules.{granule_at}
 use Rattle.granule_table.specs.declared.granule.Granule.{Granule}
 use Rattle.granule_addr.specs.Page.{zero_page}
@@ -9,13 +7,13 @@ use Rattle.page_arena.specs.Page.{page_at}
 use Rattle.realm_model.specs.declared.states.GranuleState.{GranuleState}
 use Rattle.realm_model.specs.declared.states.GranuleState.TheVariants.{Delegated}
 use Rattle.realm_model.specs.Machine.{Cell, RealmRow}
-use Rattle.realm_model.specs.Update.{Outcome, Put, machine_after_all, machine_after_command}
-use Rattle.realm_model.specs.Command.Check.{error_input, with_realm, put_realm}
+use Rattle.realm_model.specs.Update.{Outcome, Put, machine_after_all}
+use Rattle.realm_model.specs.Command.Check.{put_realm}
 use Rattle.realm_objects.specs.Attributes.{RealmAttributes, realm_row}
 use Rattle.rtt.specs.Tables.{rows}
 use Rattle.rtt.specs.Realm.{IsBacked, HasTables, IsTableOf, LeavesOthers}
 use Rattle.rmi_monitor.specs.View.{MonitorView, IsTaken, seen_in, after_command}
-use Rattle.rmi_monitor.specs.Inside.{Fields, realm_at, recs_of, descriptor_of, bytes_of, machine_of, seen_as, IsWhole, cell_of}
+use Rattle.rmi_monitor.specs.Inside.{Fields, realm_at, recs_of, bytes_of, machine_of, seen_as, IsWhole, cell_of}
 use Rattle.rmi_monitor.proofs.Granules.{machine_is, cell_is, after_done}
 use Rattle.rmi_monitor.proofs.TableMoves.{is_moved_state, with_row_of, whole_moved_to, machine_moved_to}
 use Rattle.rmi_monitor.proofs.Listed.{put_back}

@@ -1,9 +1,10 @@
 -- A realm is made, over the fields of a monitor.
-use Rattle.std.proofs.Common.{◌≡◌, ◌≢◌, ℕ, ◌<◌, ◌≤◌, Bool, true, false, List, [], ◌∷◌, length, set, Option, Some, None, is_some, option_map, Ok, Err, refl, sym, ap, ◌∙◌, subst, arith}
+use Rattle.std.proofs.Common.{◌≡◌, ◌≢◌, ℕ, ◌<◌, Bool, true, false, List, length, set, Some, None, is_some, option_map, refl, sym, ap, ◌∙◌, subst, arith}
 use Rattle.std.specs.Prelude.{◌==◌, ◌||◌}
 use Rattle.std.specs.FinMap.{empty}
-use Rattle.std.proofs.lemmas.Bool.{eqb-true, eqb-false, or_parts, eq-eqb, ne_eqb, or_right}
+use Rattle.std.proofs.lemmas.Bool.{eqb-true, eqb-false, or_parts}
 use Rattle.std.proofs.lemmas.List.{length-set, get_or-set_same, get_or-set_other}
+use Rattle.std.proofs.lemmas.Option.{same_Some}
 use Rattle.granule_table.specs.Granules.{granule_at, undelegated, IsIn}
 use Rattle.granule_table.specs.declared.granule.Granule.{Granule}
 use Rattle.page_arena.specs.Page.{page_at, is_free}
@@ -11,19 +12,18 @@ use Rattle.granule_addr.specs.Page.{zero_page}
 use Rattle.realm_model.specs.declared.states.GranuleState.{GranuleState}
 use Rattle.realm_model.specs.declared.states.GranuleState.TheVariants.{Undelegated, Delegated, Data as InData, Rd as InRd, Rec as InRec, RecAux as InRecAux, Rtt as InRtt}
 use Rattle.realm_model.specs.Rows.{root_rows}
-use Rattle.realm_model.specs.Machine.{Cell, RealmRow, held}
+use Rattle.realm_model.specs.Machine.{held}
 use Rattle.realm_model.specs.Sound.{is_host_state, is_rd_state}
 use Rattle.realm_model.specs.Command.Realm.{new_realm}
-use Rattle.realm_objects.specs.Attributes.{RealmAttributes, RecAttributes, realm_row}
+use Rattle.realm_objects.specs.Attributes.{RealmAttributes, realm_row}
 use Rattle.rtt.specs.Tables.{rows}
 use Rattle.rtt.specs.Realm.{IsBacked, HasTables, LeavesAlone, LeavesOthers}
 use Rattle.rtt.specs.FrameLaws.{rows-alone, HasTables-alone}
-use Rattle.rmi_monitor.specs.Inside.{Fields, realm_at, rec_at, recs_of, descriptor_of, bytes_of, cell_of, machine_of, is_rec_state, IsSoundAt, IsWhole}
+use Rattle.rmi_monitor.specs.Inside.{Fields, realm_at, recs_of, descriptor_of, bytes_of, cell_of, machine_of, is_rec_state, IsSoundAt, IsWhole}
 use Rattle.rmi_monitor.proofs.Machines.{two_put, cell_stays, descriptor_stays}
 use Rattle.rmi_monitor.proofs.Frames.{Stays, StayRecs, sound_after, recs_of_stay, HasRecs_stay}
 use Rattle.rmi_monitor.proofs.Comparisons.{or_rest, neither}
 use Rattle.rmi_monitor.proofs.RealmPlaces.{no_realm_there}
-use Rattle.std.proofs.lemmas.Option.{same_Some}
 use Rattle.rmi_monitor.proofs.RealmRecs.{recs_of-none}
 
 -- the state that both granules are in before

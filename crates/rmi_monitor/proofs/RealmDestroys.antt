@@ -1,22 +1,23 @@
 -- A realm is gone, over the fields of a monitor.
-use Rattle.std.proofs.Common.{◌≡◌, ◌≢◌, ℕ, ◌<◌, Bool, true, false, List, [], length, set, Option, Some, None, is_some, option_map, refl, sym, ap, ◌∙◌, subst, arith}
+use Rattle.std.proofs.Common.{◌≡◌, ◌≢◌, ℕ, ◌<◌, Bool, true, false, List, [], length, set, Some, None, is_some, refl, sym, ap, ◌∙◌, subst, arith}
 use Rattle.std.specs.Prelude.{◌==◌, ◌||◌}
-use Rattle.std.proofs.lemmas.Bool.{eqb-true, eqb-false, or_parts, eq-eqb, ne_eqb, or_right}
+use Rattle.std.proofs.lemmas.Bool.{eqb-true, eqb-false, or_parts}
 use Rattle.std.proofs.lemmas.List.{length-set, get_or-set_same, get_or-set_other}
+use Rattle.std.proofs.lemmas.Option.{same_Some}
 use Rattle.granule_table.specs.Granules.{granule_at, undelegated, IsIn}
 use Rattle.granule_table.specs.declared.granule.Granule.{Granule}
 use Rattle.page_arena.specs.Page.{page_at, is_free}
 use Rattle.granule_addr.specs.Page.{zero_page}
 use Rattle.realm_model.specs.declared.states.GranuleState.{GranuleState}
 use Rattle.realm_model.specs.declared.states.GranuleState.TheVariants.{Undelegated, Delegated, Data as InData, Rd as InRd, Rec as InRec, RecAux as InRecAux, Rtt as InRtt}
-use Rattle.realm_model.specs.Machine.{Cell, left}
-use Rattle.realm_model.specs.Sound.{is_host_state, is_rd_state}
-use Rattle.realm_objects.specs.Attributes.{RealmAttributes, RecAttributes, realm_row}
-use Rattle.rtt.specs.Tables.{rows, table_at}
-use Rattle.rtt.specs.Realm.{IsBacked, LeavesAlone, LeavesOthers}
+use Rattle.realm_model.specs.Machine.{left}
+use Rattle.realm_model.specs.Sound.{is_rd_state}
+use Rattle.realm_objects.specs.Attributes.{RealmAttributes, RecAttributes}
+use Rattle.rtt.specs.Tables.{table_at}
+use Rattle.rtt.specs.Realm.{LeavesAlone}
 use Rattle.rtt.specs.FrameLaws.{rows-alone, HasTables-alone}
 use Rattle.rtt.specs.Calls.{with_state}
-use Rattle.rmi_monitor.specs.Inside.{Fields, realm_at, rec_at, recs_of, descriptor_of, bytes_of, cell_of, machine_of, is_rec_state, IsSoundAt, IsWhole}
+use Rattle.rmi_monitor.specs.Inside.{Fields, realm_at, rec_at, machine_of, is_rec_state, IsSoundAt, IsWhole}
 use Rattle.rmi_monitor.proofs.Machines.{two_put, cell_stays, descriptor_stays}
 use Rattle.rmi_monitor.proofs.Frames.{Stays, StayRecs, sound_after, backed_after, recs_of_stay, HasRecs_stay}
 use Rattle.rmi_monitor.proofs.HostMoves.{cell_of-host}
@@ -135,11 +136,8 @@ module _ (old : Fields) (whole : IsWhole old) (rd : ℕ) (realm : RealmAttribute
   not_own : (g h : ℕ) → g ≢ rd → IsIn old.granules h InRtt (Some g) → (h ≢ rd) × (h ≢ root)
   not_own g h differs is = (
     λ e. let differ : InRd ≡ InRtt = sym rd_was ∙ ap (λ k. (granule_at old.granules k).state) (sym e) ∙ ap (λ (x : Granule). x.state) is.is in cc,
-    λ e. differs (some_same g rd (sym (ap (λ (x : Granule). x.realm) is.is) ∙ ap (λ k. (granule_at old.granules k).realm) e ∙ ap (λ (x : Granule). x.realm) root_in.is)),
+    λ e. differs (same_Some g rd (sym (ap (λ (x : Granule). x.realm) is.is) ∙ ap (λ k. (granule_at old.granules k).realm) e ∙ ap (λ (x : Granule). x.realm) root_in.is)),
   )
-    where
-      some_same : (a b : ℕ) → ◌≡◌ {A = Option ℕ} (Some a) (Some b) → a ≡ b
-      some_same a b e = ap (λ o. elim o [ Some z ↦ z | None ↦ a ]) e
 
   alone : (g : ℕ) → g ≢ rd → LeavesAlone g old.pages old.granules pages_without without_both
   alone g differs = record {

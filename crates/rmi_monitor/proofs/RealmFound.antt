@@ -1,17 +1,21 @@
 -- The realm that an RD is: where code reads it, and what the machine and a command find there.
-use Rattle.std.proofs.Common.{◌≡◌, ℕ, ◌<◌, length, get_or, Option, Some, None, option_map, Err, refl, sym, ap, ◌∙◌, subst}
-use Rattle.realm_model.specs.Machine.{Cell, RealmRow, cell_at}
+use Rattle.std.proofs.Common.{◌≡◌, ℕ, ◌<◌, length, get_or, Option, Some, None, option_map, Err, refl, sym, ap, ◌∙◌, subst, ⊎_elim}
+use Rattle.std.proofs.lemmas.Bool.{cases_lt}
+use Rattle.std.proofs.lemmas.List.{get_or_past}
+use Rattle.std.proofs.lemmas.Option.{none-some}
+use Rattle.realm_model.specs.Machine.{Cell, RealmRow, cell_at, blank}
 use Rattle.realm_model.specs.Update.{Outcome}
 use Rattle.realm_model.specs.Command.Check.{error_input, with_realm}
 use Rattle.realm_model.proofs.Outcomes.{realm_there}
 use Rattle.realm_objects.specs.Attributes.{RealmAttributes, realm_row}
 use Rattle.rtt.specs.Tables.{rows}
 use Rattle.rmi_monitor.specs.View.{MonitorView, seen_in}
-use Rattle.rmi_monitor.specs.Inside.{Fields, realm_at, recs_of, descriptor_of, seen_as, IsWhole}
+use Rattle.rmi_monitor.specs.Inside.{Fields, realm_at, recs_of, seen_as, IsWhole}
 use Rattle.rmi_monitor.proofs.Granules.{as_many_granules, in_machine, cell_is}
 use Rattle.rmi_monitor.proofs.Listed.{read_at}
 use Rattle.rmi_monitor.proofs.Outcomes.{realm_absent}
 use Rattle.rmi_monitor.proofs.RealmPlaces.{realm_inside}
+use Rattle.rmi_monitor.proofs.Comparisons.{some_map}
 
 -- the row of a realm
 abbrev pub row_of : Fields → ℕ → RealmAttributes → RealmRow
@@ -24,7 +28,14 @@ module _ (monitor : MonitorView) (fields : Fields) (view_is : seen_as fields ≡
       ap (λ (c : Cell). c.descriptor) (cell_is monitor fields view_is whole rd (in_machine monitor fields view_is whole rd (realm_inside fields whole rd realm there)))
       ∙ ap (option_map (row_of fields rd)) there
 
-  -- and found by a command
+  -- and one that the machine has is there
+  pub realm_found : (row : RealmRow) → (cell_at monitor.machine rd).descriptor ≡ Some row → (realm : RealmAttributes) × (realm_at fields rd ≡ Some realm) × (row_of fields rd realm ≡ row)
+  realm_found row e = ⊎_elim
+      (λ h. some_map (row_of fields rd) (realm_at fields rd) row (sym (ap (λ (c : Cell). c.descriptor) (cell_is monitor fields view_is whole rd h)) ∙ e))
+      (λ h. absurd (none-some row (sym (ap (λ (c : Cell). c.descriptor) (get_or_past monitor.machine rd blank h)) ∙ e)))
+      (cases_lt rd (length monitor.machine))
+
+  -- a command goes on with its row
   pub somewhere : (realm : RealmAttributes) → realm_at fields rd ≡ Some realm → (f : RealmRow → Outcome) → with_realm (seen_in monitor rd) f ≡ f (row_of fields rd realm)
   somewhere realm there f = realm_there (seen_in monitor rd) f (row_of fields rd realm) (descriptor_there realm there)
 

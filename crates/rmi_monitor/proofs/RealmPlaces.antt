@@ -1,13 +1,13 @@
 -- The place of a realm that is there.
-use Rattle.std.proofs.Common.{◌≡◌, ◌≢◌, ℕ, zero, suc, ◌<◌, Bool, true, false, List, [], ◌∷◌, length, get_or, Option, Some, None, is_some, refl, sym, ap, ◌∙◌, subst, arith}
+use Rattle.std.proofs.Common.{◌≡◌, ℕ, ◌<◌, true, false, length, Some, None, is_some, refl, sym, ap, ◌∙◌, subst}
 use Rattle.granule_table.specs.Granules.{granule_at}
 use Rattle.realm_model.specs.declared.states.GranuleState.{GranuleState}
 use Rattle.realm_model.specs.declared.states.GranuleState.TheVariants.{Rd as InRd}
 use Rattle.realm_model.specs.Sound.{is_rd_state}
+use Rattle.realm_model.proofs.Booleans.{none_from}
 use Rattle.realm_objects.specs.Attributes.{RealmAttributes}
 use Rattle.rmi_monitor.specs.Inside.{Fields, realm_at, IsSoundAt, IsWhole}
 use Rattle.rmi_monitor.proofs.Listed.{some_inside}
-use Rattle.realm_model.proofs.Booleans.{none_from}
 
 rd_state : (state : GranuleState) → is_rd_state state ≡ true → state ≡ InRd
 rd_state InRd h = refl

@@ -1,14 +1,13 @@
 -- A realm's RECs, by what stands at the granules: whether it has some, and the one of a number.
-use Rattle.std.proofs.Common.{◌≡◌, ℕ, ◌<◌, Bool, true, false, not, cond, List, length, get_or, if◌then◌else◌, Option, Some, None, refl, sym, ap, ◌∙◌, subst}
-use Rattle.std.specs.Prelude.{nat_eq, is_some, ◌==◌}
-use Rattle.std.specs.Option.{option_eq}
+use Rattle.std.proofs.Common.{◌≡◌, ℕ, ◌<◌, true, false, not, List, length, get_or, Option, Some, None, refl, sym, ap, ◌∙◌, subst}
+use Rattle.std.specs.Prelude.{is_some, ◌==◌}
 use Rattle.std.specs.Ordering.{nat_cmp}
 use Rattle.std.specs.FinMap.{get, len, len-empty, empty}
-use Rattle.std.proofs.lemmas.Option.{same_Some, none-some}
+use Rattle.std.proofs.lemmas.Option.{none-some}
 use Rattle.granule_table.specs.Granules.{granule_at}
 use Rattle.granule_table.specs.declared.granule.Granule.{Granule}
 use Rattle.realm_model.specs.Machine.{RecRow}
-use Rattle.realm_model.proofs.Booleans.{guarded, some_is, true_false}
+use Rattle.realm_model.proofs.Booleans.{some_is, true_false}
 use Rattle.realm_objects.specs.Attributes.{RecAttributes, rec_row}
 use Rattle.rmi_monitor.specs.Inside.{is_of_realm, rec_of, recs_of, IsNumbered, IsRecAt, Fields, realm_at, rec_at, IsWhole}
 use Rattle.rmi_monitor.proofs.Gathered.{gathered-none, len-gathered_some, get-gathered, gathered-get-none}

@@ -1,5 +1,5 @@
 -- RMI_REC_CREATE over the fields of a monitor: its checks, and what it changes.
-use Rattle.std.proofs.Common.{◌≡◌, ℕ, suc, ◌+◌, ◌<◌, Bool, true, false, ◌&&◌, ◌||◌, not, List, [], ◌∷◌, ◌++◌, length, map, set, get_or, All, Option, Some, None, option_map, Ok, Err, refl, sym, ap, ◌∙◌, subst}
+use Rattle.std.proofs.Common.{◌≡◌, ℕ, suc, ◌+◌, ◌<◌, Bool, true, false, ◌&&◌, ◌||◌, not, List, [], ◌∷◌, ◌++◌, length, map, set, get_or, All, Option, Some, None, Ok, Err, refl, sym, ap, ◌∙◌, subst}
 use Rattle.std.specs.Prelude.{◌==◌}
 use Rattle.std.specs.Prelude.{IsTrue}
 use Rattle.std.specs.Bool.{OnTrue}
@@ -12,30 +12,29 @@ use Rattle.std.proofs.lemmas.Option.{same_Some, slice_get-get_or}
 use Rattle.granule_table.specs.Granules.{granule_at, undelegated}
 use Rattle.granule_table.specs.declared.granule.Granule.{Granule}
 use Rattle.page_arena.specs.Page.{is_free}
-use Rattle.realm_model.specs.declared.states.GranuleState.{GranuleState}
 use Rattle.realm_model.specs.declared.states.GranuleState.TheVariants.{Delegated, Rec as InRec, RecAux as InRecAux}
 use Rattle.realm_model.specs.declared.rmi.Rmi.{Rmi}
 use Rattle.realm_model.specs.Measurement.{measurement_after, rec_event}
 use Rattle.realm_model.specs.Machine.{Cell, RealmRow, RecRow, Seen, cell_at, held}
 use Rattle.realm_model.specs.Rows.{Rows}
 use Rattle.realm_model.specs.StepLaw.{set_each}
-use Rattle.realm_model.specs.Update.{Outcome, Update, Put, machine_after_all, machine_after_command}
+use Rattle.realm_model.specs.Update.{Outcome, Update, Put, machine_after_all}
 use Rattle.realm_model.specs.Command.Check.{check, error_input, error_realm, is_delegated, all_different, is_new}
 use Rattle.realm_model.specs.Command.Rec.{rec_create}
 use Rattle.realm_model.proofs.Booleans.{not_true, true_false}
 use Rattle.realm_model.proofs.Lists.{is_in, all_in, is_in_at, is_in_head, is_in_more}
+use Rattle.realm_model.proofs.Outcomes.{check_true}
 use Rattle.realm_objects.specs.Attributes.{RealmAttributes, RecAttributes, realm_row, rec_row}
 use Rattle.rtt.specs.Tables.{rows}
 use Rattle.rmi_monitor.specs.View.{MonitorView, IsTaken, seen_in, after_command, limits_of}
-use Rattle.rmi_monitor.specs.Inside.{Fields, realm_at, recs_of, descriptor_of, seen_as, IsWhole}
+use Rattle.rmi_monitor.specs.Inside.{Fields, realm_at, recs_of, seen_as, IsWhole}
 use Rattle.rmi_monitor.specs.Places.{is_delegated_at, are_distinct, is_fit, IsInState}
-use Rattle.rmi_monitor.proofs.Checks.{delegated_test, delegated_state}
-use Rattle.rmi_monitor.proofs.Granules.{machine_is, cell_is, after_by, in_granules, not_free, state_is, seen_delegated}
+use Rattle.rmi_monitor.proofs.Checks.{delegated_state}
+use Rattle.rmi_monitor.proofs.Granules.{machine_is, cell_is, in_granules, not_free, seen_delegated, after_done}
 use Rattle.rmi_monitor.proofs.Listed.{once_from_distinct, holds_in, put_back}
 use Rattle.rmi_monitor.proofs.RecMade.{CanMake, made, new_rec, with_rec_more}
 use Rattle.rmi_monitor.proofs.RecMadeAfter.{whole_made, machine_made}
-use Rattle.rmi_monitor.proofs.Outcomes.{after_err, check_false, realm_absent}
-use Rattle.realm_model.proofs.Outcomes.{check_true, realm_there}
+use Rattle.rmi_monitor.proofs.Outcomes.{after_err, check_false}
 use Rattle.rmi_monitor.proofs.RealmFound.{row_of, descriptor_there, nowhere, somewhere}
 use Rattle.rmi_monitor.proofs.Comparisons.{either}
 
@@ -200,10 +199,9 @@ module _ (monitor : MonitorView) (fields : Fields) (view_is : seen_as fields ≡
 
       pub created : is_new row ≡ true → seen_as (made fields rd g others realm) ≡ after_command outcome monitor
       created new =
-          after_by monitor fields view_is whole outcome (made fields rd g others realm) refl refl refl
+          after_done monitor fields view_is whole (made fields rd g others realm) updates outcome (creates e new) refl refl refl
           (machine_made fields whole rd g others realm can
-          ∙ (λ i. machine_after_all (updates_by (sym (puts_seen monitor (held InRecAux rd) others) i) (sym (numbers_seen monitor others) i) (sym (cell_is monitor fields view_is whole rd rd_taken.inside) i)) (machine_is monitor fields view_is whole i))
-          ∙ ap (λ o. machine_after_command o monitor.machine) (sym (creates e new)))
+          ∙ (λ i. machine_after_all (updates_by (sym (puts_seen monitor (held InRecAux rd) others) i) (sym (numbers_seen monitor others) i) (sym (cell_is monitor fields view_is whole rd rd_taken.inside) i)) (machine_is monitor fields view_is whole i)))
 
 -- ---- the fields as calls leave them
 

@@ -1,29 +1,28 @@
 -- RMI_REC_DESTROY over the fields of a monitor: its checks, and what it changes.
-use Rattle.std.proofs.Common.{◌≡◌, ℕ, zero, suc, ◌<◌, Bool, true, false, List, [], ◌∷◌, ◌++◌, length, map, set, get_or, All, IsTrue, Option, Some, None, option_map, Ok, Err, refl, sym, ap, ◌∙◌, subst, arith}
-use Rattle.std.specs.FinMap.{get, remove}
+use Rattle.std.proofs.Common.{◌≡◌, ℕ, ◌<◌, Bool, true, false, List, [], ◌∷◌, ◌++◌, map, set, get_or, All, IsTrue, Option, Some, None, Ok, Err, refl, sym, ap, ◌∙◌, subst}
+use Rattle.std.specs.FinMap.{remove}
 use Rattle.std.proofs.lemmas.List.{length-set, get_or-set_other}
-use Rattle.std.proofs.lemmas.Option.{same_Some, slice_get-get_or}
+use Rattle.std.proofs.lemmas.Option.{slice_get-get_or}
 use Rattle.granule_addr.specs.Page.{zero_page}
-use Rattle.granule_table.specs.Granules.{granule_at, undelegated}
+use Rattle.granule_table.specs.Granules.{undelegated}
 use Rattle.granule_table.specs.declared.granule.Granule.{Granule}
 use Rattle.realm_model.specs.declared.states.GranuleState.TheVariants.{Rec as InRec, RecAux as InRecAux}
-use Rattle.realm_model.specs.Machine.{Cell, Machine, RealmRow, RecRow, Seen, cell_at, left}
+use Rattle.realm_model.specs.Machine.{Cell, cell_at, left}
 use Rattle.realm_model.specs.StepLaw.{set_each}
-use Rattle.realm_model.specs.Update.{Outcome, Update, Put, machine_after_all, machine_after_command}
-use Rattle.realm_model.specs.Command.Check.{check, error_input, error_rec, is_ready, put_realm}
+use Rattle.realm_model.specs.Update.{Update, Put, machine_after_all}
+use Rattle.realm_model.specs.Command.Check.{check, error_rec, is_ready, put_realm}
 use Rattle.realm_model.specs.Command.Rec.{rec_destroy}
 use Rattle.realm_model.proofs.Lists.{is_in, is_in_head, is_in_at, is_in_more}
-use Rattle.realm_objects.specs.Attributes.{RealmAttributes, RecAttributes, realm_row, rec_row}
-use Rattle.rtt.specs.Tables.{rows}
-use Rattle.rmi_monitor.specs.View.{MonitorView, IsTaken, IsRec, IsOnRec, seen_in, after_command}
-use Rattle.rmi_monitor.specs.Inside.{Fields, realm_at, rec_at, rec_of, recs_of, descriptor_of, machine_of, seen_as, IsWhole}
+use Rattle.realm_model.proofs.Outcomes.{check_true}
+use Rattle.realm_objects.specs.Attributes.{RealmAttributes, RecAttributes, rec_row}
+use Rattle.rmi_monitor.specs.View.{MonitorView, IsTaken, IsOnRec, seen_in, after_command}
+use Rattle.rmi_monitor.specs.Inside.{Fields, rec_at, recs_of, seen_as, IsWhole}
 use Rattle.rmi_monitor.specs.Places.{are_distinct, IsInState, HasPage}
-use Rattle.rmi_monitor.proofs.Granules.{machine_is, as_many_granules, in_granules, cell_is, after_by, after_done, in_machine}
+use Rattle.rmi_monitor.proofs.Granules.{machine_is, cell_is, after_done, in_machine}
 use Rattle.rmi_monitor.proofs.Listed.{distinct_from_once}
 use Rattle.rmi_monitor.proofs.RecGone.{gone, left_granule, not_own, aux_is, aux_state, taken_moved}
-use Rattle.rmi_monitor.proofs.RecGoneAfter.{whole_gone, machine_gone}
-use Rattle.rmi_monitor.proofs.Outcomes.{answers_ok, answers_err, after_err, check_false}
-use Rattle.realm_model.proofs.Outcomes.{check_true, realm_there, rec_there}
+use Rattle.rmi_monitor.proofs.RecGoneAfter.{machine_gone}
+use Rattle.rmi_monitor.proofs.Outcomes.{check_false}
 use Rattle.rmi_monitor.proofs.RecFound.{IsKept, rec_inside, kept_at, outcome_there, on_rec}
 use Rattle.rmi_monitor.proofs.RealmPlaces.{realm_inside}
 use Rattle.rmi_monitor.proofs.RealmFound.{row_of}

@@ -1,30 +1,21 @@
 -- The REC that a granule is: its realm and its number, in the fields of a monitor and in its machine.
-use Rattle.std.proofs.Common.{◌≡◌, ◌≢◌, ℕ, ◌<◌, true, List, length, get_or, Option, Some, None, option_map, Result, Err, refl, sym, ap, ◌∙◌, subst, ⊎_elim}
-use Rattle.std.specs.Prelude.{nat_eq, is_some}
-use Rattle.std.specs.Option.{option_eq}
+use Rattle.std.proofs.Common.{◌≡◌, ◌≢◌, ℕ, ◌<◌, length, Some, None, Result, Err, refl, sym, ap, ◌∙◌, subst}
 use Rattle.std.specs.FinMap.{get}
-use Rattle.std.proofs.lemmas.Bool.{cases_lt, eqb-true, eq-eqb}
-use Rattle.std.proofs.lemmas.List.{get_or_past}
 use Rattle.std.proofs.lemmas.Option.{same_Some, none-some}
 use Rattle.granule_table.specs.Granules.{granule_at}
-use Rattle.granule_table.specs.declared.granule.Granule.{Granule}
 use Rattle.realm_model.specs.declared.rmi.Rmi.{Rmi}
-use Rattle.realm_model.specs.declared.states.GranuleState.{GranuleState}
 use Rattle.realm_model.specs.declared.states.GranuleState.TheVariants.{Rec as InRec}
-use Rattle.realm_model.specs.Machine.{Cell, RealmRow, RecRow, Seen, blank, cell_at}
+use Rattle.realm_model.specs.Machine.{Cell, RealmRow, RecRow, Seen, cell_at}
 use Rattle.realm_model.specs.Update.{Outcome}
 use Rattle.realm_model.specs.Command.Check.{error_input, with_realm, with_rec}
-use Rattle.realm_model.proofs.Booleans.{guarded}
-use Rattle.realm_model.proofs.Outcomes.{realm_there, rec_there}
-use Rattle.realm_objects.specs.Attributes.{RealmAttributes, RecAttributes, realm_row, rec_row}
-use Rattle.rtt.specs.Tables.{rows}
+use Rattle.realm_model.proofs.Outcomes.{rec_there}
+use Rattle.realm_objects.specs.Attributes.{RealmAttributes, RecAttributes, rec_row}
 use Rattle.rmi_monitor.specs.View.{MonitorView, IsTaken, IsRec, IsOnRec, Answers, seen_in, after_command}
-use Rattle.rmi_monitor.specs.Inside.{Fields, realm_at, rec_at, is_of_realm, rec_of, recs_of, is_rec_state, seen_as, HasRecs, IsNumbered, IsWhole}
+use Rattle.rmi_monitor.specs.Inside.{Fields, realm_at, rec_at, rec_of, recs_of, seen_as, IsWhole}
 use Rattle.rmi_monitor.proofs.Gathered.{get-gathered, gathered-get}
-use Rattle.rmi_monitor.proofs.Granules.{as_many_granules, cell_is}
-use Rattle.rmi_monitor.proofs.RealmFound.{row_of, somewhere}
+use Rattle.rmi_monitor.proofs.Granules.{cell_is}
+use Rattle.rmi_monitor.proofs.RealmFound.{row_of, somewhere, realm_found}
 use Rattle.rmi_monitor.proofs.Listed.{some_inside}
-use Rattle.rmi_monitor.proofs.Comparisons.{some_map}
 use Rattle.rmi_monitor.proofs.RecEntries.{rec_of-some, IsEntry, entry_at, numbered_recs, of_realm}
 use Rattle.rmi_monitor.proofs.Frames.{in_rec}
 
@@ -47,18 +38,11 @@ module _ (fields : Fields) (whole : IsWhole fields) where
 -- ---- the fields and the machine
 
 module _ (monitor : MonitorView) (fields : Fields) (view_is : seen_as fields ≡ monitor) (whole : IsWhole fields) where
-  -- a realm that the machine has is there
-  realm_found : (rd : ℕ) (row : RealmRow) → (cell_at monitor.machine rd).descriptor ≡ Some row → (realm : RealmAttributes) × (realm_at fields rd ≡ Some realm) × (row_of fields rd realm ≡ row)
-  realm_found rd row e = ⊎_elim
-      (λ h. some_map (row_of fields rd) (realm_at fields rd) row (sym (ap (λ (c : Cell). c.descriptor) (cell_is monitor fields view_is whole rd h)) ∙ e))
-      (λ h. absurd (none-some row (sym (ap (λ (c : Cell). c.descriptor) (get_or_past monitor.machine rd blank h)) ∙ e)))
-      (cases_lt rd (length monitor.machine))
-
   -- What the machine has as a REC the fields have, with that number.
   pub rec_found : (rd number granule : ℕ) → IsRec monitor.machine rd number granule → (rec : RecAttributes) × (realm : RealmAttributes) × IsKept fields granule rec rd realm × (rec.number ≡ number)
   unfolding recs_of
   rec_found rd number granule is =
-      let realm = realm_found rd is.realm is.there in
+      let realm = realm_found monitor fields view_is whole rd is.realm is.there in
       let at = gathered-get (rec_of fields.granules fields.recs rd) (length fields.granules) number is.rec (ap (λ (r : RealmRow). get r.recs number) realm.2 ∙ is.numbered) in
       let place : IsEntry fields.granules fields.recs rd at.0 number is.rec = entry_at fields.granules rd at.0 fields.recs number is.rec at.2 in
       let same : at.0 ≡ granule = ap (λ (r : RecRow). r.granule) place.is ∙ is.is in (

@@ -2,7 +2,6 @@
 use Rattle.std.proofs.Common.{◌≡◌, ℕ, ◌<◌, List, length, get_or, Option, Some, None, option_map, refl, sym, ap, ◌∙◌, subst}
 use Rattle.std.specs.Prelude.{option_and_then}
 use Rattle.std.specs.FinMap.{get}
-use Rattle.std.proofs.lemmas.List.{get_or_read}
 use Rattle.std.proofs.lemmas.Option.{same_Some}
 use Rattle.realm_model.specs.Machine.{Cell, RealmRow}
 use Rattle.realm_objects.specs.Attributes.{RealmAttributes, RecAttributes, rec_row}
@@ -11,6 +10,8 @@ use Rattle.rmi_monitor.specs.Inside.{Fields, realm_at, rec_at, recs_of, seen_as,
 use Rattle.rmi_monitor.proofs.Granules.{cell_is}
 use Rattle.rmi_monitor.proofs.RealmFound.{row_of, descriptor_there}
 use Rattle.rmi_monitor.proofs.RecEntries.{IsEntry, entry_at}
+use Rattle.rmi_monitor.proofs.RecReads.{its_realm}
+use Rattle.rmi_monitor.proofs.Listed.{read_at}
 
 module _ (monitor : MonitorView) (fields : Fields) (view_is : seen_as fields ≡ monitor) (whole : IsWhole fields) (rd number : ℕ) where
   -- a number that no granule has
@@ -29,7 +30,7 @@ module _ (monitor : MonitorView) (fields : Fields) (view_is : seen_as fields ≡
     rec_in-some rec is at =
         let place : IsEntry fields.granules fields.recs rd granule number is.row = entry_at fields.granules rd granule fields.recs number is.row is.at in
         let of = whole.recs.of granule place.rec place.at in
-        let there : realm_at fields rd ≡ Some of.realm = ap (realm_at fields) (same_Some rd of.rd (sym place.of ∙ of.of)) ∙ of.there in
+        let there : realm_at fields rd ≡ Some of.realm = its_realm fields whole granule place.rec place.at rd place.of in
         let row_same : is.row ≡ rec_row granule rec = sym place.is ∙ ap (rec_row granule) (same_Some place.rec rec (sym place.at ∙ at)) in
         ap (option_and_then (λ (realm : RealmRow). get realm.recs number)) (descriptor_there monitor fields view_is whole rd of.realm there)
         ∙ is.found ∙ ap (λ r. Some r) row_same
@@ -41,5 +42,4 @@ module _ (monitor : MonitorView) (fields : Fields) (view_is : seen_as fields ≡
     rec_in-read recs i read rec same is place reads some =
         let there : IsRecAt fields.granules fields.recs rd number granule = subst (λ rs. IsRecAt fields.granules rs rd number granule) same is in
         let inside : granule < length fields.recs = subst (λ n. granule < n) (sym whole.rec_places) there.inside in
-        sym (rec_in-some rec there
-        (ap (rec_at fields) (sym place) ∙ sym (get_or_read fields.recs i read (subst (λ k. k < length fields.recs) (sym place) inside) reads None) ∙ sym some))
+        sym (rec_in-some rec there (read_at fields.recs i granule read (Some rec) place inside reads (sym some)))

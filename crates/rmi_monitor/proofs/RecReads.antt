@@ -1,6 +1,5 @@
 -- What code reads at the place of a granule: the REC that it is, its realm, and that these are there.
-use Rattle.std.proofs.Common.{◌≡◌, ℕ, ◌<◌, List, length, get_or, Option, Some, None, sym, ap, ◌∙◌, subst}
-use Rattle.std.proofs.lemmas.List.{get_or_read}
+use Rattle.std.proofs.Common.{◌≡◌, ℕ, ◌<◌, length, get_or, Option, Some, None, sym, ap, ◌∙◌, subst}
 use Rattle.std.proofs.lemmas.Option.{same_Some, none-some}
 use Rattle.granule_table.specs.Granules.{granule_at}
 use Rattle.realm_objects.specs.Attributes.{RealmAttributes, RecAttributes}
@@ -22,23 +21,24 @@ module _ (monitor : MonitorView) (fields : Fields) (view_is : seen_as fields ≡
   rec_read x y = read_at fields.recs i granule x y same inside
 
 module _ (fields : Fields) (whole : IsWhole fields) (granule : ℕ) (rec : RecAttributes) (at : rec_at fields granule ≡ Some rec) where
+  -- a REC has a realm
   pub no_rd : {P : Type 0} → (granule_at fields.granules granule).realm ≡ None → P
   no_rd none = let is = whole.recs.of granule rec at in absurd (none-some is.rd (sym none ∙ is.of))
 
-  -- which is there
   module _ (rd : ℕ) (of : (granule_at fields.granules granule).realm ≡ Some rd) where
-    there : realm_at fields rd ≡ Some (whole.recs.of granule rec at).realm
-    there = let is = whole.recs.of granule rec at in ap (realm_at fields) (same_Some rd is.rd (sym of ∙ is.of)) ∙ is.there
+    -- its realm is there
+    pub its_realm : realm_at fields rd ≡ Some (whole.recs.of granule rec at).realm
+    its_realm = let is = whole.recs.of granule rec at in ap (realm_at fields) (same_Some rd is.rd (sym of ∙ is.of)) ∙ is.there
 
     pub no_realm : {P : Type 0} → realm_at fields rd ≡ None → P
-    no_realm none = absurd (none-some _ (sym none ∙ there))
+    no_realm none = absurd (none-some _ (sym none ∙ its_realm))
 
     module _ (i : ℕ) (same : i ≡ rd) where
       pub realm_place : i < length fields.realms
-      realm_place = subst (λ k. k < length fields.realms) (sym same) (some_inside fields.realms rd _ there)
+      realm_place = subst (λ k. k < length fields.realms) (sym same) (some_inside fields.realms rd _ its_realm)
 
       pub realm_read : (x y : Option RealmAttributes) → x ≡ get_or fields.realms i x → x ≡ y → realm_at fields rd ≡ y
-      realm_read x y = read_at fields.realms i rd x y same (some_inside fields.realms rd _ there)
+      realm_read x y = read_at fields.realms i rd x y same (some_inside fields.realms rd _ its_realm)
 
       pub kept_there : (x : Option RealmAttributes) (realm : RealmAttributes) → x ≡ get_or fields.realms i x → x ≡ Some realm → IsKept fields granule rec rd realm
       kept_there x realm read is = record { at = at; of = of; there = realm_read x (Some realm) read is }

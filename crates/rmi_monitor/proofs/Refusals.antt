@@ -1,19 +1,19 @@
 -- What a command that calls on tables answers, by the refusal of the call.
 use Rattle.std.proofs.Common.{◌≡◌, ℕ, Bool, true, false, cond, List, Option, Some, None, Ok, Err, refl, sym, ap, ◌∙◌, subst, Result}
 use Rattle.std.specs.Prelude.{◌==◌, ◌&&◌}
+use Rattle.std.specs.Result.{MatchResult, IsErrAnd}
 use Rattle.std.proofs.lemmas.Bool.{eqb-true, eq-eqb, and_parts}
+use Rattle.std.proofs.lemmas.Option.{same_Some}
 use Rattle.realm_model.specs.Rows.{Row, Rows, Walk, walk, row_at}
 use Rattle.realm_model.specs.Update.{Update, Outcome}
 use Rattle.realm_model.specs.Command.Check.{check, error_rtt, with_row, with_end}
 use Rattle.realm_model.specs.declared.rmi.Rmi.{Rmi}
 use Rattle.realm_model.proofs.Walks.{walk_at}
+use Rattle.realm_model.proofs.Outcomes.{check_true}
 use Rattle.rtt.specs.declared.refusal.Rtt.{Rtt}
 use Rattle.rtt.specs.Refusal.{refusal_at, refusal_of, or_refusal, IsRefused}
-use Rattle.rmi_monitor.specs.View.{MonitorView, Answers, after_command}
-use Rattle.std.specs.Result.{MatchResult, IsErrAnd}
-use Rattle.realm_model.proofs.Outcomes.{check_true}
+use Rattle.rmi_monitor.specs.View.{Answers}
 use Rattle.rmi_monitor.proofs.Outcomes.{answers_err, answers_ok, check_false}
-use Rattle.std.proofs.lemmas.Option.{same_Some}
 
 -- ---- the answer of a call
 

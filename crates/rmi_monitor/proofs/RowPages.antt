@@ -1,7 +1,6 @@
 -- The page of data that an ASSIGNED row leads to.
-use Rattle.std.proofs.Common.{◌≡◌, ℕ, ◌<◌, ◌^◌, true, List, Option, Some, None, option_map, refl, sym, ap, ◌∙◌, subst, arith, lit≤}
+use Rattle.std.proofs.Common.{◌≡◌, ℕ, true, List, Option, Some, None, option_map, refl, sym, ap, ◌∙◌, subst, lit≤}
 use Rattle.std.specs.Prelude.{is_some}
-use Rattle.std.proofs.lemmas.Bool.{ltb-true}
 use Rattle.std.proofs.lemmas.Option.{same_Some}
 use Rattle.granule_addr.specs.Ipa.{first_covered, entry_index}
 use Rattle.granule_table.specs.Granules.{IsIn}
@@ -14,11 +13,11 @@ use Rattle.realm_model.specs.Rows.{Row, row_at, is_assigned}
 use Rattle.realm_model.specs.Ownership.{mapping_of_row}
 use Rattle.realm_model.specs.Sound.{IsShaped, IsKind}
 use Rattle.realm_model.specs.Command.Check.{is_protected}
+use Rattle.realm_model.proofs.Booleans.{some_is}
 use Rattle.rtt.specs.Tables.{entries_of, data_of, in_table, table_at, entry_at, rows}
-use Rattle.rtt.specs.Realm.{IsInside, HasTables}
+use Rattle.rtt.specs.Realm.{HasTables}
 use Rattle.rtt.proofs.RowsIn.{row_at-rows_in}
 use Rattle.rmi_monitor.proofs.LedTo.{protected_inside}
-use Rattle.realm_model.proofs.Booleans.{some_is}
 
 granule_of_kind : (hipas : Hipas) (granule : Option ℕ) → is_assigned (record { hipas = hipas; ripas = Empty; granule = granule }) ≡ true → IsKind 3 hipas granule → is_some granule ≡ true
 granule_of_kind Unassigned granule h k = cc

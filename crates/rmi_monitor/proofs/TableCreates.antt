@@ -4,7 +4,6 @@ use Rattle.std.specs.Prelude.{◌&&◌, not}
 use Rattle.std.proofs.lemmas.Bool.{and_from, and_left, and_right}
 use Rattle.granule_table.specs.Granules.{granule_at, IsIn}
 use Rattle.granule_table.specs.declared.granule.Granule.{Granule}
-use Rattle.realm_model.specs.declared.states.GranuleState.{GranuleState}
 use Rattle.realm_model.specs.declared.states.GranuleState.TheVariants.{Delegated, Rtt as InRtt}
 use Rattle.realm_model.specs.Rows.{Row, is_table, is_table_place, with_table}
 use Rattle.realm_model.specs.Machine.{held}
@@ -12,18 +11,18 @@ use Rattle.realm_model.specs.Sound.{is_host_state}
 use Rattle.realm_model.specs.Update.{Outcome, Put}
 use Rattle.realm_model.specs.Command.Check.{check, error_input, error_rtt, is_delegated, is_protected, with_row, put_realm}
 use Rattle.realm_model.specs.Command.Table.{rtt_create}
+use Rattle.realm_model.proofs.Outcomes.{check_true}
 use Rattle.realm_objects.specs.Attributes.{RealmAttributes}
 use Rattle.rtt.specs.Tables.{rows}
 use Rattle.rtt.specs.Realm.{IsBacked, HasTables, LeavesOthers}
 use Rattle.rtt.specs.Calls.{with_state, ChangesTablesAnd, GainsTable, create_refusal}
 use Rattle.rmi_monitor.specs.Places.{is_delegated_at}
 use Rattle.rmi_monitor.specs.View.{MonitorView, IsTaken, Answers, seen_in, after_command}
-use Rattle.rmi_monitor.specs.Inside.{Fields, realm_at, machine_of, seen_as, IsWhole}
-use Rattle.rmi_monitor.proofs.Checks.{delegated_test, delegated_state}
-use Rattle.rmi_monitor.proofs.Granules.{in_granules, state_is, seen_delegated}
-use Rattle.rmi_monitor.proofs.TableMoves.{is_moved_state, whole_moved_to, machine_moved_to}
+use Rattle.rmi_monitor.specs.Inside.{Fields, realm_at, seen_as, IsWhole}
+use Rattle.rmi_monitor.proofs.Checks.{delegated_state}
+use Rattle.rmi_monitor.proofs.Granules.{in_granules, seen_delegated}
+use Rattle.rmi_monitor.proofs.TableMoves.{is_moved_state}
 use Rattle.rmi_monitor.proofs.Refusals.{Passes, passes_from, row_refused, row_passes}
-use Rattle.realm_model.proofs.Outcomes.{check_true}
 use Rattle.rmi_monitor.proofs.Outcomes.{check_false, answers_ok}
 use Rattle.rmi_monitor.proofs.RealmFound.{row_of, nowhere, somewhere}
 use Rattle.rmi_monitor.proofs.RealmCommands.{whole_after_move, seen_after_move}

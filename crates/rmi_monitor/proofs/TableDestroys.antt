@@ -8,20 +8,20 @@ use Rattle.granule_table.specs.declared.granule.Granule.{Granule}
 use Rattle.page_arena.specs.Page.{page_at}
 use Rattle.realm_model.specs.declared.states.GranuleState.TheVariants.{Delegated, Rtt as InRtt}
 use Rattle.realm_model.specs.Rows.{Rows, is_table, is_table_place, is_table_unused, without_table}
-use Rattle.realm_model.specs.Machine.{Cell, left}
+use Rattle.realm_model.specs.Machine.{left}
 use Rattle.realm_model.specs.Update.{Outcome, Put}
 use Rattle.realm_model.specs.Command.Check.{check, error_input, error_rtt, is_protected, with_row, with_granule, put_realm}
 use Rattle.realm_model.specs.Command.Table.{rtt_destroy}
+use Rattle.realm_model.proofs.Outcomes.{check_true, granule_there}
 use Rattle.realm_objects.specs.Attributes.{RealmAttributes}
 use Rattle.rtt.specs.Tables.{rows}
 use Rattle.rtt.specs.Realm.{IsBacked, HasTables, LeavesOthers}
 use Rattle.rtt.specs.Calls.{with_state, LeadsTo, ChangesTablesOnly, destroy_refusal}
 use Rattle.rmi_monitor.specs.View.{MonitorView, IsTaken, Answers, seen_in, after_command}
-use Rattle.rmi_monitor.specs.Inside.{Fields, realm_at, machine_of, seen_as, IsWhole}
-use Rattle.rmi_monitor.proofs.TableMoves.{is_moved_state, whole_moved_to, machine_moved_to}
+use Rattle.rmi_monitor.specs.Inside.{Fields, realm_at, seen_as, IsWhole}
+use Rattle.rmi_monitor.proofs.TableMoves.{is_moved_state}
 use Rattle.rmi_monitor.proofs.LedTo.{led_granule, led_is, led_in}
 use Rattle.rmi_monitor.proofs.Refusals.{Passes, passes_from, or_passes, both_refused, both_pass}
-use Rattle.realm_model.proofs.Outcomes.{check_true}
 use Rattle.rmi_monitor.proofs.Outcomes.{check_false, answers_ok}
 use Rattle.rmi_monitor.proofs.RealmFound.{row_of, nowhere, somewhere}
 use Rattle.rmi_monitor.proofs.RealmCommands.{whole_after_move, seen_after_move}
@@ -106,15 +106,11 @@ module _ (monitor : MonitorView) (fields : Fields) (view_is : seen_as fields ≡
         was : is_moved_state (granule_at fields.granules table).state ≡ true
         was = ap (λ (x : Granule). is_moved_state x.state) lies.is
 
-        granule_found : with_granule passed.row made ≡ made table
-        unfolding with_granule
-        granule_found = ap (λ o. elim o as (λ o. Outcome) [ Some granule ↦ made granule | None ↦ Err error_input ]) table_is
-
         destroyed : outcome ≡ made table
         destroyed =
             looks
             ∙ both_pass old_rows ipa (level - 1) is_table unused level (λ above. with_granule above made) passed (or_passes _ unused level accepted).1
-            ∙ granule_found
+            ∙ granule_there passed.row made table table_is
 
         pub destroy_answers : {A : Type 0} (value : A) → Answers (Ok value) outcome
         destroy_answers value = answers_ok value _ outcome destroyed

@@ -1,5 +1,5 @@
 -- A call on a realm's tables, which moves a granule to or from the realm, or none; the realm's attributes may have changed.
-use Rattle.std.proofs.Common.{◌≡◌, ◌≢◌, ℕ, ◌<◌, ◌≤◌, Bool, true, false, List, [], length, set, Option, Some, None, option_map, refl, sym, ap, ◌∙◌, subst, arith}
+use Rattle.std.proofs.Common.{◌≡◌, ◌≢◌, ℕ, ◌<◌, ◌≤◌, Bool, true, false, List, length, set, Option, Some, None, option_map, refl, sym, ap, ◌∙◌, subst}
 use Rattle.std.specs.Prelude.{◌==◌, ◌||◌, is_some}
 use Rattle.std.proofs.lemmas.Bool.{eqb-true, eqb-false, or_parts, eq-eqb, ne_eqb, or_right}
 use Rattle.std.proofs.lemmas.List.{length-set, get_or-set_same, get_or-set_other}
@@ -14,12 +14,11 @@ use Rattle.realm_model.specs.Sound.{is_host_state, is_rd_state}
 use Rattle.realm_objects.specs.Attributes.{RealmAttributes, realm_row}
 use Rattle.rtt.specs.Tables.{rows}
 use Rattle.rtt.specs.Realm.{IsBacked, HasTables, IsTableOf, LeavesOthers}
-use Rattle.rmi_monitor.specs.Inside.{Fields, realm_at, rec_at, recs_of, descriptor_of, bytes_of, cell_of, machine_of, is_rec_state, IsSoundAt, IsWhole}
+use Rattle.rmi_monitor.specs.Inside.{Fields, realm_at, recs_of, descriptor_of, bytes_of, cell_of, machine_of, is_rec_state, IsSoundAt, IsWhole}
 use Rattle.rmi_monitor.proofs.Machines.{one_put, two_put}
-use Rattle.rmi_monitor.proofs.Frames.{Stays}
 use Rattle.rmi_monitor.proofs.Comparisons.{or_rest, neither}
 use Rattle.rmi_monitor.proofs.RealmPlaces.{realm_inside, in_rd, no_realm_there}
-use Rattle.rmi_monitor.proofs.RealmAfter.{Changes, whole_changed, recs_of_changed, cell_unchanged, descriptor_changed}
+use Rattle.rmi_monitor.proofs.RealmAfter.{Changes, whole_changed, cell_unchanged, descriptor_changed}
 
 -- a DELEGATED granule, a page of data or a table
 abbrev pub is_moved_state : GranuleState → Bool

@@ -7,6 +7,7 @@ use Rattle.realm_model.specs.Measurement.{measurement_after, ripas_event}
 use Rattle.realm_model.specs.Update.{Outcome}
 use Rattle.realm_model.specs.Command.Check.{check, error_input, error_realm, error_rtt, is_new, is_protected, with_row, put_realm}
 use Rattle.realm_model.specs.Command.Table.{rtt_init_ripas}
+use Rattle.realm_model.proofs.Outcomes.{check_true}
 use Rattle.realm_objects.specs.Attributes.{RealmAttributes, realm_row}
 use Rattle.rtt.specs.Tables.{rows}
 use Rattle.rtt.specs.Realm.{IsBacked, HasTables, LeavesOthers}
@@ -15,7 +16,6 @@ use Rattle.rmi_monitor.specs.View.{MonitorView, IsTaken, Answers, seen_in, after
 use Rattle.rmi_monitor.specs.Inside.{Fields, realm_at, seen_as, IsWhole, recs_of}
 use Rattle.rmi_monitor.proofs.TableMoves.{whole_still, machine_still}
 use Rattle.rmi_monitor.proofs.Refusals.{Passes, passes_from, or_passes, both_refused, both_pass}
-use Rattle.realm_model.proofs.Outcomes.{check_true}
 use Rattle.rmi_monitor.proofs.Outcomes.{check_false, answers_ok}
 use Rattle.rmi_monitor.proofs.RealmFound.{row_of, nowhere, somewhere}
 use Rattle.rmi_monitor.proofs.RealmCommands.{after_put}

@@ -3,11 +3,11 @@ use Rattle.std.specs.Prelude.{is_some}
 use Rattle.std.proofs.lemmas.List.{get_or_read_under}
 use Rattle.realm_model.proofs.Booleans.{none_from}
 use Rattle.rmi_monitor.specs.Inside.{rec_of}
-use Rattle.rmi_monitor.proofs.recs.has_rec.Goals as goal
-use Rattle.rmi_monitor.proofs.recs.has_rec.Goals.{else-is_some-via-then-is_some+else-eq, else-is_some-via-else-is_some}
 use Rattle.rmi_monitor.proofs.Comparisons.{test_held}
 use Rattle.rmi_monitor.proofs.RecEntries.{is_of_realm-test, rec_of-none, rec_of-other}
 use Rattle.rmi_monitor.proofs.RealmRecs.{has_recs, has_no_recs}
+use Rattle.rmi_monitor.proofs.recs.has_rec.Goals as goal
+use Rattle.rmi_monitor.proofs.recs.has_rec.Goals.{else-is_some-via-then-is_some+else-eq, else-is_some-via-else-is_some}
 
 pub returns-then-eq : goal.returns-then-eq
 returns-then-eq c =

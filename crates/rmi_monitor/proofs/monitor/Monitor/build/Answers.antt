@@ -1,7 +1,7 @@
 use Rattle.std.proofs.Common.{◌≡◌, List, ℕ, Bool, None, length, replicate, sym, ap, subst, ◌∙◌}
 use Rattle.granule_table.specs.Granules.{undelegated}
 use Rattle.rmi_monitor.specs.Inside.{fields_of, seen_as, IsWhole}
-use Rattle.rmi_monitor.proofs.Fresh.{new_fields, whole_new, seen_new}
+use Rattle.rmi_monitor.proofs.Fresh.{whole_new, seen_new}
 use Rattle.rmi_monitor.proofs.monitor.Monitor.build.Goals as goal
 
 pub invariant_of-result : goal.invariant_of-result

@@ -12,11 +12,11 @@ use Rattle.rmi_monitor.proofs.Granules.{in_granules}
 use Rattle.rmi_monitor.proofs.Outcomes.{answers_err, answers_ok, after_err}
 use Rattle.rmi_monitor.proofs.DataMaps.{still_inside, written_inside}
 use Rattle.rmi_monitor.proofs.DataCreates.{create_no_realm, create_unprotected, create_not_delegated, create_not_undelegated, create_not_new, create_refused, create_done, create_whole, create_seen}
-use Rattle.rmi_monitor.proofs.monitor.Monitor.data_create.Goals as goal
 use Rattle.rmi_monitor.proofs.Comparisons.{protected_found, test_failed}
 use Rattle.rmi_monitor.proofs.Refusals.{refused_with, not_refused}
 use Rattle.rmi_monitor.proofs.RealmFound.{realm_place, realm_read, realm_rooted}
 use Rattle.rmi_monitor.proofs.RealmCommands.{seen_unmoved}
+use Rattle.rmi_monitor.proofs.monitor.Monitor.data_create.Goals as goal
 
 pub index_mut-requires : goal.index_mut-requires
 index_mut-requires g c =

@@ -9,10 +9,10 @@ use Rattle.rmi_monitor.specs.View.{Answers, seen_in, after_command}
 use Rattle.rmi_monitor.proofs.Granules.{in_granules}
 use Rattle.rmi_monitor.proofs.Outcomes.{answers_err, after_err}
 use Rattle.rmi_monitor.proofs.DataUnknown.{unknown_no_realm, unknown_unprotected, unknown_not_delegated, unknown_refused, unknown_done, unknown_whole_after, unknown_seen_after}
-use Rattle.rmi_monitor.proofs.monitor.Monitor.data_create_unknown.Goals as goal
 use Rattle.rmi_monitor.proofs.Comparisons.{protected_found, test_failed}
 use Rattle.rmi_monitor.proofs.Refusals.{answers_call}
 use Rattle.rmi_monitor.proofs.RealmFound.{realm_place, realm_read, realm_rooted}
+use Rattle.rmi_monitor.proofs.monitor.Monitor.data_create_unknown.Goals as goal
 
 pub index-requires : goal.index-requires
 index-requires g c =

@@ -6,10 +6,10 @@ use Rattle.rtt.specs.Calls.{unmap_refusal}
 use Rattle.rmi_monitor.specs.View.{Answers, seen_in, after_command}
 use Rattle.rmi_monitor.proofs.Outcomes.{answers_err, after_err}
 use Rattle.rmi_monitor.proofs.DataDestroys.{destroy_no_realm, destroy_unprotected, destroy_refused, destroy_done, destroy_whole_after, destroy_seen_after}
-use Rattle.rmi_monitor.proofs.monitor.Monitor.data_destroy.Goals as goal
 use Rattle.rmi_monitor.proofs.Comparisons.{protected_found, test_failed}
 use Rattle.rmi_monitor.proofs.Refusals.{answers_call}
 use Rattle.rmi_monitor.proofs.RealmFound.{realm_place, realm_read, realm_rooted}
+use Rattle.rmi_monitor.proofs.monitor.Monitor.data_destroy.Goals as goal
 
 pub index-requires : goal.index-requires
 index-requires g c =

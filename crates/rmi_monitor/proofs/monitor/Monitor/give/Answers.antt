@@ -1,6 +1,6 @@
-use Rattle.std.proofs.Common.{List, ℕ, Bool, sym, ap, subst, ◌∙◌}
+use Rattle.std.proofs.Common.{sym, subst, ◌∙◌}
 use Rattle.rmi_monitor.specs.Inside.{fields_of, seen_as, IsWhole}
-use Rattle.rmi_monitor.proofs.Blocks.{given, whole_given, given_back}
+use Rattle.rmi_monitor.proofs.Blocks.{whole_given, given_back}
 use Rattle.rmi_monitor.proofs.monitor.Monitor.give.Goals as goal
 
 pub invariant_of-self : goal.invariant_of-self

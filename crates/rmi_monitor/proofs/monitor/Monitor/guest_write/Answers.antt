@@ -9,8 +9,8 @@ use Rattle.rmi_monitor.proofs.RecFound.{on_none}
 use Rattle.rmi_monitor.proofs.RecReads.{rec_place, rec_read, no_rd, no_realm, realm_place, realm_read, kept_there}
 use Rattle.rmi_monitor.proofs.DataBytes.{page_inside, whole_written}
 use Rattle.rmi_monitor.proofs.GuestWrites.{write_unprotected, write_ready, write_unassigned, write_done}
-use Rattle.rmi_monitor.proofs.monitor.Monitor.guest_write.Goals as goal
 use Rattle.rmi_monitor.proofs.Comparisons.{test_held, test_failed}
+use Rattle.rmi_monitor.proofs.monitor.Monitor.guest_write.Goals as goal
 
 pub index-requires : goal.index-requires
 index-requires g c =

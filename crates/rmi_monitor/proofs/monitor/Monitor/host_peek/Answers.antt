@@ -1,6 +1,5 @@
-use Rattle.std.proofs.Common.{ℕ, List, [], Ok, sym, ap, ◌∙◌, ◌≡◌}
+use Rattle.std.proofs.Common.{ℕ, List, [], Ok, sym, ap, ◌∙◌}
 use Rattle.std.specs.Prelude.{slice_index}
-use Rattle.realm_model.specs.Machine.{Cell}
 use Rattle.realm_model.specs.Command.Check.{error_input}
 use Rattle.realm_model.proofs.Outcomes.{check_true}
 use Rattle.rmi_monitor.proofs.Outcomes.{answers_ok, answers_err, check_false}

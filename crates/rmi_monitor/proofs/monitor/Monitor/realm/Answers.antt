@@ -1,7 +1,7 @@
 use Rattle.std.proofs.Common.{◌<◌, refl, sym, subst, ◌∙◌}
 use Rattle.rmi_monitor.proofs.Readings.{attributes_there}
-use Rattle.rmi_monitor.proofs.monitor.Monitor.realm.Goals as goal
 use Rattle.rmi_monitor.proofs.RealmFound.{realm_place, realm_read}
+use Rattle.rmi_monitor.proofs.monitor.Monitor.realm.Goals as goal
 
 pub index-requires : goal.index-requires
 index-requires g c =

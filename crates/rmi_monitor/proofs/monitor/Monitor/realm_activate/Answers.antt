@@ -1,4 +1,4 @@
-use Rattle.std.proofs.Common.{◌≡◌, ◌<◌, List, Option, Some, refl, sym, ap, subst, ◌∙◌}
+use Rattle.std.proofs.Common.{◌<◌, List, Option, sym, ap, subst, ◌∙◌}
 use Rattle.std.specs.Prelude.{slice_set}
 use Rattle.std.specs.FinMap.{empty}
 use Rattle.realm_model.specs.Rows.{root_rows}
@@ -6,10 +6,10 @@ use Rattle.realm_model.specs.Command.Check.{error_input, error_realm}
 use Rattle.realm_objects.specs.Attributes.{RealmAttributes}
 use Rattle.rmi_monitor.specs.Inside.{fields_of, seen_as}
 use Rattle.rmi_monitor.proofs.Activates.{activate_none, activate_late, activate_done, whole_after_activate, seen_after_activate}
-use Rattle.rmi_monitor.proofs.monitor.Monitor.realm_activate.Goals as goal
 use Rattle.rmi_monitor.proofs.Outcomes.{answers_err, answers_ok, after_err}
 use Rattle.rmi_monitor.proofs.RealmFound.{realm_place, realm_read}
 use Rattle.rmi_monitor.proofs.Listed.{put_back}
+use Rattle.rmi_monitor.proofs.monitor.Monitor.realm_activate.Goals as goal
 
 pub index_mut-requires : goal.index_mut-requires
 index_mut-requires g c = subst (λ n. c.number.result < n) (sym c.self.inside.realms.ok.0) (realm_place c.args.self.now _ c.self.view_is c.self.invariant c.args.rd c.requires.inside c.number.result c.number.ensures.value)

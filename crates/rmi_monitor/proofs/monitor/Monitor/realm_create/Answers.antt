@@ -1,12 +1,12 @@
-use Rattle.std.proofs.Common.{◌≡◌, List, refl, sym, ap, ◌∙◌}
+use Rattle.std.proofs.Common.{sym, ap, ◌∙◌}
 use Rattle.std.specs.List.{list_any}
 use Rattle.realm_model.specs.Command.Check.{error_input}
 use Rattle.realm_objects.specs.Attributes.{RealmAttributes}
 use Rattle.rmi_monitor.specs.Places.{is_realm_with}
 use Rattle.rmi_monitor.proofs.Granules.{in_granules}
 use Rattle.rmi_monitor.proofs.Creates.{create_used, create_unfit, create_done, create_shifted, create_delegated, whole_after_create, seen_after_create}
-use Rattle.rmi_monitor.proofs.monitor.Monitor.realm_create.Goals as goal
 use Rattle.rmi_monitor.proofs.Outcomes.{answers_err, answers_ok, after_err}
+use Rattle.rmi_monitor.proofs.monitor.Monitor.realm_create.Goals as goal
 
 pub returns-then-is_used-clause-answer : goal.returns-then-is_used-clause-answer
 returns-then-is_used-clause-answer g c = answers_err (Unit {0}) error_input _ (create_used c.args.self.now _ c.self.view_is c.self.invariant c.args.rd c.args.root c.args.vmid c.requires.rd_taken c.requires.root_taken (ap (list_any (is_realm_with c.args.vmid)) (sym c.deref.ensures.value) ∙ sym c.if-is_used.ensures))

@@ -1,12 +1,12 @@
-use Rattle.std.proofs.Common.{◌≡◌, ◌<◌, List, refl, sym, ap, subst, ◌∙◌}
+use Rattle.std.proofs.Common.{◌<◌, sym, ap, subst, ◌∙◌}
 use Rattle.std.specs.Prelude.{not, ◌==◌}
 use Rattle.std.specs.FinMap.{len}
 use Rattle.realm_model.specs.Command.Check.{error_input, error_realm}
 use Rattle.rmi_monitor.specs.Inside.{fields_of, recs_of, seen_as}
 use Rattle.rmi_monitor.proofs.Destroys.{destroy_none, destroy_with_rec, destroy_tables, destroy_with_table, destroy_done, rd_in_pages, rd_in_granules, destroy_shifted, whole_after_destroy, seen_after_destroy}
-use Rattle.rmi_monitor.proofs.monitor.Monitor.realm_destroy.Goals as goal
 use Rattle.rmi_monitor.proofs.Outcomes.{answers_err, answers_ok, after_err}
 use Rattle.rmi_monitor.proofs.RealmFound.{realm_place, realm_read}
+use Rattle.rmi_monitor.proofs.monitor.Monitor.realm_destroy.Goals as goal
 
 pub index-requires : goal.index-requires
 index-requires g c = subst (λ n. c.number.result < n) (sym c.self.inside.realms.ok.0) (realm_place c.args.self.now _ c.self.view_is c.self.invariant c.args.rd c.requires.inside c.number.result c.number.ensures.value)

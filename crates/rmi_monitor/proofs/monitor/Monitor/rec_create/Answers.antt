@@ -4,9 +4,9 @@ use Rattle.rmi_monitor.specs.Inside.{seen_as, IsWhole}
 use Rattle.rmi_monitor.proofs.Granules.{in_granules}
 use Rattle.rmi_monitor.proofs.RecMade.{new_rec}
 use Rattle.rmi_monitor.proofs.RecCreates.{inside_by, fit_by, new_by, shifted_by, refused_after, refuses_no_realm, refuses_unfit, refuses_active, creates, row_is, next_is, others_stand, whole_created, created, made_by, more_by}
-use Rattle.rmi_monitor.proofs.monitor.Monitor.rec_create.Goals as goal
 use Rattle.rmi_monitor.proofs.Outcomes.{answers_ok, answers_err}
 use Rattle.rmi_monitor.proofs.RealmFound.{realm_place, realm_read}
+use Rattle.rmi_monitor.proofs.monitor.Monitor.rec_create.Goals as goal
 
 pub index_mut-requires : goal.index_mut-requires
 index_mut-requires g c =

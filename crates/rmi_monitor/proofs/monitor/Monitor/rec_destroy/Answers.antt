@@ -1,11 +1,11 @@
-use Rattle.std.proofs.Common.{Some, None, ◌<◌, length, refl, sym, ap, subst, ◌∙◌, arith}
-use Rattle.rmi_monitor.specs.Inside.{seen_as, IsWhole}
+use Rattle.std.proofs.Common.{Some, None, ◌<◌, length, refl, sym, ap, subst, arith}
 use Rattle.realm_model.specs.Command.Rec.{rec_destroy}
+use Rattle.rmi_monitor.specs.Inside.{seen_as, IsWhole}
 use Rattle.rmi_monitor.proofs.RecDestroys.{rec_page, rec_stands, aux_distinct, aux_stand, aux_pages, gone_by, not_ready, ready}
-use Rattle.rmi_monitor.proofs.monitor.Monitor.rec_destroy.Goals as goal
 use Rattle.rmi_monitor.proofs.RecReads.{rec_place, rec_read}
 use Rattle.rmi_monitor.proofs.RecFound.{on_none, kept_at}
 use Rattle.rmi_monitor.proofs.RecGoneAfter.{whole_gone}
+use Rattle.rmi_monitor.proofs.monitor.Monitor.rec_destroy.Goals as goal
 
 pub index-requires : goal.index-requires
 index-requires g c =

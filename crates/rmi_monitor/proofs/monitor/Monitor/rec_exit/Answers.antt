@@ -4,8 +4,8 @@ use Rattle.realm_model.specs.Command.Rec.{rec_exit}
 use Rattle.rmi_monitor.proofs.RecReads.{rec_place, rec_read}
 use Rattle.rmi_monitor.proofs.RecChanges.{whole_recs}
 use Rattle.rmi_monitor.proofs.RecRuns.{refused_none, exit_ready, exit_done}
-use Rattle.rmi_monitor.proofs.monitor.Monitor.rec_exit.Goals as goal
 use Rattle.rmi_monitor.proofs.RecFound.{kept_at}
+use Rattle.rmi_monitor.proofs.monitor.Monitor.rec_exit.Goals as goal
 
 pub index_mut-requires : goal.index_mut-requires
 index_mut-requires g c =

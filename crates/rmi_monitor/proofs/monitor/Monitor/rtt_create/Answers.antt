@@ -10,12 +10,12 @@ use Rattle.rmi_monitor.specs.Inside.{fields_of, seen_as}
 use Rattle.rmi_monitor.proofs.Granules.{in_granules}
 use Rattle.rmi_monitor.proofs.Refusals.{refused_with, not_refused}
 use Rattle.rmi_monitor.proofs.TableCreates.{CreateCall, create_call_at, create_nowhere, create_misplaced, create_unprotected, create_undelegated, create_refused, create_answers, whole_created, create_done}
-use Rattle.rmi_monitor.proofs.monitor.Monitor.rtt_create.Given.{Over}
-use Rattle.rmi_monitor.proofs.monitor.Monitor.rtt_create.Goals as goal
-use Rattle.rmi_monitor.proofs.monitor.Monitor.rtt_create.Goals.{in_default-2-via-in-Some+in_default, in_default-2-via-in_default}
 use Rattle.rmi_monitor.proofs.Comparisons.{test_held, test_failed}
 use Rattle.rmi_monitor.proofs.Outcomes.{answers_err, after_err}
 use Rattle.rmi_monitor.proofs.RealmFound.{realm_place, realm_read}
+use Rattle.rmi_monitor.proofs.monitor.Monitor.rtt_create.Given.{Over}
+use Rattle.rmi_monitor.proofs.monitor.Monitor.rtt_create.Goals as goal
+use Rattle.rmi_monitor.proofs.monitor.Monitor.rtt_create.Goals.{in_default-2-via-in-Some+in_default, in_default-2-via-in_default}
 
 pub index-requires : goal.index-requires
 index-requires g c =

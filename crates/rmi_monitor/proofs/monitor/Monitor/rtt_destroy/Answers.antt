@@ -9,12 +9,12 @@ use Rattle.rmi_monitor.specs.View.{seen_in}
 use Rattle.rmi_monitor.specs.Inside.{fields_of, seen_as}
 use Rattle.rmi_monitor.proofs.Refusals.{refused_with, not_refused}
 use Rattle.rmi_monitor.proofs.TableDestroys.{DestroyCall, destroy_call_at, destroy_nowhere, destroy_misplaced, destroy_unprotected, destroy_refused, destroy_answers, whole_destroyed, destroy_done}
-use Rattle.rmi_monitor.proofs.monitor.Monitor.rtt_destroy.Given.{Over}
-use Rattle.rmi_monitor.proofs.monitor.Monitor.rtt_destroy.Goals as goal
-use Rattle.rmi_monitor.proofs.monitor.Monitor.rtt_destroy.Goals.{in_default-2-via-in-Some+in_default, in_default-2-via-in_default}
 use Rattle.rmi_monitor.proofs.Comparisons.{test_held, test_failed}
 use Rattle.rmi_monitor.proofs.Outcomes.{answers_err, after_err}
 use Rattle.rmi_monitor.proofs.RealmFound.{realm_place, realm_read}
+use Rattle.rmi_monitor.proofs.monitor.Monitor.rtt_destroy.Given.{Over}
+use Rattle.rmi_monitor.proofs.monitor.Monitor.rtt_destroy.Goals as goal
+use Rattle.rmi_monitor.proofs.monitor.Monitor.rtt_destroy.Goals.{in_default-2-via-in-Some+in_default, in_default-2-via-in_default}
 
 pub index-requires : goal.index-requires
 index-requires g c =

@@ -9,12 +9,12 @@ use Rattle.rmi_monitor.specs.View.{seen_in}
 use Rattle.rmi_monitor.specs.Inside.{fields_of, seen_as, IsWhole}
 use Rattle.rmi_monitor.proofs.Refusals.{refused_with, not_refused}
 use Rattle.rmi_monitor.proofs.TableRipas.{RipasCall, ripas_call_at, is_run, measured, measured_by, ripas_nowhere, ripas_no_run, ripas_not_new, ripas_refused, ripas_answers, whole_ram, ripas_done}
-use Rattle.rmi_monitor.proofs.monitor.Monitor.rtt_init_ripas.Given.{Over}
-use Rattle.rmi_monitor.proofs.monitor.Monitor.rtt_init_ripas.Goals as goal
 use Rattle.rmi_monitor.proofs.Comparisons.{test_held, test_failed}
 use Rattle.rmi_monitor.proofs.Outcomes.{answers_err, after_err}
 use Rattle.rmi_monitor.proofs.RealmFound.{realm_place, realm_read}
 use Rattle.rmi_monitor.proofs.Listed.{put_back}
+use Rattle.rmi_monitor.proofs.monitor.Monitor.rtt_init_ripas.Given.{Over}
+use Rattle.rmi_monitor.proofs.monitor.Monitor.rtt_init_ripas.Goals as goal
 
 pub index_mut-requires : goal.index_mut-requires
 index_mut-requires g c =
