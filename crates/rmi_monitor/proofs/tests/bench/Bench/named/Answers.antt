@@ -1,4 +1,4 @@
-use Rattle.std.proofs.Common.{◌≡◌, ◌<◌, sym, ap, subst, ◌∙◌}
+use Rattle.std.proofs.Common.{◌<◌, sym, ap, subst, ◌∙◌}
 use Rattle.realm_objects.specs.Attributes.{rec_row}
 use Rattle.rmi_monitor.specs.View.{MonitorView, IsRec, rec_in}
 use Rattle.rmi_monitor.proofs.Kept.{is_rec}
