@@ -3,20 +3,10 @@
 
 ghost use Rattle.std.specs.Prelude.{◌≡◌, IfErr};
 ghost use Rattle.clap.specs.Values.{kind_of};
-ghost use Rattle.realmhost.specs.Fault.{status_of, status_of_kind, IsStatus};
+ghost use Rattle.realm_program.specs.Fault.{status_of, status_of_kind, IsStatus};
 
-mod fault;
-mod line;
-mod replay;
-#[cfg(test)]
-mod tests;
-mod told;
-
-use crate::fault::Fault;
-use crate::line::Line;
-use crate::replay::replay;
-use crate::told::Told;
 use clap::error::ErrorKind;
+use realm_program::{Fault, Line, Told, replay};
 use std::process::ExitCode;
 use std::{env, io};
 

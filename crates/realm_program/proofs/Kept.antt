@@ -1,0 +1,43 @@
+-- What is kept of an input, one read after another.
+use Rattle.std.proofs.Common.{◌≡◌, ℕ, ◌≤◌, List, [], ◌++◌, length, take, Option, Some, None, refl, sym, ap, ◌∙◌}
+use mathlib.Core.List.{append_assoc, append-nil}
+use Rattle.std.specs.Prelude.{IfSome}
+use Rattle.std.specs.Io.KnownBytes.{Consumes, IsAtEnd}
+use Rattle.std.proofs.Math.Seq.{take-append_seam}
+use Rattle.std.proofs.lemmas.List.{take_all}
+use Rattle.realm_program.specs.Whole.{kept_of}
+
+pub consumes_none : (old : Option (List ℕ)) → Consumes old old []
+consumes_none None = tt
+consumes_none (Some xs) = refl
+
+pub consumes_more : (a b c : Option (List ℕ)) (front more : List ℕ) → Consumes a b front → Consumes b c more → Consumes a c (front ++ more)
+consumes_more None b c front more h k = tt
+consumes_more (Some xs) None c front more h k = absurd h
+consumes_more (Some xs) (Some ys) None front more h k = absurd k
+consumes_more (Some xs) (Some ys) (Some zs) front more h k = h ∙ ap (λ t. front ++ t) k ∙ sym (append_assoc front more zs)
+
+-- so many bytes were read
+taken_at_limit : (kept : ℕ) (xs ys front : List ℕ) → xs ≡ front ++ ys → length front ≡ kept → front ≡ take kept xs
+taken_at_limit kept xs ys front joined full = rw (joined, ← full) (sym (take-append_seam front ys))
+
+-- all was read
+taken_at_end : (kept : ℕ) (xs ys front : List ℕ) → xs ≡ front ++ ys → ys ≡ [] → length front ≤ kept → front ≡ take kept xs
+taken_at_end kept xs ys front joined none few =
+    let whole : xs ≡ front = joined ∙ ap (λ t. front ++ t) none ∙ append-nil front in
+    rw whole (sym (take_all kept front few))
+
+pub kept_at_limit : (a b : Option (List ℕ)) (front : List ℕ) → Consumes a b front → length front ≡ 1048577 → IfSome a (λ xs. front ≡ kept_of xs)
+unfolding kept_of
+kept_at_limit None b front h full = tt
+kept_at_limit (Some xs) None front h full = absurd h
+kept_at_limit (Some xs) (Some ys) front h full = taken_at_limit 1048577 xs ys front h full
+
+-- the last read gave nothing, since nothing was left
+pub kept_at_end : (a b c : Option (List ℕ)) (front more : List ℕ) → Consumes a b front → Consumes b c more → more ≡ [] → IsAtEnd c → length front ≤ 1048577 → IfSome a (λ xs. front ≡ kept_of xs)
+unfolding kept_of
+kept_at_end None b c front more h k none ends few = tt
+kept_at_end (Some xs) None c front more h k none ends few = absurd h
+kept_at_end (Some xs) (Some ys) None front more h k none ends few = absurd k
+kept_at_end (Some xs) (Some ys) (Some zs) front more h k none ends few =
+    taken_at_end 1048577 xs ys front h (k ∙ ap (λ t. t ++ zs) none ∙ ends) few

@@ -1,0 +1,49 @@
+-- What a replay prints, and how it ends.
+use Rattle.std.specs.Prelude.{◌≡◌, ◌⊎◌, ℕ, List, [], ◌++◌, length, Option, IfSome, Result, Ok, Err}
+use Rattle.std.specs.Io.KnownBytes.{Appends, Keeps}
+use Rattle.realm_host.specs.View.{HostView}
+use Rattle.realm_plan.specs.Plan.{Plan, plan_of}
+use Rattle.realm_plan.specs.Run.{IsToldRun, map_text}
+use Rattle.realm_program.specs.Whole.{AppendsFront}
+use Rattle.realm_program.specs.declared.fault.Fault.{Fault}
+use Rattle.realm_program.specs.declared.fault.Fault.TheVariants.{Plan as PlanIsFaulty, Memory, Device}
+
+-- the host on which a plan is run
+abbrev pub opening_host : Plan → HostView
+opening_host plan = record {
+  limits = record { pages = plan.pages; vmids = plan.vmids; aux = plan.aux; builds = length plan.builds };
+  capacity = plan.history;
+  history = [];
+}
+
+-- The text of some run of the plan: the lines of its turns, and the map of the world that it ends in.
+pub record IsText (plan : Plan) (text : List ℕ) : Type 0 where
+  pub last : HostView
+  pub lines : List ℕ
+  pub run : IsToldRun plan (opening_host plan) last [] lines
+  pub whole : text ≡ lines ++ map_text last
+
+-- the input is the plan whose text this is
+pub record IsTextOf (input : Option (List ℕ)) (text : List ℕ) : Type 0 where
+  pub plan : Plan
+  pub of_input : IfSome input (λ bytes. plan_of bytes ≡ Ok plan)
+  pub is_text : IsText plan text
+
+-- the whole text was written
+pub record IsPrinted (input old new : Option (List ℕ)) : Type 0 where
+  pub text : List ℕ
+  pub text_of : IsTextOf input text
+  pub written : Appends old new text
+
+-- a front of the text was written
+pub record IsCut (input old new : Option (List ℕ)) : Type 0 where
+  pub text : List ℕ
+  pub text_of : IsTextOf input text
+  pub written : AppendsFront old new text
+
+-- A replay prints a text whole, or nothing, but that a device may fail between.
+abbrev pub IsEnd : Option (List ℕ) → Option (List ℕ) → Option (List ℕ) → Result (Unit {0}) Fault → Type 0
+IsEnd input old new (Ok _) = IsPrinted input old new
+IsEnd input old new (Err (PlanIsFaulty fault)) = IfSome input (λ bytes. plan_of bytes ≡ Err fault) × Keeps old new
+IsEnd input old new (Err Memory) = Keeps old new
+IsEnd input old new (Err Device) = Keeps old new ⊎ IsCut input old new

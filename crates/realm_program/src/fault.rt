@@ -1,0 +1,81 @@
+//! Why a run is not printed.
+ghost use Rattle.std.specs.Prelude.{◌≡◌};
+ghost use Rattle.realm_program.specs.declared.fault.Fault.TheVariants.{Memory, Device};
+
+use crate::told::{DeviceFailed, ReadError};
+use realm_plan::{PlanError, PlanFault};
+use std::alloc::AllocError;
+use thiserror::Error;
+
+/// Why nothing is printed, or a front of the text alone. Its line goes to standard error.
+#[derive(Clone, Copy, Debug, PartialEq, Eq, Error)]
+pub enum Fault {
+    /// The input is no plan.
+    #[error(transparent)]
+    Plan(PlanFault),
+    /// A growth was refused.
+    #[error("memory")]
+    Memory,
+    /// A read or a write failed.
+    #[error("device")]
+    Device,
+}
+
+impl Fault {
+    ghost use Rattle.realm_program.specs.Fault.{status_of};
+
+    /// The exit status of the program. 2 is that of a command line which is refused.
+    pub fn status(&self) -> u8
+        ensures { result ≡ status_of self.now }
+    {
+        match self {
+            Fault::Plan(_) => 1,
+            Fault::Memory => 3,
+            Fault::Device => 5,
+        }
+    }
+}
+
+impl From<PlanError> for Fault {
+    ghost use Rattle.std.specs.Prelude.{◌≡◌};
+    ghost use Rattle.realm_program.specs.Fault.{fault_of_plan};
+
+    ghost from_gives = { λ error fault. fault ≡ fault_of_plan error };
+
+    fn from(error: PlanError) -> Fault {
+        match error {
+            PlanError::Memory => Fault::Memory,
+            PlanError::Fault(fault) => Fault::Plan(fault),
+        }
+    }
+}
+
+impl From<ReadError> for Fault {
+    ghost use Rattle.std.specs.Prelude.{◌≡◌};
+    ghost use Rattle.realm_program.specs.Fault.{fault_of_read};
+
+    ghost from_gives = { λ error fault. fault ≡ fault_of_read error };
+
+    fn from(error: ReadError) -> Fault {
+        match error {
+            ReadError::Memory => Fault::Memory,
+            ReadError::Device => Fault::Device,
+        }
+    }
+}
+
+impl From<DeviceFailed> for Fault {
+    ghost from_gives = { λ _ fault. fault ≡ Device };
+
+    fn from(_error: DeviceFailed) -> Fault {
+        Fault::Device
+    }
+}
+
+impl From<AllocError> for Fault {
+    ghost from_gives = { λ _ fault. fault ≡ Memory };
+
+    fn from(_error: AllocError) -> Fault {
+        Fault::Memory
+    }
+}

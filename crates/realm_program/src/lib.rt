@@ -1,0 +1,18 @@
+//! The parts of the program: its command line, the replay of a plan, and how a run ends.
+//!
+//! `Line::of` reads the words, `replay` goes from the bytes of a plan to the text of its run, over any reader and any
+//! writer, and `Fault` has the exit status of what can be wrong. Nothing here looks at the process that it runs in:
+//! a caller hands in the words and the devices.
+#![tactic(auto)]
+
+mod fault;
+mod line;
+#[cfg(test)]
+mod tests;
+mod text;
+mod told;
+
+pub use fault::Fault;
+pub use line::Line;
+pub use text::replay;
+pub use told::{DeviceFailed, ReadError, Told};

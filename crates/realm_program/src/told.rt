@@ -1,0 +1,160 @@
+//! A device that tells whether it has failed.
+ghost use Rattle.std.specs.Prelude.{◌≡◌, ◌+◌, ◌-◌, ◌^◌, ◌<◌, ◌≤◌, ◌↔◌, min, false, true, is_err, IfOk, IfSome, OnOk, OnErr, Err, length};
+ghost use Rattle.std.specs.Io.{ReadsAtMost, WritesAtMost};
+ghost use Rattle.std.specs.Io.KnownBytes.{Appends, Keeps, ReadConsumes, WriteAppends};
+ghost use Rattle.realm_program.specs.Whole.{kept_of, AppendsFront};
+
+use std::alloc::Global;
+use std::io::{Read, Write};
+
+/// How many bytes are kept of an input: one more than a plan may have.
+pub const KEPT: usize = 1_048_577;
+
+/// How often a reader is asked at most for one input.
+pub const MOST_READS: usize = 1_048_578;
+
+/// A call of the device failed.
+#[derive(Clone, Copy, Debug, PartialEq, Eq)]
+pub struct DeviceFailed;
+
+/// Why an input is not given.
+#[derive(Clone, Copy, Debug, PartialEq, Eq)]
+pub enum ReadError {
+    /// A growth was refused.
+    Memory,
+    /// A read failed.
+    Device,
+}
+
+/// A reader or a writer, and what is told of it.
+#[derive(Drop)]
+pub struct Told<D> {
+    pub device: D,
+    /// Whether a call of the device has failed.
+    pub failed: bool,
+    /// How often the device was asked to read, up to the greatest `u64`.
+    pub reads: u64,
+}
+
+impl<D> Told<D> {
+    /// A device of which no call has failed.
+    pub fn new(device: D) -> Told<D>
+        ensures { result ≡ record { device = device; failed = false; reads = 0 } }
+    {
+        Told {
+            device,
+            failed: false,
+            reads: 0,
+        }
+    }
+}
+
+impl<R: Read> Told<R> {
+    ghost use Rattle.realm_program.specs.declared.told.ReadError.TheVariants.{Device};
+
+    /// Reads once. Every error of the device is a failure, and an `Err` is told in `failed`.
+    pub fn read(&mut self, buf: &mut [u8]) -> Result<usize, DeviceFailed>
+        requires { self.old.failed ≡ false }
+        ensures told { self.new.failed ≡ is_err result }
+        ensures counted { self.new.reads ≡ min (self.old.reads + 1) (2 ^ 64 - 1) }
+        ensures not_lowered { self.old.reads ≤ self.new.reads }
+        ensures bound { ReadsAtMost result buf.new }
+        ensures bytes { ReadConsumes (R.remaining self.old.device) (R.remaining self.new.device) result buf.new }
+    {
+        self.reads = self.reads.saturating_add(1);
+        match self.device.read(buf) {
+            Ok(n) => Ok(n),
+            Err(_) => {
+                self.failed = true;
+                Err(DeviceFailed)
+            }
+        }
+    }
+
+    /// All that the reader gives, or its first 1,048,577 bytes where there are more.
+    ///
+    /// `Device` is given where a read failed, and `Memory` only where a growth was refused.
+    pub fn read_whole(&mut self, alloc: Global) -> Result<Vec<u8>, ReadError>
+        requires { self.old.failed ≡ false }
+        ensures told { (self.new.failed ≡ true) ↔ (result ≡ Err Device) }
+        ensures asked { self.new.reads ≤ self.old.reads + 1048578 }
+        ensures not_lowered { self.old.reads ≤ self.new.reads }
+        ensures bytes { IfOk result (λ v. IfSome (R.remaining self.old.device) (λ xs. v.items ≡ kept_of xs)) }
+    {
+        let mut bytes = Vec::new(alloc);
+        let mut buf = [0u8; 4096];
+        for _ in 0..MOST_READS {
+            let room = (KEPT - bytes.len()).min(buf.len());
+            let part = &mut buf[..room];
+            let Ok(n) = self.read(part) else {
+                return Err(ReadError::Device);
+            };
+            if n == 0 {
+                return Ok(bytes);
+            }
+            let Ok(()) = bytes.extend_from_slice(&part[..n]) else {
+                return Err(ReadError::Memory);
+            };
+            if bytes.len() >= KEPT {
+                return Ok(bytes);
+            }
+        }
+        unreachable!()
+    }
+}
+
+impl<W: Write> Told<W> {
+    /// Writes once, some of the bytes where there are any. Every error of the device is a failure, and so is a write
+    /// that takes none of them; an `Err` is told in `failed`.
+    pub fn write(&mut self, buf: &[u8]) -> Result<usize, DeviceFailed>
+        requires { self.old.failed ≡ false }
+        ensures told { self.new.failed ≡ is_err result }
+        ensures counted { self.new.reads ≡ self.old.reads }
+        ensures bound { WritesAtMost result buf.now }
+        ensures some { IfOk result (λ n. 0 < length buf.now → 0 < n) }
+        ensures bytes { WriteAppends (W.contents self.old.device) (W.contents self.new.device) result buf.now }
+    {
+        match self.device.write(buf) {
+            Ok(n) if n > 0 || buf.is_empty() => Ok(n),
+            _ => {
+                self.failed = true;
+                Err(DeviceFailed)
+            }
+        }
+    }
+
+    /// Flushes. Every error of the device is a failure, and an `Err` is told in `failed`.
+    pub fn flush(&mut self) -> Result<(), DeviceFailed>
+        requires { self.old.failed ≡ false }
+        ensures told { self.new.failed ≡ is_err result }
+        ensures counted { self.new.reads ≡ self.old.reads }
+        ensures bytes { Keeps (W.contents self.old.device) (W.contents self.new.device) }
+    {
+        match self.device.flush() {
+            Ok(()) => Ok(()),
+            Err(_) => {
+                self.failed = true;
+                Err(DeviceFailed)
+            }
+        }
+    }
+
+    /// Writes all of the text, and flushes once. At an `Err` a front of the text was written.
+    pub fn write_whole(&mut self, text: &[u8]) -> Result<(), DeviceFailed>
+        requires { self.old.failed ≡ false }
+        ensures told { self.new.failed ≡ is_err result }
+        ensures counted { self.new.reads ≡ self.old.reads }
+        ensures ok { OnOk result (Appends (W.contents self.old.device) (W.contents self.new.device) text.now) }
+        ensures err { OnErr result (AppendsFront (W.contents self.old.device) (W.contents self.new.device) text.now) }
+    {
+        let mut rest = text;
+        while !rest.is_empty() {
+            let Ok(n) = self.write(rest) else {
+                return Err(DeviceFailed);
+            };
+            let (_, after) = rest.split_at(n);
+            rest = after;
+        }
+        self.flush()
+    }
+}
