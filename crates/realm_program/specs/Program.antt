@@ -5,9 +5,11 @@ use Rattle.clap.specs.Words.{App, new_app, with_subcommand}
 abbrev pub replay : App
 replay = new_app (codes "replay")
 
--- a subcommand is required, and there is none called `help`
+-- it has a version; a subcommand is required, and there is none called `help`
 abbrev pub program : App
-program = let a = new_app (codes "realmhost") in record a { top = record a.top { subcommand_required = true; disable_help_subcommand = true } }
+program =
+    let a = new_app (codes "realmhost") in
+    record a { top = record a.top { has_version = true; subcommand_required = true; disable_help_subcommand = true } }
 
 abbrev pub realmhost : App
 realmhost = with_subcommand program replay.top

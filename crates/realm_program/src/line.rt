@@ -13,13 +13,23 @@ pub enum Line {
     Replay,
 }
 
+const ABOUT: &str = "The host side of Arm's Realm Management Monitor, with a simulated monitor.
+A plan of builds, which is a TOML document, is read from standard input; the text of its run goes to standard output.";
+
+const REPLAY: &str =
+    "Takes the turns of the plan in their order, and prints each answer and the map at the end";
+
 /// What the command line's reader is told of the program.
 fn command<'a>(alloc: Global) -> Result<Command<'a>, AllocError>
     ensures { IfOk result (λ c. app_of c ≡ realmhost) }
 {
-    let replay = Command::new(alloc, "replay");
-    let required = Command::new(alloc, "realmhost").subcommand_required(true);
-    let program = required.disable_help_subcommand(true);
+    let replay = Command::new(alloc, "replay").about(REPLAY);
+    let named = Command::new(alloc, "realmhost")
+        .version("0.1.0")
+        .about(ABOUT);
+    let program = named
+        .subcommand_required(true)
+        .disable_help_subcommand(true);
     program.subcommand(replay)
 }
 
