@@ -1,7 +1,5 @@
 -- Faults, and the exit status of each.
-use Rattle.std.specs.Prelude.{◌≡◌, ℕ, ◌⊎◌}
-use Rattle.clap.specs.declared.error.kind.ErrorKind.{ErrorKind}
-use Rattle.clap.specs.declared.error.kind.ErrorKind.TheVariants.{OutOfMemory}
+use Rattle.std.specs.Prelude.{ℕ}
 use Rattle.realm_plan.specs.declared.fault.PlanError.{PlanError}
 use Rattle.realm_plan.specs.declared.fault.PlanError.TheVariants as plan_error
 use Rattle.realm_program.specs.declared.fault.Fault.{Fault}
@@ -13,15 +11,6 @@ abbrev pub status_of : Fault → ℕ
 status_of (Plan fault) = 1
 status_of Memory = 3
 status_of Device = 5
-
--- the status of a command line that is not taken: 2, unless what was wanting is memory
-abbrev pub status_of_kind : ErrorKind → ℕ
-status_of_kind OutOfMemory = 3
-status_of_kind _ = 2
-
--- the statuses of a program that has not printed the whole text of a run
-abbrev pub IsStatus : ℕ → Type 0
-IsStatus status = (status ≡ 1) ⊎ (status ≡ 2) ⊎ (status ≡ 3) ⊎ (status ≡ 5)
 
 abbrev pub fault_of_plan : PlanError → Fault
 fault_of_plan plan_error.Memory = Memory

@@ -1,5 +1,7 @@
 pub mod Fault
+pub mod Stop
 pub mod Line
 pub mod Program
+pub mod Told
 pub mod Whole
 pub mod Replay

@@ -24,7 +24,7 @@ pub enum Fault {
 impl Fault {
     ghost use Rattle.realm_program.specs.Fault.{status_of};
 
-    /// The exit status of the program. 2 is that of a command line which is refused.
+    /// The exit status of the program.
     pub fn status(&self) -> u8
         ensures { result ≡ status_of self.now }
     {

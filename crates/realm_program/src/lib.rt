@@ -1,12 +1,13 @@
 //! The parts of the program: its command line, the replay of a plan, and how a run ends.
 //!
 //! `Line::of` reads the words, `replay` goes from the bytes of a plan to the text of its run, over any reader and any
-//! writer, and `Fault` has the exit status of what can be wrong. Nothing here looks at the process that it runs in:
-//! a caller hands in the words and the devices.
+//! writer, and `Stop` is each reason not to have printed it, with its exit status. Nothing here looks at the process that
+//! it runs in: a caller hands in the words and the devices.
 #![tactic(auto)]
 
 mod fault;
 mod line;
+mod stop;
 #[cfg(test)]
 mod tests;
 mod text;
@@ -14,5 +15,6 @@ mod told;
 
 pub use fault::Fault;
 pub use line::Line;
+pub use stop::Stop;
 pub use text::replay;
 pub use told::{DeviceFailed, ReadError, Told};

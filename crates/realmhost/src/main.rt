@@ -1,76 +1,59 @@
 //! Replays plans of builds: a plan comes on standard input, and the text of its run goes to standard output.
 #![tactic(auto)]
 
-ghost use Rattle.std.specs.Prelude.{◌≡◌, IfErr};
-ghost use Rattle.clap.specs.Values.{kind_of};
-ghost use Rattle.realm_program.specs.Fault.{status_of, status_of_kind, IsStatus};
+ghost use Rattle.std.specs.Prelude.{◌≡◌, ◌⊎◌, IfErr};
+ghost use Rattle.std.specs.Process.{exit_status};
+ghost use Rattle.realm_program.specs.Stop.{status_of_stop};
+ghost use Rattle.realm_program.specs.declared.fault.Fault.TheVariants.{Memory};
+ghost use Rattle.realm_program.specs.declared.stop.Stop.TheVariants.{NotUtf8, Run};
 
-use clap::error::ErrorKind;
-use realm_program::{Fault, Line, Told, replay};
+use realm_program::{Fault, Line, Stop, Told, replay};
 use std::process::ExitCode;
 use std::{env, io};
 
-/// The status of a command line that is refused, or that asks for help.
-const USAGE: u8 = 2;
-
-/// Tells a fault on standard error. Gives its status.
-fn fail(rt: &HostRuntime, fault: Fault) -> u8
-    ensures { result ≡ status_of fault }
+/// The words of the command line, the program's name first.
+fn arguments(rt: &HostRuntime) -> Result<Vec<String>, Stop>
+    ensures { IfErr result (λ stop. (stop ≡ NotUtf8) ⊎ (stop ≡ Run Memory)) }
 {
-    let _told = eprintln!(rt; "{fault}");
-    fault.status()
-}
-
-/// Tells what `clap` says. Gives the status.
-fn refuse(rt: &HostRuntime, error: &clap::Error) -> u8
-    ensures { result ≡ status_of_kind (kind_of error.now) }
-{
-    if error.kind() == ErrorKind::OutOfMemory {
-        return fail(rt, Fault::Memory);
-    }
-    let _told = eprint!(rt; "{error}");
-    USAGE
-}
-
-/// The command line.
-fn arguments(rt: &HostRuntime) -> Result<Vec<String>, u8>
-    ensures { IfErr result (λ status. IsStatus status) }
-{
-    let args = match env::args(rt) {
-        Ok(args) => args,
+    match env::args(rt) {
+        Ok(arguments) => Ok(arguments.collect(rt.alloc())?),
         Err(error) if error.kind() == io::ErrorKind::OutOfMemory => {
-            return Err(fail(rt, Fault::Memory));
+            Err(Stop::Run(Fault::Memory))
         }
-        Err(_) => {
-            let _told = eprintln!(rt; "an argument is not UTF-8");
-            return Err(USAGE);
-        }
-    };
-    args.collect(rt.alloc())
-        .map_err(|_| fail(rt, Fault::Memory))
+        Err(_) => Err(Stop::NotUtf8),
+    }
 }
 
-/// Does what the command line asks for. At an `Err` the status is given, and its line was told.
-fn run(rt: &HostRuntime) -> Result<(), u8>
-    ensures { IfErr result (λ status. IsStatus status) }
-{
+/// Does what the command line asks for.
+fn run(rt: &HostRuntime) -> Result<(), Stop> {
     let alloc = rt.alloc();
     let arguments = arguments(rt)?;
     let mut words = Vec::new(alloc);
     for argument in &arguments {
-        words
-            .push(argument.as_str())
-            .map_err(|_| fail(rt, Fault::Memory))?;
+        words.push(argument.as_str()).map_err(|_| Fault::Memory)?;
     }
-    let Line::Replay = Line::of(alloc, &words).map_err(|error| refuse(rt, &error))?;
+    let Line::Replay = Line::of(alloc, &words)?;
     let mut input = Told::new(rt.stdin());
     let mut output = Told::new(rt.stdout());
-    replay(alloc, &mut input, &mut output).map_err(|fault| fail(rt, fault))
+    replay(alloc, &mut input, &mut output)?;
+    Ok(())
+}
+
+/// Tells on standard error why the program stops. Gives the exit status, which remains where that write fails too.
+fn end(rt: &HostRuntime, stop: &Stop) -> ExitCode
+    ensures { exit_status result ≡ status_of_stop stop.now }
+{
+    let _told = match stop {
+        Stop::Usage(error) => eprint!(rt; "{error}"),
+        Stop::NotUtf8 => eprintln!(rt; "an argument is not UTF-8"),
+        Stop::Run(fault) => eprintln!(rt; "{fault}"),
+    };
+    ExitCode::from(stop.status())
 }
 
 fn main(rt: HostRuntime) -> ExitCode {
     match run(&rt) {
         Ok(()) => ExitCode::SUCCESS,
-        Err(status) => ExitCode::from(status),
+        Err(stop) => end(&rt, &stop),
     }
 }
