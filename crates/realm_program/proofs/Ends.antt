@@ -1,5 +1,5 @@
 -- How a replay ends.
-use Rattle.std.proofs.Common.{◌≡◌, ℕ, List, Option, None, Some, IfSome, Result, Ok, Err, refl, ap, sym, ◌∙◌, inr}
+use Rattle.std.proofs.Common.{◌≡◌, ◌↔◌, ℕ, List, Option, None, Some, IfSome, Result, Ok, Err, Bool, true, false, refl, ap, sym, ◌∙◌}
 use Rattle.std.specs.Io.KnownBytes.{Appends, Keeps}
 use Rattle.realm_plan.specs.Outcome.{Fails}
 use Rattle.realm_plan.specs.Plan.{Plan, plan_of}
@@ -10,6 +10,7 @@ use Rattle.realm_program.specs.Fault.{fault_of_plan}
 use Rattle.realm_program.specs.Whole.{kept_of, AppendsFront}
 use Rattle.realm_program.specs.Replay.{IsText, IsTextOf, IsPrinted, IsEnd}
 use Rattle.realm_program.specs.declared.fault.Fault.TheVariants.{Device}
+use Rattle.realm_program.specs.declared.told.ReadError.TheVariants.{Device as ReadDevice}
 use Rattle.realm_program.proofs.KeptPlan.{plan_of-kept_of}
 
 -- nothing was written
@@ -25,12 +26,17 @@ read_of (Some xs) bytes outcome kept read = sym (plan_of-kept_of xs) ∙ ap plan
 
 -- no plan, or no memory for it
 pub no_plan :
-    (input output : Option (List ℕ)) (bytes : List ℕ) (error : PlanError)
+    (unread : Bool) (input output : Option (List ℕ)) (bytes : List ℕ) (error : PlanError)
     → IfSome input (λ xs. bytes ≡ kept_of xs)
     → Fails error (plan_of bytes)
-    → IsEnd input output output (Err (fault_of_plan error))
-no_plan input output bytes plan_error.Memory kept fails = keeps_same output
-no_plan input output bytes (plan_error.Fault fault) kept fails = (read_of input bytes (Err fault) kept fails, keeps_same output)
+    → IsEnd unread input output output (Err (fault_of_plan error))
+no_plan unread input output bytes plan_error.Memory kept fails = keeps_same output
+no_plan unread input output bytes (plan_error.Fault fault) kept fails = (read_of input bytes (Err fault) kept fails, keeps_same output)
+
+-- where bytes were read, no read failed
+pub read_well : {A : Type 0} (failed : Bool) (bytes : A) → (failed ≡ true) ↔ (Ok bytes ≡ Err ReadDevice) → failed ≡ false
+read_well false bytes told = refl
+read_well true bytes told = let failed = told.0 refl in absurd (cc)
 
 -- the text of the plan
 pub text_of_input :
@@ -55,8 +61,9 @@ printed input old new text text_of written = record { text = text; text_of = tex
 
 -- a front of it was written
 pub cut :
-    (input old new : Option (List ℕ)) (text : List ℕ)
+    (unread : Bool) (input old new : Option (List ℕ)) (text : List ℕ)
+    → unread ≡ false
     → IsTextOf input text
     → AppendsFront old new text
-    → IsEnd input old new (Err Device)
-cut input old new text text_of written = inr (record { text = text; text_of = text_of; written = written })
+    → IsEnd unread input old new (Err Device)
+cut unread input old new text read text_of written = rw read (record { text = text; text_of = text_of; written = written })

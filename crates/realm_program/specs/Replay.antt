@@ -1,5 +1,5 @@
 -- What a replay prints, and how it ends.
-use Rattle.std.specs.Prelude.{◌≡◌, ◌⊎◌, ℕ, List, [], ◌++◌, length, Option, IfSome, Result, Ok, Err}
+use Rattle.std.specs.Prelude.{◌≡◌, ℕ, Bool, true, false, List, [], ◌++◌, length, Option, IfSome, Result, Ok, Err}
 use Rattle.std.specs.Io.KnownBytes.{Appends, Keeps}
 use Rattle.realm_host.specs.View.{HostView}
 use Rattle.realm_plan.specs.Plan.{Plan, plan_of}
@@ -41,9 +41,14 @@ pub record IsCut (input old new : Option (List ℕ)) : Type 0 where
   pub text_of : IsTextOf input text
   pub written : AppendsFront old new text
 
--- A replay prints a text whole, or nothing, but that a device may fail between.
-abbrev pub IsEnd : Option (List ℕ) → Option (List ℕ) → Option (List ℕ) → Result (Unit {0}) Fault → Type 0
-IsEnd input old new (Ok _) = IsPrinted input old new
-IsEnd input old new (Err (PlanIsFaulty fault)) = IfSome input (λ bytes. plan_of bytes ≡ Err fault) × Keeps old new
-IsEnd input old new (Err Memory) = Keeps old new
-IsEnd input old new (Err Device) = Keeps old new ⊎ IsCut input old new
+-- where a device failed: nothing was written where it was a read, and a front of the text where it was a write
+abbrev pub IsEndOfDevice : Bool → Option (List ℕ) → Option (List ℕ) → Option (List ℕ) → Type 0
+IsEndOfDevice true input old new = Keeps old new
+IsEndOfDevice false input old new = IsCut input old new
+
+-- A replay prints a text whole, or nothing, but that a write may fail between. `unread` is whether a read failed.
+abbrev pub IsEnd : Bool → Option (List ℕ) → Option (List ℕ) → Option (List ℕ) → Result (Unit {0}) Fault → Type 0
+IsEnd unread input old new (Ok _) = IsPrinted input old new
+IsEnd unread input old new (Err (PlanIsFaulty fault)) = IfSome input (λ bytes. plan_of bytes ≡ Err fault) × Keeps old new
+IsEnd unread input old new (Err Memory) = Keeps old new
+IsEnd unread input old new (Err Device) = IsEndOfDevice unread input old new

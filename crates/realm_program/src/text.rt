@@ -47,7 +47,7 @@ pub fn text_of(alloc: Global, plan: &Plan) -> Result<String, AllocError>
 /// Reads a plan, runs it, and writes the text of the run.
 ///
 /// The text is made whole before any of it is written. Errors: the fault of a plan; Memory, where a growth was refused;
-/// Device, where a read or a write failed.
+/// Device, where a read failed, and then nothing is written, or a write, and then a front of the text is.
 pub fn replay<R: Read, W: Write>(
     alloc: Global,
     input: &mut Told<R>,
@@ -55,7 +55,7 @@ pub fn replay<R: Read, W: Write>(
 ) -> Result<(), Fault>
     requires readable { input.old.failed ≡ false }
     requires writable { output.old.failed ≡ false }
-    ensures end { IsEnd (R.remaining input.old.device) (W.contents output.old.device) (W.contents output.new.device) result }
+    ensures end { IsEnd input.new.failed (R.remaining input.old.device) (W.contents output.old.device) (W.contents output.new.device) result }
     ensures device { ((input.new.failed ≡ true) ⊎ (output.new.failed ≡ true)) ↔ (result ≡ Err Device) }
     ensures asked { input.new.reads ≤ input.old.reads + 1048578 }
 {

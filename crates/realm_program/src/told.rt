@@ -1,4 +1,4 @@
-//! A device that tells whether it has failed.
+//! A device that tells whether it has failed. Nothing outside of this module calls the device or sets what is told.
 ghost use Rattle.std.specs.Prelude.{◌≡◌, ◌+◌, ◌-◌, ◌^◌, ◌<◌, ◌≤◌, ◌↔◌, min, false, true, is_err, IfOk, IfSome, OnOk, OnErr, Err, length};
 ghost use Rattle.std.specs.Io.{ReadsAtMost, WritesAtMost};
 ghost use Rattle.std.specs.Io.KnownBytes.{Appends, Keeps, ReadConsumes, WriteAppends};
@@ -6,6 +6,7 @@ ghost use Rattle.realm_program.specs.Whole.{kept_of, AppendsFront};
 
 use std::alloc::Global;
 use std::io::{Read, Write};
+use std::marker::Model;
 
 /// How many bytes are kept of an input: one more than a plan may have.
 pub const KEPT: usize = 1_048_577;
@@ -29,11 +30,17 @@ pub enum ReadError {
 /// A reader or a writer, and what is told of it.
 #[derive(Drop)]
 pub struct Told<D> {
-    pub device: D,
-    /// Whether a call of the device has failed.
-    pub failed: bool,
-    /// How often the device was asked to read, up to the greatest `u64`.
-    pub reads: u64,
+    device: D,
+    failed: bool,
+    reads: u64,
+}
+
+impl<D> Model for Told<D> {
+    ghost use Rattle.realm_program.specs.Told.{ToldView};
+
+    ghost Value = { ToldView D };
+
+    ghost view = { λ t. record { device = t.device; failed = t.failed; reads = t.reads } };
 }
 
 impl<D> Told<D> {
@@ -46,6 +53,27 @@ impl<D> Told<D> {
             failed: false,
             reads: 0,
         }
+    }
+
+    /// Whether a call of the device has failed.
+    pub fn has_failed(&self) -> bool
+        ensures { result ≡ self.now.failed }
+    {
+        self.failed
+    }
+
+    /// How often the device was asked to read, up to the greatest `u64`.
+    pub fn reads(&self) -> u64
+        ensures { result ≡ self.now.reads }
+    {
+        self.reads
+    }
+
+    /// The device, to look at.
+    pub fn device(&self) -> &D
+        ensures { result.now ≡ self.now.device }
+    {
+        &self.device
     }
 }
 

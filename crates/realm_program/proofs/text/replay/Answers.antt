@@ -4,7 +4,7 @@ use Rattle.std.proofs.lemmas.Result.{err_from_is_err_and}
 use Rattle.realm_plan.specs.PlanView.{plan_view}
 use Rattle.realm_program.specs.Whole.{kept_of, AppendsFront}
 use Rattle.realm_program.specs.Replay.{IsEnd}
-use Rattle.realm_program.proofs.Ends.{no_plan, text_of_input, printed, cut}
+use Rattle.realm_program.proofs.Ends.{no_plan, read_well, text_of_input, printed, cut}
 use Rattle.realm_program.proofs.text.replay.Goals as goal
 
 pub returns-in_err-plan-clause-end : goal.returns-in_err-plan-clause-end
@@ -13,8 +13,9 @@ returns-in_err-plan-clause-end g c =
     let input = g.R.Read.remaining c.args.input.now.device in
     let output = g.W.Write.contents c.args.output.now.device in
     let kept = subst (λ bytes. IfSome input (λ xs. bytes ≡ kept_of xs)) (sym c.deref.ensures.value) c.in_ok-bytes.ensures.bytes in
-    subst (IsEnd input output output) (sym (told.1 ∙ ap Err told.2))
-    (no_plan input output c.deref.result.now c.in_err-plan.field-0.0 kept c.in_err-plan.ensures.value)
+    let unread = c.read_whole.new.self.failed in
+    subst (IsEnd unread input output output) (sym (told.1 ∙ ap Err told.2))
+    (no_plan unread input output c.deref.result.now c.in_err-plan.field-0.0 kept c.in_err-plan.ensures.value)
 
 pub returns-in_err-write_whole-clause-end : goal.returns-in_err-write_whole-clause-end
 returns-in_err-write_whole-clause-end g c =
@@ -25,8 +26,9 @@ returns-in_err-write_whole-clause-end g c =
     let text = string_bytes c.in_ok-text.text in
     let kept = subst (λ bytes. IfSome input (λ xs. bytes ≡ kept_of xs)) (sym c.deref.ensures.value) c.in_ok-bytes.ensures.bytes in
     let text_of = text_of_input input c.deref.result.now (plan_view c.in_ok-plan.plan) text kept c.in_ok-plan.ensures.value c.in_ok-text.ensures in
-    subst (IsEnd input old new) (sym (told.1 ∙ ap Err told.2))
-    (cut input old new text text_of (subst (AppendsFront old new) c.as_bytes.ensures.value c.in_err-write_whole.ensures.err))
+    let unread = c.read_whole.new.self.failed in
+    subst (IsEnd unread input old new) (sym (told.1 ∙ ap Err told.2))
+    (cut unread input old new text (read_well unread c.in_ok-bytes.bytes c.in_ok-bytes.ensures.told) text_of (subst (AppendsFront old new) c.as_bytes.ensures.value c.in_err-write_whole.ensures.err))
 
 pub returns-clause-end : goal.returns-clause-end
 returns-clause-end g c =
