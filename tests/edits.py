@@ -1,0 +1,163 @@
+"""Must-fail edits: whose body an edit changes, and which edits share a check.
+
+An edit is a file with a line `file: src/NAME.rt` and, below it, pairs of lines `old: TEXT` and `new: TEXT`. Each TEXT is
+one line, and an old TEXT stands in its file once. An edit changes the body of one function and nothing else, since it
+is then that function which the prover has to refuse. A second function may follow right behind, with the old body:
+`{ 0 } pub fn kept(self) -> u8` in front of a body puts `{ 0 }` in its place.
+"""
+import importlib.machinery
+import os
+import re
+import shutil
+import subprocess
+import tempfile
+import types
+
+FOLDERS = ("must-fail", "wrong-bodies")
+
+
+class Toolchain:
+    """What is beside `rt`: its own commands, and the reader of functions that `rt plant` has."""
+
+    def __init__(self):
+        found = shutil.which("rt")
+        if not found:
+            raise LookupError("there is no rt in the PATH")
+        # (rt may be a link to the toolchain's)
+        self.folder = os.path.dirname(os.path.realpath(found))
+        for name in ("rt", "rtlib.py", "rt-plant-bodies"):
+            if not os.path.isfile(f"{self.folder}/{name}"):
+                raise LookupError(f"{found} is not the toolchain's own rt: {self.folder} has no {name}")
+        self.rt, self.reader = self.load("rt"), self.load("rt-plant-bodies")
+        self.library = self.rt.rtlib
+
+    def load(self, name):
+        module = types.ModuleType(name)
+        module.__file__ = f"{self.folder}/{name}"
+        importlib.machinery.SourceFileLoader(name, module.__file__).exec_module(module)
+        return module
+
+
+class Edit:
+    """An edit, read. Where `why_bad` is empty it changes the body of `function` alone."""
+
+    def __init__(self, crate_name, path):
+        self.path, self.label = path, f"{crate_name}/{os.path.basename(path)[: -len('.edit')]}"
+        self.why_bad = ""
+        self.file, self.function = "", None
+        # The function as the edit has it, from its attributes to its end.
+        self.text = b""
+        # The names that the prover prints for the function, and for those that the edit adds behind it.
+        self.name, self.added = "", set()
+
+    def shares_with(self, other):
+        """Returns whether both can stand in one text of the crate."""
+        return self.function is not other.function and not self.added & other.added
+
+
+def paths_of(folder):
+    """Returns the paths of the edits in a folder, which may be absent."""
+    names = sorted(os.listdir(folder)) if os.path.isdir(folder) else []
+    return [f"{folder}/{name}" for name in names if name.endswith(".edit")]
+
+
+def rounds_of(edits):
+    """Puts each edit into the first round that has no other edit of its function."""
+    rounds = []
+    for edit in edits:
+        free = [it for it in rounds if all(edit.shares_with(other) for other in it)]
+        if free:
+            free[0].append(edit)
+        else:
+            rounds.append([edit])
+    return rounds
+
+
+class Sources:
+    """The functions of a crate, and the names that the prover prints for them."""
+
+    def __init__(self, toolchain, crate, printed):
+        self.toolchain, self.crate, self.printed = toolchain, crate, printed
+        self.parsed = toolchain.reader.Source(crate.folder)
+        self.parsed.read(f"src/{'main' if crate.is_program else 'lib'}.rt")
+
+    def edit(self, path):
+        """Reads an edit."""
+        edit = Edit(self.crate.name, path)
+        texts, why = self.toolchain.rt.read_edit(path, self.crate.folder)
+        if why:
+            edit.why_bad = why
+        elif len(texts) > 1 or next(iter(texts)) not in self.parsed.data:
+            edit.why_bad = "it changes more than the body of one function of src/"
+        else:
+            edit.file, text = next(iter(texts.items()))
+            self.find_function(edit, text.encode())
+        return edit
+
+    def find_function(self, edit, text):
+        """Finds the function whose body is all that the edit changes of its file."""
+        old = [it for it in self.parsed.functions if it.file == edit.file]
+        try:
+            new = self.functions_in(text)
+        except (subprocess.CalledProcessError, IndexError):
+            edit.why_bad = "the edited file is no text of Rattle"
+            return
+        was, count = self.parsed.data[edit.file], 1 + len(new) - len(old)
+        for place, function in enumerate(old):
+            changed = new[place : place + count]
+            if not changed or not is_body_alone(was, function, text, changed):
+                continue
+            edit.function, edit.name = function, self.printed_name(function)
+            edit.text = text[function.first : changed[-1].end]
+            edit.added = {edit.name[: -len(function.name)] + it.name for it in changed[1:]}
+            if not edit.name:
+                edit.why_bad = f"the prover prints no name that can only be {function.name}'s"
+            return
+        edit.why_bad = "it changes more than the body of one function"
+
+    def functions_in(self, text):
+        with tempfile.TemporaryDirectory() as room:
+            with open(f"{room}/edited.rt", "wb") as it:
+                it.write(text)
+            source = self.toolchain.reader.Source(room, follows=False)
+            source.read("edited.rt")
+        return source.functions
+
+    def printed_name(self, function):
+        """Returns the name that the prover prints for a function, or '' where that is not clear. A method has that of
+        its type, or of its type and its trait, behind the module of the `impl` or of the type."""
+        block, modules, owner = function.block, {function.module}, []
+        if block and block.is_trait:
+            owner = [block.trait[0]]
+        elif block:
+            trait = self.toolchain.reader.named(block.trait)[0]
+            owner = [re.escape(function.owner) + (rf"\w*{trait}\w*" if trait else "")]
+            modules |= {module for module, *_ in self.parsed.declared.get(function.owner, ())}
+        forms = ["::".join([self.crate.name, *module, *owner, function.name]) for module in modules]
+        found = {name for name in self.printed for form in forms if re.fullmatch(form, name)}
+        if len(found) > 1 and block:
+            found = {name for name in found if block.fits(name.split("::")[-2])}
+        return found.pop() if len(found) == 1 else ""
+
+    def merged(self, edits):
+        """Returns the texts of the files with all the edits, and for each edit the lines of its function there."""
+        texts, lines = {}, {}
+        for file in {edit.file for edit in edits}:
+            was, text, end = self.parsed.data[file], b"", 0
+            for edit in sorted((it for it in edits if it.file == file), key=lambda it: it.function.first):
+                text += was[end : edit.function.first]
+                first = text.count(b"\n") + 1
+                text += edit.text
+                lines[edit] = range(first, text.count(b"\n") + 2)
+                end = edit.function.end
+            texts[file] = (text + was[end:]).decode()
+        return texts, lines
+
+
+def is_body_alone(was, function, text, changed):
+    """Returns whether a text differs from what it was in a function's body alone. `changed` is that function there, and
+    those that stand behind it now."""
+    head = was[function.first : function.opens].split()
+    same_head = text[function.first : changed[0].opens].split() == head
+    same_rest = text[changed[-1].end :] == was[function.end :]
+    return same_head and same_rest and text[: function.first] == was[: function.first]
