@@ -1,7 +1,5 @@
-use super::*;
-use arrayvec::ArrayVec;
 use granule_addr::{Gran, IpaGran, RecNo, Vmid};
-use realm_model::{RealmState, RecState};
+use realm_objects::{RealmDesc, data_event, extend_measurement, rec_event, ripas_event};
 
 // The digests below are Python's hashlib's, of bytes written out by hand.
 
@@ -38,57 +36,37 @@ const AFTER_RIPAS: [u8; 32] = [
 
 #[test]
 fn events_are_big_endian(rt: HostRuntime) {
-    let last = IpaGran::new(67_108_863, 39).unwrap();
-    let first = IpaGran::new(67_108_352, 39).unwrap();
+    let (Some(last), Some(first)) = (IpaGran::new(67_108_863, 39), IpaGran::new(67_108_352, 39))
+    else {
+        assert!(rt; false);
+        return;
+    };
     assert_eq!(rt; data_event(last, &[0x5a; 4096]), DATA_EVENT);
     assert_eq!(rt; ripas_event(first, 512), [2, 3, 0xff, 0xfe, 0, 0, 0, 2, 0]);
     assert_eq!(rt; rec_event(RecNo::new(258)), [3, 0, 0, 1, 2]);
 }
 
-// Two RECs, a page of data and 512 pages of RAM, and then the realm is ACTIVE.
+// Two RECs, a page of data, and 512 pages of RAM.
 #[test]
-fn a_realm_is_measured(rt: HostRuntime) {
-    let last = IpaGran::new(67_108_863, 39).unwrap();
-    let first = IpaGran::new(67_108_352, 39).unwrap();
-    let vmid = Vmid::new(7).unwrap();
-    let root = Gran::new(5, 8).unwrap();
-    let mut realm = RealmDesc::new(vmid, root);
-    assert!(rt; realm.is_new());
-    assert_eq!(rt; *realm.measurement(), [0; 32]);
-    let boot = realm.next_rec();
-    assert_eq!(rt; boot.number(), 0);
-    realm.measure(&rec_event(boot));
-    assert_eq!(rt; *realm.measurement(), AFTER_REC_0);
-    let second = realm.next_rec();
-    assert_eq!(rt; second.number(), 1);
-    realm.measure(&rec_event(second));
-    assert_eq!(rt; *realm.measurement(), AFTER_REC_1);
-    realm.measure(&data_event(last, &[0x5a; 4096]));
-    assert_eq!(rt; *realm.measurement(), AFTER_DATA);
-    realm.measure(&ripas_event(first, 512));
-    assert_eq!(rt; *realm.measurement(), AFTER_RIPAS);
+fn measurements_follow_one_another(rt: HostRuntime) {
+    let rec_0 = [3, 0, 0, 0, 0];
+    let rec_1 = [3, 0, 0, 0, 1];
+    let ripas = [2, 3, 0xff, 0xfe, 0, 0, 0, 2, 0];
+    assert_eq!(rt; extend_measurement(&[0; 32], &rec_0), AFTER_REC_0);
+    assert_eq!(rt; extend_measurement(&AFTER_REC_0, &rec_1), AFTER_REC_1);
     assert_eq!(rt; extend_measurement(&AFTER_REC_1, &DATA_EVENT), AFTER_DATA);
-    realm.activate();
-    assert!(rt; !realm.is_new());
-    assert_eq!(rt; realm.state(), RealmState::Active);
-    assert_eq!(rt; realm.vmid(), vmid);
-    assert_eq!(rt; realm.root(), root);
-    assert_eq!(rt; realm.next_number().number(), 2);
-    assert_eq!(rt; *realm.measurement(), AFTER_RIPAS);
+    assert_eq!(rt; extend_measurement(&AFTER_DATA, &ripas), AFTER_RIPAS);
 }
 
 #[test]
-fn a_rec_runs_and_stops(rt: HostRuntime) {
-    let page = Gran::new(3, 8).unwrap();
-    let mut auxiliaries = ArrayVec::new();
-    auxiliaries.push(page);
-    let mut rec = Rec::new(RecNo::new(6), auxiliaries);
-    assert!(rt; rec.is_ready());
-    rec.enter();
-    assert!(rt; !rec.is_ready());
-    assert_eq!(rt; rec.state(), RecState::Running);
-    rec.exit();
-    assert_eq!(rt; rec.state(), RecState::Ready);
-    assert_eq!(rt; rec.number().number(), 6);
-    assert_eq!(rt; rec.auxiliaries(), [page].as_slice());
+fn a_new_realm_is_measured(rt: HostRuntime) {
+    let (Some(vmid), Some(root)) = (Vmid::new(7), Gran::new(5, 8)) else {
+        assert!(rt; false);
+        return;
+    };
+    let mut realm = RealmDesc::new(vmid, root);
+    assert_eq!(rt; *realm.measurement(), [0; 32]);
+    let boot = realm.next_rec();
+    realm.measure(&rec_event(boot));
+    assert_eq!(rt; *realm.measurement(), AFTER_REC_0);
 }
