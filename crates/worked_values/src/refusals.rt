@@ -1,0 +1,77 @@
+use granule_addr::{BuildId, Order};
+use page_arena::PlainStore;
+use realm_host::{Answer, Cmd, Host, Refusal, Settings, Step};
+use realm_model::{Rmi, Status};
+use realm_plan::push_turn;
+use std::test::Fail;
+
+// What a program that runs plans cannot ask: a build that the host has not got.
+#[test]
+fn there_is_no_such_build(rt: HostRuntime) -> Result<(), Fail> {
+    let store = PlainStore::build(rt.alloc(), 1)?;
+    let settings = Settings::new(1, 0, 16, 2).ok_or("settings")?;
+    let third = BuildId::new(2).ok_or("build 2")?;
+    let Ok(mut host) = Host::boot(rt.alloc(), settings, store) else {
+        assert!(rt; false);
+        return Ok(());
+    };
+    assert_eq!(rt; host.command(third, Cmd::Take { order: 10 }), Err(Refusal::NoBuild));
+    assert_eq!(rt; host.undo(third), Err(Refusal::NoBuild));
+    Ok(())
+}
+
+#[test]
+fn settings_have_limits(rt: HostRuntime) {
+    assert!(rt; Settings::new(255, 16, 16_384, 8).is_some());
+    for (vmids, aux, history, builds) in [
+        (0, 0, 16, 1),
+        (1, 17, 16, 1),
+        (1, 0, 15, 1),
+        (1, 0, 16_385, 1),
+        (1, 0, 16, 0),
+        (1, 0, 16, 9),
+    ] {
+        assert!(rt; Settings::new(vmids, aux, history, builds).is_none());
+    }
+}
+
+#[test]
+fn refusals_are_told(rt: HostRuntime) -> Result<(), Fail> {
+    let order = Order::new(9).ok_or("order 9")?;
+    let rtt = Rmi {
+        status: Status::Rtt,
+        index: 2,
+    };
+    for (refusal, text) in [
+        (Refusal::NoBuild, "there is no such build"),
+        (Refusal::BadOrder, "a block has at most 512 pages"),
+        (Refusal::NotLeased(12), "the build has no page 12"),
+        (Refusal::NothingToUndo, "there is nothing to undo"),
+        (Refusal::JournalFull, "the journal is full"),
+        (Refusal::HistoryFull, "the history is full"),
+        (Refusal::NoBlock(order), "no block of order 9 is free"),
+        (Refusal::Rmi(rtt), "the monitor refused: Rtt, index 2"),
+    ] {
+        let told = format!(in rt.alloc(); "{refusal}")?;
+        assert_eq!(rt; told.as_str(), text);
+    }
+    Ok(())
+}
+
+#[test]
+fn lines_of_refusals_that_no_plan_meets(rt: HostRuntime) -> Result<(), Fail> {
+    let build = BuildId::new(7).ok_or("build 7")?;
+    let rtt = Rmi {
+        status: Status::Rtt,
+        index: 1,
+    };
+    for (refusal, line) in [
+        (Refusal::NoBuild, "7 undo = no 1 NoBuild\n"),
+        (Refusal::Rmi(rtt), "7 undo = no 13 Rmi 4 1\n"),
+    ] {
+        let mut text = String::new(rt.alloc());
+        push_turn(&mut text, build, &Step::Undo, Answer::Refused(refusal))?;
+        assert_eq!(rt; text.as_str(), line);
+    }
+    Ok(())
+}
