@@ -1,5 +1,5 @@
 -- Why the program stops, and its exit status then.
-use Rattle.std.specs.Prelude.{◌≡◌, ◌⊎◌, ℕ}
+use Rattle.std.specs.Prelude.{◌≡◌, ◌⊎◌, ℕ, Result, Ok, Err}
 use Rattle.clap.specs.Values.{kind_of}
 use Rattle.clap.specs.declared.error.Error.{Error}
 use Rattle.clap.specs.declared.error.kind.ErrorKind.{ErrorKind}
@@ -13,6 +13,11 @@ abbrev pub status_of_stop : Stop → ℕ
 status_of_stop (Usage error) = 2
 status_of_stop NotUtf8 = 2
 status_of_stop (Run fault) = status_of fault
+
+-- a program that has done what it was asked for ends with 0
+abbrev pub status_of_outcome : Result (Unit {0}) Stop → ℕ
+status_of_outcome (Ok _) = 0
+status_of_outcome (Err stop) = status_of_stop stop
 
 -- the statuses of a program that has not printed the whole text of a run
 abbrev pub IsStatus : ℕ → Type 0

@@ -6,7 +6,7 @@ mod text;
 mod told;
 
 use crate::told::Told;
-use std::alloc::{AllocError, Global};
+use std::alloc::Global;
 use std::io;
 use std::io::{Read, Write};
 
@@ -97,12 +97,4 @@ fn told_sink(alloc: Global, most: usize, fails_at: Option<u64>, fails_to_flush: 
         fails_at,
         fails_to_flush,
     })
-}
-
-fn spaces(alloc: Global, count: usize) -> Result<Vec<u8>, AllocError> {
-    let mut bytes = Vec::new(alloc);
-    for _ in 0..count {
-        bytes.push(b' ')?;
-    }
-    Ok(bytes)
 }

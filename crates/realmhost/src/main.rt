@@ -3,7 +3,7 @@
 
 ghost use Rattle.std.specs.Prelude.{◌≡◌, ◌⊎◌, IfErr};
 ghost use Rattle.std.specs.Process.{exit_status};
-ghost use Rattle.realm_program.specs.Stop.{status_of_stop};
+ghost use Rattle.realm_program.specs.Stop.{status_of_outcome};
 ghost use Rattle.realm_program.specs.declared.fault.Fault.TheVariants.{Memory};
 ghost use Rattle.realm_program.specs.declared.stop.Stop.TheVariants.{NotUtf8, Run};
 
@@ -39,11 +39,16 @@ fn run(rt: &HostRuntime) -> Result<(), Stop> {
     Ok(())
 }
 
-/// Tells on standard error why the program stops. Gives the exit status, which remains where that write fails too.
-fn end(rt: &HostRuntime, stop: &Stop) -> ExitCode
-    ensures { exit_status result ≡ status_of_stop stop.now }
+/// The exit status. Where the program stops, standard error is told why.
+fn end(rt: &HostRuntime, outcome: Result<(), Stop>) -> ExitCode
+    ensures { exit_status result ≡ status_of_outcome outcome }
 {
-    let _told = match stop {
+    let stop = match outcome {
+        Ok(()) => return ExitCode::SUCCESS,
+        Err(stop) => stop,
+    };
+    // Where this write fails too, the status is what remains.
+    let _told = match &stop {
         Stop::Usage(error) => eprint!(rt; "{error}"),
         Stop::NotUtf8 => eprintln!(rt; "an argument is not UTF-8"),
         Stop::Run(fault) => eprintln!(rt; "{fault}"),
@@ -52,8 +57,5 @@ fn end(rt: &HostRuntime, stop: &Stop) -> ExitCode
 }
 
 fn main(rt: HostRuntime) -> ExitCode {
-    match run(&rt) {
-        Ok(()) => ExitCode::SUCCESS,
-        Err(stop) => end(&rt, &stop),
-    }
+    end(&rt, run(&rt))
 }

@@ -1,5 +1,5 @@
 //! A device is asked as often as is told, never again where it has failed, and flushed once.
-use super::{spaces, told_sink, told_source};
+use super::{told_sink, told_source};
 use crate::told::{DeviceFailed, ReadError};
 use std::test::Fail;
 
@@ -29,13 +29,13 @@ fn asks_no_reader_again_that_has_failed(rt: HostRuntime) {
 
 #[test]
 fn keeps_no_more_than_it_must(rt: HostRuntime) -> Result<(), Fail> {
-    for (size, kept, reads) in [
-        (1_048_576, 1_048_576, 1_048_577),
-        (1_048_577, 1_048_577, 1_048_577),
-        (1_100_000, 1_048_577, 1_048_577),
+    for (size, most, kept, reads) in [
+        (1_048_576, 4096, 1_048_576, 257),
+        (1_048_577, 1, 1_048_577, 1_048_577),
+        (1_100_000, 4096, 1_048_577, 257),
     ] {
-        let spaces = spaces(rt.alloc(), size)?;
-        let mut input = told_source(&spaces, 1, None);
+        let spaces = vec![in rt.alloc(); b' '; size]?;
+        let mut input = told_source(&spaces, most, None);
         let bytes = input.read_whole(rt.alloc()).ok().ok_or("refused")?;
         let told = (bytes.len(), input.reads(), input.device().reads);
         assert_eq!(rt; told, (kept, reads, reads));
