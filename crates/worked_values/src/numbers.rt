@@ -1,5 +1,7 @@
-use granule_addr::{BuildId, Gran, IpaGran, Level, Order, PageOff, Vmid};
-use granule_addr::{align_down, buddy_of, index_at, is_protected};
+use granule_addr::{
+    BuildId, Gran, IpaGran, Level, Order, PageOff, Vmid, align_down, buddy_of, index_at,
+    is_protected,
+};
 use realm_model::{Rmi, Status};
 
 // The last number of each kind, and the first that is none.

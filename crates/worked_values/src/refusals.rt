@@ -15,7 +15,10 @@ fn there_is_no_such_build(rt: HostRuntime) -> Result<(), Fail> {
         assert!(rt; false);
         return Ok(());
     };
-    assert_eq!(rt; host.command(third, Cmd::Take { order: 10 }), Err(Refusal::NoBuild));
+    assert_eq!(rt;
+        host.command(third, Cmd::Take { order: 10 }),
+        Err(Refusal::NoBuild)
+    );
     assert_eq!(rt; host.undo(third), Err(Refusal::NoBuild));
     Ok(())
 }
