@@ -1,9 +1,9 @@
-"""Must-fail edits: whose body an edit changes, and which edits share a check.
+"""Must-fail edits: whose body an edit changes, and which edits can share a check.
 
 An edit is a file with a line `file: src/NAME.rt` and, below it, pairs of lines `old: TEXT` and `new: TEXT`. Each TEXT is
-one line, and an old TEXT stands in its file once. An edit changes the body of one function and nothing else, since it
-is then that function which the prover has to refuse. A second function may follow right behind, with the old body:
-`{ 0 } pub fn kept(self) -> u8` in front of a body puts `{ 0 }` in its place.
+one line, and an old one stands in its file once. An edit changes the body of one function and nothing else, since it is
+then that function which the prover has to refuse. It may add functions right behind: `{ 0 } pub fn kept(self) -> u8` in
+front of a body makes `{ 0 }` the body, and hands the old one to `kept`.
 """
 import importlib.machinery
 import os
@@ -14,20 +14,21 @@ import tempfile
 import types
 
 FOLDERS = ("must-fail", "wrong-bodies")
+NOT_ONE_BODY = "it changes more than the body of one function of src/"
 
 
 class Toolchain:
-    """What is beside `rt`: its own commands, and the reader of functions that `rt plant` has."""
+    """What stands beside `rt`: its commands as functions, and the reader of functions that `rt plant` has."""
 
     def __init__(self):
         found = shutil.which("rt")
         if not found:
-            raise LookupError("there is no rt in the PATH")
+            raise LookupError("there is no rt in the PATH: put the toolchain's folder bin/ there")
         # (rt may be a link to the toolchain's)
         self.folder = os.path.dirname(os.path.realpath(found))
         for name in ("rt", "rtlib.py", "rt-plant-bodies"):
             if not os.path.isfile(f"{self.folder}/{name}"):
-                raise LookupError(f"{found} is not the toolchain's own rt: {self.folder} has no {name}")
+                raise LookupError(f"{found} is not the toolchain's own rt, or of another version: {self.folder} has no {name}")
         self.rt, self.reader = self.load("rt"), self.load("rt-plant-bodies")
         self.library = self.rt.rtlib
 
@@ -43,15 +44,14 @@ class Edit:
 
     def __init__(self, crate_name, path):
         self.path, self.label = path, f"{crate_name}/{os.path.basename(path)[: -len('.edit')]}"
-        self.why_bad = ""
-        self.file, self.function = "", None
-        # The function as the edit has it, from its attributes to its end.
+        self.why_bad, self.file, self.function = "", "", None
+        # The function with the edit, from its attributes to its end.
         self.text = b""
         # The names that the prover prints for the function, and for those that the edit adds behind it.
         self.name, self.added = "", set()
 
-    def shares_with(self, other):
-        """Returns whether both can stand in one text of the crate."""
+    def can_share(self, other):
+        """Returns whether one text of the crate can have both."""
         return self.function is not other.function and not self.added & other.added
 
 
@@ -65,7 +65,7 @@ def rounds_of(edits):
     """Puts each edit into the first round that has no other edit of its function."""
     rounds = []
     for edit in edits:
-        free = [it for it in rounds if all(edit.shares_with(other) for other in it)]
+        free = [it for it in rounds if all(edit.can_share(other) for other in it)]
         if free:
             free[0].append(edit)
         else:
@@ -84,38 +84,41 @@ class Sources:
     def edit(self, path):
         """Reads an edit."""
         edit = Edit(self.crate.name, path)
-        texts, why = self.toolchain.rt.read_edit(path, self.crate.folder)
-        if why:
-            edit.why_bad = why
-        elif len(texts) > 1 or next(iter(texts)) not in self.parsed.data:
-            edit.why_bad = "it changes more than the body of one function of src/"
+        texts, edit.why_bad = self.toolchain.rt.read_edit(path, self.crate.folder)
+        if edit.why_bad:
+            return edit
+        edit.file, text = next(iter(texts.items()))
+        if len(texts) > 1 or edit.file not in self.parsed.data:
+            edit.why_bad = NOT_ONE_BODY
         else:
-            edit.file, text = next(iter(texts.items()))
             self.find_function(edit, text.encode())
         return edit
 
     def find_function(self, edit, text):
         """Finds the function whose body is all that the edit changes of its file."""
-        old = [it for it in self.parsed.functions if it.file == edit.file]
         try:
-            new = self.functions_in(text)
+            now = self.functions_in(text)
         except (subprocess.CalledProcessError, IndexError):
-            edit.why_bad = "the edited file is no text of Rattle"
+            edit.why_bad = "it does not compile: the edited file is no text of Rattle"
             return
-        was, count = self.parsed.data[edit.file], 1 + len(new) - len(old)
-        for place, function in enumerate(old):
-            changed = new[place : place + count]
-            if not changed or not is_body_alone(was, function, text, changed):
-                continue
-            edit.function, edit.name = function, self.printed_name(function)
-            edit.text = text[function.first : changed[-1].end]
-            edit.added = {edit.name[: -len(function.name)] + it.name for it in changed[1:]}
-            if not edit.name:
-                edit.why_bad = f"the prover prints no name that can only be {function.name}'s"
-            return
-        edit.why_bad = "it changes more than the body of one function"
+        before = [it for it in self.parsed.functions if it.file == edit.file]
+        added = len(now) - len(before)
+        for place, function in enumerate(before):
+            changed = now[place : place + 1 + added] if added >= 0 else []
+            if changed and is_body_alone(self.parsed.data[edit.file], function, text, changed):
+                self.take_function(edit, function, text, changed)
+                return
+        edit.why_bad = NOT_ONE_BODY
+
+    def take_function(self, edit, function, text, changed):
+        edit.function, edit.name = function, self.printed_name(function)
+        edit.text = text[function.first : changed[-1].end]
+        edit.added = {edit.name[: -len(function.name)] + it.name for it in changed[1:]}
+        if not edit.name:
+            edit.why_bad = f"the prover prints no name that can only be that of {function.shown}"
 
     def functions_in(self, text):
+        """Returns the functions of a file's text, in their order."""
         with tempfile.TemporaryDirectory() as room:
             with open(f"{room}/edited.rt", "wb") as it:
                 it.write(text)
@@ -124,14 +127,14 @@ class Sources:
         return source.functions
 
     def printed_name(self, function):
-        """Returns the name that the prover prints for a function, or '' where that is not clear. A method has that of
-        its type, or of its type and its trait, behind the module of the `impl` or of the type."""
+        """Returns the name that the prover prints for a function, or '' where that is not clear. A method's has the
+        name of its type, or of its type and its trait in one word, below the module of the impl or of the type."""
         block, modules, owner = function.block, {function.module}, []
         if block and block.is_trait:
             owner = [block.trait[0]]
         elif block:
             trait = self.toolchain.reader.named(block.trait)[0]
-            owner = [re.escape(function.owner) + (rf"\w*{trait}\w*" if trait else "")]
+            owner = [function.owner + (rf"\w*{trait}\w*" if trait else "")]
             modules |= {module for module, *_ in self.parsed.declared.get(function.owner, ())}
         forms = ["::".join([self.crate.name, *module, *owner, function.name]) for module in modules]
         found = {name for name in self.printed for form in forms if re.fullmatch(form, name)}
@@ -143,21 +146,20 @@ class Sources:
         """Returns the texts of the files with all the edits, and for each edit the lines of its function there."""
         texts, lines = {}, {}
         for file in {edit.file for edit in edits}:
-            was, text, end = self.parsed.data[file], b"", 0
+            before, text, end = self.parsed.data[file], b"", 0
             for edit in sorted((it for it in edits if it.file == file), key=lambda it: it.function.first):
-                text += was[end : edit.function.first]
+                text += before[end : edit.function.first]
                 first = text.count(b"\n") + 1
                 text += edit.text
                 lines[edit] = range(first, text.count(b"\n") + 2)
                 end = edit.function.end
-            texts[file] = (text + was[end:]).decode()
+            texts[file] = (text + before[end:]).decode()
         return texts, lines
 
 
-def is_body_alone(was, function, text, changed):
-    """Returns whether a text differs from what it was in a function's body alone. `changed` is that function there, and
-    those that stand behind it now."""
-    head = was[function.first : function.opens].split()
-    same_head = text[function.first : changed[0].opens].split() == head
-    same_rest = text[changed[-1].end :] == was[function.end :]
-    return same_head and same_rest and text[: function.first] == was[: function.first]
+def is_body_alone(before, function, text, changed):
+    """Returns whether a text differs from what it was before in a function's body alone, or in blanks around it.
+    `changed` is that function, and those that stand behind it now."""
+    same_head = text[function.first : changed[0].opens].split() == before[function.first : function.opens].split()
+    same_rest = text[changed[-1].end :].lstrip() == before[function.end :].lstrip()
+    return same_head and same_rest and text[: function.first] == before[: function.first]
