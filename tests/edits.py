@@ -1,9 +1,9 @@
 """Must-fail edits: whose body an edit changes, and which edits can share a check.
 
-An edit is a file with a line `file: src/NAME.rt` and, below it, pairs of lines `old: TEXT` and `new: TEXT`. Each TEXT is
-one line, and an old one stands in its file once. An edit changes the body of one function and nothing else, since it is
-then that function which the prover has to refuse. It may add functions right behind: `{ 0 } pub fn kept(self) -> u8` in
-front of a body makes `{ 0 }` the body, and hands the old one to `kept`.
+An edit is a file with a line `file: src/NAME.rt` and, below it, pairs of lines `old: TEXT` and `new: TEXT`. Each TEXT
+is one line, and an old one stands in its file once. An edit changes the body of one function and nothing else, since it
+is then that function which the prover has to refuse. It may add functions right behind: `{ 0 } pub fn kept(self) -> u8`
+in front of a body makes `{ 0 }` the body, and hands the old one to `kept`.
 """
 import importlib.machinery
 import os
@@ -28,7 +28,7 @@ class Toolchain:
         self.folder = os.path.dirname(os.path.realpath(found))
         for name in ("rt", "rtlib.py", "rt-plant-bodies"):
             if not os.path.isfile(f"{self.folder}/{name}"):
-                raise LookupError(f"{found} is not the toolchain's own rt, or of another version: {self.folder} has no {name}")
+                raise LookupError(f"{found} is no toolchain's own rt, or of another version: beside it is no {name}")
         self.rt, self.reader = self.load("rt"), self.load("rt-plant-bodies")
         self.library = self.rt.rtlib
 

@@ -25,17 +25,21 @@ FAULT = re.compile(r"(?:note: )?((?:\./)?(\S+?):(\d+):\d+: (?:error|it is not pr
 # What does not reach the prover.
 NOT_COMPILED = re.compile(r"((?:\./)?(\S+?):(\d+):\d+: error\[.*)")
 # A proof's file that does not fit the edited body: it names what is no longer there, or answers what is not asked for.
-LOST_NAME = re.compile(r"((?:\./)?(\S+?):(\d+):\d+: error.*(?:has no field|is not in scope|has no `|was not admitted|could not tell).*)")
+LOST = "has no field|is not in scope|has no `|was not admitted|could not tell"
+LOST_NAME = re.compile(rf"((?:\./)?(\S+?):(\d+):\d+: error.*(?:{LOST}).*)")
 NOT_ASKED = re.compile(r"note: ((?:\./)?(\S+?): .* is no name that rattle asks for.*)")
 
 
 class Check:
-    """What a check of a crate with edits said. `lines` are those that each edited function has in its file."""
+    """What a check of a crate with edits said. `lines` are those that each edited function has in its file, and
+    `is_unread` tells of a line whether it says that an edited text could not be read."""
 
-    def __init__(self, ran, lines):
+    def __init__(self, ran, lines, is_unread):
         self.said, self.lines = ran.stdout.rstrip("\n").split("\n"), lines
         self.is_proved = ran.returncode == 0
-        self.is_refused = ran.returncode == 1 and self.said[-1].startswith("logic=not-proved")
+        self.unread = [it for it in self.said if is_unread(it)]
+        is_refused = ran.returncode == 1 and self.said[-1].startswith("logic=not-proved")
+        self.is_verdict = is_refused and not self.unread
         self.unproved, self.faults = self.found(UNPROVED), self.found(FAULT)
         self.not_compiled = self.found(NOT_COMPILED)
         self.misfits = self.found(LOST_NAME) + self.found(NOT_ASKED)
@@ -120,23 +124,23 @@ class Trial:
         return ""
 
     def check(self, edits):
-        """Checks the crate with these edits. Returns what was said, and whether it is a verdict of the prover's."""
+        """Checks the crate with these edits."""
         texts, lines = self.sources.merged(edits)
         with tempfile.TemporaryDirectory(dir=self.room) as room:
             ran = self.rt.checked(self.crate, texts, FLAGS, shutil.copytree(self.kept, f"{room}/kept"))
-        check = Check(ran, lines)
-        # (antt could not read a text, or the work of a library was made anew meanwhile)
-        is_unread = any(self.rt.unread(it, texts) for it in check.said) or self.library.STALE.search(ran.stdout)
-        return check, check.is_refused and not is_unread
+        check = Check(ran, lines, lambda line: self.rt.unread(line, texts))
+        # (someone may have built a library anew meanwhile)
+        check.is_verdict = check.is_verdict and not self.library.STALE.search(ran.stdout)
+        return check
 
     def tell(self, edits):
         """Tries edits in one check, or in more where that one does not tell. Returns what is told of each."""
-        check, is_verdict = self.check(edits)
+        check = self.check(edits)
         if check.is_proved:
             return [Told(it, NOT_REFUSED, "the crate is proved with it") for it in edits]
         if len(edits) == 1:
-            return [tell_alone(edits[0], check, is_verdict)]
-        if not is_verdict or not check.is_of_edits_alone():
+            return [tell_alone(edits[0], check)]
+        if not check.is_verdict or not check.is_of_edits_alone():
             return [told for part in parts_of(edits, check) for told in self.tell(part)]
         told = []
         for edit in edits:
@@ -145,13 +149,13 @@ class Trial:
         return told
 
 
-def tell_alone(edit, check, is_verdict):
+def tell_alone(edit, check):
     """Returns what is told of an edit that had a check of its own, in which the crate was not proved."""
-    if check.not_compiled:
-        return Told(edit, BAD_EDIT, f"it does not compile: {check.not_compiled[0][1][:LONGEST]}")
-    if not is_verdict:
-        said = check.faults[0][1] if check.faults else check.said[-1]
-        return Told(edit, BAD_EDIT if check.is_refused else NO_VERDICT, f"it did not reach the prover: {said[:LONGEST]}")
+    not_read = [it[1] for it in check.not_compiled] + check.unread
+    if not_read:
+        return Told(edit, BAD_EDIT, f"it does not compile: {not_read[0][:LONGEST]}")
+    if not check.is_verdict:
+        return Told(edit, NO_VERDICT, f"the check ended so: {check.said[-1][:LONGEST]}")
     fault, misfits = check.own_fault(edit), check.misfits_of(edit)
     if fault:
         return Told(edit, REFUSED, f"{fault[:LONGEST]} (alone)")
