@@ -18,10 +18,16 @@ fn ranges(rt: HostRuntime) {
     assert_eq!(rt; PageOff::new(4096), None);
     assert_eq!(rt; PageOff::new(4095).unwrap().number(), 4095);
     assert_eq!(rt; IpaGran::new(134_217_728, 39), None);
-    assert_eq!(rt; IpaGran::new(0, 40), None);
+    assert_eq!(rt; IpaGran::new(0, 38), None);
+    assert_eq!(rt; IpaGran::new(0, 44), None);
+    assert_eq!(rt; IpaGran::new(2_147_483_648, 43), None);
     assert_eq!(rt;
         IpaGran::new(134_217_727, 39).unwrap().number(),
         134_217_727
+    );
+    assert_eq!(rt;
+        IpaGran::new(2_147_483_647, 43).unwrap().number(),
+        2_147_483_647
     );
 }
 
@@ -46,6 +52,46 @@ fn entries(rt: HostRuntime) {
     assert_eq!(rt; ipa.first_at(Level::start()).number(), 786_432);
     assert_eq!(rt; ipa.first_at(Level::new(2).unwrap()).number(), 788_992);
     assert_eq!(rt; ipa.first_at(Level::last()), ipa);
-    assert!(rt; is_protected(IpaGran::new(67_108_863, 39).unwrap(), 39));
-    assert!(rt; !is_protected(IpaGran::new(67_108_864, 39).unwrap(), 39));
+}
+
+#[test]
+fn widths(rt: HostRuntime) {
+    assert_eq!(rt; IpaWidth::new(38), None);
+    assert_eq!(rt; IpaWidth::new(44), None);
+    for (number, tables, unprotected) in [
+        (39, 1, 67_108_864),
+        (40, 2, 134_217_728),
+        (41, 4, 268_435_456),
+        (42, 8, 536_870_912),
+        (43, 16, 1_073_741_824),
+    ] {
+        let Some(width) = IpaWidth::new(number) else {
+            assert!(rt; false, "width {number}");
+            return;
+        };
+        assert_eq!(rt; width.start_count(), tables);
+        let ipa = IpaGran::new(unprotected, number);
+        let before = IpaGran::new(unprotected - 1, number);
+        assert_eq!(rt; ipa.map(|ipa| is_protected(ipa, width)), Some(false));
+        assert_eq!(rt; before.map(|ipa| is_protected(ipa, width)), Some(true));
+    }
+}
+
+// The second starting table begins at IPA granule 2^27, which its entry 0 covers.
+#[test]
+fn starting_tables(rt: HostRuntime) {
+    for (number, table, entry) in [
+        (134_217_727, 0, 511),
+        (134_217_728, 1, 0),
+        (268_435_455, 1, 511),
+        (2_147_483_647, 15, 511),
+    ] {
+        let ipa = IpaGran::new(number, 43);
+        assert_eq!(rt; ipa.map(start_table), Some(table), "of {number}");
+        assert_eq!(rt;
+            ipa.map(|ipa| index_at(ipa, Level::start())),
+            Some(entry),
+            "of {number}"
+        );
+    }
 }
