@@ -1,6 +1,6 @@
 use super::*;
 use arrayvec::ArrayVec;
-use granule_addr::{Gran, IpaGran, Level, Order, PageOff, RecNo, Vmid};
+use granule_addr::{Gran, IpaGran, IpaWidth, Level, Order, PageOff, RecNo, Root, Vmid};
 
 #[test]
 fn result_words(rt: HostRuntime) {
@@ -32,7 +32,10 @@ fn paired_acts(rt: HostRuntime) {
     auxiliaries.push(granule);
     let first = granule;
     let rd = granule;
-    let root = second;
+    let root = Root {
+        first: second,
+        width: IpaWidth::least(),
+    };
     let source = second;
     for act in [
         Act::Take { order, first },
@@ -77,7 +80,10 @@ fn reverse_acts(rt: HostRuntime) {
     assert_eq!(rt; again.as_slice(), [second, granule].as_slice());
     let first = granule;
     let rd = granule;
-    let root = second;
+    let root = Root {
+        first: second,
+        width: IpaWidth::least(),
+    };
     for act in [
         Act::UnTake { order, first },
         Act::Undelegate { granule },
