@@ -3,8 +3,10 @@ pub mod Booleans
 pub mod Lists
 pub mod SetEach
 pub mod Maps
+pub mod Roots
 -- what a command yields, and its updates do
 pub mod Outcomes
+pub mod NewRealms
 pub mod Walks
 pub mod Leases
 pub mod RealmOf
@@ -12,6 +14,7 @@ pub mod Written
 pub mod Puts
 pub mod Changes
 -- a build left out
+pub mod UsedVmids
 pub mod Clean
 pub mod HiddenUpdates
 pub mod HiddenSteps
@@ -39,6 +42,7 @@ pub mod FullRows
 pub mod SoundCells
 pub mod SoundParts
 pub mod Roles
+pub mod ListedRoles
 pub mod RoleChanges
 pub mod RowRoles
 pub mod RecRoles
