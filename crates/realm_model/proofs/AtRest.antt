@@ -53,7 +53,7 @@ module _ (limits : Limits) (b : ℕ) (w v : World) (kept : IsKept b w) (kept_v :
   square : IsSquare (part_of w b)
   square = IsSquare-part_of w b kept.sound.square
 
-  not_made : (act : Act) → is_reverse act ≡ true → (k : ℕ) (e : RealmRow) → IsMade limits act k e → ⊥
+  not_made : (act : Act) → is_reverse act ≡ true → (k : ℕ) (e : RealmRow) → IsMade limits (part_of w b) act k e → ⊥
   unfolding is_reverse
   not_made (Realm rd root vmid) r k e m = cc
   not_made _ r k e m = m

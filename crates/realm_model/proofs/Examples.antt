@@ -1,10 +1,12 @@
 -- Small histories, computed.
 use Rattle.std.proofs.Common.{◌≡◌, ℕ, false, List, [], ◌∷◌, ◌++◌, map, Option, Some, None, refl}
 use Rattle.std.specs.Prelude.{is_some, option_map}
+use Rattle.granule_addr.specs.Root.{starting_tables}
+use Rattle.granule_addr.specs.declared.root.Root.{Root}
 use Rattle.realm_model.specs.declared.act.Act.TheVariants.{Take, UnTake, Fill, Peek, Delegate, Undelegate, Realm, Activate, Rec}
 use Rattle.realm_model.specs.declared.act.Event.{Event}
 use Rattle.realm_model.specs.declared.states.GranuleState.{GranuleState}
-use Rattle.realm_model.specs.declared.states.GranuleState.TheVariants.{Undelegated, Rd, Rtt as InRtt, Rec as InRec}
+use Rattle.realm_model.specs.declared.states.GranuleState.TheVariants.{Undelegated, Delegated, Rd, Rtt as InRtt, Rec as InRec}
 use Rattle.granule_addr.specs.Page.{zero_page}
 use Rattle.realm_model.specs.Machine.{Limits, Cell}
 use Rattle.realm_model.specs.Act.{named, reverse_of, is_reverse}
@@ -25,6 +27,9 @@ states w = option_map (λ (w : World). map (λ (c : Cell). c.state) w.machine) w
 
 abbrev free : Option World → Option (List ℕ)
 free w = option_map free_set w
+
+abbrev root : ℕ → ℕ → Root
+root first width = record { first = first; width = width }
 
 abbrev pages_seen : Option World → Option (List (List ℕ))
 pages_seen w = option_map (λ (w : World). map (λ (c : Cell). c.bytes) w.machine) w
@@ -113,17 +118,17 @@ unleased = refl
 -- ---- a realm of two delegated granules, beside another build
 
 abbrev realm_made : List Event
-realm_made = by 0 (Take 1 0) ∷ by 1 (Take 0 2) ∷ by 0 (Delegate 0) ∷ by 0 (Delegate 1) ∷ by 0 (Realm 0 1 1) ∷ by 1 (Fill 2 7) ∷ []
+realm_made = by 0 (Take 1 0) ∷ by 1 (Take 0 2) ∷ by 0 (Delegate 0) ∷ by 0 (Delegate 1) ∷ by 0 (Realm 0 (root 1 39) 1) ∷ by 1 (Fill 2 7) ∷ []
 
 realm_made-legal : IsLegal (machine_of 4) realm_made
-unfolding after step named outcome_of fits updated_all is_reverse check realm_from
+unfolding after step named outcome_of fits updated_all is_reverse check realm_from starting_tables
 realm_made-legal = record { steps = refl; in_turn = (λ r. cc, (λ r. cc, (λ r. cc, (λ r. cc, (λ r. cc, (λ r. cc, tt)))))) }
 
 realm_made-states : states (replay (machine_of 4) realm_made) ≡ Some (Rd ∷ InRtt ∷ Undelegated ∷ Undelegated ∷ [])
-unfolding after step named outcome_of fits updated_all check realm_from
+unfolding after step named outcome_of fits updated_all check realm_from starting_tables
 realm_made-states = refl
 
-realm_made-open : open_entries 0 realm_made ≡ Take 1 0 ∷ Delegate 0 ∷ Delegate 1 ∷ Realm 0 1 1 ∷ []
+realm_made-open : open_entries 0 realm_made ≡ Take 1 0 ∷ Delegate 0 ∷ Delegate 1 ∷ Realm 0 (root 1 39) 1 ∷ []
 unfolding open_entries reverse_of is_reverse
 realm_made-open = refl
 
@@ -136,15 +141,15 @@ realm_made-free = refl
 
 -- a REC, with the number that is next and no other
 abbrev rec_made : ℕ → List Event
-rec_made number = by 0 (Take 2 0) ∷ by 0 (Delegate 0) ∷ by 0 (Delegate 1) ∷ by 0 (Delegate 2) ∷ by 0 (Realm 0 1 1)
+rec_made number = by 0 (Take 2 0) ∷ by 0 (Delegate 0) ∷ by 0 (Delegate 1) ∷ by 0 (Delegate 2) ∷ by 0 (Realm 0 (root 1 39) 1)
     ∷ by 0 (Rec 2 (record { items = [] }) number) ∷ by 0 Activate ∷ []
 
 rec_made-states : states (replay (machine_of 4) (rec_made 0)) ≡ Some (Rd ∷ InRtt ∷ InRec ∷ Undelegated ∷ [])
-unfolding after step named outcome_of fits updated_all check realm_from with_realm new_realm
+unfolding after step named outcome_of fits updated_all check realm_from with_realm new_realm starting_tables
 rec_made-states = refl
 
 other_number : is_some (replay (machine_of 4) (rec_made 1)) ≡ false
-unfolding after step named outcome_of fits updated_all check realm_from with_realm new_realm
+unfolding after step named outcome_of fits updated_all check realm_from with_realm new_realm starting_tables
 other_number = refl
 
 -- a byte has eight bits, and a page 4,096 bytes
@@ -157,9 +162,59 @@ unfolding after step named outcome_of fits updated_all check
 too_far = refl
 
 -- a second realm of the build is refused
-second_realm : is_some (replay (machine_of 4) (by 0 (Take 2 0) ∷ by 0 (Delegate 0) ∷ by 0 (Delegate 1) ∷ by 0 (Delegate 2) ∷ by 0 (Delegate 3) ∷ by 0 (Realm 0 1 1) ∷ by 0 (Realm 2 3 2) ∷ [])) ≡ false
-unfolding after step named outcome_of fits updated_all check realm_from new_realm
+second_realm : is_some (replay (machine_of 4) (by 0 (Take 2 0) ∷ by 0 (Delegate 0) ∷ by 0 (Delegate 1) ∷ by 0 (Delegate 2) ∷ by 0 (Delegate 3) ∷ by 0 (Realm 0 (root 1 39) 1) ∷ by 0 (Realm 2 (root 3 39) 2) ∷ [])) ≡ false
+unfolding after step named outcome_of fits updated_all check realm_from new_realm starting_tables
 second_realm = refl
+
+-- ---- a realm of four starting tables
+
+-- a build of eight delegated granules makes a realm
+abbrev wide : ℕ → ℕ → ℕ → List Event
+wide rd first width = by 0 (Take 3 0) ∷ map (λ g. by 0 (Delegate g)) (0 ∷ 1 ∷ 2 ∷ 3 ∷ 4 ∷ 5 ∷ 6 ∷ 7 ∷ []) ++ by 0 (Realm rd (root first width) 1) ∷ []
+
+wide-states : states (replay (machine_of 8) (wide 0 4 41)) ≡ Some (Rd ∷ Delegated ∷ Delegated ∷ Delegated ∷ InRtt ∷ InRtt ∷ InRtt ∷ InRtt ∷ [])
+unfolding after step named outcome_of fits updated_all check realm_from starting_tables
+wide-states = refl
+
+-- a width may be 43 at most
+too_wide : is_some (replay (machine_of 8) (wide 0 1 44)) ≡ false
+unfolding after step named outcome_of fits updated_all check realm_from starting_tables
+too_wide = refl
+
+-- four tables begin at a multiple of four
+askew : is_some (replay (machine_of 8) (wide 0 2 41)) ≡ false
+unfolding after step named outcome_of fits updated_all check realm_from starting_tables
+askew = refl
+
+-- none of them is the RD, not the last one either
+rd_first : is_some (replay (machine_of 8) (wide 4 4 41)) ≡ false
+unfolding after step named outcome_of fits updated_all check realm_from starting_tables
+rd_first = refl
+
+rd_last : is_some (replay (machine_of 8) (wide 7 4 41)) ≡ false
+unfolding after step named outcome_of fits updated_all check realm_from starting_tables
+rd_last = refl
+
+-- each of them is DELEGATED
+abbrev but_one : List Event
+but_one = by 0 (Take 3 0) ∷ map (λ g. by 0 (Delegate g)) (0 ∷ 4 ∷ 5 ∷ 6 ∷ []) ++ by 0 (Realm 0 (root 4 41) 1) ∷ []
+
+but_one-refused : is_some (replay (machine_of 8) but_one) ≡ false
+unfolding after step named outcome_of fits updated_all check realm_from starting_tables
+but_one-refused = refl
+
+-- two realms have two VMIDs
+abbrev two_realms : ℕ → List Event
+two_realms vmid = by 0 (Take 1 0) ∷ by 1 (Take 1 2) ∷ by 0 (Delegate 0) ∷ by 0 (Delegate 1) ∷ by 1 (Delegate 2) ∷ by 1 (Delegate 3)
+    ∷ by 0 (Realm 0 (root 1 39) 1) ∷ by 1 (Realm 2 (root 3 39) vmid) ∷ []
+
+two_realms-states : states (replay (machine_of 4) (two_realms 2)) ≡ Some (Rd ∷ InRtt ∷ Rd ∷ InRtt ∷ [])
+unfolding after step named outcome_of fits updated_all check realm_from starting_tables new_realm
+two_realms-states = refl
+
+used_vmid : is_some (replay (machine_of 4) (two_realms 1)) ≡ false
+unfolding after step named outcome_of fits updated_all check realm_from starting_tables new_realm
+used_vmid = refl
 
 -- ---- a build is rolled back to a mark, or undone, while another goes on
 

@@ -6,11 +6,11 @@ pub mod Maps
 pub mod Roots
 -- what a command yields, and its updates do
 pub mod Outcomes
-pub mod NewRealms
 pub mod Walks
 pub mod Leases
 pub mod RealmOf
 pub mod Written
+pub mod NewRealms
 pub mod Puts
 pub mod Changes
 -- a build left out

@@ -8,7 +8,6 @@ use Rattle.std.specs.FinMap.{get, insert, empty, get-empty, get-insert, get-remo
 use Rattle.std.proofs.lemmas.Bool.{and_parts, eqb-true, eqb-false}
 use Rattle.std.proofs.lemmas.Option.{same_Some, option_and_then_some}
 use Rattle.granule_addr.specs.Ipa.{first_covered}
-use Rattle.granule_addr.specs.Root.{starting_tables}
 use Rattle.realm_model.specs.declared.states.GranuleState.TheVariants.{Rec as InRec, RecAux, Data as InData, Rtt as InRtt}
 use Rattle.realm_model.specs.declared.states.Ripas.{Ripas}
 use Rattle.realm_model.specs.declared.states.Ripas.TheVariants.{Ram}
@@ -30,7 +29,7 @@ use Rattle.realm_model.specs.Ownership.{mapping_of_row, granules_of_rec}
 use Rattle.realm_model.specs.Sound.{look}
 use Rattle.realm_model.specs.Roles.{AsRec, row_target, is_role_state}
 use Rattle.realm_model.specs.Undoing.{by}
-use Rattle.realm_model.proofs.NewRealms.{new_rd, can_be_made}
+use Rattle.realm_model.proofs.NewRealms.{seen-creation, can_be_made}
 use Rattle.realm_model.proofs.Written.{seen-each_put, seen_frees, put_takes, seen_takes, put_at, cell_put, put_frees, IsSquare}
 use Rattle.realm_model.proofs.SoundRows.{with_table_cases, without_table_cases, leads_nowhere, look-with_table}
 use Rattle.realm_model.proofs.Maps.{same_insert}
@@ -111,8 +110,7 @@ module _ (limits : Limits) (w : World) (sound : IsSoundPart w) (old : IsLinked (
   linked (Undelegate g) realm at none fit = Yields-check R _ _ _ (λ free. Yields-Ok R _ (let h = delegated_host w sound g free in host_put w sound old g _ h refl (host_bare w sound g h)))
   linked (Realm rd root v) realm at none fit = Yields-check R _ _ _ (λ all.
       let new = can_be_made limits.vmids (used_vmids w.machine) w.machine rd root v all in
-      Yields-Ok R _ (subst (λ us. R (Put rd (new_rd rd root v) ∷ us)) (sym (seen-each_put w.machine (held InRtt rd) (starting_tables root)))
-      (realm_made w sound old rd root v (none (none_is realm fit)) new.different)))
+      Yields-Ok R _ (subst R (sym (seen-creation w.machine rd root v)) (realm_made w sound old rd root v (none (none_is realm fit)) new.different)))
   linked (UnRealm rd root v) realm at none fit = Yields-with_realm R _ _ (λ d is. Yields-check R _ _ _ (λ empty.
       let parts = and_parts _ _ empty in
       let rows = ((sound.cells rd).row d is).rows in

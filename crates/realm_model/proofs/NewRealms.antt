@@ -1,23 +1,43 @@
--- What the checks of RMI_REALM_CREATE say, where they all hold.
-use Rattle.std.proofs.Common.{◌≡◌, ◌≤◌, ◌%◌, ℕ, true, false, ◌&&◌, ◌||◌, not, List, [], ◌∷◌, map, Some, refl, sym, ap, ◌∙◌}
+-- The making of a realm: what it changes, and what its checks say where they all hold.
+use Rattle.std.proofs.Common.{◌≡◌, ◌≤◌, ◌%◌, ℕ, true, false, cond, ◌&&◌, ◌||◌, not, List, [], ◌∷◌, map, Some, refl, sym, ap, ◌∙◌}
 use Rattle.std.specs.Prelude.{◌==◌, nat_le}
 use Rattle.std.specs.List.{list_all}
-use Rattle.std.proofs.lemmas.Bool.{and_parts, and_from, eqb-true, eqb-false, ne_eqb, leb-true}
+use Rattle.std.proofs.lemmas.Bool.{and_parts, and_from, eqb-true, eq-eqb, eqb-false, ne_eqb, leb-true}
 use Rattle.granule_addr.specs.Ipa.{is_width}
 use Rattle.granule_addr.specs.Root.{start_count, starting_tables}
 use Rattle.granule_addr.specs.declared.root.Root.{Root}
 use Rattle.granule_addr.specs.Page.{zero_page}
-use Rattle.realm_model.specs.declared.states.GranuleState.TheVariants.{Rd}
-use Rattle.realm_model.specs.Machine.{Cell, Machine, Seen, seen}
+use Rattle.realm_model.specs.declared.states.GranuleState.TheVariants.{Rd, Rtt as InRtt}
+use Rattle.realm_model.specs.Machine.{Cell, Machine, Seen, seen, held}
+use Rattle.realm_model.specs.Update.{Update, Put}
 use Rattle.realm_model.specs.Command.Check.{is_delegated}
 use Rattle.realm_model.specs.Command.Realm.{new_realm, is_start}
 use Rattle.realm_model.proofs.Booleans.{not_true}
 use Rattle.realm_model.proofs.Lists.{is_in, AllDistinct}
 use Rattle.realm_model.proofs.Roots.{starting_tables-AllDistinct}
+use Rattle.realm_model.proofs.Written.{each_put, put_seen, seen-each_put, put_at, put_at-each_put}
 
 -- the RD of a realm that has just been made
 abbrev pub new_rd : ℕ → Root → ℕ → Cell
 new_rd rd root vmid = record { state = Rd; realm = Some rd; bytes = zero_page; descriptor = Some (new_realm vmid root) }
+
+-- what its making changes
+abbrev pub creation : ℕ → Root → ℕ → List Update
+creation rd root vmid = Put rd (new_rd rd root vmid) ∷ each_put (held InRtt rd) (starting_tables root)
+
+pub seen-creation : (machine : Machine) (rd : ℕ) (root : Root) (vmid : ℕ) → Put rd (new_rd rd root vmid) ∷ map (put_seen (held InRtt rd)) (map (seen machine) (starting_tables root)) ≡ creation rd root vmid
+seen-creation machine rd root vmid = ap (λ us. Put rd (new_rd rd root vmid) ∷ us) (seen-each_put machine (held InRtt rd) (starting_tables root))
+
+pub put_at-creation : (rd : ℕ) (root : Root) (vmid k : ℕ) (c : Cell) → put_at (creation rd root vmid) k c ≡ cond (is_in k (starting_tables root)) (held InRtt rd) (cond (k == rd) (new_rd rd root vmid) c)
+put_at-creation rd root vmid k c = put_at-each_put (held InRtt rd) (starting_tables root) k (cond (k == rd) (new_rd rd root vmid) c)
+
+pub put_at-creation_rd : (rd : ℕ) (root : Root) (vmid : ℕ) (c : Cell) → AllDistinct (rd ∷ starting_tables root) → put_at (creation rd root vmid) rd c ≡ new_rd rd root vmid
+put_at-creation_rd rd root vmid c different =
+    put_at-creation rd root vmid rd c
+    ∙ ap (λ t. cond t (held InRtt rd) (cond (rd == rd) (new_rd rd root vmid) c)) different.0
+    ∙ ap (λ t. cond t (new_rd rd root vmid) c) (eq-eqb rd rd refl)
+
+-- ---- the checks
 
 pub record CanBeMade (vmids : ℕ) (used : List ℕ) (machine : Machine) (rd : ℕ) (root : Root) (vmid : ℕ) : Type 0 where
   pub width : is_width root.width ≡ true

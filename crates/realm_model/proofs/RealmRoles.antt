@@ -3,7 +3,7 @@ use Rattle.std.proofs.Common.{◌≡◌, ℕ, ◌*◌, true, false, cond, inl, i
 use Rattle.std.specs.Prelude.{is_some, ◌==◌, option_map}
 use Rattle.std.specs.Ordering.{nat_cmp}
 use Rattle.std.specs.FinMap.{get, empty, get-empty}
-use Rattle.std.proofs.lemmas.Bool.{eqb-true, eqb-false, eq-eqb}
+use Rattle.std.proofs.lemmas.Bool.{eqb-true, eqb-false}
 use Rattle.std.proofs.lemmas.Option.{same_Some}
 use Rattle.granule_addr.specs.Root.{start_count, starting_tables}
 use Rattle.granule_addr.specs.declared.root.Root.{Root}
@@ -12,7 +12,7 @@ use Rattle.realm_model.specs.declared.states.GranuleState.TheVariants.{Rtt as In
 use Rattle.realm_model.specs.declared.states.Ripas.TheVariants.{Empty}
 use Rattle.realm_model.specs.Rows.{place_cmp, root_rows, unassigned}
 use Rattle.realm_model.specs.Machine.{RecRow, RealmRow, Cell, left, held, cell_at}
-use Rattle.realm_model.specs.Update.{Update, Put}
+use Rattle.realm_model.specs.Update.{Update}
 use Rattle.realm_model.specs.Command.Realm.{new_realm}
 use Rattle.realm_model.specs.World.{World}
 use Rattle.realm_model.specs.Ownership.{mapping_of_row, granules_of_rec}
@@ -20,13 +20,36 @@ use Rattle.realm_model.specs.Sound.{look}
 use Rattle.realm_model.specs.Roles.{Role, AsStart, AtRow, AsRec, AsAux, row_target, aux_target, target, is_role_state, HasRole}
 use Rattle.realm_model.proofs.Booleans.{true_false, or_parts}
 use Rattle.realm_model.proofs.Lists.{is_in, is_in_at, index_of, AllDistinct}
-use Rattle.realm_model.proofs.NewRealms.{new_rd}
-use Rattle.realm_model.proofs.Written.{put_at, put_at-each_put, each_put, lefts}
+use Rattle.realm_model.proofs.NewRealms.{new_rd, creation, put_at-creation, put_at-creation_rd}
+use Rattle.realm_model.proofs.Written.{put_at, put_at-each_put, lefts}
 use Rattle.realm_model.proofs.Rows.{put_kinds}
 use Rattle.realm_model.proofs.Roles.{rec_target}
 use Rattle.realm_model.proofs.ListedRoles.{listed_role, listed_at, listed_target}
 use Rattle.realm_model.proofs.RoleChanges.{no_descriptor, one_place}
 use Rattle.realm_model.proofs.Parts.{IsSoundPart, IsLinked}
+
+-- ---- the rows of realms after it
+
+-- a realm that is made where none was is the one
+pub made_row : (w : World) (rd : ℕ) (root : Root) (v : ℕ) → ((k : ℕ) → (cell_at w.machine k).descriptor ≡ None)
+    → (k : ℕ) (e : RealmRow) → (put_at (creation rd root v) k (cell_at w.machine k)).descriptor ≡ Some e → (k ≡ rd) × (new_realm v root ≡ e)
+made_row w rd root v none k e h = elim (is_in k (starting_tables root)) as (λ t. (cond t (held InRtt rd) (cond (k == rd) (new_rd rd root v) (cell_at w.machine k))).descriptor ≡ Some e → (k ≡ rd) × (new_realm v root ≡ e)) [
+  | true ↦ λ h. cc
+  | false ↦ λ h. elim (k == rd) as (λ t. (k == rd) ≡ t → (cond t (new_rd rd root v) (cell_at w.machine k)).descriptor ≡ Some e → (k ≡ rd) × (new_realm v root ≡ e)) [
+    | true ↦ λ here h. (eqb-true k rd here, same_Some _ _ h)
+    | false ↦ λ other h. absurd (no_descriptor (cell_at w.machine k) e (none k) h)
+  ] refl h
+] (sym (ap (λ (c : Cell). c.descriptor) (put_at-creation rd root v k (cell_at w.machine k))) ∙ h)
+
+-- none is left where the one is gone
+pub gone_row : (w : World) (sound : IsSoundPart w) (rd : ℕ) (d : RealmRow) → (cell_at w.machine rd).descriptor ≡ Some d → (gs : List ℕ)
+    → (k : ℕ) (e : RealmRow) → (put_at (lefts (rd ∷ gs)) k (cell_at w.machine k)).descriptor ≡ Some e → ⊥
+gone_row w sound rd d is gs k e h = elim (is_in k (rd ∷ gs)) as (λ t. is_in k (rd ∷ gs) ≡ t → (cond t left (cell_at w.machine k)).descriptor ≡ Some e → ⊥) [
+  | true ↦ λ i h. cc
+  | false ↦ λ out h. eqb-false k rd (or_parts _ _ out).0 (one_place w sound k rd e d h is)
+] refl (sym (ap (λ (c : Cell). c.descriptor) (put_at-each_put left (rd ∷ gs) k (cell_at w.machine k))) ∙ h)
+
+-- ---- roles
 
 module _ (w : World) (sound : IsSoundPart w) (old : IsLinked (λ k. cell_at w.machine k)) where
   abbrev now : ℕ → Cell
@@ -34,11 +57,11 @@ module _ (w : World) (sound : IsSoundPart w) (old : IsLinked (λ k. cell_at w.ma
 
   -- a realm is made where none was: its starting tables are all that it names
   pub realm_made : (rd : ℕ) (root : Root) (v : ℕ) → ((k : ℕ) → (now k).descriptor ≡ None) → AllDistinct (rd ∷ starting_tables root)
-      → IsLinked (λ k. put_at (Put rd (new_rd rd root v) ∷ each_put (held InRtt rd) (starting_tables root)) k (now k))
+      → IsLinked (λ k. put_at (creation rd root v) k (now k))
   unfolding new_realm root_rows
   realm_made rd root v none different = record {
     roles = λ k. role_or (listed_role AsStart gs k);
-    names = λ k e h p to there. let new = new_is k e h in of_role p k e new.0 new.1 to there;
+    names = λ k e h p to there. let new = made_row w rd root v none k e h in of_role p k e new.0 new.1 to there;
     named = named;
   }
     where
@@ -52,23 +75,14 @@ module _ (w : World) (sound : IsSoundPart w) (old : IsLinked (λ k. cell_at w.ma
       z = new_rd rd root v
 
       us : List Update
-      us = Put rd z ∷ each_put x gs
+      us = creation rd root v
 
       role_or : Option Role → Role
       role_or None = AsStart 0
       role_or (Some q) = q
 
       written : (k : ℕ) → put_at us k (now k) ≡ cond (is_in k gs) x (cond (k == rd) z (now k))
-      written k = put_at-each_put x gs k (cond (k == rd) z (now k))
-
-      new_is : (k : ℕ) (e : RealmRow) → (put_at us k (now k)).descriptor ≡ Some e → (k ≡ rd) × (new_realm v root ≡ e)
-      new_is k e h = elim (is_in k gs) as (λ t. (cond t x (cond (k == rd) z (now k))).descriptor ≡ Some e → (k ≡ rd) × (new_realm v root ≡ e)) [
-        | true ↦ λ h. cc
-        | false ↦ λ h. elim (k == rd) as (λ t. (k == rd) ≡ t → (cond t z (now k)).descriptor ≡ Some e → (k ≡ rd) × (new_realm v root ≡ e)) [
-          | true ↦ λ here h. (eqb-true k rd here, same_Some _ _ h)
-          | false ↦ λ other h. absurd (no_descriptor (now k) e (none k) h)
-        ] refl h
-      ] (sym (ap (λ (c : Cell). c.descriptor) (written k)) ∙ h)
+      written k = put_at-creation rd root v k (now k)
 
       no_row : (q : ℕ × ℕ) → row_target (look (root_rows root.width) q) ≡ None
       no_row q = elim (put_kinds (unassigned Empty) empty 1 0 (512 * start_count root.width) q) [
@@ -83,7 +97,7 @@ module _ (w : World) (sound : IsSoundPart w) (old : IsLinked (λ k. cell_at w.ma
       at_table k i = written k ∙ ap (λ t. cond t x (cond (k == rd) z (now k))) i
 
       at_rd : put_at us rd (now rd) ≡ z
-      at_rd = written rd ∙ ap (λ t. cond t x (cond (rd == rd) z (now rd))) different.0 ∙ ap (λ t. cond t z (now rd)) (eq-eqb rd rd refl)
+      at_rd = put_at-creation_rd rd root v (now rd) different
 
       of_role : (p : Role) (k : ℕ) (e : RealmRow) → k ≡ rd → new_realm v root ≡ e → (to : ℕ × GranuleState) → target e p ≡ Some to
           → ((put_at us to.0 (now to.0)).state ≡ to.1) × ((put_at us to.0 (now to.0)).realm ≡ Some k) × (role_or (listed_role AsStart gs to.0) ≡ p)
@@ -117,7 +131,7 @@ module _ (w : World) (sound : IsSoundPart w) (old : IsLinked (λ k. cell_at w.ma
       → IsLinked (λ k. put_at (lefts (rd ∷ starting_tables d.root)) k (now k))
   realm_gone rd d is no_rows no_recs = record {
     roles = old.roles;
-    names = λ k e h. absurd (no_realm k e h);
+    names = λ k e h. absurd (gone_row w sound rd d is (starting_tables d.root) k e h);
     named = λ g role. elim (is_in g all) as (λ t. is_in g all ≡ t → is_role_state (cond t left (now g)).state ≡ true → HasRole (λ k. put_at (lefts all) k (now k)) g) [
       | true ↦ λ i role. cc
       | false ↦ λ out role. absurd (no_role g out (old.named g role))
@@ -126,12 +140,6 @@ module _ (w : World) (sound : IsSoundPart w) (old : IsLinked (λ k. cell_at w.ma
     where
       all : List ℕ
       all = rd ∷ starting_tables d.root
-
-      no_realm : (k : ℕ) (e : RealmRow) → (put_at (lefts all) k (now k)).descriptor ≡ Some e → ⊥
-      no_realm k e h = elim (is_in k all) as (λ t. is_in k all ≡ t → (cond t left (now k)).descriptor ≡ Some e → ⊥) [
-        | true ↦ λ i h. cc
-        | false ↦ λ out h. eqb-false k rd (or_parts _ _ out).0 (one_place w sound k rd e d h is)
-      ] refl (sym (ap (λ (c : Cell). c.descriptor) (put_at-each_put left all k (now k))) ∙ h)
 
       recs_none : (n : ℕ) → option_map granules_of_rec (get d.recs n) ≡ None
       recs_none n = ap (option_map granules_of_rec) (no_recs n)

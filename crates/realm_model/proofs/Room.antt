@@ -4,6 +4,7 @@ use Rattle.std.specs.Prelude.{◌==◌, filter}
 use Rattle.std.proofs.lemmas.Bool.{eq-eqb, ne_eqb}
 use Rattle.std.proofs.lemmas.List.{length-append, append-nil, map-append}
 use Rattle.std.proofs.lemmas.List.Elements.{filter-append}
+use Rattle.granule_addr.specs.declared.root.Root.{Root}
 use Rattle.realm_model.specs.declared.act.Act.{Act}
 use Rattle.realm_model.specs.declared.act.Act.TheVariants.{Realm, UnRealm, Enter, Exit}
 use Rattle.realm_model.specs.declared.act.Event.{Event}
@@ -73,14 +74,14 @@ module _ (limits : Limits) (b : ℕ) (w v : World) (kept : IsKept b w) (kept_v :
     | inr there ↦ count_some b w kept there.0 there.1 there.2 ∙ none_run there.0 there.1 there.2
   ]
 
-  count_made : (rd root vmid : ℕ) → step limits (part_of w b) (by b (Realm rd root vmid)) ≡ Some V → running_count (realm_of b v) ≡ running_count (realm_of b w)
+  count_made : (rd : ℕ) (root : Root) (vmid : ℕ) → step limits (part_of w b) (by b (Realm rd root vmid)) ≡ Some V → running_count (realm_of b v) ≡ running_count (realm_of b w)
   unfolding fits
   count_made rd root vmid s =
       let none : realm_of b (part_of w b) ≡ None = none_is _ (asked limits b (part_of w b) V (Realm rd root vmid) s).fit in
       zero_of v kept_v (realm_made_step limits b (part_of w b) V rd root vmid square (no_rows none) s)
       ∙ sym (count_none b w kept (no_rows none))
 
-  count_gone : (rd root vmid : ℕ) → step limits (part_of w b) (by b (UnRealm rd root vmid)) ≡ Some V → running_count (realm_of b v) ≡ running_count (realm_of b w)
+  count_gone : (rd : ℕ) (root : Root) (vmid : ℕ) → step limits (part_of w b) (by b (UnRealm rd root vmid)) ≡ Some V → running_count (realm_of b v) ≡ running_count (realm_of b w)
   count_gone rd root vmid s =
       let gone = realm_gone_step limits b (part_of w b) V rd root vmid square kept.sound.part s in
       count_none b v kept_v gone.0 ∙ sym (zero_of w kept gone.1)
@@ -90,7 +91,7 @@ module _ (limits : Limits) (b : ℕ) (w v : World) (kept : IsKept b w) (kept_v :
   is_of_realm (UnRealm rd root vmid) = true
   is_of_realm _ = false
 
-  not_made : (act : Act) (k : ℕ) (e : RealmRow) → is_of_realm act ≡ false → IsMade limits act k e → ⊥
+  not_made : (act : Act) (k : ℕ) (e : RealmRow) → is_of_realm act ≡ false → IsMade limits (part_of w b) act k e → ⊥
   not_made (Realm rd root vmid) k e plain m = cc
   not_made _ k e plain m = m
 
