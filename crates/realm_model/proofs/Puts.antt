@@ -1,5 +1,5 @@
 -- No act but those of blocks changes a lease.
-use Rattle.std.proofs.Common.{◌≡◌, ℕ, Bool, true, false, List, [], ◌∷◌, ◌++◌, map, Option, Some, None, refl}
+use Rattle.std.proofs.Common.{◌≡◌, ℕ, Bool, true, false, List, map, Option, Some, None, refl}
 use Rattle.std.specs.List.{list_all}
 use Rattle.granule_addr.specs.Root.{starting_tables}
 use Rattle.realm_model.specs.declared.act.Act.{Act}

@@ -1,5 +1,5 @@
 -- A REC and its auxiliaries come to a realm, or leave it.
-use Rattle.std.proofs.Common.{◌≡◌, ℕ, zero, suc, ◌+◌, true, false, cond, ◌||◌, ◌⊎◌, inl, inr, List, [], ◌∷◌, ◌++◌, map, Option, Some, None, refl, sym, ap, ◌∙◌, arith}
+use Rattle.std.proofs.Common.{◌≡◌, ℕ, true, false, cond, ◌||◌, ◌⊎◌, inl, inr, List, [], ◌∷◌, ◌++◌, map, Option, Some, None, refl, sym, ap, ◌∙◌}
 use Rattle.std.specs.Prelude.{is_some, ◌==◌, option_map, slice_get}
 use Rattle.std.specs.List.{list_all}
 use Rattle.std.specs.Ordering.{nat_cmp, eq_by_cmp}
@@ -9,14 +9,14 @@ use Rattle.std.proofs.lemmas.Bool.{eqb-true, eq-eqb, ne_eqb}
 use Rattle.std.proofs.lemmas.Option.{same_Some}
 use Rattle.realm_model.specs.declared.states.GranuleState.{GranuleState}
 use Rattle.realm_model.specs.declared.states.GranuleState.TheVariants.{Rec as InRec, RecAux}
-use Rattle.realm_model.specs.Machine.{RecRow, RealmRow, Cell, Machine, Seen, left, held, cell_at, seen}
+use Rattle.realm_model.specs.Machine.{RecRow, RealmRow, Cell, Seen, left, held, cell_at, seen}
 use Rattle.realm_model.specs.Update.{Update, Put, granule_of}
 use Rattle.realm_model.specs.Command.Check.{is_delegated}
 use Rattle.realm_model.specs.World.{World}
 use Rattle.realm_model.specs.Ownership.{granules_of_rec}
 use Rattle.realm_model.specs.Sound.{look, is_host_state}
 use Rattle.realm_model.specs.Roles.{Role, AsStart, AtRow, AsRec, AsAux, row_target, start_target, aux_target, target, is_role_state}
-use Rattle.realm_model.proofs.Booleans.{true_false, cond_or}
+use Rattle.realm_model.proofs.Booleans.{true_false}
 use Rattle.realm_model.proofs.Lists.{is_in, is_in_at, is_in_more, index_of, AllDistinct}
 use Rattle.realm_model.proofs.Maps.{nat_place}
 use Rattle.realm_model.proofs.Written.{put_at, put_at-each_put, granules-each_put, each_put, lefts}

@@ -1,6 +1,5 @@
 -- Starting tables: adjacent, and each another granule.
-use Rattle.std.proofs.Common.{◌≡◌, ◌&&◌, true, refl, sym, ap}
-use Rattle.std.specs.Prelude.{◌==◌}
+use Rattle.std.proofs.Common.{◌≡◌, true, ap}
 use Rattle.std.proofs.lemmas.Bool.{and_parts, and_from, eqb-true, eq-eqb}
 use Rattle.granule_addr.specs.Root.{start_count, starting_tables}
 use Rattle.granule_addr.specs.declared.root.Root.{Root}

@@ -1,11 +1,11 @@
 -- The VMIDs in use: of which realms they are, and what of them the outcome of an act asks.
-use Rattle.std.proofs.Common.{◌≡◌, ℕ, zero, suc, Bool, true, false, cond, ◌||◌, ◌&&◌, not, List, [], ◌∷◌, Option, Some, None, Ok, refl, sym, ap, ◌∙◌}
+use Rattle.std.proofs.Common.{◌≡◌, ℕ, zero, suc, Bool, true, false, cond, ◌||◌, not, List, [], ◌∷◌, Option, Some, None, Ok, refl, sym, ap, ◌∙◌}
 use Rattle.std.specs.Prelude.{◌==◌, option_map}
 use Rattle.std.specs.List.{cons_option}
 use Rattle.std.proofs.lemmas.Bool.{and_parts, and_from, eqb-true}
 use Rattle.realm_model.specs.declared.act.Act.{Act}
 use Rattle.realm_model.specs.declared.act.Act.TheVariants.{Realm}
-use Rattle.realm_model.specs.Machine.{Limits, RealmRow, Cell, Machine, Seen, blank, cell_at}
+use Rattle.realm_model.specs.Machine.{Limits, RealmRow, Machine, Seen, blank, cell_at}
 use Rattle.realm_model.specs.Update.{Update}
 use Rattle.realm_model.specs.Outcome.{outcome_of}
 use Rattle.realm_model.specs.World.{each, hidden}

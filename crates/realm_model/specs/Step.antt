@@ -1,5 +1,5 @@
 -- One event.
-use Rattle.std.specs.Prelude.{ℕ, List, Bool, cond, ◌&&◌, nat_lt, map, Option, Some, None, Ok, Err, option_map}
+use Rattle.std.specs.Prelude.{ℕ, List, Bool, cond, ◌&&◌, nat_lt, map, Option, None, Ok, Err, option_map}
 use Rattle.std.specs.List.{list_all, filter_map}
 use Rattle.realm_model.specs.declared.act.Act.{Act}
 use Rattle.realm_model.specs.declared.act.Event.{Event}

@@ -35,8 +35,8 @@ is_start rd table = is_delegated table && not (table.number == rd.number)
 abbrev pub realm_create : ℕ → List ℕ → Seen → List Seen → Root → ℕ → Outcome
 realm_create vmids used rd tables root vmid =
     check (is_width root.width && root.first % start_count root.width == 0
-      && is_delegated rd && list_all (is_start rd) tables
-      && nat_le 1 vmid && nat_le vmid vmids && not (list_any (λ v. vmid == v) used)) error_input
+    && is_delegated rd && list_all (is_start rd) tables
+    && nat_le 1 vmid && nat_le vmid vmids && not (list_any (λ v. vmid == v) used)) error_input
     (Ok (Put rd.number (record { state = Rd; realm = Some rd.number; bytes = zero_page; descriptor = Some (new_realm vmid root) })
     ∷ map (λ t. Put t.number (held Rtt rd.number)) tables))
 
