@@ -5,12 +5,13 @@ use Rattle.std.proofs.lemmas.Bool.{and_parts}
 use Rattle.std.proofs.lemmas.Option.{same_Some}
 use Rattle.realm_model.specs.declared.states.GranuleState.{GranuleState}
 use Rattle.realm_model.specs.declared.states.GranuleState.TheVariants.{Rd}
-use Rattle.realm_model.specs.Machine.{RealmRow, Cell, Machine, Seen, cell_at, seen}
-use Rattle.realm_model.specs.World.{World, is_lease, realm_from, realm_of, part_of}
+use Rattle.realm_model.specs.Machine.{Limits, RealmRow, Cell, Machine, Seen, cell_at, seen}
+use Rattle.realm_model.specs.World.{World, opening, is_lease, realm_from, realm_of, hidden, is_of_other, part_of}
 use Rattle.realm_model.specs.Room.{running_count}
 use Rattle.realm_model.specs.Sound.{is_host_state, is_rd_state}
 use Rattle.realm_model.proofs.Booleans.{some_is}
-use Rattle.realm_model.proofs.Leases.{leased_from}
+use Rattle.realm_model.proofs.Leases.{leased_from, cell_at-replicate}
+use Rattle.realm_model.proofs.LeftOut.{each-replicate}
 use Rattle.realm_model.proofs.RealmOf.{IsAt, IsAt-realm_of, no_row, realm_of-part_of, realm_of_there}
 use Rattle.realm_model.proofs.Reaching.{state_leased}
 use Rattle.realm_model.proofs.ZeroPages.{IsKept}
@@ -65,3 +66,9 @@ module _ (b : ℕ) (w : World) (kept : IsKept b w) where
       by_realm : (o : Option Seen) → IsAt W.machine o → running_count o ≡ 0
       by_realm None at = refl
       by_realm (Some rd) at = ap (λ o. elim o [ Some realm ↦ running realm.recs realm.next | None ↦ 0 ]) (ap (λ (c : Cell). c.descriptor) (sym at) ∙ none rd.number)
+
+-- the opening world has none
+pub none_at_first : (limits : Limits) (b k : ℕ) → (cell_at (part_of (opening limits) b).machine k).descriptor ≡ None
+none_at_first limits b k =
+    ap (λ (m : Machine). (cell_at m k).descriptor) (each-replicate (hidden (is_of_other b)) refl limits.pages)
+    ∙ ap (λ (c : Cell). c.descriptor) (cell_at-replicate limits.pages k)

@@ -1,6 +1,6 @@
 -- The room that a build has in a history, and how much of it is used.
 use Rattle.std.specs.Prelude.{◌≡◌, ◌≢◌, ℕ, ◌+◌, List, [], ◌∷◌, ◌++◌, filter, length, Bool, false, cond, not, Option, Some, None}
-use Rattle.std.specs.List.{range_with_len}
+use Rattle.std.specs.List.{range_with_len, sum_by}
 use Rattle.std.specs.FinMap.{get}
 use Rattle.realm_model.specs.declared.act.Act.{Act}
 use Rattle.realm_model.specs.declared.act.Act.TheVariants.{Enter, Exit}
@@ -46,3 +46,7 @@ pub record TakesRoom (history : List Event) (world : World) (event : Event) (nex
 -- in turn, and a step
 abbrev pub RoomIsTaken : Limits → List Event → World → Event → World → Type 0
 RoomIsTaken limits history world event next = IsInTurn history event → step limits world event ≡ Some next → TakesRoom history world event next
+
+-- So what a build has used is the sum of what its acts took.
+abbrev pub RoomIsSum : List Event → World → ℕ → Type 0
+RoomIsSum history world build = used_room build history world ≡ sum_by room_taken (acts_of build history)

@@ -9,7 +9,7 @@ ghost use Rattle.realm_model.specs.History.{replay, IsLegal, LeavesNoTrace};
 ghost use Rattle.realm_model.specs.Stack.{MatchingIsAStack};
 ghost use Rattle.realm_model.specs.Pages.{PagesAreLeased};
 ghost use Rattle.realm_model.specs.Reachable.{IsReachable};
-ghost use Rattle.realm_model.specs.Room.{RoomIsTaken};
+ghost use Rattle.realm_model.specs.Room.{RoomIsTaken, RoomIsSum};
 ghost use Rattle.realm_model.specs.Marks.{Mark, mark_at, Stands, StandsOn, CanRollBack};
 ghost use Rattle.realm_model.specs.Undoing.{NewestCanBeUndone, AllCanBeUndone, NothingOpenIsNoTrace, PairLeadsBack, OtherActOwnsSame, OwnershipFollows};
 
@@ -41,6 +41,11 @@ pub fn reached_worlds_are_sound()
 /// What an accepted event takes of the room of builds.
 pub fn room_is_taken()
     ensures { (limits : Limits) (history : List Event) (world : World) (event : Event) (next : World) → IsLegal limits history → replay limits history ≡ Some world → RoomIsTaken limits history world event next }
+{}
+
+/// The room that a build has used is the sum of what its acts took.
+pub fn room_is_a_sum()
+    ensures { (limits : Limits) (history : List Event) (world : World) (build : ℕ) → IsLegal limits history → replay limits history ≡ Some world → RoomIsSum history world build }
 {}
 
 /// A paired act can be taken back right after it, and that leads back to a world that owns the same.
