@@ -53,6 +53,8 @@ pub mod RunningRecs
 pub mod RealmAfter
 pub mod PartRealm
 pub mod Room
+-- the realm of a build, by its history
+pub mod RealmNumbers
 -- owning the same, and undoing
 pub mod OwnsSame
 pub mod Unpaired

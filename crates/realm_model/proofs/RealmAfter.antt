@@ -172,21 +172,21 @@ pub realm_turned : (limits : Limits) (b : ℕ) (w v : World) (act : Act) → IsS
     → step limits w (by b act) ≡ Some v → (k : ℕ) (d : RealmRow) → (cell_at w.machine k).descriptor ≡ Some d → (e : RealmRow) × ((cell_at v.machine k).descriptor ≡ Some e) × Turns act d e
 realm_turned limits b w v act square sound none plain = turned_by limits b w v act (Turns act) square sound none (allowed limits w sound act plain)
 
--- a realm that is made runs no REC
-made_empty : (limits : Limits) (w : World) (rd root v : ℕ) (realm : Option Seen) → ((k : ℕ) → (cell_at w.machine k).descriptor ≡ None)
-    → Yields (λ us. (k : ℕ) (e : RealmRow) → (put_at us k (cell_at w.machine k)).descriptor ≡ Some e → running e.recs e.next ≡ 0) (outcome_of limits (Realm rd root v) realm (map (seen w.machine) (named (Realm rd root v))))
-unfolding outcome_of named new_realm
-made_empty limits w rd root v realm none = Yields-check P _ _ _ (λ _. Yields-Ok P _ (λ k e h.
-    elim (k == root) as (λ t. (cond t (held InRtt rd) (cond (k == rd) z (cell_at w.machine k))).descriptor ≡ Some e → running e.recs e.next ≡ 0) [
+-- a realm that is made is new
+made_new : (limits : Limits) (w : World) (rd root v : ℕ) (realm : Option Seen) → ((k : ℕ) → (cell_at w.machine k).descriptor ≡ None)
+    → Yields (λ us. (k : ℕ) (e : RealmRow) → (put_at us k (cell_at w.machine k)).descriptor ≡ Some e → e ≡ new_realm v root) (outcome_of limits (Realm rd root v) realm (map (seen w.machine) (named (Realm rd root v))))
+unfolding outcome_of named
+made_new limits w rd root v realm none = Yields-check P _ _ _ (λ _. Yields-Ok P _ (λ k e h.
+    elim (k == root) as (λ t. (cond t (held InRtt rd) (cond (k == rd) z (cell_at w.machine k))).descriptor ≡ Some e → e ≡ new_realm v root) [
       | true ↦ λ h. cc
-      | false ↦ λ h. elim (k == rd) as (λ t. (cond t z (cell_at w.machine k)).descriptor ≡ Some e → running e.recs e.next ≡ 0) [
-        | true ↦ λ h. ap (λ (x : RealmRow). running x.recs x.next) (sym (same_Some _ _ h))
+      | false ↦ λ h. elim (k == rd) as (λ t. (cond t z (cell_at w.machine k)).descriptor ≡ Some e → e ≡ new_realm v root) [
+        | true ↦ λ h. sym (same_Some _ _ h)
         | false ↦ λ h. absurd (no_descriptor (cell_at w.machine k) e (none k) h)
       ] h
     ] h))
   where
     P : List Update → Type 0
-    P us = (k : ℕ) (e : RealmRow) → (put_at us k (cell_at w.machine k)).descriptor ≡ Some e → running e.recs e.next ≡ 0
+    P us = (k : ℕ) (e : RealmRow) → (put_at us k (cell_at w.machine k)).descriptor ≡ Some e → e ≡ new_realm v root
 
     z : Cell
     z = record { state = Rd; realm = Some rd; bytes = zero_page; descriptor = Some (new_realm v root) }
@@ -218,10 +218,10 @@ destroyed limits w sound rd root v realm = Yields-with_realm P _ _ (λ d is. Yie
 
 -- the same of steps
 pub realm_made_step : (limits : Limits) (b : ℕ) (w v : World) (rd root vmid : ℕ) → IsSquare w → ((k : ℕ) → (cell_at w.machine k).descriptor ≡ None) → step limits w (by b (Realm rd root vmid)) ≡ Some v
-    → (k : ℕ) (e : RealmRow) → (cell_at v.machine k).descriptor ≡ Some e → running e.recs e.next ≡ 0
+    → (k : ℕ) (e : RealmRow) → (cell_at v.machine k).descriptor ≡ Some e → e ≡ new_realm vmid root
 realm_made_step limits b w v rd root vmid square none s k e is =
-    let did = done limits b w v (Realm rd root vmid) (λ us. (k : ℕ) (e : RealmRow) → (put_at us k (cell_at w.machine k)).descriptor ≡ Some e → running e.recs e.next ≡ 0)
-    (made_empty limits w rd root vmid (realm_of b w) none) s in
+    let did = done limits b w v (Realm rd root vmid) (λ us. (k : ℕ) (e : RealmRow) → (put_at us k (cell_at w.machine k)).descriptor ≡ Some e → e ≡ new_realm vmid root)
+    (made_new limits w rd root vmid (realm_of b w) none) s in
     did.1 k e (ap (λ (c : Cell). c.descriptor) (sym (cell_put b did.0 w v square did.2 k)) ∙ is)
 
 pub realm_gone_step : (limits : Limits) (b : ℕ) (w v : World) (rd root vmid : ℕ) → IsSquare w → IsSoundPart w → step limits w (by b (UnRealm rd root vmid)) ≡ Some v

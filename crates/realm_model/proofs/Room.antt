@@ -18,6 +18,7 @@ use Rattle.realm_model.specs.History.{acts_of, open_entries, IsInTurn, after, re
 use Rattle.realm_model.specs.Room.{running_count, used_room, room_taken, TakesRoom, RoomIsTaken, RoomIsSum}
 use Rattle.realm_model.specs.Undoing.{by}
 use Rattle.realm_model.specs.StepLaw.{IsStep}
+use Rattle.realm_model.specs.Command.Realm.{new_realm}
 use Rattle.realm_model.specs.Command.Rec.{rec_enter, rec_exit}
 use Rattle.realm_model.proofs.Booleans.{none_is}
 use Rattle.realm_model.proofs.Reached.{of_legal}
@@ -75,10 +76,10 @@ module _ (limits : Limits) (b : ℕ) (w v : World) (kept : IsKept b w) (kept_v :
   ]
 
   count_made : (rd root vmid : ℕ) → step limits (part_of w b) (by b (Realm rd root vmid)) ≡ Some V → running_count (realm_of b v) ≡ running_count (realm_of b w)
-  unfolding fits
+  unfolding fits new_realm
   count_made rd root vmid s =
       let none : realm_of b (part_of w b) ≡ None = none_is _ (asked limits b (part_of w b) V (Realm rd root vmid) s).fit in
-      zero_of v kept_v (realm_made_step limits b (part_of w b) V rd root vmid square (no_rows none) s)
+      zero_of v kept_v (λ k e is. ap (λ (x : RealmRow). running x.recs x.next) (realm_made_step limits b (part_of w b) V rd root vmid square (no_rows none) s k e is))
       ∙ sym (count_none b w kept (no_rows none))
 
   count_gone : (rd root vmid : ℕ) → step limits (part_of w b) (by b (UnRealm rd root vmid)) ≡ Some V → running_count (realm_of b v) ≡ running_count (realm_of b w)

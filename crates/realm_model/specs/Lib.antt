@@ -13,6 +13,7 @@ pub mod History
 pub mod Stack
 pub mod Pages
 pub mod Room
+pub mod OpenRealm
 pub mod Ownership
 pub mod Sound
 pub mod Roles

@@ -10,6 +10,7 @@ ghost use Rattle.realm_model.specs.Stack.{MatchingIsAStack};
 ghost use Rattle.realm_model.specs.Pages.{PagesAreLeased};
 ghost use Rattle.realm_model.specs.Reachable.{IsReachable};
 ghost use Rattle.realm_model.specs.Room.{RoomIsTaken, RoomIsSum};
+ghost use Rattle.realm_model.specs.OpenRealm.{NumbersAreFew};
 ghost use Rattle.realm_model.specs.Marks.{Mark, mark_at, Stands, StandsOn, CanRollBack};
 ghost use Rattle.realm_model.specs.Undoing.{NewestCanBeUndone, AllCanBeUndone, NothingOpenIsNoTrace, PairLeadsBack, OtherActOwnsSame, OwnershipFollows};
 
@@ -46,6 +47,11 @@ pub fn room_is_taken()
 /// The room that a build has used is the sum of what its acts took.
 pub fn room_is_a_sum()
     ensures { (limits : Limits) (history : List Event) (world : World) (build : ℕ) → IsLegal limits history → replay limits history ≡ Some world → RoomIsSum history world build }
+{}
+
+/// The number of the next REC of a build's realm is at most that of the build's events.
+pub fn numbers_are_few()
+    ensures { (limits : Limits) (history : List Event) (world : World) (build : ℕ) → IsLegal limits history → replay limits history ≡ Some world → NumbersAreFew history world build }
 {}
 
 /// A paired act can be taken back right after it, and that leads back to a world that owns the same.
