@@ -36,10 +36,10 @@ Rests d e = (n : ℕ) → is_rec_running (get d.recs n) ≡ false → is_rec_run
 
 allowed : (limits : Limits) (w : World) (sound : IsSoundPart w) (act : Act) → is_reverse act ≡ true → is_realm_destroy act ≡ false → Allows limits w sound Rests act
 unfolding is_reverse
-allowed limits w sound (UnTake order first) r k = λ d e vmid recs next n h. ap (λ rs. is_rec_running (get rs n)) recs ∙ h
-allowed limits w sound (Undelegate g) r k = λ d e vmid recs next n h. ap (λ rs. is_rec_running (get rs n)) recs ∙ h
-allowed limits w sound (UnRtt g ipa level) r k = λ d e vmid recs next n h. ap (λ rs. is_rec_running (get rs n)) recs ∙ h
-allowed limits w sound (UnData g ipa) r k = λ d e vmid recs next n h. ap (λ rs. is_rec_running (get rs n)) recs ∙ h
+allowed limits w sound (UnTake order first) r k = λ d e same n h. ap (λ (x : RealmRow). is_rec_running (get x.recs n)) same ∙ h
+allowed limits w sound (Undelegate g) r k = λ d e same n h. ap (λ (x : RealmRow). is_rec_running (get x.recs n)) same ∙ h
+allowed limits w sound (UnRtt g ipa level) r k = λ d e same n h. ap (λ (x : RealmRow). is_rec_running (get x.recs n)) same ∙ h
+allowed limits w sound (UnData g ipa) r k = λ d e same n h. ap (λ (x : RealmRow). is_rec_running (get x.recs n)) same ∙ h
 allowed limits w sound (UnRec g aux m) r k = λ d rec there ready n h.
     ap is_rec_running (get-remove nat_cmp_total d.recs m n)
     ∙ elim (eq_by_cmp nat_cmp n m) as (λ t. is_rec_running (cond t None (get d.recs n)) ≡ false) [ true ↦ refl | false ↦ h ]

@@ -53,8 +53,6 @@ pub mod RunningRecs
 pub mod RealmAfter
 pub mod PartRealm
 pub mod Room
--- the realm of a build, by its history
-pub mod RealmNumbers
 -- owning the same, and undoing
 pub mod OwnsSame
 pub mod Unpaired
@@ -65,6 +63,11 @@ pub mod OwnLaws
 pub mod Emptied
 pub mod Progress
 pub mod PairsLeadBack
+-- the realm of a build, by its history
+pub mod RealmNumbers
+pub mod OpenRealm
+pub mod OpenVmids
+-- all undone
 pub mod AtRest
 pub mod UndoAll
 -- what becomes of ownership

@@ -47,7 +47,7 @@ counts limits w sound (Rec g aux n) k = λ d rec m ready. least d.next
 counts limits w sound (UnRec g aux n) k = λ d rec there ready. one_more d.next d.next refl
 counts limits w sound (Enter n) k = λ d rec h there ready. one_more d.next d.next refl
 counts limits w sound (Exit n) k = λ d rec h there ready. one_more d.next d.next refl
-counts limits w sound act k = λ d e vmid recs next. one_more d.next e.next next
+counts limits w sound act k = λ d e same. one_more d.next e.next (ap (λ (x : RealmRow). x.next) same)
 
 module _ (limits : Limits) (b : ℕ) (w v : World) (kept : IsKept b w) (act : Act) (s : step limits w (by b act) ≡ Some v) where
   abbrev W : World

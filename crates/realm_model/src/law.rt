@@ -10,7 +10,7 @@ ghost use Rattle.realm_model.specs.Stack.{MatchingIsAStack};
 ghost use Rattle.realm_model.specs.Pages.{PagesAreLeased};
 ghost use Rattle.realm_model.specs.Reachable.{IsReachable};
 ghost use Rattle.realm_model.specs.Room.{RoomIsTaken, RoomIsSum};
-ghost use Rattle.realm_model.specs.OpenRealm.{NumbersAreFew};
+ghost use Rattle.realm_model.specs.OpenRealm.{RealmIsOpen, VmidIsOpen, NumbersAreFew};
 ghost use Rattle.realm_model.specs.Marks.{Mark, mark_at, Stands, StandsOn, CanRollBack};
 ghost use Rattle.realm_model.specs.Undoing.{NewestCanBeUndone, AllCanBeUndone, NothingOpenIsNoTrace, PairLeadsBack, OtherActOwnsSame, OwnershipFollows};
 
@@ -47,6 +47,16 @@ pub fn room_is_taken()
 /// The room that a build has used is the sum of what its acts took.
 pub fn room_is_a_sum()
     ensures { (limits : Limits) (history : List Event) (world : World) (build : ℕ) → IsLegal limits history → replay limits history ≡ Some world → RoomIsSum history world build }
+{}
+
+/// The realm of a build is that of its open Realm act.
+pub fn realms_are_open_acts()
+    ensures { (limits : Limits) (history : List Event) (world : World) (build : ℕ) → IsLegal limits history → replay limits history ≡ Some world → RealmIsOpen history world build }
+{}
+
+/// The VMIDs in use are those of the Realm acts that builds have open.
+pub fn vmids_are_of_open_acts()
+    ensures { (limits : Limits) (history : List Event) (world : World) (vmid : ℕ) → IsLegal limits history → replay limits history ≡ Some world → VmidIsOpen history world vmid }
 {}
 
 /// The number of the next REC of a build's realm is at most that of the build's events.
