@@ -1,5 +1,5 @@
 -- A reverse act lets no REC run.
-use Rattle.std.proofs.Common.{◌≡◌, ℕ, Bool, true, false, cond, ◌||◌, inl, inr, List, [], ◌∷◌, Option, Some, None, refl, sym, ap, ◌∙◌, subst}
+use Rattle.std.proofs.Common.{◌≡◌, ℕ, true, false, cond, ◌||◌, inl, inr, List, [], ◌∷◌, Option, Some, None, refl, sym, ap, ◌∙◌, subst}
 use Rattle.std.specs.List.{list_any}
 use Rattle.std.specs.Ordering.{nat_cmp, eq_by_cmp}
 use Rattle.std.specs.Cmp.{nat_cmp_total}
@@ -9,11 +9,10 @@ use Rattle.realm_model.specs.declared.act.Act.{Act}
 use Rattle.realm_model.specs.declared.act.Act.TheVariants.{UnTake, Undelegate, Realm, UnRealm, UnRtt, UnData, Rec, UnRec}
 use Rattle.realm_model.specs.Machine.{Limits, RealmRow, Seen, cell_at}
 use Rattle.realm_model.specs.Act.{is_reverse}
-use Rattle.realm_model.specs.Outcome.{realm_is}
 use Rattle.realm_model.specs.World.{World, part_of, realm_of}
 use Rattle.realm_model.specs.Step.{step}
-use Rattle.realm_model.specs.Room.{is_rec_running}
-use Rattle.realm_model.specs.Undoing.{by, is_running, IsAtRest}
+use Rattle.realm_model.specs.Running.{is_rec_running, rec_runs, is_running}
+use Rattle.realm_model.specs.Undoing.{by}
 use Rattle.realm_model.proofs.Booleans.{or_parts}
 use Rattle.realm_model.proofs.HiddenSteps.{step-part_of}
 use Rattle.realm_model.proofs.RealmOf.{realm_of-part_of}
@@ -25,10 +24,6 @@ use Rattle.realm_model.proofs.Vmids.{IsMade, realm_before}
 use Rattle.realm_model.proofs.RealmAfter.{Allows, turned_by, realm_gone_step, is_realm_destroy}
 use Rattle.realm_model.proofs.PartRealm.{part_realm, none_there, found}
 use Rattle.realm_model.proofs.Parts.{IsSoundPart}
-
--- whether the REC of a number runs
-abbrev pub rec_runs : Option Seen → ℕ → Bool
-rec_runs realm n = realm_is realm (λ d r. is_rec_running (get r.recs n))
 
 -- a REC that does not run does not run after
 abbrev Rests : RealmRow → RealmRow → Type 0
@@ -92,7 +87,7 @@ module _ (limits : Limits) (b : ℕ) (w v : World) (kept : IsKept b w) (kept_v :
       λ i. one_still a parts.0 i || none_run_still acts parts.1 i
 
 -- where no REC runs, none that an act made does
-pub none_run : (realm : Option Seen) (acts : List Act) → IsAtRest realm → list_any (is_running realm) acts ≡ false
+pub none_run : (realm : Option Seen) (acts : List Act) → ((n : ℕ) → rec_runs realm n ≡ false) → list_any (is_running realm) acts ≡ false
 none_run realm [] rest = refl
 none_run realm (a ∷ acts) rest = λ i. one a i || none_run realm acts rest i
   where

@@ -68,6 +68,7 @@ pub mod RealmNumbers
 pub mod OpenRealm
 pub mod OpenVmids
 -- all undone
+pub mod Rests
 pub mod AtRest
 pub mod UndoAll
 -- what becomes of ownership

@@ -18,7 +18,7 @@ use Rattle.realm_model.specs.Act.{block, named}
 use Rattle.realm_model.specs.Outcome.{outcome_of, fits}
 use Rattle.realm_model.specs.World.{World, realm_of}
 use Rattle.realm_model.specs.Sound.{is_host_state}
-use Rattle.realm_model.specs.Room.{is_rec_running}
+use Rattle.realm_model.specs.Running.{is_rec_running}
 use Rattle.realm_model.specs.Step.{step}
 use Rattle.realm_model.specs.Undoing.{by}
 use Rattle.realm_model.specs.Command.Realm.{new_realm}

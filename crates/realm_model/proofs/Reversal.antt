@@ -35,7 +35,7 @@ use Rattle.realm_model.specs.Outcome.{outcome_of, fits, leads_to, realm_is}
 use Rattle.realm_model.specs.World.{World, is_leased_to, realm_of}
 use Rattle.realm_model.specs.Ownership.{mapping_of_row, granules_of_rec, SameRealm, SameDescriptor, SameCell}
 use Rattle.realm_model.specs.Sound.{look, is_host_state, is_rd_state}
-use Rattle.realm_model.specs.Undoing.{is_running}
+use Rattle.realm_model.specs.Running.{is_running}
 use Rattle.realm_model.proofs.Written.{lefts, put_more, put_at, put_lefts, put_other, put_last}
 use Rattle.realm_model.proofs.Outcomes.{granule_there, realm_there, rec_there, Yields-Ok, check_true, Yields-with_realm, Yields-Err, Yields, Yields-check, end_there, Yields-with_end}
 use Rattle.realm_model.proofs.Maps.{same_place, nat_place}

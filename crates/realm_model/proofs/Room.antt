@@ -15,7 +15,8 @@ use Rattle.realm_model.specs.Outcome.{outcome_of, fits, on_realm}
 use Rattle.realm_model.specs.World.{World, opening, realm_of, part_of}
 use Rattle.realm_model.specs.Step.{step}
 use Rattle.realm_model.specs.History.{acts_of, open_entries, IsInTurn, after, replay, IsLegal}
-use Rattle.realm_model.specs.Room.{running_count, used_room, room_taken, TakesRoom, RoomIsTaken, RoomIsSum}
+use Rattle.realm_model.specs.Running.{running_count}
+use Rattle.realm_model.specs.Room.{used_room, room_taken, TakesRoom, RoomIsTaken, RoomIsSum}
 use Rattle.realm_model.specs.Undoing.{by}
 use Rattle.realm_model.specs.StepLaw.{IsStep}
 use Rattle.realm_model.specs.Command.Realm.{new_realm}

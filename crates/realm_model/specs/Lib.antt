@@ -12,6 +12,7 @@ pub mod StepLaw
 pub mod History
 pub mod Stack
 pub mod Pages
+pub mod Running
 pub mod Room
 pub mod OpenRealm
 pub mod Ownership

@@ -9,6 +9,7 @@ ghost use Rattle.realm_model.specs.History.{replay, IsLegal, LeavesNoTrace};
 ghost use Rattle.realm_model.specs.Stack.{MatchingIsAStack};
 ghost use Rattle.realm_model.specs.Pages.{PagesAreLeased};
 ghost use Rattle.realm_model.specs.Reachable.{IsReachable};
+ghost use Rattle.realm_model.specs.Running.{RestIsOfAll};
 ghost use Rattle.realm_model.specs.Room.{RoomIsTaken, RoomIsSum};
 ghost use Rattle.realm_model.specs.OpenRealm.{RealmIsOpen, VmidIsOpen, NumbersAreFew};
 ghost use Rattle.realm_model.specs.Marks.{Mark, mark_at, Stands, StandsOn, CanRollBack};
@@ -37,6 +38,11 @@ pub fn pages_are_leased()
 /// What holds of every world that a history leads to.
 pub fn reached_worlds_are_sound()
     ensures { (limits : Limits) (history : List Event) (world : World) → replay limits history ≡ Some world → IsReachable limits world }
+{}
+
+/// No REC of a build runs exactly where none is counted.
+pub fn at_rest_is_none_running()
+    ensures { (limits : Limits) (history : List Event) (world : World) (build : ℕ) → replay limits history ≡ Some world → RestIsOfAll world build }
 {}
 
 /// What an accepted event takes of the room of builds.
