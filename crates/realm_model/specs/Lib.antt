@@ -14,11 +14,11 @@ pub mod Stack
 pub mod Pages
 pub mod Running
 pub mod Room
-pub mod OpenRealm
 pub mod Ownership
 pub mod Sound
 pub mod Roles
 pub mod Reachable
+pub mod OpenRealm
 pub mod Undoing
 pub mod Marks
 pub mod Codes

@@ -6,8 +6,8 @@ use Rattle.realm_model.specs.declared.act.Act.TheVariants.{Realm}
 use Rattle.realm_model.specs.declared.act.Event.{Event}
 use Rattle.realm_model.specs.Machine.{RealmRow, Seen}
 use Rattle.realm_model.specs.World.{World, realm_of}
-use Rattle.realm_model.specs.Step.{has_vmid}
 use Rattle.realm_model.specs.History.{acts_of, open_entries}
+use Rattle.realm_model.specs.Reachable.{IsRealmAt}
 
 -- the act makes a realm
 abbrev pub makes_realm : Act → Bool
@@ -32,10 +32,13 @@ abbrev pub uses_vmid : ℕ → Act → Bool
 uses_vmid vmid (Realm rd root v) = v == vmid
 uses_vmid vmid _ = false
 
--- A realm has the VMID exactly where a build has a Realm act with it open.
+-- a realm has the VMID
+abbrev pub IsUsed : World → ℕ → Type 0
+IsUsed world vmid = (rd : ℕ) × (realm : RealmRow) × IsRealmAt world rd realm × (realm.vmid ≡ vmid)
+
+-- A VMID is used exactly where a build has a Realm act with it open.
 abbrev pub VmidIsOpen : List Event → World → ℕ → Type 0
-VmidIsOpen history world vmid =
-    IsTrue (list_any (has_vmid vmid) world.machine) ↔ ((build : ℕ) × IsTrue (list_any (uses_vmid vmid) (open_entries build history)))
+VmidIsOpen history world vmid = IsUsed world vmid ↔ ((build : ℕ) × IsTrue (list_any (uses_vmid vmid) (open_entries build history)))
 
 -- The next REC of a build's realm gets a number that is no more than the build has events.
 abbrev pub NumbersAreFew : List Event → World → ℕ → Type 0
