@@ -36,6 +36,7 @@ pub mod TablePlaces
 pub mod TableBack
 pub mod SoundRows
 pub mod FullRows
+pub mod EmptyRows
 pub mod SoundCells
 pub mod SoundParts
 pub mod Roles

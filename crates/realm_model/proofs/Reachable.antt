@@ -110,6 +110,7 @@ module _ (limits : Limits) (w : World) (clean : IsClean w) (sized : IsSized limi
     rows = λ g d is. let p = realm_in_part g d is in (((kept p.0).sound.part.cells g).row d p.2).rows;
     full = full_rows;
     walks = λ g d is. walk_ends d.rows (full_rows g d is);
+    empty = λ g d is. let p = realm_in_part g d is in (((kept p.0).sound.part.cells g).row d p.2).empty;
     recs = λ g d is. let p = realm_in_part g d is in (((kept p.0).sound.part.cells g).row d p.2).recs;
     names = λ g d is role to state there.
         let p = realm_in_part g d is in
