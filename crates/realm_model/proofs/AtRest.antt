@@ -87,10 +87,10 @@ module _ (limits : Limits) (b : ℕ) (w v : World) (kept : IsKept b w) (kept_v :
       λ i. one_still a parts.0 i || none_run_still acts parts.1 i
 
 -- where no REC runs, none that an act made does
+pub not_running : (realm : Option Seen) → ((n : ℕ) → rec_runs realm n ≡ false) → (act : Act) → is_running realm act ≡ false
+not_running realm rest (Rec g aux n) = rest n
+not_running realm rest _ = refl
+
 pub none_run : (realm : Option Seen) (acts : List Act) → ((n : ℕ) → rec_runs realm n ≡ false) → list_any (is_running realm) acts ≡ false
 none_run realm [] rest = refl
-none_run realm (a ∷ acts) rest = λ i. one a i || none_run realm acts rest i
-  where
-    one : (a : Act) → is_running realm a ≡ false
-    one (Rec g aux n) = rest n
-    one _ = refl
+none_run realm (a ∷ acts) rest = λ i. not_running realm rest a i || none_run realm acts rest i

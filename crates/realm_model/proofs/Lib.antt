@@ -54,6 +54,7 @@ pub mod RunningRecs
 pub mod RealmAfter
 pub mod PartRealm
 pub mod Room
+pub mod Accepted
 -- owning the same, and undoing
 pub mod OwnsSame
 pub mod Unpaired
@@ -72,6 +73,7 @@ pub mod OpenVmids
 pub mod Rests
 pub mod AtRest
 pub mod UndoAll
+pub mod Aborting
 -- what becomes of ownership
 pub mod LookSame
 pub mod Alike

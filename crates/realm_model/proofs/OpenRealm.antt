@@ -19,13 +19,13 @@ use Rattle.realm_model.specs.OpenRealm.{makes_realm, maker, makers, RealmIsOpen}
 use Rattle.realm_model.specs.Undoing.{by, LeadsBack}
 use Rattle.realm_model.proofs.Booleans.{none_is}
 use Rattle.realm_model.proofs.Growth.{open_entries-own, open_entries-other, takes_away, grows}
-use Rattle.realm_model.proofs.HiddenSteps.{step-part_of, part_of-other_step}
+use Rattle.realm_model.proofs.HiddenSteps.{step-part_of}
 use Rattle.realm_model.proofs.PairsLeadBack.{pair_leads_back}
 use Rattle.realm_model.proofs.Parts.{IsSoundPart}
 use Rattle.realm_model.proofs.PartRealm.{part_realm, none_there, none_at_first, found}
 use Rattle.realm_model.proofs.Reached.{of_legal}
 use Rattle.realm_model.proofs.RealmAfter.{Allows, turned_by, is_realm_destroy, realm_made_step, realm_gone_step}
-use Rattle.realm_model.proofs.RealmOf.{IsAt, IsAt-realm_of, realm_of-part_of}
+use Rattle.realm_model.proofs.RealmOf.{IsAt, IsAt-realm_of, realm_of-part_of, realm_of-other_step}
 use Rattle.realm_model.proofs.RoleChanges.{no_descriptor}
 use Rattle.realm_model.proofs.SoundParts.{IsSquare-part_of}
 use Rattle.realm_model.proofs.Stack.{pushed_paired, pushed_other, kind, paired, back, other}
@@ -260,8 +260,7 @@ module _ (limits : Limits) (before : List Event) (w v : World) (legal : IsLegal 
       let turned : IsInTurn before (by b e.act) = subst (λ n. IsInTurn before (by n e.act)) same turn in
       subst (λ n. RealmIsOpen (before ++ by n e.act ∷ []) v b) (sym same) (own_step b e.act was turned stepped))
       (λ apart.
-      let part = part_of-other_step limits b w v e apart (kept_reached limits b before w at_w).sound.clean s in
-      let realm : realm_of b v ≡ realm_of b w = sym (realm_of-part_of b v) ∙ ap (realm_of b) part ∙ realm_of-part_of b w in
+      let realm = realm_of-other_step limits b w v e apart (kept_reached limits b before w at_w).sound.clean s in
       ap (filter makes_realm) (open_entries-other b before e apart) ∙ was ∙ ap makers (sym realm))
       (cases_eq e.build b)
 

@@ -48,9 +48,13 @@ module _ (realm : RealmRow) (below : (number : ℕ) (rec : RecRow) → get realm
           let high = below number rec is in
           none_passed (runs realm.recs) 0 realm.next number (omega arith) (omega arith) none
 
+pub rest_from : (realm : Option Seen) → ((n : ℕ) → rec_runs realm n ≡ false) → IsAtRest realm
+unfolding running_count
+rest_from realm none = none_pass (rec_runs realm) (range_with_len 0 (next_number realm)) none
+
 pub rest_is_of_all : (limits : Limits) (history : List Event) (b : ℕ) (w : World) → replay limits history ≡ Some w → RestIsOfAll w b
 unfolding running_count
-rest_is_of_all limits history b w at_w = (none_runs (realm_of b w) (IsAt-realm_of b w), none_pass (rec_runs (realm_of b w)) (range_with_len 0 (next_number (realm_of b w))))
+rest_is_of_all limits history b w at_w = (none_runs (realm_of b w) (IsAt-realm_of b w), rest_from (realm_of b w))
   where
     by_row : (o : Option RealmRow) → ((d : RealmRow) → o ≡ Some d → (number : ℕ) (rec : RecRow) → get d.recs number ≡ Some rec → number < d.next)
         → counted o ≡ 0 → (n : ℕ) → elim o [ Some d ↦ runs d.recs n | None ↦ false ] ≡ false

@@ -25,8 +25,8 @@ use Rattle.realm_model.proofs.Booleans.{none_is}
 use Rattle.realm_model.proofs.Reached.{of_legal}
 use Rattle.realm_model.proofs.Stack.{pushed_paired, pushed_other, kind, paired, back, other}
 use Rattle.realm_model.proofs.Growth.{acts_of-own, acts_of-other, open_entries-own, open_entries-other, takes_away, Grows, grows}
-use Rattle.realm_model.proofs.HiddenSteps.{step-part_of, part_of-other_step}
-use Rattle.realm_model.proofs.RealmOf.{realm_of-part_of}
+use Rattle.realm_model.proofs.HiddenSteps.{step-part_of}
+use Rattle.realm_model.proofs.RealmOf.{realm_of-part_of, realm_of-other_step}
 use Rattle.realm_model.proofs.Written.{IsSquare}
 use Rattle.realm_model.proofs.StepBack.{asked}
 use Rattle.realm_model.proofs.SoundParts.{IsSquare-part_of}
@@ -188,8 +188,7 @@ module _ (limits : Limits) (history : List Event) (w v : World) where
   room_is_taken event kept kept_v turn s = record {
     own = own_room event.build event.act (kept event.build) (kept_v event.build) turn s;
     others = λ b apart.
-        let part : part_of v b ≡ part_of w b = part_of-other_step limits b w v event apart (kept b).sound.clean s in
-        let realm : realm_of b v ≡ realm_of b w = sym (realm_of-part_of b v) ∙ ap (realm_of b) part ∙ realm_of-part_of b w in
+        let realm : realm_of b v ≡ realm_of b w = realm_of-other_step limits b w v event apart (kept b).sound.clean s in
         λ i. length (acts_of-other b history event apart i) + length (open_entries-other b history event apart i) + running_count (realm i);
   }
 
