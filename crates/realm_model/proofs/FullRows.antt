@@ -69,7 +69,7 @@ with_ram_full {width} rows ipa n full all = subst (IsFull width) (λ i q. same_r
 -- ---- tables
 
 -- what covers the first granule of an entry covers all of it
-above_covers : (level i : ℕ) → 1 ≤ level - 1 → level - 1 ≤ 2 → first_covered (level - 1) (first_covered level i) ≡ first_covered (level - 1) i
+pub above_covers : (level i : ℕ) → 1 ≤ level - 1 → level - 1 ≤ 2 → first_covered (level - 1) (first_covered level i) ≡ first_covered (level - 1) i
 above_covers level i low high = elim (level == 2) as (λ t. (level == 2) ≡ t → first_covered (level - 1) (first_covered level i) ≡ first_covered (level - 1) i) [
   | true ↦ λ e. subst (λ l. first_covered (l - 1) (first_covered l i) ≡ first_covered (l - 1) i) (sym (eqb-true level 2 e)) (two i)
   | false ↦ λ e.

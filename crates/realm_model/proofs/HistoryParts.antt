@@ -47,7 +47,7 @@ split limits p s w legal at_w =
 -- ---- what is open, after one part and the events of others in the other
 
 -- the acts of both
-acts_of-append : (b : ℕ) (xs ys : List Event) → acts_of b (xs ++ ys) ≡ acts_of b xs ++ acts_of b ys
+pub acts_of-append : (b : ℕ) (xs ys : List Event) → acts_of b (xs ++ ys) ≡ acts_of b xs ++ acts_of b ys
 acts_of-append b xs ys = ap (map (λ (x : Event). x.act)) (filter-append (λ (x : Event). x.build == b) xs ys) ∙ map-append (λ (x : Event). x.act) (filter (λ (x : Event). x.build == b) xs) (filter (λ (x : Event). x.build == b) ys)
 
 -- another build's events leave open what was

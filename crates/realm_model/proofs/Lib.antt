@@ -39,6 +39,7 @@ pub mod TablePlaces
 pub mod TableBack
 pub mod SoundRows
 pub mod FullRows
+pub mod EmptyRows
 pub mod SoundCells
 pub mod SoundParts
 pub mod Roles
@@ -57,6 +58,7 @@ pub mod RunningRecs
 pub mod RealmAfter
 pub mod PartRealm
 pub mod Room
+pub mod Accepted
 -- owning the same, and undoing
 pub mod OwnsSame
 pub mod Unpaired
@@ -67,8 +69,15 @@ pub mod OwnLaws
 pub mod Emptied
 pub mod Progress
 pub mod PairsLeadBack
+-- the realm of a build, by its history
+pub mod RealmNumbers
+pub mod OpenRealm
+pub mod OpenVmids
+-- all undone
+pub mod Rests
 pub mod AtRest
 pub mod UndoAll
+pub mod Aborting
 -- what becomes of ownership
 pub mod LookSame
 pub mod Alike

@@ -16,7 +16,8 @@ use Rattle.realm_model.specs.World.{World, is_leased_to, realm_of, updated_all, 
 use Rattle.realm_model.specs.Step.{step, is_allowed, used_vmids}
 use Rattle.realm_model.specs.History.{open_entries, IsInTurn, replay, IsLegal}
 use Rattle.realm_model.specs.Ownership.{OwnsSame}
-use Rattle.realm_model.specs.Undoing.{is_running, by}
+use Rattle.realm_model.specs.Running.{is_running}
+use Rattle.realm_model.specs.Undoing.{by}
 use Rattle.realm_model.proofs.Lists.{all_from_in, is_in}
 use Rattle.realm_model.proofs.Clean.{clean_at}
 use Rattle.realm_model.proofs.Written.{leases_taken, seen_frees}

@@ -72,7 +72,7 @@ module _ (limits : Limits) (w : World) (clean : IsClean w) (sized : IsSized limi
   ]
 
   -- the realm at a granule is that of its build
-  realm_in_part : (g : ℕ) (d : RealmRow) → IsRealmAt w g d → (b : ℕ) × (slice_get w.leases g ≡ Some (Some b)) × ((in_part b g).descriptor ≡ Some d)
+  pub realm_in_part : (g : ℕ) (d : RealmRow) → IsRealmAt w g d → (b : ℕ) × (slice_get w.leases g ≡ Some (Some b)) × ((in_part b g).descriptor ≡ Some d)
   realm_in_part g d is = elim (whose g) [
     | nobodys e ↦ absurd (true_false _ (ap is_some is) (ap (λ (c : Cell). is_some c.descriptor) e))
     | of_build b lease same ↦ (b, lease, ap (λ (c : Cell). c.descriptor) same ∙ is)
@@ -113,6 +113,7 @@ module _ (limits : Limits) (w : World) (clean : IsClean w) (sized : IsSized limi
     rows = λ g d is. (row_sound g d is).rows;
     full = λ g d is. (row_sound g d is).full;
     walks = λ g d is. walk_ends d.rows (row_sound g d is).full;
+    empty = λ g d is. (row_sound g d is).empty;
     recs = λ g d is. (row_sound g d is).recs;
     names = λ g d is role to state there.
         let p = realm_in_part g d is in
@@ -136,6 +137,12 @@ module _ (limits : Limits) (w : World) (clean : IsClean w) (sized : IsSized limi
           }
     ];
   }
+
+-- a realm is that of a build
+pub realm_of_build : (limits : Limits) (history : List Event) (w : World) → replay limits history ≡ Some w → (g : ℕ) (d : RealmRow) → IsRealmAt w g d
+    → (b : ℕ) × (slice_get w.leases g ≡ Some (Some b)) × ((cell_at (part_of w b).machine g).descriptor ≡ Some d)
+realm_of_build limits history w at_w =
+    realm_in_part limits w (clean_reached limits history w at_w) (sized_reached limits history w at_w) (λ b. kept_reached limits b history w at_w) (vmids_reached limits history w at_w)
 
 pub reachable_worlds : (limits : Limits) (history : List Event) (w : World) → replay limits history ≡ Some w → IsReachable limits w
 reachable_worlds limits history w at_w =

@@ -38,7 +38,7 @@ use Rattle.realm_model.specs.World.{World, is_leased_to, realm_of}
 use Rattle.realm_model.specs.Step.{used_vmids}
 use Rattle.realm_model.specs.Ownership.{mapping_of_row, granules_of_rec, SameRealm, SameDescriptor, SameCell}
 use Rattle.realm_model.specs.Sound.{look, is_host_state, is_rd_state}
-use Rattle.realm_model.specs.Undoing.{is_running}
+use Rattle.realm_model.specs.Running.{is_running}
 use Rattle.realm_model.proofs.Written.{lefts, put_more, put_at, put_at-each_put, granules-each_put, put_other, put_last}
 use Rattle.realm_model.proofs.NewRealms.{new_rd, creation, seen-creation, put_at-creation_rd, can_be_made}
 use Rattle.realm_model.proofs.Roots.{root_same}

@@ -9,7 +9,7 @@ use Rattle.std.proofs.lemmas.Bool.{eqb-true, eqb-false}
 use Rattle.std.proofs.lemmas.List.{append-nil}
 use Rattle.std.proofs.lemmas.List.Elements.{filter-append, filter_agree}
 use Rattle.realm_model.specs.Machine.{RecRow}
-use Rattle.realm_model.specs.Room.{is_rec_running}
+use Rattle.realm_model.specs.Running.{is_rec_running}
 use Rattle.realm_model.proofs.Booleans.{false_from}
 use Rattle.realm_model.proofs.Maps.{nat_place}
 

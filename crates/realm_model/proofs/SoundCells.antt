@@ -19,7 +19,7 @@ use Rattle.realm_model.specs.declared.act.Act.TheVariants.{Take, UnTake, Fill, P
 use Rattle.realm_model.specs.Rows.{Row, Rows, row_at, put_row, assigned, unassigned, unmapped_ripas}
 use Rattle.realm_model.specs.Machine.{Limits, RecRow, RealmRow, Cell, Seen, blank, left, held, cell_at, seen}
 use Rattle.realm_model.specs.Update.{Update, Put, PutByte, Lease, Free, granule_of, cell_after}
-use Rattle.realm_model.specs.Command.Check.{is_undelegated, is_delegated}
+use Rattle.realm_model.specs.Command.Check.{is_undelegated, is_delegated, is_protected}
 use Rattle.realm_model.specs.Command.Realm.{new_realm}
 use Rattle.realm_model.specs.Measurement.{measurement_after, ripas_event, data_event, rec_event}
 use Rattle.realm_model.specs.Act.{named}
@@ -27,10 +27,11 @@ use Rattle.realm_model.specs.Outcome.{outcome_of}
 use Rattle.realm_model.specs.World.{World, updated, updated_all}
 use Rattle.realm_model.specs.Step.{used_vmids}
 use Rattle.realm_model.specs.Ownership.{mapping_of_row}
-use Rattle.realm_model.specs.Sound.{look, IsShaped, is_table_kind, is_host_state, is_rd_state, IsSoundRows, IsFull}
+use Rattle.realm_model.specs.Sound.{look, IsShaped, is_table_kind, is_host_state, is_rd_state, IsSoundRows, IsFull, HasEmptyRows}
 use Rattle.realm_model.proofs.Booleans.{guarded, not_true, true_false}
 use Rattle.realm_model.proofs.SoundRows.{root_sound, put_sound, with_table_sound, without_table_sound, with_ram_sound}
 use Rattle.realm_model.proofs.FullRows.{root_full, put_full, with_table_full, without_table_full, with_ram_full}
+use Rattle.realm_model.proofs.EmptyRows.{root_empty, put_empty, with_table_empty, without_table_empty, with_ram_empty}
 use Rattle.realm_model.proofs.RealmOf.{IsAt}
 use Rattle.realm_model.proofs.Outcomes.{Yields, Yields-Ok, Yields-Err, Yields-with_rec, Yields-with_realm, Yields-with_end, Yields-check, Yields-with_granule}
 use Rattle.realm_model.proofs.Walks.{walk_at}
@@ -38,7 +39,7 @@ use Rattle.realm_model.proofs.Maps.{nat_place}
 use Rattle.realm_model.proofs.Written.{set_cases, put_seen, each_in_front, each_alone}
 use Rattle.realm_model.proofs.NewRealms.{can_be_made}
 use Rattle.realm_model.proofs.TablePlaces.{table_place}
-use Rattle.realm_model.proofs.RowKinds.{plain_unassigned, plain_assigned}
+use Rattle.realm_model.proofs.RowKinds.{kind_of_table, plain_unassigned, plain_assigned}
 use Rattle.realm_model.proofs.Parts.{IsSoundRealm, IsSoundCell}
 
 abbrev pub IsGood : ℕ → Update → Type 0
@@ -134,6 +135,7 @@ module _ (limits : Limits) (w : World) (o : ℕ) (sound : AllCells o w) where
     aligned = h.aligned;
     rows = h.rows;
     full = h.full;
+    empty = h.empty;
     recs = λ k r e. elim (eq_by_cmp nat_cmp k n) as (λ t. eq_by_cmp nat_cmp k n ≡ t → cond t (Some new) (get d.recs k) ≡ Some r → k < d.next) [
       | true ↦ λ same e. subst (λ x. x < d.next) (sym (nat_place k n same)) (h.recs n rec there)
       | false ↦ λ same e. h.recs k r e
@@ -146,6 +148,7 @@ module _ (limits : Limits) (w : World) (o : ℕ) (sound : AllCells o w) where
     aligned = h.aligned;
     rows = h.rows;
     full = h.full;
+    empty = h.empty;
     recs = λ k r e. elim (eq_by_cmp nat_cmp k d.next) as (λ t. eq_by_cmp nat_cmp k d.next ≡ t → cond t (Some new) (get d.recs k) ≡ Some r → k < d.next + 1) [
       | true ↦ λ same e. let at : k ≡ d.next = nat_place k d.next same in omega arith
       | false ↦ λ same e. let less : k < d.next = h.recs k r e in omega arith
@@ -158,6 +161,7 @@ module _ (limits : Limits) (w : World) (o : ℕ) (sound : AllCells o w) where
     aligned = h.aligned;
     rows = h.rows;
     full = h.full;
+    empty = h.empty;
     recs = λ k r e. elim (eq_by_cmp nat_cmp k n) as (λ t. cond t None (get d.recs k) ≡ Some r → k < d.next) [
       | true ↦ λ e. cc
       | false ↦ λ e. h.recs k r e
@@ -165,16 +169,18 @@ module _ (limits : Limits) (w : World) (o : ℕ) (sound : AllCells o w) where
   }
 
   -- other rows
-  rows_put : (d : RealmRow) (rows : Rows) (m : List ℕ) → IsSoundRealm d → IsSoundRows d.root.width (look rows) → IsFull d.root.width (look rows) → IsSoundRealm (record d { rows = rows; measurement = m })
-  rows_put d rows m h sound full = record { width = h.width; aligned = h.aligned; rows = sound; full = full; recs = h.recs }
+  rows_put : (d : RealmRow) (rows : Rows) (m : List ℕ) → IsSoundRealm d → IsSoundRows d.root.width (look rows) → IsFull d.root.width (look rows) → HasEmptyRows d.root.width rows
+      → IsSoundRealm (record d { rows = rows; measurement = m })
+  rows_put d rows m h sound full empty = record { width = h.width; aligned = h.aligned; rows = sound; full = full; empty = empty; recs = h.recs }
 
   -- a row of the last level
-  leaf_put : (d : RealmRow) (ipa : ℕ) (old new : Row) (m : List ℕ) → IsSoundRealm d → row_at d.rows 3 ipa ≡ Some old → is_table_kind (Some (mapping_of_row old)) ≡ false
+  leaf_put : (d : RealmRow) (ipa : ℕ) (old new : Row) (m : List ℕ) → IsSoundRealm d → is_protected d ipa ≡ true → row_at d.rows 3 ipa ≡ Some old → is_table_kind (Some (mapping_of_row old)) ≡ false
       → IsShaped 3 (Some (mapping_of_row new)) → is_table_kind (Some (mapping_of_row new)) ≡ false → IsSoundRealm (record d { rows = put_row d.rows 3 ipa new; measurement = m })
-  leaf_put d ipa old new m h there plain shaped leaf =
+  leaf_put d ipa old new m h protected there plain shaped leaf =
       let place : ℕ × ℕ = (3, first_covered 3 ipa) in
       let sound = put_sound d.rows place new h.rows (ap (λ o. is_some (option_map mapping_of_row o)) there) (ap (λ o. is_table_kind (option_map mapping_of_row o)) there ∙ plain) shaped in
       rows_put d (insert d.rows place new) m h sound (put_full d.rows place new h.full leaf)
+      (put_empty d.rows 3 ipa new h.width h.empty protected (λ table. absurd (true_false _ (kind_of_table new ∙ table) leaf)))
 
   abbrev G : List Update → Type 0
   G = AllGood o
@@ -186,6 +192,7 @@ module _ (limits : Limits) (w : World) (o : ℕ) (sound : AllCells o w) where
     aligned = aligned;
     rows = root_sound root.width;
     full = root_full root.width;
+    empty = root_empty root.width;
     recs = λ n r e. absurd (true_false _ (ap is_some e) (ap is_some (get-empty {X = RecRow} nat_cmp n)));
   }
 
@@ -211,44 +218,47 @@ module _ (limits : Limits) (w : World) (o : ℕ) (sound : AllCells o w) where
       (left_sound o rd, each_alone G (λ g. Put g left) (λ g us h. (left_sound o g, h)) (starting_tables d.root) tt)))
   good Activate None stands at = Yields-Err G _
   good Activate (Some rd) stands at = Yields-with_realm G _ _ (λ d is. Yields-check G _ _ _ (λ _. Yields-Ok G _
-      (let h = realm_is_sound rd d at is in realm_put rd d (record d { state = Active }) at is (record { width = h.width; aligned = h.aligned; rows = h.rows; full = h.full; recs = h.recs }), tt)))
+      (let h = realm_is_sound rd d at is in realm_put rd d (record d { state = Active }) at is (record { width = h.width; aligned = h.aligned; rows = h.rows; full = h.full; empty = h.empty; recs = h.recs }), tt)))
   good (Rtt g ipa level) None stands at = Yields-Err G _
   good (Rtt g ipa level) (Some rd) stands at = Yields-with_realm G _ _ (λ d is. Yields-check G _ _ _ (λ place. Yields-with_end G _ _ _ _ (λ end e. Yields-check G _ _ _ (λ last. Yields-check G _ _ _ (λ plain.
       let h = realm_is_sound rd d at is in
       let spot = table_place ipa level (and_parts _ _ (and_parts _ _ place).0).1 in
       let made = with_table_sound d.rows level ipa end.row h.rows spot
       (walk_at d.rows ipa (level - 1) end e (eqb-true end.level (level - 1) last)) g end.row.ripas (not_true _ plain) in
-      Yields-Ok G _ (held_sound InRtt g rd.number refl refl (rd_is rd d at is), (realm_put rd d _ at is (rows_put d _ d.measurement h made (with_table_full d.rows level ipa spot h.full g end.row.ripas)), tt)))))))
+      Yields-Ok G _ (held_sound InRtt g rd.number refl refl (rd_is rd d at is), (realm_put rd d _ at is (rows_put d _ d.measurement h made (with_table_full d.rows level ipa spot h.full g end.row.ripas)
+      (with_table_empty d.rows ipa h.width h.empty (and_parts _ _ place).1 level spot g end.row.ripas)), tt)))))))
   good (UnRtt g ipa level) None stands at = Yields-Err G _
   good (UnRtt g ipa level) (Some rd) stands at = Yields-with_realm G _ _ (λ d is. Yields-check G _ _ _ (λ place. Yields-with_end G _ _ _ _ (λ end e. Yields-check G _ _ _ (λ last. Yields-check G _ _ _ (λ table. Yields-check G _ _ _ (λ unused. Yields-with_granule G _ _ (λ pa there.
       let h = realm_is_sound rd d at is in
       let spot = table_place ipa level (and_parts _ _ place).0 in
       let gone = without_table_sound d.rows level ipa end.row h.rows spot
       (walk_at d.rows ipa (level - 1) end e (eqb-true end.level (level - 1) last)) unused in
-      Yields-Ok G _ (left_sound o pa, (realm_put rd d _ at is (rows_put d _ d.measurement h gone (without_table_full d.rows level ipa spot h.full)), tt)))))))))
+      Yields-Ok G _ (left_sound o pa, (realm_put rd d _ at is (rows_put d _ d.measurement h gone (without_table_full d.rows level ipa spot h.full)
+      (without_table_empty d.rows ipa h.width h.empty (and_parts _ _ place).1 level spot)), tt)))))))))
   good (Ripas ipa n) None stands at = Yields-Err G _
-  good (Ripas ipa n) (Some rd) stands at = Yields-with_realm G _ _ (λ d is. Yields-check G _ _ _ (λ _. Yields-check G _ _ _ (λ _. Yields-with_end G _ _ _ _ (λ end e. Yields-check G _ _ _ (λ _. Yields-check G _ _ _ (λ all.
+  good (Ripas ipa n) (Some rd) stands at = Yields-with_realm G _ _ (λ d is. Yields-check G _ _ _ (λ input. Yields-check G _ _ _ (λ _. Yields-with_end G _ _ _ _ (λ end e. Yields-check G _ _ _ (λ _. Yields-check G _ _ _ (λ all.
       let h = realm_is_sound rd d at is in
-      Yields-Ok G _ (realm_put rd d _ at is (rows_put d _ (measurement_after d.measurement (ripas_event ipa n)) h (with_ram_sound d.rows ipa n h.rows all) (with_ram_full d.rows ipa n h.full all)), tt)))))))
+      Yields-Ok G _ (realm_put rd d _ at is (rows_put d _ (measurement_after d.measurement (ripas_event ipa n)) h (with_ram_sound d.rows ipa n h.rows all) (with_ram_full d.rows ipa n h.full all)
+      (with_ram_empty d.rows ipa h.width h.empty (and_parts _ _ input).1 n (and_parts _ _ (and_parts _ _ input).0).1 all)), tt)))))))
   good (Data g ipa source) None stands at = Yields-Err G _
-  good (Data g ipa source) (Some rd) stands at = Yields-with_realm G _ _ (λ d is. Yields-check G _ _ _ (λ _. Yields-check G _ _ _ (λ _. Yields-with_end G _ _ _ _ (λ end e. Yields-check G _ _ _ (λ last. Yields-check G _ _ _ (λ free.
+  good (Data g ipa source) (Some rd) stands at = Yields-with_realm G _ _ (λ d is. Yields-check G _ _ _ (λ input. Yields-check G _ _ _ (λ _. Yields-with_end G _ _ _ _ (λ end e. Yields-check G _ _ _ (λ last. Yields-check G _ _ _ (λ free.
       let h = realm_is_sound rd d at is in
       let c = held_sound InData g rd.number refl refl (rd_is rd d at is) in
-      let new = leaf_put d ipa end.row (assigned Ram g) (measurement_after d.measurement (data_event ipa (cell_at w.machine source).bytes)) h
+      let new = leaf_put d ipa end.row (assigned Ram g) (measurement_after d.measurement (data_event ipa (cell_at w.machine source).bytes)) h (and_parts _ _ input).1
       (walk_at d.rows ipa 3 end e (eqb-true end.level 3 last)) (plain_unassigned end.row free) (refl, refl) refl in
       Yields-Ok G _ (
         record { realm = c.realm; descriptor = c.descriptor; alone = c.alone; itself = c.itself; row = c.row },
         (realm_put rd d _ at is new, tt),
       )))))))
   good (Unknown g ipa) None stands at = Yields-Err G _
-  good (Unknown g ipa) (Some rd) stands at = Yields-with_realm G _ _ (λ d is. Yields-check G _ _ _ (λ _. Yields-with_end G _ _ _ _ (λ end e. Yields-check G _ _ _ (λ last. Yields-check G _ _ _ (λ free.
+  good (Unknown g ipa) (Some rd) stands at = Yields-with_realm G _ _ (λ d is. Yields-check G _ _ _ (λ input. Yields-with_end G _ _ _ _ (λ end e. Yields-check G _ _ _ (λ last. Yields-check G _ _ _ (λ free.
       let h = realm_is_sound rd d at is in
-      let new = leaf_put d ipa end.row (assigned end.row.ripas g) d.measurement h (walk_at d.rows ipa 3 end e (eqb-true end.level 3 last)) (plain_unassigned end.row free) (refl, refl) refl in
+      let new = leaf_put d ipa end.row (assigned end.row.ripas g) d.measurement h (and_parts _ _ input).1 (walk_at d.rows ipa 3 end e (eqb-true end.level 3 last)) (plain_unassigned end.row free) (refl, refl) refl in
       Yields-Ok G _ (held_sound InData g rd.number refl refl (rd_is rd d at is), (realm_put rd d _ at is new, tt)))))))
   good (UnData g ipa) None stands at = Yields-Err G _
-  good (UnData g ipa) (Some rd) stands at = Yields-with_realm G _ _ (λ d is. Yields-check G _ _ _ (λ _. Yields-with_end G _ _ _ _ (λ end e. Yields-check G _ _ _ (λ last. Yields-check G _ _ _ (λ used. Yields-with_granule G _ _ (λ pa there.
+  good (UnData g ipa) (Some rd) stands at = Yields-with_realm G _ _ (λ d is. Yields-check G _ _ _ (λ input. Yields-with_end G _ _ _ _ (λ end e. Yields-check G _ _ _ (λ last. Yields-check G _ _ _ (λ used. Yields-with_granule G _ _ (λ pa there.
       let h = realm_is_sound rd d at is in
-      let new = leaf_put d ipa end.row (unassigned (unmapped_ripas end.row.ripas)) d.measurement h (walk_at d.rows ipa 3 end e (eqb-true end.level 3 last)) (plain_assigned end.row used) refl refl in
+      let new = leaf_put d ipa end.row (unassigned (unmapped_ripas end.row.ripas)) d.measurement h input (walk_at d.rows ipa 3 end e (eqb-true end.level 3 last)) (plain_assigned end.row used) refl refl in
       Yields-Ok G _ (left_sound o pa, (realm_put rd d _ at is new, tt))))))))
   good (Rec g aux n) None stands at = Yields-Err G _
   good (Rec g aux n) (Some rd) stands at = Yields-with_realm G _ _ (λ d is. Yields-check G _ _ _ (λ _. Yields-check G _ _ _ (λ _. Yields-Ok G _ (

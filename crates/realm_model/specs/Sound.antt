@@ -1,13 +1,14 @@
 -- Sound rows, and states of granules.
 use Rattle.std.specs.Prelude.{◌≡◌, ℕ, ◌+◌, ◌-◌, ◌<◌, ◌≤◌, ◌==◌, ◌||◌, Bool, true, false, Option, Some, None, is_some, option_map}
 use Rattle.std.specs.FinMap.{get}
-use Rattle.granule_addr.specs.Ipa.{first_covered}
+use Rattle.granule_addr.specs.Ipa.{first_covered, is_protected_at}
 use Rattle.granule_addr.specs.Root.{space_of}
 use Rattle.realm_model.specs.declared.states.GranuleState.{GranuleState}
 use Rattle.realm_model.specs.declared.states.GranuleState.TheVariants.{Undelegated, Delegated, Rd, Data}
 use Rattle.realm_model.specs.declared.states.Hipas.{Hipas}
 use Rattle.realm_model.specs.declared.states.Hipas.TheVariants.{Unassigned, Assigned, Table}
-use Rattle.realm_model.specs.Rows.{Rows}
+use Rattle.realm_model.specs.declared.states.Ripas.TheVariants.{Empty}
+use Rattle.realm_model.specs.Rows.{Row, Rows, row_at, unassigned, is_table}
 use Rattle.granule_addr.specs.Page.{zero_page}
 use Rattle.realm_model.specs.Machine.{Cell}
 use Rattle.realm_model.specs.Ownership.{mapping_of_row}
@@ -51,6 +52,11 @@ pub record IsSoundRows (width : ℕ) (rows : ℕ × ℕ → Option (Hipas × Opt
 pub record IsFull (width : ℕ) (rows : ℕ × ℕ → Option (Hipas × Option ℕ)) : Type 0 where
   pub root : (ipa : ℕ) → ipa < space_of width → is_some (rows (1, first_covered 1 ipa)) ≡ true
   pub tables : (level ipa : ℕ) → is_table_kind (rows (level, first_covered level ipa)) ≡ true → is_some (rows (level + 1, first_covered (level + 1) ipa)) ≡ true
+
+-- in a realm of that width the rows that cover an unprotected IPA granule are UNASSIGNED and EMPTY, and a TABLE row counts as EMPTY
+pub record HasEmptyRows (width : ℕ) (rows : Rows) : Type 0 where
+  pub unprotected : (level ipa : ℕ) (row : Row) → is_protected_at ipa width ≡ false → row_at rows level ipa ≡ Some row → row ≡ unassigned Empty
+  pub tables : (place : ℕ × ℕ) (row : Row) → get rows place ≡ Some row → is_table row ≡ true → row.ripas ≡ Empty
 
 abbrev pub is_host_state : GranuleState → Bool
 is_host_state Undelegated = true
