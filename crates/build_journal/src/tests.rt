@@ -1,11 +1,18 @@
 use super::*;
 use arrayvec::ArrayVec;
-use granule_addr::{Gran, IpaGran, Level, Order, PageOff, RecNo, Vmid};
+use granule_addr::{Gran, IpaGran, IpaWidth, Level, Order, PageOff, RecNo, Root, Vmid};
 use realm_model::{Act, granules_again};
 use std::test::Fail;
 
 fn page(number: u16) -> Gran {
     Gran::new(number % 8, 8).unwrap_or_default()
+}
+
+fn root() -> Root {
+    Root {
+        first: page(2),
+        width: IpaWidth::least(),
+    }
 }
 
 // Acts with a reverse go on top, their reverses take them off, and a fill changes nothing.
@@ -52,7 +59,7 @@ fn is_pair(act: &Act, kind: Kind, back: &Act) -> bool {
 
 #[test]
 fn reverses_of_pages_and_realms(rt: HostRuntime) {
-    let (granule, root) = (page(1), page(2));
+    let granule = page(1);
     let (first, rd) = (granule, granule);
     let order = Order::new(9).unwrap();
     let vmid = Vmid::new(7).unwrap();
@@ -60,8 +67,17 @@ fn reverses_of_pages_and_realms(rt: HostRuntime) {
     assert!(rt; is_pair(&take, Kind::Take, &Act::UnTake { order, first }));
     let delegate = Act::Delegate { granule };
     assert!(rt; is_pair(&delegate, Kind::Delegate, &Act::Undelegate { granule }));
-    let realm = Act::Realm { rd, root, vmid };
-    assert!(rt; is_pair(&realm, Kind::Realm, &Act::UnRealm { rd, root, vmid }));
+    let realm = Act::Realm {
+        rd,
+        root: root(),
+        vmid,
+    };
+    let back = Act::UnRealm {
+        rd,
+        root: root(),
+        vmid,
+    };
+    assert!(rt; is_pair(&realm, Kind::Realm, &back));
 }
 
 #[test]

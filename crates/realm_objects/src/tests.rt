@@ -1,6 +1,6 @@
 use super::*;
 use arrayvec::ArrayVec;
-use granule_addr::{Gran, IpaGran, RecNo, Vmid};
+use granule_addr::{Gran, IpaGran, IpaWidth, RecNo, Root, Vmid};
 use realm_model::{RealmState, RecState};
 
 // The digests below are Python's hashlib's, of bytes written out by hand.
@@ -51,7 +51,10 @@ fn a_realm_is_measured(rt: HostRuntime) {
     let last = IpaGran::new(67_108_863, 39).unwrap();
     let first = IpaGran::new(67_108_352, 39).unwrap();
     let vmid = Vmid::new(7).unwrap();
-    let root = Gran::new(5, 8).unwrap();
+    let root = Root {
+        first: Gran::new(5, 8).unwrap(),
+        width: IpaWidth::least(),
+    };
     let mut realm = RealmDesc::new(vmid, root);
     assert!(rt; realm.is_new());
     assert_eq!(rt; *realm.measurement(), [0; 32]);
