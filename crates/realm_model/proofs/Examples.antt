@@ -1,6 +1,6 @@
 -- Small histories, computed.
-use Rattle.std.proofs.Common.{◌≡◌, ℕ, false, List, [], ◌∷◌, ◌++◌, map, Option, Some, None, refl}
-use Rattle.std.specs.Prelude.{is_some, option_map}
+use Rattle.std.proofs.Common.{◌≡◌, ℕ, false, not, List, [], ◌∷◌, ◌++◌, map, Option, Some, None, refl}
+use Rattle.std.specs.Prelude.{is_some, option_map, filter, ◌==◌}
 use Rattle.granule_addr.specs.Root.{starting_tables}
 use Rattle.granule_addr.specs.declared.root.Root.{Root}
 use Rattle.realm_model.specs.declared.act.Act.TheVariants.{Take, UnTake, Fill, Peek, Delegate, Undelegate, Realm, Activate, Rec}
@@ -196,12 +196,22 @@ unfolding after step named outcome_of fits updated_all check realm_from starting
 rd_last = refl
 
 -- each of them is DELEGATED
-abbrev but_one : List Event
-but_one = by 0 (Take 3 0) ∷ map (λ g. by 0 (Delegate g)) (0 ∷ 4 ∷ 5 ∷ 6 ∷ []) ++ by 0 (Realm 0 (root 4 41) 1) ∷ []
+abbrev but_one : ℕ → List Event
+but_one g = by 0 (Take 3 0) ∷ map (λ k. by 0 (Delegate k)) (filter (λ k. not (k == g)) (0 ∷ 4 ∷ 5 ∷ 6 ∷ 7 ∷ [])) ++ by 0 (Realm 0 (root 4 41) 1) ∷ []
 
-but_one-refused : is_some (replay (machine_of 8) but_one) ≡ false
+but_first : is_some (replay (machine_of 8) (but_one 4)) ≡ false
 unfolding after step named outcome_of fits updated_all check realm_from starting_tables
-but_one-refused = refl
+but_first = refl
+
+but_last : is_some (replay (machine_of 8) (but_one 7)) ≡ false
+unfolding after step named outcome_of fits updated_all check realm_from starting_tables
+but_last = refl
+
+-- and each of them is the build's
+others_table : is_some (replay (machine_of 8) (by 0 (Take 2 0) ∷ by 0 (Take 1 4) ∷ by 0 (Take 0 6) ∷ by 1 (Take 0 7)
+    ∷ map (λ k. by 0 (Delegate k)) (0 ∷ 4 ∷ 5 ∷ 6 ∷ []) ++ by 1 (Delegate 7) ∷ by 0 (Realm 0 (root 4 41) 1) ∷ [])) ≡ false
+unfolding after step named outcome_of fits updated_all check realm_from starting_tables
+others_table = refl
 
 -- two realms have two VMIDs
 abbrev two_realms : ℕ → List Event

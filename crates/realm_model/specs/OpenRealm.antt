@@ -1,13 +1,13 @@
 -- The realm of a build against the history of the build.
 use Rattle.std.specs.Prelude.{◌≡◌, ◌≤◌, ◌↔◌, ◌==◌, ℕ, List, [], ◌∷◌, filter, length, Bool, true, false, IsTrue, Option, Some, None}
-use Rattle.std.specs.List.{list_any}
+use Rattle.std.specs.List.{list_any, Contains}
 use Rattle.realm_model.specs.declared.act.Act.{Act}
 use Rattle.realm_model.specs.declared.act.Act.TheVariants.{Realm}
 use Rattle.realm_model.specs.declared.act.Event.{Event}
 use Rattle.realm_model.specs.Machine.{RealmRow, Seen}
 use Rattle.realm_model.specs.World.{World, realm_of}
+use Rattle.realm_model.specs.Step.{used_vmids}
 use Rattle.realm_model.specs.History.{acts_of, open_entries}
-use Rattle.realm_model.specs.Reachable.{IsRealmAt}
 
 -- the act makes a realm
 abbrev pub makes_realm : Act → Bool
@@ -23,7 +23,8 @@ abbrev pub makers : Option Seen → List Act
 makers None = []
 makers (Some rd) = elim rd.cell.descriptor [ Some realm ↦ maker rd.number realm ∷ [] | None ↦ [] ]
 
--- A build has a realm exactly where it has a Realm act open, one at most, and the realm's RD, root and VMID are that act's.
+-- A build has a realm exactly where it has a Realm act open, one at most, and the realm's RD, starting
+-- tables and VMID are that act's.
 abbrev pub RealmIsOpen : List Event → World → ℕ → Type 0
 RealmIsOpen history world build = filter makes_realm (open_entries build history) ≡ makers (realm_of build world)
 
@@ -32,13 +33,10 @@ abbrev pub uses_vmid : ℕ → Act → Bool
 uses_vmid vmid (Realm rd root v) = v == vmid
 uses_vmid vmid _ = false
 
--- a realm has the VMID
-abbrev pub IsUsed : World → ℕ → Type 0
-IsUsed world vmid = (rd : ℕ) × (realm : RealmRow) × IsRealmAt world rd realm × (realm.vmid ≡ vmid)
-
--- A VMID is used exactly where a build has a Realm act with it open.
+-- A VMID is in use exactly where a build has a Realm act with it open.
 abbrev pub VmidIsOpen : List Event → World → ℕ → Type 0
-VmidIsOpen history world vmid = IsUsed world vmid ↔ ((build : ℕ) × IsTrue (list_any (uses_vmid vmid) (open_entries build history)))
+VmidIsOpen history world vmid =
+    Contains (used_vmids world.machine) vmid ↔ ((build : ℕ) × IsTrue (list_any (uses_vmid vmid) (open_entries build history)))
 
 -- The next REC of a build's realm gets a number that is no more than the build has events.
 abbrev pub NumbersAreFew : List Event → World → ℕ → Type 0
