@@ -1,0 +1,76 @@
+-- Worlds as they are written down, and what is seen of them.
+use Rattle.std.proofs.Common.{◌≡◌, ℕ, true, cond, List, ◌∷◌, map, Option, Some, None, Ok, ap, ◌∙◌}
+use Rattle.std.specs.Prelude.{option_map, option_and_then}
+use Rattle.std.specs.FinMap.{empty}
+use Rattle.granule_addr.specs.Page.{zero_page}
+use Rattle.realm_model.specs.declared.act.Event.{Event}
+use Rattle.realm_model.specs.declared.states.GranuleState.{GranuleState}
+use Rattle.realm_model.specs.declared.states.GranuleState.TheVariants.{Undelegated, Delegated, Rd, Rtt as InRtt}
+use Rattle.realm_model.specs.declared.states.RealmState.TheVariants.{New}
+use Rattle.realm_model.specs.Rows.{root_rows}
+use Rattle.realm_model.specs.Measurement.{zero_measurement}
+use Rattle.realm_model.specs.Machine.{Limits, RealmRow, Cell}
+use Rattle.realm_model.specs.Update.{Update}
+use Rattle.realm_model.specs.World.{World, updated_all, free_set}
+use Rattle.realm_model.specs.Step.{step, is_allowed, after_outcome, outcome_in}
+use Rattle.realm_model.specs.History.{after}
+
+abbrev pub machine_of : ℕ → Limits
+machine_of pages = record { pages = pages; vmids = 8; aux = 0; builds = 2 }
+
+-- ---- cells and worlds
+
+-- a page of the host
+abbrev pub page : List ℕ → Cell
+page bytes = record { state = Undelegated; realm = None; bytes = bytes; descriptor = None }
+
+-- a granule that is DELEGATED
+abbrev pub delegated : Cell
+delegated = record { state = Delegated; realm = None; bytes = zero_page; descriptor = None }
+
+-- the RD granule 0, and a granule of its realm
+abbrev pub rd : RealmRow → Cell
+rd realm = record { state = Rd; realm = Some 0; bytes = zero_page; descriptor = Some realm }
+
+abbrev pub of_realm : GranuleState → List ℕ → Cell
+of_realm state bytes = record { state = state; realm = Some 0; bytes = bytes; descriptor = None }
+
+-- a table, and the starting one, which is granule 1
+abbrev pub table : Cell
+table = of_realm InRtt zero_page
+
+abbrev pub start : ℕ
+start = 1
+
+-- a realm with VMID 1 that has just been made
+abbrev pub fresh : RealmRow
+fresh = record { state = New; vmid = 1; root = start; next = 0; measurement = zero_measurement; recs = empty; rows = root_rows }
+
+-- all is leased by build 0
+abbrev pub world_of : List Cell → World
+world_of cells = record { machine = cells; leases = map (λ _. Some 0) cells }
+
+-- ---- what is seen of a world
+
+abbrev pub states : Option World → Option (List GranuleState)
+states w = option_map (λ (w : World). map (λ (c : Cell). c.state) w.machine) w
+
+abbrev pub free : Option World → Option (List ℕ)
+free w = option_map free_set w
+
+abbrev pub pages_seen : Option World → Option (List (List ℕ))
+pages_seen w = option_map (λ (w : World). map (λ (c : Cell). c.bytes) w.machine) w
+
+-- ---- steps
+
+-- a step whose command looks at rows or RECs, which are not computed
+pub step_by : (limits : Limits) (w v : World) (e : Event) (us : List Update) → is_allowed limits w e ≡ true → outcome_in limits w e ≡ Ok us → updated_all e.build us w ≡ Some v
+    → step limits w e ≡ Some v
+unfolding step
+step_by limits w v e us allowed outcome did =
+    ap (λ t. cond t (after_outcome e.build (outcome_in limits w e) w) None) allowed ∙ ap (λ o. after_outcome e.build o w) outcome ∙ did
+
+-- one step, and what comes after
+pub and_then : (limits : Limits) (w x : World) (o : Option World) (e : Event) (es : List Event) → step limits w e ≡ Some x → after limits es x ≡ o → after limits (e ∷ es) w ≡ o
+unfolding after
+and_then limits w x o e es stepped rest = ap (option_and_then (after limits es)) stepped ∙ rest
