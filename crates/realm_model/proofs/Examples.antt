@@ -6,5 +6,8 @@ pub mod Granules
 -- realms and RECs
 pub mod Realms
 pub mod Recs
+-- translations
+pub mod Tables
+pub mod Data
 -- marks
 pub mod Marks

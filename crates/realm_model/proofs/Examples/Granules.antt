@@ -13,7 +13,7 @@ use Rattle.realm_model.specs.World.{World, opening, updated_all}
 use Rattle.realm_model.specs.Step.{step, is_allowed}
 use Rattle.realm_model.specs.History.{after, replay, open_entries, pages_of, erase, IsLegal}
 use Rattle.realm_model.specs.Undoing.{by}
-use Rattle.realm_model.proofs.Examples.Worlds.{machine_of, page, delegated, states, free, pages_seen, step_by}
+use Rattle.realm_model.proofs.Examples.Worlds.{machine_of, page, delegated, states, free, pages_seen, step_by, and_then, at_end}
 
 -- ---- two builds want the one page of a machine
 
@@ -100,6 +100,14 @@ undelegated-world = refl
 untaken-world : step (machine_of 2) filled (by 0 (UnTake 0 1)) ≡ Some (opening (machine_of 2))
 unfolding step named outcome_of fits updated_all check
 untaken-world = refl
+
+-- and all of them in turn
+in_turn-world : replay (machine_of 2) (by 0 (Take 0 1) ∷ by 0 (Fill 1 255) ∷ by 0 (Peek 1 4095 255) ∷ by 0 (Delegate 1) ∷ by 0 (Undelegate 1) ∷ by 0 (UnTake 0 1) ∷ [])
+    ≡ Some (opening (machine_of 2))
+unfolding step named outcome_of fits updated_all check
+in_turn-world =
+    and_then (machine_of 2) _ bare _ _ _ refl (and_then (machine_of 2) _ _ _ _ _ filled-world (and_then (machine_of 2) _ _ _ _ _ peeked-world
+    (and_then (machine_of 2) _ _ _ _ _ delegated-world (and_then (machine_of 2) _ _ _ _ _ undelegated-world (and_then (machine_of 2) _ (opening (machine_of 2)) _ _ _ refl (at_end (machine_of 2) _))))))
 
 -- ---- two blocks of two pages, undone, and then one of four
 

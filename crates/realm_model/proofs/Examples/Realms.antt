@@ -13,7 +13,7 @@ use Rattle.realm_model.specs.World.{realm_from, updated_all}
 use Rattle.realm_model.specs.Step.{step}
 use Rattle.realm_model.specs.History.{after, replay, open_entries, erase, IsLegal}
 use Rattle.realm_model.specs.Undoing.{by}
-use Rattle.realm_model.proofs.Examples.Worlds.{machine_of, page, delegated, rd, table, start, fresh, world_of, states, free}
+use Rattle.realm_model.proofs.Examples.Worlds.{machine_of, page, delegated, rd, table_page, start, fresh, world_of, states, free}
 
 -- ---- a realm of two delegated granules, beside another build
 
@@ -44,7 +44,7 @@ realm_made-free = refl
 abbrev pub on_four : List Event
 on_four = by 0 (Take 2 0) ∷ by 0 (Delegate 0) ∷ by 0 (Delegate 1) ∷ by 0 (Delegate 2) ∷ by 0 (Realm 0 start 1) ∷ []
 
-on_four-world : replay (machine_of 4) on_four ≡ Some (world_of (rd fresh ∷ table ∷ delegated ∷ page zero_page ∷ []))
+pub on_four-world : replay (machine_of 4) on_four ≡ Some (world_of (rd fresh ∷ table_page ∷ delegated ∷ page zero_page ∷ []))
 unfolding after step named outcome_of fits updated_all check realm_from new_realm
 on_four-world = refl
 

@@ -1,7 +1,7 @@
 -- A REC that runs, stops and is gone, and with it all that its build had.
-use Rattle.std.proofs.Common.{◌≡◌, ℕ, true, false, cond, ◌&&◌, ◌||◌, not, List, [], ◌∷◌, ◌++◌, length, Some, None, Err, Ordering, refl, ap, ◌∙◌}
+use Rattle.std.proofs.Common.{◌≡◌, ℕ, true, false, cond, ◌&&◌, ◌||◌, not, List, [], ◌∷◌, ◌++◌, length, Some, None, Err, refl, ap, ◌∙◌}
 use Rattle.std.specs.Prelude.{◌==◌, is_some, option_and_then}
-use Rattle.std.specs.FinMap.{FinMap, get, insert, remove, empty, len, get-insert, get-remove, get-empty}
+use Rattle.std.specs.FinMap.{get, insert, remove, empty, len, get-insert, get-remove, get-empty}
 use Rattle.std.specs.Cmp.{nat_cmp_total}
 use Rattle.std.specs.List.{list_any}
 use Rattle.std.specs.Ordering.{nat_cmp, eq_by_cmp}
@@ -13,7 +13,6 @@ use Rattle.realm_model.specs.declared.act.Act.TheVariants.{UnTake, Undelegate, U
 use Rattle.realm_model.specs.declared.act.Event.{Event}
 use Rattle.realm_model.specs.declared.rmi.Status.TheVariants.{Realm as OfRealm, Rec as OfRec}
 use Rattle.realm_model.specs.declared.states.GranuleState.TheVariants.{Rec as InRec}
-use Rattle.realm_model.specs.declared.states.RealmState.{RealmState}
 use Rattle.realm_model.specs.declared.states.RealmState.TheVariants.{Active}
 use Rattle.realm_model.specs.declared.states.RecState.{RecState}
 use Rattle.realm_model.specs.declared.states.RecState.TheVariants.{Ready, Running}
@@ -37,7 +36,7 @@ use Rattle.realm_model.proofs.Outcomes.{check_true, rec_there}
 use Rattle.realm_model.proofs.Reversal.{no_recs}
 use Rattle.realm_model.proofs.RowKinds.{Vacant, kind_table}
 use Rattle.realm_model.proofs.Rows.{all_rows_from, put_there}
-use Rattle.realm_model.proofs.Examples.Worlds.{machine_of, page, delegated, rd, table, of_realm, start, fresh, world_of, step_by, and_then}
+use Rattle.realm_model.proofs.Examples.Worlds.{machine_of, page, delegated, rd, table_page, of_realm, start, fresh, world_of, Recs, latest, step_by, and_then}
 use Rattle.realm_model.proofs.Examples.Realms.{on_four}
 
 -- ---- the REC of number 0
@@ -51,9 +50,6 @@ unmade = UnRec 2 (record { items = [] }) 0
 abbrev rec : RecState → RecRow
 rec state = record { granule = 2; auxiliaries = []; state = state }
 
-abbrev Recs : Type 0
-Recs = FinMap nat_cmp RecRow
-
 abbrev ready : Recs
 ready = insert empty 0 (rec Ready)
 
@@ -65,9 +61,6 @@ stopped = insert running 0 (rec Ready)
 
 abbrev gone : Recs
 gone = remove stopped 0
-
-latest : (recs : Recs) (x : RecRow) → get (insert recs 0 x) 0 ≡ Some x
-latest recs x = get-insert nat_cmp_total recs 0 x 0
 
 none_gone : (n : ℕ) → get gone n ≡ None
 none_gone n =
@@ -86,7 +79,7 @@ abbrev realm : Recs → RealmRow
 realm recs = record fresh { state = Active; next = 1; measurement = measurement_after zero_measurement (rec_event 0); recs = recs }
 
 abbrev world : Recs → Cell → World
-world recs third = world_of (rd (realm recs) ∷ table ∷ third ∷ page zero_page ∷ [])
+world recs third = world_of (rd (realm recs) ∷ table_page ∷ third ∷ page zero_page ∷ [])
 
 abbrev entered : List Event
 entered = on_four ++ by 0 made ∷ by 0 Activate ∷ []

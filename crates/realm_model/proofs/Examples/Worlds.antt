@@ -1,7 +1,9 @@
 -- Worlds as they are written down, and what is seen of them.
-use Rattle.std.proofs.Common.{◌≡◌, ℕ, true, cond, List, ◌∷◌, map, Option, Some, None, Ok, ap, ◌∙◌}
+use Rattle.std.proofs.Common.{◌≡◌, ℕ, true, cond, List, [], ◌∷◌, map, Option, Some, None, Ok, refl, ap, ◌∙◌}
 use Rattle.std.specs.Prelude.{option_map, option_and_then}
-use Rattle.std.specs.FinMap.{empty}
+use Rattle.std.specs.Cmp.{nat_cmp_total}
+use Rattle.std.specs.FinMap.{FinMap, get, insert, empty, get-insert}
+use Rattle.std.specs.Ordering.{nat_cmp}
 use Rattle.granule_addr.specs.Page.{zero_page}
 use Rattle.realm_model.specs.declared.act.Event.{Event}
 use Rattle.realm_model.specs.declared.states.GranuleState.{GranuleState}
@@ -9,7 +11,7 @@ use Rattle.realm_model.specs.declared.states.GranuleState.TheVariants.{Undelegat
 use Rattle.realm_model.specs.declared.states.RealmState.TheVariants.{New}
 use Rattle.realm_model.specs.Rows.{root_rows}
 use Rattle.realm_model.specs.Measurement.{zero_measurement}
-use Rattle.realm_model.specs.Machine.{Limits, RealmRow, Cell}
+use Rattle.realm_model.specs.Machine.{Limits, RecRow, RealmRow, Cell}
 use Rattle.realm_model.specs.Update.{Update}
 use Rattle.realm_model.specs.World.{World, updated_all, free_set}
 use Rattle.realm_model.specs.Step.{step, is_allowed, after_outcome, outcome_in}
@@ -36,8 +38,8 @@ abbrev pub of_realm : GranuleState → List ℕ → Cell
 of_realm state bytes = record { state = state; realm = Some 0; bytes = bytes; descriptor = None }
 
 -- a table, and the starting one, which is granule 1
-abbrev pub table : Cell
-table = of_realm InRtt zero_page
+abbrev pub table_page : Cell
+table_page = of_realm InRtt zero_page
 
 abbrev pub start : ℕ
 start = 1
@@ -45,6 +47,13 @@ start = 1
 -- a realm with VMID 1 that has just been made
 abbrev pub fresh : RealmRow
 fresh = record { state = New; vmid = 1; root = start; next = 0; measurement = zero_measurement; recs = empty; rows = root_rows }
+
+-- its RECs, and the one of number 0 as it was put last
+abbrev pub Recs : Type 0
+Recs = FinMap nat_cmp RecRow
+
+pub latest : (recs : Recs) (rec : RecRow) → get (insert recs 0 rec) 0 ≡ Some rec
+latest recs rec = get-insert nat_cmp_total recs 0 rec 0
 
 -- all is leased by build 0
 abbrev pub world_of : List Cell → World
@@ -74,3 +83,7 @@ step_by limits w v e us allowed outcome did =
 pub and_then : (limits : Limits) (w x : World) (o : Option World) (e : Event) (es : List Event) → step limits w e ≡ Some x → after limits es x ≡ o → after limits (e ∷ es) w ≡ o
 unfolding after
 and_then limits w x o e es stepped rest = ap (option_and_then (after limits es)) stepped ∙ rest
+
+pub at_end : (limits : Limits) (w : World) → after limits [] w ≡ Some w
+unfolding after
+at_end limits w = refl
