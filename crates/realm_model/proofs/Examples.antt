@@ -9,5 +9,6 @@ pub mod Recs
 -- translations
 pub mod Tables
 pub mod Data
+pub mod Measured
 -- marks
 pub mod Marks

@@ -4,8 +4,7 @@ use Rattle.std.specs.FinMap.{get, insert, remove, empty, get-insert, get-remove}
 use Rattle.std.specs.Cmp.{nat_cmp_total}
 use Rattle.std.specs.Option.{option_eq}
 use Rattle.std.specs.Str.{bytes_eq}
-use Rattle.std.specs.Prelude.{◌==◌, is_some, nat_eq, option_and_then, option_map, replicate}
-use Rattle.sha2.specs.Sha256.{sha256}
+use Rattle.std.specs.Prelude.{◌==◌, is_some, nat_eq, option_and_then, option_map}
 use Rattle.granule_addr.specs.Page.{zero_page, page_of}
 use Rattle.realm_model.specs.declared.act.Act.TheVariants.{Take, Fill, Delegate, Realm, Activate, Rtt, Ripas, Data, Unknown, UnData, Rec, UnRec, Enter, Exit, Poke}
 use Rattle.realm_model.specs.declared.act.Event.{Event}
@@ -84,6 +83,10 @@ ram-zero : get ram (3, 0) ≡ Some (vacant Empty)
 unfolding with_ram
 ram-zero = get-put_rows_other as_ram mapped 3 8 4 (3, 0) (λ k less. apart 3 0 (8 + k * 1) (λ e. omega arith)) ∙ mapped-row 0 (lit≤ tt)
 
+ram-one : get ram (3, 1) ≡ Some (vacant Empty)
+unfolding with_ram
+ram-one = get-put_rows_other as_ram mapped 3 8 4 (3, 1) (λ k less. apart 3 1 (8 + k * 1) (λ e. omega arith)) ∙ mapped-row 1 (lit≤ tt)
+
 all_free : all_rows is_unassigned mapped 3 8 4 ≡ true
 all_free = all_rows_from is_unassigned passes mapped 3 8 4 (λ k less. ap (option_map mapping_of_row) (ap (λ n. get mapped (3, n)) (place k) ∙ mapped-row (8 + k) (omega arith)))
   where
@@ -112,27 +115,16 @@ with_unknown = insert without_data (3, 8) (assigned Ram 4)
 abbrev without_unknown : Rows
 without_unknown = insert with_unknown (3, 8) (vacant Destroyed)
 
--- ---- measurements: the old one and the bytes of the event
+without_unknown-one : get without_unknown (3, 1) ≡ Some (vacant Empty)
+without_unknown-one =
+    get-insert place_total with_unknown (3, 8) (vacant Destroyed) (3, 1) ∙ get-insert place_total without_data (3, 8) (assigned Ram 4) (3, 1)
+    ∙ get-insert place_total with_data (3, 0) (vacant Destroyed) (3, 1) ∙ get-insert place_total ram (3, 0) (assigned Ram 4) (3, 1) ∙ ram-one
 
-measured : (old event : List ℕ) → measurement_after old event ≡ sha256 (old ++ event)
-unfolding measurement_after
-measured old event = refl
+abbrev with_other : Rows
+with_other = insert without_unknown (3, 1) (assigned Empty 4)
 
-first-measured : zero_measurement ≡ replicate 32 0
-unfolding zero_measurement
-first-measured = refl
-
-data-measured : (bytes : List ℕ) → data_event 67108863 bytes ≡ 1 ∷ 3 ∷ 255 ∷ 255 ∷ 255 ∷ sha256 bytes
-unfolding data_event
-data-measured bytes = refl
-
-ram-measured : ripas_event 8 4 ≡ 2 ∷ 0 ∷ 0 ∷ 0 ∷ 8 ∷ 0 ∷ 0 ∷ 0 ∷ 4 ∷ []
-unfolding ripas_event
-ram-measured = refl
-
-rec-measured : rec_event 258 ≡ 3 ∷ 0 ∷ 0 ∷ 1 ∷ 2 ∷ []
-unfolding rec_event
-rec-measured = refl
+abbrev without_other : Rows
+without_other = insert with_other (3, 1) (vacant Empty)
 
 -- ---- a realm on a machine of eight pages: table pages 1 to 3, a page of data at 4, and its source at 5
 
@@ -265,10 +257,18 @@ emptied = step_by eight _ _ (by 0 (UnData 4 8)) _
     (ap (λ o. elim o [ Some r ↦ option_eq nat_eq r.granule (Some 4) | None ↦ false ]) (put_here without_data 8 (assigned Ram 4)))
     (end_there with_unknown 8 3 _ _ (walk_there with_unknown 8 3 (assigned Ram 4) (lit≤ tt) (put_here without_data 8 (assigned Ram 4)))) refl
 
--- EMPTY and DESTROYED stay where a page is unmapped
-unmapped-empty : unmapped_ripas Empty ≡ Empty
-unmapped-empty = refl
+-- the same where it was EMPTY, which stays
+filled-other : step eight (late (active without_unknown gone) delegated delegated delegated) (by 0 (Unknown 4 1)) ≡ Some (late (active with_other gone) (of_realm InData zero_page) delegated delegated)
+unfolding named outcome_of fits updated_all check realm_from with_realm
+filled-other = step_by eight _ _ (by 0 (Unknown 4 1)) _ refl (end_there without_unknown 1 3 _ _ (walk_there without_unknown 1 3 (vacant Empty) (lit≤ tt) without_unknown-one)) refl
 
+emptied-other : step eight (late (active with_other gone) (of_realm InData zero_page) delegated delegated) (by 0 (UnData 4 1)) ≡ Some (late (active without_other gone) delegated delegated delegated)
+unfolding named outcome_of fits updated_all check realm_from with_realm with_granule
+emptied-other = step_by eight _ _ (by 0 (UnData 4 1)) _
+    (ap (λ o. elim o [ Some r ↦ option_eq nat_eq r.granule (Some 4) | None ↦ false ]) (put_here without_unknown 1 (assigned Empty 4)))
+    (end_there with_other 1 3 _ _ (walk_there with_other 1 3 (assigned Empty 4) (lit≤ tt) (put_here without_unknown 1 (assigned Empty 4)))) refl
+
+-- and DESTROYED stays
 unmapped-destroyed : unmapped_ripas Destroyed ≡ Destroyed
 unmapped-destroyed = refl
 
@@ -276,15 +276,17 @@ unmapped-destroyed = refl
 
 abbrev then : List Event
 then = by 0 (Rtt 2 0 2) ∷ by 0 (Rtt 3 0 3) ∷ by 0 (Ripas 8 4) ∷ by 0 (Data 4 0 5) ∷ by 0 (Rec 6 (record { items = 7 ∷ [] }) 0) ∷ by 0 Activate ∷ by 0 (Enter 0)
-    ∷ by 0 (Poke 0 0 4095 1) ∷ by 0 (Exit 0) ∷ by 0 (UnRec 6 (record { items = 7 ∷ [] }) 0) ∷ by 0 (UnData 4 0) ∷ by 0 (Unknown 4 8) ∷ by 0 (UnData 4 8) ∷ []
+    ∷ by 0 (Poke 0 0 4095 1) ∷ by 0 (Exit 0) ∷ by 0 (UnRec 6 (record { items = 7 ∷ [] }) 0) ∷ by 0 (UnData 4 0) ∷ by 0 (Unknown 4 8) ∷ by 0 (UnData 4 8)
+    ∷ by 0 (Unknown 4 1) ∷ by 0 (UnData 4 1) ∷ []
 
-then-world : replay eight (begun ++ then) ≡ Some (late (active without_unknown gone) delegated delegated delegated)
+then-world : replay eight (begun ++ then) ≡ Some (late (active without_other gone) delegated delegated delegated)
 then-world =
     after_append eight begun then (opening eight) ∙ ap (option_and_then (after eight then)) begun-world
     ∙ and_then eight _ _ _ _ _ upper (and_then eight _ _ _ _ _ lower (and_then eight _ _ _ _ _ rammed (and_then eight _ _ _ _ _ loaded
     (and_then eight _ _ _ _ _ made (and_then eight _ _ _ _ _ activated (and_then eight _ _ _ _ _ entered (and_then eight _ _ _ _ _ poked
     (and_then eight _ _ _ _ _ exited (and_then eight _ _ _ _ _ unmade (and_then eight _ _ _ _ _ unloaded (and_then eight _ _ _ _ _ filled
-    (and_then eight _ _ _ _ _ emptied (at_end eight _)))))))))))))
+    (and_then eight _ _ _ _ _ emptied
+    (and_then eight _ _ _ _ _ filled-other (and_then eight _ _ _ _ _ emptied-other (at_end eight _)))))))))))))))
 
 then-legal : IsLegal eight (begun ++ then)
 unfolding is_reverse open_entries reverse_of
@@ -292,5 +294,5 @@ then-legal = record {
   steps = ap is_some then-world;
   in_turn = (λ r. cc, (λ r. cc, (λ r. cc, (λ r. cc, (λ r. cc, (λ r. cc, (λ r. cc, (λ r. cc, (λ r. cc, (λ r. cc,
       (λ r. cc, (λ r. cc, (λ r. cc, (λ r. cc, (λ r. cc, (λ r. cc, (λ r. cc, (λ r. cc, (λ r. cc,
-      (λ r. refl, (λ r. refl, (λ r. cc, (λ r. refl, tt)))))))))))))))))))))));
+      (λ r. refl, (λ r. refl, (λ r. cc, (λ r. refl, (λ r. cc, (λ r. refl, tt)))))))))))))))))))))))));
 }
