@@ -74,7 +74,7 @@ module _ (limits : Limits) (history : List Event) (w : World) (b : ℕ) (legal :
       of_build c = ⊎_elim
           (λ same. none (room_of c (erase b history)) (ap (λ n. room_of n (erase b history)) same ∙ ap (sum_by room_taken) (acts_of-erased b history)))
           (λ apart. subst (λ n. n ≤ capacity)
-            (room_is_sum limits history w c legal at_w ∙ ap (sum_by room_taken) (sym (acts_of-erase b c apart history))) (fits c))
+          (room_is_sum limits history w c legal at_w ∙ ap (sum_by room_taken) (sym (acts_of-erase b c apart history))) (fits c))
           (cases_eq c b)
         where
           none : (n : ℕ) → n ≡ 0 → n ≤ capacity

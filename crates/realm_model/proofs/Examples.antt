@@ -8,6 +8,7 @@ pub mod Realms
 pub mod Recs
 -- translations
 pub mod Tables
+pub mod Ram
 pub mod Data
 pub mod Measured
 -- marks

@@ -124,8 +124,7 @@ module _ (limits : Limits) (b : ℕ) (w v : World) (kept : IsKept b w) (kept_v :
   realm_made (Realm rd root vmid) r m e leads s =
       let act : Act = Realm rd root vmid in
       let to = own act s in
-      let none : realm_of b W ≡ None = none_is _ (asked limits b W V act to).fit in
-      (
+      let none : realm_of b W ≡ None = none_is _ (asked limits b W V act to).fit in (
         no_maker b w kept (no_rows none),
         elim (part_realm b v kept_v) [
           | inl gone ↦

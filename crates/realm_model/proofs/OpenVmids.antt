@@ -41,8 +41,8 @@ vmid_is_open limits history w vmid legal at_w = (opened, λ h. used h.0 (realm_o
         let own = realm_of_build limits history w at_w h.0 h.1 h.2 in (
           own.0,
           sym (among_makers vmid (open_entries own.0 history))
-          ∙ ap (list_any (uses_vmid vmid)) (realm_is_open limits history w own.0 legal at_w ∙ maker_at own.0 w (kept_reached limits own.0 history w at_w) h.0 h.1 own.2)
-          ∙ uses_one vmid h.0 h.1 h.3,
+              ∙ ap (list_any (uses_vmid vmid)) (realm_is_open limits history w own.0 legal at_w ∙ maker_at own.0 w (kept_reached limits own.0 history w at_w) h.0 h.1 own.2)
+              ∙ uses_one vmid h.0 h.1 h.3,
         )
 
     there : (build : ℕ) → list_any (uses_vmid vmid) (open_entries build history) ≡ true → list_any (uses_vmid vmid) (makers (realm_of build w)) ≡ true

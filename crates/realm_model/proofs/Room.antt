@@ -205,8 +205,8 @@ room_step limits b before w v e legal at_w was turn s =
     let takes = room_taken_legal limits before w e v legal at_w turn s in
     ⊎_elim
     (λ same. subst (RoomIsSum (before ++ e ∷ []) v) same
-      (takes.own ∙ ap (λ n. n + room_taken e.act) (subst (RoomIsSum before w) (sym same) was)
-      ∙ sym (ap (sum_by room_taken) (acts_of-own before e) ∙ sum_by_push room_taken (acts_of e.build before) e.act)))
+    (takes.own ∙ ap (λ n. n + room_taken e.act) (subst (RoomIsSum before w) (sym same) was)
+    ∙ sym (ap (sum_by room_taken) (acts_of-own before e) ∙ sum_by_push room_taken (acts_of e.build before) e.act)))
     (λ apart. takes.others b apart ∙ was ∙ ap (sum_by room_taken) (sym (acts_of-other b before e apart)))
     (cases_eq e.build b)
 

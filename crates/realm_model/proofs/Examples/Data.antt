@@ -1,10 +1,10 @@
 -- Pages of data under a table of level 3, measured, written by a guest, and gone.
-use Rattle.std.proofs.Common.{◌≡◌, ℕ, ◌+◌, ◌*◌, ◌<◌, true, false, cond, ◌&&◌, List, [], ◌∷◌, ◌++◌, Some, None, set, refl, ap, ◌∙◌, arith, lit≤}
+use Rattle.std.proofs.Common.{◌≡◌, ℕ, false, cond, ◌&&◌, List, [], ◌∷◌, ◌++◌, Some, None, set, refl, ap, ◌∙◌, lit≤}
 use Rattle.std.specs.FinMap.{get, insert, remove, empty, get-insert, get-remove}
 use Rattle.std.specs.Cmp.{nat_cmp_total}
 use Rattle.std.specs.Option.{option_eq}
 use Rattle.std.specs.Str.{bytes_eq}
-use Rattle.std.specs.Prelude.{◌==◌, is_some, nat_eq, option_and_then, option_map}
+use Rattle.std.specs.Prelude.{◌==◌, is_some, nat_eq, option_and_then}
 use Rattle.granule_addr.specs.Page.{zero_page, page_of}
 use Rattle.realm_model.specs.declared.act.Act.TheVariants.{Take, Fill, Delegate, Realm, Activate, Rtt, Ripas, Data, Unknown, UnData, Rec, UnRec, Enter, Exit, Poke}
 use Rattle.realm_model.specs.declared.act.Event.{Event}
@@ -15,10 +15,9 @@ use Rattle.realm_model.specs.declared.states.RecState.{RecState}
 use Rattle.realm_model.specs.declared.states.RecState.TheVariants.{Ready, Running}
 use Rattle.realm_model.specs.declared.states.Ripas.{Ripas as RipasOf}
 use Rattle.realm_model.specs.declared.states.Ripas.TheVariants.{Empty, Ram, Destroyed}
-use Rattle.realm_model.specs.Rows.{Row, Rows, root_rows, put_row, with_table, with_ram, all_rows, as_ram, is_unassigned, unassigned, table, unmapped_ripas}
+use Rattle.realm_model.specs.Rows.{Row, Rows, root_rows, unmapped_ripas}
 use Rattle.realm_model.specs.Measurement.{zero_measurement, measurement_after, data_event, ripas_event, rec_event}
 use Rattle.realm_model.specs.Machine.{Limits, RecRow, RealmRow, Cell}
-use Rattle.realm_model.specs.Ownership.{mapping_of_row}
 use Rattle.realm_model.specs.Act.{named, reverse_of, is_reverse}
 use Rattle.realm_model.specs.Command.Check.{check, with_realm, with_granule}
 use Rattle.realm_model.specs.Command.Realm.{new_realm}
@@ -30,11 +29,11 @@ use Rattle.realm_model.specs.Undoing.{by}
 use Rattle.realm_model.proofs.HistoryParts.{after_append}
 use Rattle.realm_model.proofs.Maps.{place_total}
 use Rattle.realm_model.proofs.Outcomes.{check_true, end_there, rec_there}
-use Rattle.realm_model.proofs.RowKinds.{Vacant, kind_unassigned}
-use Rattle.realm_model.proofs.Rows.{place_self, get-put_rows, get-put_rows_other, all_rows_from}
+use Rattle.realm_model.proofs.Rows.{place_self}
 use Rattle.realm_model.proofs.Walks.{walk_there}
-use Rattle.realm_model.proofs.Examples.Worlds.{machine_of, page, delegated, rd, of_realm, table_page, start, fresh, world_of, Recs, latest, step_by, and_then, at_end}
-use Rattle.realm_model.proofs.Examples.Tables.{vacant, leads, apart, root-walk, tabled, tabled-first}
+use Rattle.realm_model.proofs.Examples.Worlds.{machine_of, page, delegated, rd, of_realm, table_page, start, fresh, world_of, Recs, latest, step_by, and_then, at_end, forward, joined}
+use Rattle.realm_model.proofs.Examples.Tables.{vacant, root-walk, tabled, tabled-first}
+use Rattle.realm_model.proofs.Examples.Ram.{mapped, mapped-row, ram, ram-first, ram-zero, ram-one, all_free}
 
 abbrev eight : Limits
 eight = record (machine_of 8) { aux = 1 }
@@ -43,58 +42,6 @@ abbrev assigned : RipasOf → ℕ → Row
 assigned ripas granule = record { hipas = Assigned; ripas = ripas; granule = Some granule }
 
 -- ---- rows, one change after another
-
--- a table of level 3
-abbrev mapped : Rows
-mapped = with_table tabled 3 0 3 Empty
-
-mapped-above : get mapped (2, 0) ≡ Some (leads 3)
-unfolding with_table
-mapped-above =
-    get-put_rows_other (λ _. unassigned Empty) (put_row tabled 2 0 (table 3)) 3 0 512 (2, 0) (λ k less. refl)
-    ∙ get-insert place_total tabled (2, 0) (table 3) (2, 0)
-
--- its row k is UNASSIGNED and EMPTY
-mapped-row : (k : ℕ) → k < 512 → get mapped (3, 0 + k * 1) ≡ Some (vacant Empty)
-unfolding with_table
-mapped-row k less = get-put_rows (λ _. unassigned Empty) (put_row tabled 2 0 (table 3)) 3 0 512 k less
-
--- RAM at pages 8 to 11
-abbrev ram : Rows
-ram = with_ram mapped 8 4
-
-ram-before : get ram (3, 7) ≡ Some (vacant Empty)
-unfolding with_ram
-ram-before = get-put_rows_other as_ram mapped 3 8 4 (3, 7) (λ k less. apart 3 7 (8 + k * 1) (λ e. omega arith)) ∙ mapped-row 7 (lit≤ tt)
-
-ram-first : get ram (3, 8) ≡ Some (vacant Ram)
-unfolding with_ram
-ram-first = get-put_rows as_ram mapped 3 8 4 0 (lit≤ tt) ∙ ap (λ o. Some (as_ram o)) (mapped-row 8 (lit≤ tt))
-
-ram-last : get ram (3, 11) ≡ Some (vacant Ram)
-unfolding with_ram
-ram-last = get-put_rows as_ram mapped 3 8 4 3 (lit≤ tt) ∙ ap (λ o. Some (as_ram o)) (mapped-row 11 (lit≤ tt))
-
-ram-after : get ram (3, 12) ≡ Some (vacant Empty)
-unfolding with_ram
-ram-after = get-put_rows_other as_ram mapped 3 8 4 (3, 12) (λ k less. apart 3 12 (8 + k * 1) (λ e. omega arith)) ∙ mapped-row 12 (lit≤ tt)
-
-ram-zero : get ram (3, 0) ≡ Some (vacant Empty)
-unfolding with_ram
-ram-zero = get-put_rows_other as_ram mapped 3 8 4 (3, 0) (λ k less. apart 3 0 (8 + k * 1) (λ e. omega arith)) ∙ mapped-row 0 (lit≤ tt)
-
-ram-one : get ram (3, 1) ≡ Some (vacant Empty)
-unfolding with_ram
-ram-one = get-put_rows_other as_ram mapped 3 8 4 (3, 1) (λ k less. apart 3 1 (8 + k * 1) (λ e. omega arith)) ∙ mapped-row 1 (lit≤ tt)
-
-all_free : all_rows is_unassigned mapped 3 8 4 ≡ true
-all_free = all_rows_from is_unassigned passes mapped 3 8 4 (λ k less. ap (option_map mapping_of_row) (ap (λ n. get mapped (3, n)) (place k) ∙ mapped-row (8 + k) (omega arith)))
-  where
-    passes : (row : Row) → mapping_of_row row ≡ Vacant → is_unassigned row ≡ true
-    passes row e = ap kind_unassigned e
-
-    place : (k : ℕ) → 8 + k * 1 ≡ 0 + (8 + k) * 1
-    place k = omega arith
 
 -- a row of level 3 that was put last, and the one that a walk ends at
 put_here : (rows : Rows) (ipa : ℕ) (row : Row) → get (insert rows (3, ipa) row) (3, ipa) ≡ Some row
@@ -274,10 +221,15 @@ unmapped-destroyed = refl
 
 -- ---- the whole history
 
+abbrev up : List Event
+up = by 0 (Rtt 2 0 2) ∷ by 0 (Rtt 3 0 3) ∷ by 0 (Ripas 8 4) ∷ by 0 (Data 4 0 5) ∷ by 0 (Rec 6 (record { items = 7 ∷ [] }) 0) ∷ by 0 Activate ∷ by 0 (Enter 0)
+    ∷ by 0 (Poke 0 0 4095 1) ∷ by 0 (Exit 0) ∷ []
+
+abbrev down : List Event
+down = by 0 (UnRec 6 (record { items = 7 ∷ [] }) 0) ∷ by 0 (UnData 4 0) ∷ by 0 (Unknown 4 8) ∷ by 0 (UnData 4 8) ∷ by 0 (Unknown 4 1) ∷ by 0 (UnData 4 1) ∷ []
+
 abbrev then : List Event
-then = by 0 (Rtt 2 0 2) ∷ by 0 (Rtt 3 0 3) ∷ by 0 (Ripas 8 4) ∷ by 0 (Data 4 0 5) ∷ by 0 (Rec 6 (record { items = 7 ∷ [] }) 0) ∷ by 0 Activate ∷ by 0 (Enter 0)
-    ∷ by 0 (Poke 0 0 4095 1) ∷ by 0 (Exit 0) ∷ by 0 (UnRec 6 (record { items = 7 ∷ [] }) 0) ∷ by 0 (UnData 4 0) ∷ by 0 (Unknown 4 8) ∷ by 0 (UnData 4 8)
-    ∷ by 0 (Unknown 4 1) ∷ by 0 (UnData 4 1) ∷ []
+then = up ++ down
 
 then-world : replay eight (begun ++ then) ≡ Some (late (active without_other gone) delegated delegated delegated)
 then-world =
@@ -292,7 +244,5 @@ then-legal : IsLegal eight (begun ++ then)
 unfolding is_reverse open_entries reverse_of
 then-legal = record {
   steps = ap is_some then-world;
-  in_turn = (λ r. cc, (λ r. cc, (λ r. cc, (λ r. cc, (λ r. cc, (λ r. cc, (λ r. cc, (λ r. cc, (λ r. cc, (λ r. cc,
-      (λ r. cc, (λ r. cc, (λ r. cc, (λ r. cc, (λ r. cc, (λ r. cc, (λ r. cc, (λ r. cc, (λ r. cc,
-      (λ r. refl, (λ r. refl, (λ r. cc, (λ r. refl, (λ r. cc, (λ r. refl, tt)))))))))))))))))))))))));
+  in_turn = joined [] (begun ++ up) down (forward [] (begun ++ up) refl) (λ r. refl, (λ r. refl, (λ r. cc, (λ r. refl, (λ r. cc, (λ r. refl, tt))))));
 }

@@ -36,7 +36,7 @@ use Rattle.realm_model.proofs.Outcomes.{check_true, rec_there}
 use Rattle.realm_model.proofs.Reversal.{no_recs}
 use Rattle.realm_model.proofs.RowKinds.{Vacant, kind_table}
 use Rattle.realm_model.proofs.Rows.{all_rows_from, put_there}
-use Rattle.realm_model.proofs.Examples.Worlds.{machine_of, page, delegated, rd, table_page, of_realm, start, fresh, world_of, Recs, latest, step_by, and_then}
+use Rattle.realm_model.proofs.Examples.Worlds.{machine_of, page, delegated, rd, table_page, of_realm, start, fresh, world_of, Recs, latest, step_by, and_then, forward, joined}
 use Rattle.realm_model.proofs.Examples.Realms.{on_four}
 
 -- ---- the REC of number 0
@@ -161,8 +161,7 @@ back-legal : IsLegal (machine_of 4) (stopped_again ++ back)
 unfolding is_reverse open_entries reverse_of
 back-legal = record {
   steps = ap is_some back-world;
-  in_turn = (λ r. cc, (λ r. cc, (λ r. cc, (λ r. cc, (λ r. cc, (λ r. cc, (λ r. cc, (λ r. cc, (λ r. cc,
-      (λ r. refl, (λ r. refl, (λ r. refl, (λ r. refl, (λ r. refl, (λ r. refl, tt)))))))))))))));
+  in_turn = joined [] stopped_again back (forward [] stopped_again refl) (λ r. refl, (λ r. refl, (λ r. refl, (λ r. refl, (λ r. refl, (λ r. refl, tt))))));
 }
 
 -- ---- back to a mark before the REC

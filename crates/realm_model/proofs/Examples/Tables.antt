@@ -27,7 +27,7 @@ use Rattle.realm_model.proofs.Outcomes.{check_true, end_there}
 use Rattle.realm_model.proofs.RowKinds.{Vacant, kind_unassigned}
 use Rattle.realm_model.proofs.Rows.{differs, get-put_rows, get-put_rows_other, get-drop_rows, put_there, all_rows_from}
 use Rattle.realm_model.proofs.Walks.{walk_there, walk_above}
-use Rattle.realm_model.proofs.Examples.Worlds.{machine_of, page, delegated, rd, table_page, fresh, world_of, step_by, and_then, at_end}
+use Rattle.realm_model.proofs.Examples.Worlds.{machine_of, page, delegated, rd, table_page, fresh, world_of, step_by, and_then, at_end, forward, joined}
 use Rattle.realm_model.proofs.Examples.Realms.{on_four, on_four-world}
 
 -- rows as they are written down
@@ -184,5 +184,5 @@ then-legal : IsLegal (machine_of 4) (on_four ++ then)
 unfolding is_reverse open_entries reverse_of
 then-legal = record {
   steps = ap is_some then-world;
-  in_turn = (λ r. cc, (λ r. cc, (λ r. cc, (λ r. cc, (λ r. cc, (λ r. cc, (λ r. refl, (λ r. cc, tt))))))));
+  in_turn = joined [] on_four then (forward [] on_four refl) (λ r. cc, (λ r. refl, (λ r. cc, tt)));
 }

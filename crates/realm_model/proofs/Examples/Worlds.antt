@@ -1,9 +1,11 @@
 -- Worlds as they are written down, and what is seen of them.
-use Rattle.std.proofs.Common.{◌≡◌, ℕ, true, cond, List, [], ◌∷◌, map, Option, Some, None, Ok, refl, ap, ◌∙◌}
+use Rattle.std.proofs.Common.{◌≡◌, ℕ, true, false, cond, List, [], ◌∷◌, ◌++◌, map, Option, Some, None, Ok, refl, sym, ap, ◌∙◌, subst}
 use Rattle.std.specs.Prelude.{option_map, option_and_then}
+use Rattle.std.specs.List.{list_any}
 use Rattle.std.specs.Cmp.{nat_cmp_total}
 use Rattle.std.specs.FinMap.{FinMap, get, insert, empty, get-insert}
 use Rattle.std.specs.Ordering.{nat_cmp}
+use Rattle.std.proofs.lemmas.List.{append_assoc, append-nil}
 use Rattle.granule_addr.specs.Page.{zero_page}
 use Rattle.realm_model.specs.declared.act.Event.{Event}
 use Rattle.realm_model.specs.declared.states.GranuleState.{GranuleState}
@@ -12,10 +14,12 @@ use Rattle.realm_model.specs.declared.states.RealmState.TheVariants.{New}
 use Rattle.realm_model.specs.Rows.{root_rows}
 use Rattle.realm_model.specs.Measurement.{zero_measurement}
 use Rattle.realm_model.specs.Machine.{Limits, RecRow, RealmRow, Cell}
+use Rattle.realm_model.specs.Act.{is_reverse}
 use Rattle.realm_model.specs.Update.{Update}
 use Rattle.realm_model.specs.World.{World, updated_all, free_set}
 use Rattle.realm_model.specs.Step.{step, is_allowed, after_outcome, outcome_in}
-use Rattle.realm_model.specs.History.{after}
+use Rattle.realm_model.specs.History.{after, AllInTurn}
+use Rattle.realm_model.proofs.Booleans.{or_parts, true_false}
 
 abbrev pub machine_of : ℕ → Limits
 machine_of pages = record { pages = pages; vmids = 8; aux = 0; builds = 2 }
@@ -87,3 +91,15 @@ and_then limits w x o e es stepped rest = ap (option_and_then (after limits es))
 pub at_end : (limits : Limits) (w : World) → after limits [] w ≡ Some w
 unfolding after
 at_end limits w = refl
+
+-- ---- what is in turn: events that are no reverses, and then others
+
+pub forward : (before es : List Event) → list_any (λ (x : Event). is_reverse x.act) es ≡ false → AllInTurn before es
+forward before [] none = tt
+forward before (e ∷ es) none =
+    let parts = or_parts (is_reverse e.act) _ none in
+    (λ back. absurd (true_false _ back parts.0), forward (before ++ e ∷ []) es parts.1)
+
+pub joined : (before xs ys : List Event) → AllInTurn before xs → AllInTurn (before ++ xs) ys → AllInTurn before (xs ++ ys)
+joined before [] ys h rest = subst (λ es. AllInTurn es ys) (append-nil before) rest
+joined before (x ∷ xs) ys h rest = (h.0, joined (before ++ x ∷ []) xs ys h.1 (subst (λ es. AllInTurn es ys) (sym (append_assoc before (x ∷ []) xs)) rest))
