@@ -1,5 +1,5 @@
 -- The commands leave the rows of unprotected IPAs UNASSIGNED and EMPTY, and TABLE rows EMPTY.
-use Rattle.std.proofs.Common.{◌≡◌, ℕ, zero, suc, ◌+◌, ◌-◌, ◌*◌, ◌/◌, ◌^◌, ◌<◌, true, false, cond, not, ◌⊎◌, inl, inr, Option, Some, refl, sym, ap, ◌∙◌, arith}
+use Rattle.std.proofs.Common.{◌≡◌, ℕ, ◌+◌, ◌-◌, ◌*◌, ◌/◌, ◌^◌, ◌<◌, true, false, cond, not, inl, inr, Option, Some, refl, sym, ap, ◌∙◌, arith}
 use Rattle.std.specs.Prelude.{is_some, nat_lt, ◌==◌, if◌then◌else◌}
 use Rattle.std.specs.FinMap.{get, empty, get-insert, get-empty}
 use Rattle.std.proofs.lemmas.Bool.{eqb-true, lt-ltb, ltb-true}
@@ -13,7 +13,7 @@ use Rattle.realm_model.specs.Rows.{Row, Rows, place_cmp, put_rows, drop_rows, pu
 use Rattle.realm_model.specs.Sound.{HasEmptyRows}
 use Rattle.realm_model.proofs.Booleans.{false_from, guarded, true_false}
 use Rattle.realm_model.proofs.Maps.{place_total, same_place}
-use Rattle.realm_model.proofs.Rows.{is_place, get-drop_rows, is_among, all_rows_at}
+use Rattle.realm_model.proofs.Rows.{is_place, put_cases, get-drop_rows, is_among, all_rows_at}
 use Rattle.realm_model.proofs.RowKinds.{kind_of_table, plain_unassigned}
 use Rattle.realm_model.proofs.TablePlaces.{IsTablePlace}
 use Rattle.realm_model.proofs.FullRows.{above_covers}
@@ -54,36 +54,21 @@ same_half width known level i j same =
 
 -- ---- rows that are put
 
--- a row that is there was there, or it is put
-put_cases : (change : Option Row → Row) (rows : Rows) (level first n : ℕ) (q : ℕ × ℕ) (row : Row) → get (put_rows change rows level first n) q ≡ Some row
-    → (get rows q ≡ Some row) ⊎ ((k : ℕ) × (k < n) × (q ≡ (level, first + k * covered_count level)) × (row ≡ change (get rows (level, first + k * covered_count level))))
-unfolding put_rows
-put_cases change rows level first zero q row e = inl e
-put_cases change rows level first (suc n) q row e =
-    let place : ℕ × ℕ = (level, first + n * covered_count level) in
-    let less = put_rows change rows level first n in
-    elim (is_place q place) as (λ t. is_place q place ≡ t → cond t (Some (change (get rows place))) (get less q) ≡ Some row
-    → (get rows q ≡ Some row) ⊎ ((k : ℕ) × (k < suc n) × (q ≡ (level, first + k * covered_count level)) × (row ≡ change (get rows (level, first + k * covered_count level))))) [
-      | true ↦ λ at h. inr (n, omega arith, same_place q place at, sym (same_Some _ _ h))
-      | false ↦ λ other h. elim (put_cases change rows level first n q row h) [
-        | inl was ↦ inl was
-        | inr new ↦ inr (new.0, omega (arith, new.1), new.2, new.3)
-      ]
-    ] refl (sym (get-insert place_total less place (change (get rows place)) q) ∙ e)
-
 -- rows that cover protected granules alone, and are no tables
 put_rows_empty : {width : ℕ} (change : Option Row → Row) (rows : Rows) (level first n : ℕ) → HasEmptyRows width rows
     → ((k i : ℕ) → k < n → first_covered level i ≡ first + k * covered_count level → is_protected_at i width ≡ true)
     → ((k : ℕ) → k < n → is_table (change (get rows (level, first + k * covered_count level))) ≡ false)
     → HasEmptyRows width (put_rows change rows level first n)
 put_rows_empty change rows level first n old inside plain = record {
-  unprotected = λ l i row out there. elim (put_cases change rows level first n (l, first_covered l i) row there) [
-    | inl was ↦ old.unprotected l i row out was
-    | inr new ↦ absurd (true_false _ (inside new.0 i new.1 (ap (λ m. first_covered m i) (sym (ap (λ (p : ℕ × ℕ). p.0) new.2)) ∙ ap (λ (p : ℕ × ℕ). p.1) new.2)) out)
+  unprotected = λ l i row out there. elim (put_cases change rows level first n (l, first_covered l i)) [
+    | inl same ↦ old.unprotected l i row out (sym same ∙ there)
+    | inr new ↦ absurd (true_false _ (inside new.1 i new.2 (ap (λ m. first_covered m i) (sym (ap (λ (p : ℕ × ℕ). p.0) new.3)) ∙ ap (λ (p : ℕ × ℕ). p.1) new.3)) out)
   ];
-  tables = λ q row there t. elim (put_cases change rows level first n q row there) [
-    | inl was ↦ old.tables q row was t
-    | inr new ↦ absurd (true_false _ t (ap is_table new.3 ∙ plain new.0 new.1))
+  tables = λ q row there t. elim (put_cases change rows level first n q) [
+    | inl same ↦ old.tables q row (sym same ∙ there) t
+    | inr new ↦
+        let row_is : row ≡ change (get rows q) = same_Some _ _ (sym there ∙ new.0) in
+        absurd (true_false _ t (ap is_table row_is ∙ ap (λ p. is_table (change (get rows p))) new.3 ∙ plain new.1 new.2))
   ];
 }
 
@@ -118,9 +103,9 @@ root_empty width = record {
 }
   where
     all_free : (q : ℕ × ℕ) (row : Row) → get (put_rows (λ _. unassigned Empty) empty 1 0 (512 * start_count width)) q ≡ Some row → row ≡ unassigned Empty
-    all_free q row there = elim (put_cases (λ _. unassigned Empty) empty 1 0 (512 * start_count width) q row there) [
-      | inl was ↦ absurd (true_false _ (ap is_some was) (ap is_some (get-empty place_cmp q)))
-      | inr new ↦ new.3
+    all_free q row there = elim (put_cases (λ _. unassigned Empty) empty 1 0 (512 * start_count width) q) [
+      | inl same ↦ absurd (true_false _ (ap is_some there) (ap is_some (same ∙ get-empty place_cmp q)))
+      | inr new ↦ same_Some _ _ (sym there ∙ new.0)
     ]
 
 module _ {width : ℕ} (rows : Rows) (ipa : ℕ) (known : is_width width ≡ true) (old : HasEmptyRows width rows) (protected : is_protected_at ipa width ≡ true) where

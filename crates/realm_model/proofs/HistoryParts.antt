@@ -11,7 +11,7 @@ use Rattle.realm_model.specs.History.{erase, acts_of, open_entries, unmatched, A
 use Rattle.realm_model.proofs.LeftOut.{acts_of-erase}
 
 -- the world after both
-after_append : (limits : Limits) (xs ys : List Event) (w : World) → after limits (xs ++ ys) w ≡ option_and_then (after limits ys) (after limits xs w)
+pub after_append : (limits : Limits) (xs ys : List Event) (w : World) → after limits (xs ++ ys) w ≡ option_and_then (after limits ys) (after limits xs w)
 unfolding after
 after_append limits [] ys w = refl
 after_append limits (x ∷ xs) ys w =

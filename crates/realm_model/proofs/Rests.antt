@@ -1,9 +1,7 @@
 -- No REC of a build runs exactly where none is counted.
-use Rattle.std.proofs.Common.{◌≡◌, ◌≢◌, ℕ, zero, suc, ◌+◌, ◌<◌, ◌≤◌, Bool, true, false, cond, ⊎_elim, List, [], ◌∷◌, length, Option, Some, None, refl, ap, ◌∙◌, arith}
-use Rattle.std.specs.Prelude.{filter}
+use Rattle.std.proofs.Common.{◌≡◌, ℕ, ◌<◌, false, List, Option, Some, None, refl, ap, ◌∙◌, arith}
 use Rattle.std.specs.FinMap.{get}
 use Rattle.std.specs.List.{range_with_len}
-use Rattle.std.proofs.lemmas.Bool.{cases_eq}
 use Rattle.realm_model.specs.declared.act.Event.{Event}
 use Rattle.realm_model.specs.Machine.{Limits, RealmRow, RecRow, Cell, Seen}
 use Rattle.realm_model.specs.World.{World, realm_of}
@@ -12,30 +10,7 @@ use Rattle.realm_model.specs.Running.{is_rec_running, rec_runs, next_number, run
 use Rattle.realm_model.proofs.PartRealm.{counted}
 use Rattle.realm_model.proofs.Reachable.{reachable_worlds}
 use Rattle.realm_model.proofs.RealmOf.{IsAt, IsAt-realm_of}
-use Rattle.realm_model.proofs.RunningRecs.{runs, running}
-
--- ---- numbers that pass a test
-
-none_pass : (test : ℕ → Bool) (xs : List ℕ) → ((n : ℕ) → test n ≡ false) → length (filter test xs) ≡ 0
-none_pass test [] none = refl
-none_pass test (x ∷ xs) none = ap (λ t. length (cond t (x ∷ filter test xs) (filter test xs))) (none x) ∙ none_pass test xs none
-
-none_passed : (test : ℕ → Bool) (first count n : ℕ) → first ≤ n → n < first + count → length (filter test (range_with_len first count)) ≡ 0 → test n ≡ false
-none_passed test first zero n low high none = absurd (omega arith)
-none_passed test first (suc count) n low high none =
-    let rest = range_with_len (first + 1) count in
-    let parts = parted (test first) (filter test rest) first none in
-    ⊎_elim
-    (λ same. ap test same ∙ parts.0)
-    (λ other. none_passed test (first + 1) count n (above n first other low) (omega arith) parts.1)
-    (cases_eq n first)
-  where
-    parted : (t : Bool) (ys : List ℕ) (x : ℕ) → length (cond t (x ∷ ys) ys) ≡ 0 → (t ≡ false) × (length ys ≡ 0)
-    parted true ys x e = cc
-    parted false ys x e = (refl, e)
-
-    above : (n first : ℕ) → n ≢ first → first ≤ n → first + 1 ≤ n
-    above n first other low = omega arith
+use Rattle.realm_model.proofs.RunningRecs.{runs, running, none_pass, none_passed}
 
 -- ---- RECs that run, where their numbers are below the next
 module _ (realm : RealmRow) (below : (number : ℕ) (rec : RecRow) → get realm.recs number ≡ Some rec → number < realm.next) where

@@ -112,7 +112,7 @@ delegated_leaves o u g sound e =
 
 -- ---- lists and maps
 
-no_recs : (m : FinMap nat_cmp RecRow) → ((n : ℕ) → get m n ≡ None) → len m ≡ 0
+pub no_recs : (m : FinMap nat_cmp RecRow) → ((n : ℕ) → get m n ≡ None) → len m ≡ 0
 no_recs m h = ap len (same_map nat_cmp_total nat_cmp-IsAntisymmetric m empty (λ n. h n ∙ sym (get-empty nat_cmp n))) ∙ len-empty nat_cmp RecRow
 
 pub seen_numbers : (m : Machine) (gs : List ℕ) → map (λ (a : Seen). a.number) (map (seen m) gs) ≡ gs

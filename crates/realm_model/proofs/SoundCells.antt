@@ -225,36 +225,21 @@ module _ (limits : Limits) (w : World) (o : ℕ) (sound : AllCells o w) where
       let spot = table_place ipa level (and_parts _ _ (and_parts _ _ place).0).1 in
       let made = with_table_sound d.rows level ipa end.row h.rows spot
       (walk_at d.rows ipa (level - 1) end e (eqb-true end.level (level - 1) last)) g end.row.ripas (not_true _ plain) in
-      Yields-Ok G _ (
-        held_sound InRtt g rd.number refl refl (rd_is rd d at is),
-        (
-          realm_put rd d _ at is (rows_put d _ d.measurement h made (with_table_full d.rows level ipa spot h.full g end.row.ripas)
-              (with_table_empty d.rows ipa h.width h.empty (and_parts _ _ place).1 level spot g end.row.ripas)),
-          tt,
-        ),
-      ))))))
+      let empty = with_table_empty d.rows ipa h.width h.empty (and_parts _ _ place).1 level spot g end.row.ripas in
+      Yields-Ok G _ (held_sound InRtt g rd.number refl refl (rd_is rd d at is), (realm_put rd d _ at is (rows_put d _ d.measurement h made (with_table_full d.rows level ipa spot h.full g end.row.ripas) empty), tt)))))))
   good (UnRtt g ipa level) None stands at = Yields-Err G _
   good (UnRtt g ipa level) (Some rd) stands at = Yields-with_realm G _ _ (λ d is. Yields-check G _ _ _ (λ place. Yields-with_end G _ _ _ _ (λ end e. Yields-check G _ _ _ (λ last. Yields-check G _ _ _ (λ table. Yields-check G _ _ _ (λ unused. Yields-with_granule G _ _ (λ pa there.
       let h = realm_is_sound rd d at is in
       let spot = table_place ipa level (and_parts _ _ place).0 in
       let gone = without_table_sound d.rows level ipa end.row h.rows spot
       (walk_at d.rows ipa (level - 1) end e (eqb-true end.level (level - 1) last)) unused in
-      Yields-Ok G _ (
-        left_sound o pa,
-        (
-          realm_put rd d _ at is (rows_put d _ d.measurement h gone (without_table_full d.rows level ipa spot h.full)
-              (without_table_empty d.rows ipa h.width h.empty (and_parts _ _ place).1 level spot)),
-          tt,
-        ),
-      ))))))))
+      let empty = without_table_empty d.rows ipa h.width h.empty (and_parts _ _ place).1 level spot in
+      Yields-Ok G _ (left_sound o pa, (realm_put rd d _ at is (rows_put d _ d.measurement h gone (without_table_full d.rows level ipa spot h.full) empty), tt)))))))))
   good (Ripas ipa n) None stands at = Yields-Err G _
   good (Ripas ipa n) (Some rd) stands at = Yields-with_realm G _ _ (λ d is. Yields-check G _ _ _ (λ input. Yields-check G _ _ _ (λ _. Yields-with_end G _ _ _ _ (λ end e. Yields-check G _ _ _ (λ _. Yields-check G _ _ _ (λ all.
       let h = realm_is_sound rd d at is in
-      Yields-Ok G _ (
-        realm_put rd d _ at is (rows_put d _ (measurement_after d.measurement (ripas_event ipa n)) h (with_ram_sound d.rows ipa n h.rows all) (with_ram_full d.rows ipa n h.full all)
-            (with_ram_empty d.rows ipa h.width h.empty (and_parts _ _ input).1 n (and_parts _ _ (and_parts _ _ input).0).1 all)),
-        tt,
-      )))))))
+      let empty = with_ram_empty d.rows ipa h.width h.empty (and_parts _ _ input).1 n (and_parts _ _ (and_parts _ _ input).0).1 all in
+      Yields-Ok G _ (realm_put rd d _ at is (rows_put d _ (measurement_after d.measurement (ripas_event ipa n)) h (with_ram_sound d.rows ipa n h.rows all) (with_ram_full d.rows ipa n h.full all) empty), tt)))))))
   good (Data g ipa source) None stands at = Yields-Err G _
   good (Data g ipa source) (Some rd) stands at = Yields-with_realm G _ _ (λ d is. Yields-check G _ _ _ (λ input. Yields-check G _ _ _ (λ _. Yields-with_end G _ _ _ _ (λ end e. Yields-check G _ _ _ (λ last. Yields-check G _ _ _ (λ free.
       let h = realm_is_sound rd d at is in
