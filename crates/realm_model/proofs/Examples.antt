@@ -11,6 +11,7 @@ pub mod Recs
 pub mod Tables
 pub mod Ram
 pub mod Data
+pub mod WideTables
 pub mod Measured
 -- marks
 pub mod Marks
