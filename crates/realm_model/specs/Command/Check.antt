@@ -53,9 +53,9 @@ is_new realm = elim realm.state [ New ↦ true | Active ↦ false ]
 abbrev pub is_ready : RecRow → Bool
 is_ready rec = elim rec.state [ Ready ↦ true | Running ↦ false ]
 
--- an IPA granule of the protected half, of a realm whose IPAs have 39 bits
-abbrev pub is_protected : ℕ → Bool
-is_protected ipa = is_protected_at ipa 39
+-- an IPA granule of the protected half of the realm's address space
+abbrev pub is_protected : RealmRow → ℕ → Bool
+is_protected realm ipa = is_protected_at ipa realm.root.width
 
 -- ---- what is looked up
 

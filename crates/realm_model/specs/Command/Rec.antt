@@ -52,7 +52,7 @@ rec_destroy rd number =
 abbrev pub guest_write : Seen → ℕ → ℕ → ℕ → ℕ → Outcome
 guest_write rd number ipa offset value =
     with_realm rd (λ realm. with_rec realm number (λ rec.
-    check (is_protected ipa) error_input
+    check (is_protected realm ipa) error_input
     (check (not (is_ready rec)) error_rec
     (with_end realm.rows ipa 3 (λ end.
     check (is_assigned end.row) (error_rtt end.level)
