@@ -1,5 +1,5 @@
 -- The realm of a build is that of its open Realm act.
-use Rattle.std.proofs.Common.{◌≡◌, ℕ, Bool, true, false, cond, inl, inr, ⊎_elim, List, [], ◌∷◌, ◌++◌, length, map, Option, Some, None, refl, sym, ap, ◌∙◌, subst, arith}
+use Rattle.std.proofs.Common.{◌≡◌, ℕ, true, false, cond, inl, inr, ⊎_elim, List, [], ◌∷◌, ◌++◌, length, map, Option, Some, None, refl, sym, ap, ◌∙◌, subst, arith}
 use Rattle.std.specs.Prelude.{filter, is_some}
 use Rattle.std.proofs.lemmas.Bool.{cases_eq}
 use Rattle.std.proofs.lemmas.Option.{same_Some}
@@ -30,7 +30,7 @@ use Rattle.realm_model.proofs.RoleChanges.{no_descriptor}
 use Rattle.realm_model.proofs.SoundParts.{IsSquare-part_of}
 use Rattle.realm_model.proofs.Stack.{pushed_paired, pushed_other, kind, paired, back, other}
 use Rattle.realm_model.proofs.StepBack.{asked}
-use Rattle.realm_model.proofs.Vmids.{IsMade, realm_before}
+use Rattle.realm_model.proofs.Vmids.{realm_before, still_none}
 use Rattle.realm_model.proofs.Written.{IsSquare}
 use Rattle.realm_model.proofs.ZeroPages.{IsKept, kept_reached}
 
@@ -57,11 +57,6 @@ never_fits : (act : Act) (gs : List Seen) → is_realm_destroy act ≡ true → 
 unfolding fits
 never_fits (UnRealm rd root vmid) gs d fit = cc
 never_fits _ gs d fit = cc
-
-abbrev is_of_realm : Act → Bool
-is_of_realm (Realm rd root vmid) = true
-is_of_realm (UnRealm rd root vmid) = true
-is_of_realm _ = false
 
 -- the realm that is there stays the one that the act made
 abbrev Stays : RealmRow → RealmRow → Type 0
@@ -92,30 +87,14 @@ module _ (limits : Limits) (b : ℕ) (w v : World) (kept : IsKept b w) (kept_v :
   own : (act : Act) → step limits w (by b act) ≡ Some v → step limits W (by b act) ≡ Some V
   own act s = step-part_of limits b w v (by b act) refl s
 
-  not_made : (act : Act) (k : ℕ) (e : RealmRow) → is_of_realm act ≡ false → IsMade limits (part_of w b) act k e → ⊥
-  not_made (Realm rd root vmid) k e plain m = cc
-  not_made _ k e plain m = m
-
-  not_gone : (act : Act) → is_of_realm act ≡ false → is_realm_destroy act ≡ false
-  not_gone (UnRealm rd root vmid) plain = cc
-  not_gone _ plain = refl
-
-  realm_stays : (act : Act) → is_of_realm act ≡ false → step limits w (by b act) ≡ Some v → makers (realm_of b v) ≡ makers (realm_of b w)
-  realm_stays act plain s = elim (part_realm b w kept) [
+  realm_stays : (act : Act) → makes_realm act ≡ false → is_realm_destroy act ≡ false → step limits w (by b act) ≡ Some v → makers (realm_of b v) ≡ makers (realm_of b w)
+  realm_stays act plain stay s = elim (part_realm b w kept) [
     | inl none ↦
-        no_maker b v kept_v (λ k. none_left (none_there b w kept none) k (cell_at V.machine k).descriptor refl)
-        ∙ sym (no_maker b w kept (none_there b w kept none))
+        no_maker b v kept_v (still_none limits W V b act square plain (own act s) (none_there b w kept none)) ∙ sym (no_maker b w kept (none_there b w kept none))
     | inr there ↦
-        let then = turned_by limits b W V act Stays square kept.sound.part no_rows (stays limits W kept.sound.part act (not_gone act plain)) (own act s) there.0 there.1 there.2 in
+        let then = turned_by limits b W V act Stays square kept.sound.part no_rows (stays limits W kept.sound.part act stay) (own act s) there.0 there.1 there.2 in
         maker_at b v kept_v there.0 then.0 then.1 ∙ ap (λ x. x ∷ []) (then.2 there.0) ∙ sym (maker_at b w kept there.0 there.1 there.2)
   ]
-    where
-      none_left : ((k : ℕ) → (cell_at W.machine k).descriptor ≡ None) → (k : ℕ) (o : Option RealmRow) → (cell_at V.machine k).descriptor ≡ o → o ≡ None
-      none_left none k None e = refl
-      none_left none k (Some d) e = elim (realm_before limits W V b act square (own act s) k d e) [
-        | inl was ↦ absurd (no_descriptor (cell_at W.machine k) was.0 (none k) was.1)
-        | inr made ↦ absurd (not_made act k d plain made)
-      ]
 
   -- a realm that is made is the act's, and there was none: its reverse finds one
   realm_made : (act r : Act) → makes_realm act ≡ true → reverse_of act ≡ Some r → LeadsBack limits b w v r → step limits w (by b act) ≡ Some v
@@ -164,16 +143,13 @@ unfolding reverse_of is_reverse
 of_back (UnRealm rd root vmid) d = (refl, refl)
 of_back _ d = cc
 
--- an act that makes no realm has a reverse that ends none
-plain_made : (act : Act) → is_of_realm act ≡ false → makes_realm act ≡ false
-plain_made (Realm rd root vmid) plain = cc
-plain_made _ plain = refl
-
-plain_newest : (newest act : Act) → is_of_realm act ≡ false → reverse_of newest ≡ Some act → makes_realm newest ≡ false
+-- a reverse that ends no realm is that of an act that makes none
+plain_newest : (newest act : Act) → is_realm_destroy act ≡ false → reverse_of newest ≡ Some act → makes_realm newest ≡ false
 unfolding reverse_of
-plain_newest (Realm rd root vmid) act plain is = let never : true ≡ false = ap is_of_realm (same_Some _ _ is) ∙ plain in cc
+plain_newest (Realm rd root vmid) act plain is = let never : true ≡ false = ap is_realm_destroy (same_Some _ _ is) ∙ plain in cc
 plain_newest _ act plain is = refl
 
+-- and one that ends a realm is that of an act that makes it
 ends : (act act2 : Act) → is_realm_destroy act2 ≡ true → Some act ≡ Some act2 → is_realm_destroy act ≡ true
 ends act act2 d is = ap is_realm_destroy (same_Some _ _ is) ∙ d
 
@@ -234,23 +210,23 @@ module _ (limits : Limits) (before : List Event) (w v : World) (legal : IsLegal 
         ∙ ap (λ t. realms_in grown ++ cond t (away.newest ∷ []) []) (realm_newest away.newest act d away.pairs)) ∙ was in
         alone (realms_in grown) away.newest (realm_of b w) split ∙ sym (realm_gone limits b w v kept kept_v act d s)
 
-    same_open : is_of_realm act ≡ false → realms_in grown ≡ realms_in before
-    same_open plain = elim (kind act) [
-      | paired p r ↦ opens p ∙ ap (λ t. realms_in before ++ cond t (act ∷ []) []) (plain_made act plain) ∙ append-nil (realms_in before)
+    same_open : makes_realm act ≡ false → is_realm_destroy act ≡ false → realms_in grown ≡ realms_in before
+    same_open plain stay = elim (kind act) [
+      | paired p r ↦ opens p ∙ ap (λ t. realms_in before ++ cond t (act ∷ []) []) plain ∙ append-nil (realms_in before)
       | back p r ↦
           let away = takes_away b before act p r turn in
           sym (ap (filter makes_realm) away.open_is ∙ realms_push (open_entries b grown) away.newest
-          ∙ ap (λ t. realms_in grown ++ cond t (away.newest ∷ []) []) (plain_newest away.newest act plain away.pairs) ∙ append-nil (realms_in grown))
+          ∙ ap (λ t. realms_in grown ++ cond t (away.newest ∷ []) []) (plain_newest away.newest act stay away.pairs) ∙ append-nil (realms_in grown))
       | other p r ↦ ap (filter makes_realm) (open_entries-own before (by b act) ∙ pushed_other (open_entries b before) act p r)
     ]
 
-    plain_step : is_of_realm act ≡ false → RealmIsOpen grown v b
-    plain_step plain = same_open plain ∙ was ∙ sym (realm_stays limits b w v kept kept_v act plain s)
+    plain_step : makes_realm act ≡ false → is_realm_destroy act ≡ false → RealmIsOpen grown v b
+    plain_step plain stay = same_open plain stay ∙ was ∙ sym (realm_stays limits b w v kept kept_v act plain stay s)
 
   own_step : (b : ℕ) (act : Act) → RealmIsOpen before w b → IsInTurn before (by b act) → step limits w (by b act) ≡ Some v → RealmIsOpen (before ++ by b act ∷ []) v b
   own_step b (Realm rd root vmid) was turn s = made b (Realm rd root vmid) was turn s refl
   own_step b (UnRealm rd root vmid) was turn s = gone b (UnRealm rd root vmid) was turn s refl
-  own_step b act was turn s = plain_step b act was turn s refl
+  own_step b act was turn s = plain_step b act was turn s refl refl
 
   any_step : (b : ℕ) (e : Event) → RealmIsOpen before w b → IsInTurn before e → step limits w e ≡ Some v → RealmIsOpen (before ++ e ∷ []) v b
   any_step b e was turn s = ⊎_elim

@@ -1,5 +1,5 @@
 -- What an accepted event takes of the room of builds.
-use Rattle.std.proofs.Common.{◌≡◌, ℕ, ◌+◌, Bool, true, false, cond, inl, inr, ⊎_elim, List, [], ◌∷◌, ◌++◌, length, Option, Some, None, Ok, Err, refl, sym, ap, ◌∙◌, subst, arith}
+use Rattle.std.proofs.Common.{◌≡◌, ℕ, ◌+◌, Bool, true, false, cond, inl, inr, ⊎_elim, List, [], ◌∷◌, ◌++◌, length, Some, None, Ok, Err, refl, sym, ap, ◌∙◌, subst, arith}
 use Rattle.std.specs.List.{sum_by}
 use Rattle.std.proofs.lemmas.Bool.{cases_eq}
 use Rattle.std.proofs.lemmas.List.{length-append}
@@ -18,6 +18,7 @@ use Rattle.realm_model.specs.Step.{step}
 use Rattle.realm_model.specs.History.{acts_of, open_entries, IsInTurn, after, replay, IsLegal}
 use Rattle.realm_model.specs.Running.{running_count}
 use Rattle.realm_model.specs.Room.{used_room, room_taken, TakesRoom, RoomIsTaken, RoomIsSum}
+use Rattle.realm_model.specs.OpenRealm.{makes_realm}
 use Rattle.realm_model.specs.Undoing.{by}
 use Rattle.realm_model.specs.StepLaw.{IsStep}
 use Rattle.realm_model.specs.Command.Realm.{new_realm}
@@ -31,12 +32,11 @@ use Rattle.realm_model.proofs.RealmOf.{realm_of-part_of, realm_of-other_step}
 use Rattle.realm_model.proofs.Written.{IsSquare}
 use Rattle.realm_model.proofs.StepBack.{asked}
 use Rattle.realm_model.proofs.SoundParts.{IsSquare-part_of}
-use Rattle.realm_model.proofs.RoleChanges.{no_descriptor}
 use Rattle.realm_model.proofs.ZeroPages.{IsKept, kept_reached}
 use Rattle.realm_model.proofs.RunningRecs.{running}
 use Rattle.realm_model.proofs.RealmAfter.{RunsAfter, is_realm_destroy, realm_turned, realm_made_step, realm_gone_step}
 use Rattle.realm_model.proofs.StepSays.{step_is}
-use Rattle.realm_model.proofs.Vmids.{IsMade, realm_before}
+use Rattle.realm_model.proofs.Vmids.{still_none}
 use Rattle.realm_model.proofs.PartRealm.{part_realm, none_there, none_at_first, count_some, count_none}
 
 -- ---- how many run after an act
@@ -89,38 +89,18 @@ module _ (limits : Limits) (b : ℕ) (w v : World) (kept : IsKept b w) (kept_v :
       let gone = realm_gone_step limits b (part_of w b) V rd root vmid square kept.sound.part s in
       count_none b v kept_v gone.0 ∙ sym (zero_of w kept gone.1)
 
-  abbrev is_of_realm : Act → Bool
-  is_of_realm (Realm rd root vmid) = true
-  is_of_realm (UnRealm rd root vmid) = true
-  is_of_realm _ = false
-
-  not_made : (act : Act) (k : ℕ) (e : RealmRow) → is_of_realm act ≡ false → IsMade limits (part_of w b) act k e → ⊥
-  not_made (Realm rd root vmid) k e plain m = cc
-  not_made _ k e plain m = m
-
-  plain_destroy : (act : Act) → is_of_realm act ≡ false → is_realm_destroy act ≡ false
-  plain_destroy (UnRealm rd root vmid) plain = cc
-  plain_destroy _ plain = refl
-
-  count_turned : (act : Act) → is_of_realm act ≡ false → step limits (part_of w b) (by b act) ≡ Some V → RunsAfter act (running_count (realm_of b w)) (running_count (realm_of b v))
-  count_turned act plain s = elim (part_realm b w kept) [
+  count_turned : (act : Act) → makes_realm act ≡ false → is_realm_destroy act ≡ false → step limits (part_of w b) (by b act) ≡ Some V → RunsAfter act (running_count (realm_of b w)) (running_count (realm_of b v))
+  count_turned act plain stays s = elim (part_realm b w kept) [
     | inl none ↦
-        let none_v : (k : ℕ) → (cell_at V.machine k).descriptor ≡ None = λ k. none_left k (cell_at V.machine k).descriptor refl none in
+        let none_v = still_none limits (part_of w b) V b act square plain s (none_there b w kept none) in
         elim (is_of_rec_run act) as (λ t. is_of_rec_run act ≡ t → RunsAfter act (running_count (realm_of b w)) (running_count (realm_of b v))) [
           | true ↦ λ e. absurd (no_realm_refuses limits b (part_of w b) V act e (realm_of-part_of b w ∙ none) (step_is limits (part_of w b) V (by b act) s))
           | false ↦ λ e. subst (λ x. RunsAfter act x (running_count (realm_of b v))) (sym (count_none b w kept (none_there b w kept none))) (subst (λ y. RunsAfter act 0 y) (sym (count_none b v kept_v none_v)) (none_runs act e))
         ] refl
     | inr there ↦
-        let then = realm_turned limits b (part_of w b) V act square kept.sound.part no_rows (plain_destroy act plain) s there.0 there.1 there.2 in
+        let then = realm_turned limits b (part_of w b) V act square kept.sound.part no_rows stays s there.0 there.1 there.2 in
         subst (λ x. RunsAfter act x (running_count (realm_of b v))) (sym (count_some b w kept there.0 there.1 there.2)) (subst (λ y. RunsAfter act (running there.1.recs there.1.next) y) (sym (count_some b v kept_v there.0 then.0 then.1)) then.2.1)
   ]
-    where
-      none_left : (k : ℕ) (o : Option RealmRow) → (cell_at V.machine k).descriptor ≡ o → realm_of b w ≡ None → o ≡ None
-      none_left k None e none = refl
-      none_left k (Some d) e none = elim (realm_before limits (part_of w b) V b act square s k d e) [
-        | inl was ↦ absurd (no_descriptor (cell_at (part_of w b).machine k) was.0 (none_there b w kept none k) was.1)
-        | inr made ↦ absurd (not_made act k d plain made)
-      ]
 
   count_step : (act : Act) → step limits w (by b act) ≡ Some v → RunsAfter act (running_count (realm_of b w)) (running_count (realm_of b v))
   count_step act s = by_act act (step-part_of limits b w v (by b act) refl s)
@@ -128,7 +108,7 @@ module _ (limits : Limits) (b : ℕ) (w v : World) (kept : IsKept b w) (kept_v :
       by_act : (act : Act) → step limits (part_of w b) (by b act) ≡ Some V → RunsAfter act (running_count (realm_of b w)) (running_count (realm_of b v))
       by_act (Realm rd root vmid) s = count_made rd root vmid s
       by_act (UnRealm rd root vmid) s = count_gone rd root vmid s
-      by_act act s = count_turned act refl s
+      by_act act s = count_turned act refl refl s
 
 -- ---- the room
 

@@ -17,6 +17,7 @@ use Rattle.realm_model.specs.Outcome.{outcome_of}
 use Rattle.realm_model.specs.World.{World, realm_of}
 use Rattle.realm_model.specs.Step.{step, used_vmids}
 use Rattle.realm_model.specs.History.{replay}
+use Rattle.realm_model.specs.OpenRealm.{makes_realm}
 use Rattle.realm_model.specs.Undoing.{by}
 use Rattle.realm_model.proofs.Booleans.{true_false}
 use Rattle.realm_model.proofs.Lists.{is_in}
@@ -173,6 +174,22 @@ pub realm_before : (limits : Limits) (w v : World) (b : ℕ) (act : Act) → IsS
 realm_before limits w v b act square s k e is =
     let did = done limits b w v act (V limits w (IsMade limits w act)) (vmids limits w (IsMade limits w act) act (realm_of b w) (makes limits w act) (IsAt-realm_of b w)) s in
     from_put limits w (IsMade limits w act) did.0 k (cell_at w.machine k) did.1 (from_now limits w (IsMade limits w act) k) e (ap (λ (c : Cell). c.descriptor) (sym (cell_put b did.0 w v square did.2 k)) ∙ is)
+
+-- an act that makes no realm leaves none where none was
+none_made : (limits : Limits) (act : Act) (k : ℕ) (e : RealmRow) → makes_realm act ≡ false → IsMade limits act k e → ⊥
+none_made limits (Realm rd root v) k e plain made = cc
+none_made limits _ k e plain made = made
+
+pub still_none : (limits : Limits) (w v : World) (b : ℕ) (act : Act) → IsSquare w → makes_realm act ≡ false → step limits w (by b act) ≡ Some v
+    → ((k : ℕ) → (cell_at w.machine k).descriptor ≡ None) → (k : ℕ) → (cell_at v.machine k).descriptor ≡ None
+still_none limits w v b act square plain s none k = by_row (cell_at v.machine k).descriptor refl
+  where
+    by_row : (o : Option RealmRow) → (cell_at v.machine k).descriptor ≡ o → o ≡ None
+    by_row None is = refl
+    by_row (Some e) is = elim (realm_before limits w v b act square s k e is) [
+      | inl was ↦ absurd (true_false _ (ap is_some was.1) (ap is_some (none k)))
+      | inr made ↦ absurd (none_made limits act k e plain made)
+    ]
 
 vmids_step : (limits : Limits) (w v : World) (b : ℕ) (act : Act) → IsSized limits w → HasVmids limits w → step limits w (by b act) ≡ Some v → HasVmids limits v
 vmids_step limits w v b act sized old s =
