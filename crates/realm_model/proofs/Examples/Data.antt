@@ -78,23 +78,27 @@ without_other = insert with_other (3, 1) (vacant Empty)
 
 abbrev begun : List Event
 begun = by 0 (Take 3 0) ∷ by 0 (Fill 5 7) ∷ by 0 (Delegate 0) ∷ by 0 (Delegate 1) ∷ by 0 (Delegate 2) ∷ by 0 (Delegate 3) ∷ by 0 (Delegate 4)
-    ∷ by 0 (Delegate 6) ∷ by 0 (Delegate 7) ∷ by 0 (Realm 0 start 1) ∷ []
+    ∷ by 0 (Delegate 6) ∷ by 0 (Delegate 7) ∷ by 0 (Realm 0 start 2) ∷ []
+
+-- the realm, with VMID 2
+abbrev second : RealmRow
+second = record fresh { vmid = 2 }
 
 abbrev source : Cell
 source = page (page_of 7)
 
 abbrev early : RealmRow → Cell → Cell → World
-early realm second third = world_of (rd realm ∷ table_page ∷ second ∷ third ∷ delegated ∷ source ∷ delegated ∷ delegated ∷ [])
+early realm two three = world_of (rd realm ∷ table_page ∷ two ∷ three ∷ delegated ∷ source ∷ delegated ∷ delegated ∷ [])
 
-begun-world : replay eight begun ≡ Some (early fresh delegated delegated)
+begun-world : replay eight begun ≡ Some (early second delegated delegated)
 unfolding after step named outcome_of fits updated_all check realm_from new_realm starting_tables
 begun-world = refl
 
-upper : step eight (early fresh delegated delegated) (by 0 (Rtt 2 0 2)) ≡ Some (early (record fresh { rows = tabled }) table_page delegated)
+upper : step eight (early second delegated delegated) (by 0 (Rtt 2 0 2)) ≡ Some (early (record second { rows = tabled }) table_page delegated)
 unfolding named outcome_of fits updated_all check realm_from with_realm starting_tables
 upper = step_by eight _ _ (by 0 (Rtt 2 0 2)) _ refl (end_there start_rows 0 1 _ _ root-walk) refl
 
-lower : step eight (early (record fresh { rows = tabled }) table_page delegated) (by 0 (Rtt 3 0 3)) ≡ Some (early (record fresh { rows = mapped }) table_page table_page)
+lower : step eight (early (record second { rows = tabled }) table_page delegated) (by 0 (Rtt 3 0 3)) ≡ Some (early (record second { rows = mapped }) table_page table_page)
 unfolding named outcome_of fits updated_all check realm_from with_realm starting_tables
 lower = step_by eight _ _ (by 0 (Rtt 3 0 3)) _ refl (end_there tabled 0 2 _ _ (walk_there tabled 0 2 (vacant Empty) (lit≤ tt) tabled-first)) refl
 
@@ -107,7 +111,7 @@ m2 = measurement_after m1 (data_event 0 (page_of 7))
 abbrev m3 : List ℕ
 m3 = measurement_after m2 (rec_event 0)
 
-rammed : step eight (early (record fresh { rows = mapped }) table_page table_page) (by 0 (Ripas 8 4)) ≡ Some (early (record fresh { rows = ram; measurement = m1 }) table_page table_page)
+rammed : step eight (early (record second { rows = mapped }) table_page table_page) (by 0 (Ripas 8 4)) ≡ Some (early (record second { rows = ram; measurement = m1 }) table_page table_page)
 unfolding named outcome_of fits updated_all realm_from with_realm starting_tables
 rammed = step_by eight _ _ (by 0 (Ripas 8 4)) _ refl
     (check_true _ _ _ refl ∙ check_true _ _ _ refl ∙ end_there mapped 8 3 _ _ (walk_there mapped 8 3 (vacant Empty) (lit≤ tt) (mapped-row 8 (lit≤ tt))) ∙ check_true _ _ _ refl ∙ check_true _ _ _ all_free)
@@ -117,8 +121,8 @@ rammed = step_by eight _ _ (by 0 (Ripas 8 4)) _ refl
 abbrev late : RealmRow → Cell → Cell → Cell → World
 late realm fourth sixth seventh = world_of (rd realm ∷ table_page ∷ table_page ∷ table_page ∷ fourth ∷ source ∷ sixth ∷ seventh ∷ [])
 
-loaded : step eight (late (record fresh { rows = ram; measurement = m1 }) delegated delegated delegated) (by 0 (Data 4 0 5))
-    ≡ Some (late (record fresh { rows = with_data; measurement = m2 }) (of_realm InData (page_of 7)) delegated delegated)
+loaded : step eight (late (record second { rows = ram; measurement = m1 }) delegated delegated delegated) (by 0 (Data 4 0 5))
+    ≡ Some (late (record second { rows = with_data; measurement = m2 }) (of_realm InData (page_of 7)) delegated delegated)
 unfolding named outcome_of fits updated_all check realm_from with_realm starting_tables
 loaded = step_by eight _ _ (by 0 (Data 4 0 5)) _ refl (end_there ram 0 3 _ _ (walk_there ram 0 3 (vacant Empty) (lit≤ tt) ram-zero)) refl
 
@@ -143,7 +147,7 @@ gone-rec : get gone 0 ≡ None
 gone-rec = get-remove nat_cmp_total stopped 0 0
 
 abbrev measured_realm : Rows → Recs → RealmRow
-measured_realm rows recs = record fresh { rows = rows; measurement = m3; next = 1; recs = recs }
+measured_realm rows recs = record second { rows = rows; measurement = m3; next = 1; recs = recs }
 
 abbrev active : Rows → Recs → RealmRow
 active rows recs = record (measured_realm rows recs) { state = Active }
@@ -151,7 +155,7 @@ active rows recs = record (measured_realm rows recs) { state = Active }
 abbrev with_rec_pages : RealmRow → List ℕ → World
 with_rec_pages realm bytes = late realm (of_realm InData bytes) (of_realm InRec zero_page) (of_realm RecAux zero_page)
 
-made : step eight (late (record fresh { rows = with_data; measurement = m2 }) (of_realm InData (page_of 7)) delegated delegated) (by 0 (Rec 6 (record { items = 7 ∷ [] }) 0))
+made : step eight (late (record second { rows = with_data; measurement = m2 }) (of_realm InData (page_of 7)) delegated delegated) (by 0 (Rec 6 (record { items = 7 ∷ [] }) 0))
     ≡ Some (with_rec_pages (measured_realm with_data ready) (page_of 7))
 unfolding step named outcome_of fits updated_all check realm_from with_realm starting_tables
 made = refl
