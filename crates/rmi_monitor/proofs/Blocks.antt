@@ -87,10 +87,13 @@ module _ (monitor : MonitorView) (fields : Fields) (view_is : seen_as fields ≡
       taken = λ g inside used. flag_stays g used ∙ whole.backed.taken g inside used;
     };
     realm_places = whole.realm_places;
+    count_places = whole.count_places;
     rec_places = whole.rec_places;
     each = sound;
     tables = λ rd realm there. HasTables-alone fields.pages fields.granules new.pages new.granules rd realm.root (whole.tables rd realm there) (alone rd);
     recs = HasRecs_stay fields new stay_recs whole.each whole.recs (λ h rd rec realm at of there. (realm, there, omega arith));
+    counted = whole.counted;
+    vmids_used = whole.vmids_used;
   }
 
   descriptor_is : (g : ℕ) → descriptor_of new g ≡ descriptor_of fields g
@@ -140,11 +143,14 @@ module _ (fields : Fields) (whole : IsWhole fields) where
   whole_flags free keeps = record {
     backed = record { as_many = whole.backed.as_many; taken = λ g inside used. keeps g (whole.backed.taken g inside used) };
     realm_places = whole.realm_places;
+    count_places = whole.count_places;
     rec_places = whole.rec_places;
     each = λ g. record { host = (whole.each g).host; zero = (whole.each g).zero; rd = (whole.each g).rd; rec = (whole.each g).rec };
     tables = whole.tables;
     recs = HasRecs_stay fields (with_store fields.pages free) (record { granule_count = refl; rec = λ g. refl; granule = λ g is. refl; auxiliary = λ g is. refl })
         whole.each whole.recs (λ h rd rec realm at of there. (realm, there, omega arith));
+    counted = whole.counted;
+    vmids_used = whole.vmids_used;
   }
 
   whole_pages : (pages : List (List ℕ)) (free : List Bool) → pages ≡ fields.pages → IsWhole (with_store fields.pages free) → IsWhole (with_store pages free)

@@ -64,6 +64,7 @@ module _ (old : Fields) (whole : IsWhole old) (rd page offset value : ℕ) (is :
       taken = whole.backed.taken;
     };
     realm_places = whole.realm_places;
+    count_places = whole.count_places;
     rec_places = whole.rec_places;
     each = λ g. record {
       host = (whole.each g).host;
@@ -73,6 +74,8 @@ module _ (old : Fields) (whole : IsWhole old) (rd page offset value : ℕ) (is :
     };
     tables = λ g realm there. HasTables-alone old.pages old.granules new.pages new.granules g realm.root (whole.tables g realm there) (alone g);
     recs = HasRecs_stay old new stay_recs whole.each whole.recs (λ g r rec realm at of there. (realm, there, omega arith));
+    counted = whole.counted;
+    vmids_used = whole.vmids_used;
   }
 
   -- ---- the machine

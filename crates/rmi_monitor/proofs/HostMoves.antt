@@ -1,6 +1,7 @@
 -- A granule of the host's is moved: it is UNDELEGATED or DELEGATED before and after, and its page may change.
 use Rattle.std.proofs.Common.{◌≡◌, ◌≢◌, ℕ, ◌<◌, Bool, true, false, List, [], length, set, None, option_map, refl, sym, ap, ◌∙◌, subst, arith}
 use Rattle.std.specs.Prelude.{◌==◌}
+use Rattle.std.specs.FinMap.{len}
 use Rattle.std.proofs.lemmas.Bool.{eqb-true, eqb-false}
 use Rattle.std.proofs.lemmas.List.{length-set, get_or-set_same, get_or-set_other}
 use Rattle.granule_table.specs.Granules.{granule_at, undelegated}
@@ -128,10 +129,13 @@ module _ (old : Fields) (whole : IsWhole old) (g : ℕ) (inside : g < length old
   whole_moved = record {
     backed = backed_after old new touched stays whole.backed (λ h e. ap (is_free old.free) (eqb-true h g e) ∙ taken);
     realm_places = whole.realm_places ∙ sym stays.granule_count;
+    count_places = whole.count_places ∙ sym stays.granule_count;
     rec_places = whole.rec_places ∙ sym stays.granule_count;
     each = sound_after old new touched stays whole.each (λ h e. subst (IsSoundAt new) (sym (eqb-true h g e)) sound);
     tables = λ rd realm there. HasTables-alone old.pages old.granules new.pages new.granules rd realm.root (whole.tables rd realm there) (alone rd);
     recs = HasRecs_stay old new stay_recs whole.each whole.recs (λ h rd rec realm at of there. (realm, there, omega arith));
+    counted = λ rd. whole.counted rd ∙ ap len (sym (recs_of_stay old new stay_recs whole.each rd));
+    vmids_used = whole.vmids_used;
   }
 
   descriptor_is : (h : ℕ) → descriptor_of new h ≡ descriptor_of old h

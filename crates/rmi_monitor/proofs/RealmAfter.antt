@@ -1,6 +1,7 @@
 -- A command on one realm that keeps it: what is left of the others, and of it, is whole.
-use Rattle.std.proofs.Common.{◌≡◌, ◌≢◌, ℕ, ◌≤◌, Bool, true, false, length, Some, option_map, refl, sym, ap, ◌∙◌, subst, arith}
+use Rattle.std.proofs.Common.{◌≡◌, ◌≢◌, ℕ, ◌≤◌, Bool, true, false, length, get_or, Some, option_map, refl, sym, ap, ◌∙◌, subst, arith}
 use Rattle.std.specs.Prelude.{◌==◌}
+use Rattle.std.specs.FinMap.{len}
 use Rattle.std.proofs.lemmas.Bool.{eqb-true, eqb-false}
 use Rattle.std.proofs.lemmas.Option.{same_Some}
 use Rattle.granule_table.specs.Granules.{granule_at}
@@ -14,8 +15,18 @@ use Rattle.rtt.specs.FrameLaws.{rows-alone, HasTables-alone}
 use Rattle.rmi_monitor.specs.Inside.{Fields, realm_at, rec_at, recs_of, descriptor_of, cell_of, IsSoundAt, IsWhole}
 use Rattle.rmi_monitor.proofs.Machines.{cell_stays, descriptor_stays}
 use Rattle.rmi_monitor.proofs.Frames.{Stays, StayRecs, sound_after, recs_of_stay, HasRecs_stay}
+use Rattle.rmi_monitor.proofs.UsedVmids.{AreUsed, used-kept}
 
--- The realm has other attributes, but the same root. Its tables may have changed, and of the granules those that are touched.
+-- A realm's attributes change, and its root and its VMID do not. RECs that had numbers keep them.
+pub record Keeps (realm now : RealmAttributes) : Type 0 where
+  pub root : now.root ≡ realm.root
+  pub vmid : now.vmid ≡ realm.vmid
+  pub next : realm.next ≤ now.next
+
+pub keeps_all : (realm : RealmAttributes) → Keeps realm realm
+keeps_all realm = record { root = refl; vmid = refl; next = omega arith }
+
+-- The realm has other attributes, but the same root and VMID. Its tables may have changed, and of the granules those that are touched.
 -- No REC is touched, and the other realms are left alone.
 pub record Changes (old new : Fields) (rd : ℕ) (realm now : RealmAttributes) (touched : ℕ → Bool) : Type 0 where
   pub stays : Stays old new touched
@@ -23,11 +34,12 @@ pub record Changes (old new : Fields) (rd : ℕ) (realm now : RealmAttributes) (
   pub there : realm_at old rd ≡ Some realm
   pub is : realm_at new rd ≡ Some now
   pub others : (g : ℕ) → g ≢ rd → realm_at new g ≡ realm_at old g
-  pub root : now.root ≡ realm.root
-  pub next : realm.next ≤ now.next
+  pub keeps : Keeps realm now
   pub backed : IsBacked new.pages new.free new.granules
-  pub realm_places : length new.realms ≡ length new.granules
-  pub rec_places : length new.recs ≡ length new.granules
+  pub realm_count : length new.realms ≡ length old.realms
+  pub rec_count : length new.recs ≡ length old.recs
+  pub counts : new.rec_counts ≡ old.rec_counts
+  pub used : new.used ≡ old.used
   pub rec : (g : ℕ) → rec_at new g ≡ rec_at old g
   pub rec_granule : (g : ℕ) → (granule_at old.granules g).state ≡ InRec → granule_at new.granules g ≡ granule_at old.granules g
   pub auxiliary : (g : ℕ) → (granule_at old.granules g).state ≡ InRecAux → granule_at new.granules g ≡ granule_at old.granules g
@@ -43,7 +55,7 @@ module _ (old new : Fields) (rd : ℕ) (realm now : RealmAttributes) (touched : 
   tables_after g r at = elim (g == rd) as (λ t. (g == rd) ≡ t → HasTables new.pages new.granules g r.root) [
     | true ↦ λ e.
         let same = eqb-true g rd e in
-        let root : realm.root ≡ r.root = sym changes.root ∙ ap (λ (x : RealmAttributes). x.root) (same_Some now r (sym changes.is ∙ ap (realm_at new) (sym same) ∙ at)) in
+        let root : realm.root ≡ r.root = sym changes.keeps.root ∙ ap (λ (x : RealmAttributes). x.root) (same_Some now r (sym changes.is ∙ ap (realm_at new) (sym same) ∙ at)) in
         subst (λ h. HasTables new.pages new.granules h r.root) (sym same) (subst (HasTables new.pages new.granules rd) root changes.tables)
     | false ↦ λ e.
         let differs = eqb-false g rd e in
@@ -55,18 +67,22 @@ module _ (old new : Fields) (rd : ℕ) (realm now : RealmAttributes) (touched : 
     | true ↦ λ e.
         let same = eqb-true g rd e in
         let was : realm ≡ r = same_Some realm r (sym changes.there ∙ ap (realm_at old) (sym same) ∙ at) in
-        (now, ap (realm_at new) same ∙ changes.is, subst (λ (x : RealmAttributes). x.next ≤ now.next) was changes.next)
+        (now, ap (realm_at new) same ∙ changes.is, subst (λ (x : RealmAttributes). x.next ≤ now.next) was changes.keeps.next)
     | false ↦ λ e. (r, changes.others g (eqb-false g rd e) ∙ at, omega arith)
   ] refl
 
   pub whole_changed : IsWhole new
   whole_changed = record {
     backed = changes.backed;
-    realm_places = changes.realm_places;
-    rec_places = changes.rec_places;
+    realm_places = changes.realm_count ∙ whole.realm_places ∙ sym changes.stays.granule_count;
+    count_places = ap length changes.counts ∙ whole.count_places ∙ sym changes.stays.granule_count;
+    rec_places = changes.rec_count ∙ whole.rec_places ∙ sym changes.stays.granule_count;
     each = sound_after old new touched changes.stays whole.each changes.sound;
     tables = tables_after;
     recs = HasRecs_stay old new stay_recs whole.each whole.recs (λ h g rec r at of there. still_there g r there);
+    counted = λ g. ap (λ counts. get_or counts g 0) changes.counts ∙ whole.counted g ∙ ap len (sym (recs_of_stay old new stay_recs whole.each g));
+    vmids_used = subst (AreUsed new.realms) (sym changes.used)
+        (used-kept old.realms new.realms old.used whole.vmids_used changes.realm_count rd realm now changes.there changes.is changes.keeps.vmid changes.others);
   }
 
   pub recs_of_changed : (g : ℕ) → recs_of new.granules new.recs g ≡ recs_of old.granules old.recs g
@@ -85,4 +101,4 @@ module _ (old new : Fields) (rd : ℕ) (realm now : RealmAttributes) (touched : 
   descriptor_changed translation is =
       let row : RealmAttributes → RealmRow = λ r. realm_row r (recs_of new.granules new.recs rd) (rows new.pages r.root) in
       ap (option_map row) changes.is
-      ∙ (λ i. Some (realm_row now (recs_of_changed rd i) ((ap (rows new.pages) changes.root ∙ is) i)))
+      ∙ (λ i. Some (realm_row now (recs_of_changed rd i) ((ap (rows new.pages) changes.keeps.root ∙ is) i)))

@@ -1,7 +1,7 @@
 -- A realm is made, over the fields of a monitor.
 use Rattle.std.proofs.Common.{◌≡◌, ◌≢◌, ℕ, ◌<◌, Bool, true, false, List, length, set, Some, None, is_some, option_map, refl, sym, ap, ◌∙◌, subst, arith}
 use Rattle.std.specs.Prelude.{◌==◌, ◌||◌}
-use Rattle.std.specs.FinMap.{empty}
+use Rattle.std.specs.FinMap.{empty, len}
 use Rattle.std.proofs.lemmas.Bool.{eqb-true, eqb-false, or_parts}
 use Rattle.std.proofs.lemmas.List.{length-set, get_or-set_same, get_or-set_other}
 use Rattle.std.proofs.lemmas.Option.{same_Some}
@@ -20,11 +20,13 @@ use Rattle.rtt.specs.Tables.{rows}
 use Rattle.rtt.specs.Realm.{IsBacked, HasTables, LeavesAlone, LeavesOthers}
 use Rattle.rtt.specs.FrameLaws.{rows-alone, HasTables-alone}
 use Rattle.rmi_monitor.specs.Inside.{Fields, realm_at, recs_of, descriptor_of, bytes_of, cell_of, machine_of, is_rec_state, IsSoundAt, IsWhole}
+use Rattle.rmi_monitor.specs.Vmids.{is_used, IsMarked}
 use Rattle.rmi_monitor.proofs.Machines.{two_put, cell_stays, descriptor_stays}
 use Rattle.rmi_monitor.proofs.Frames.{Stays, StayRecs, sound_after, recs_of_stay, HasRecs_stay}
 use Rattle.rmi_monitor.proofs.Comparisons.{or_rest, neither}
 use Rattle.rmi_monitor.proofs.RealmPlaces.{no_realm_there}
 use Rattle.rmi_monitor.proofs.RealmRecs.{recs_of-none}
+use Rattle.rmi_monitor.proofs.UsedVmids.{used-create}
 
 -- the state that both granules are in before
 abbrev is_delegated_state : GranuleState → Bool
@@ -87,9 +89,10 @@ module _ (old : Fields) (whole : IsWhole old) (rd root : ℕ) (apart : rd ≢ ro
   module _ (realm : RealmAttributes) (realm_root : realm.root ≡ root) (fresh : realm_row realm empty root_rows ≡ new_realm realm.vmid root)
       (pages : List (List ℕ)) (free : List Bool) (flags : free ≡ old.free) (backed : IsBacked pages free with_root) (tables : HasTables pages with_root rd root)
       (translation : rows pages root ≡ root_rows) (page_stays : (g : ℕ) → g ≢ root → page_at pages g ≡ page_at old.pages g)
-      (alone : LeavesOthers rd old.pages with_rd pages with_root) where
+      (alone : LeavesOthers rd old.pages with_rd pages with_root)
+      (used : List Bool) (unused : is_used old.used realm.vmid ≡ false) (marked : IsMarked old.used used realm.vmid true) where
     abbrev new : Fields
-    new = record old { granules = with_root; pages = pages; free = free; realms = set old.realms rd (Some realm) }
+    new = record old { granules = with_root; pages = pages; free = free; realms = set old.realms rd (Some realm); used = used }
 
     abbrev touched : ℕ → Bool
     touched g = (g == root) || (g == rd)
@@ -189,10 +192,13 @@ module _ (old : Fields) (whole : IsWhole old) (rd root : ℕ) (apart : rd ≢ ro
     whole_created = record {
       backed = backed;
       realm_places = length-set old.realms rd (Some realm) ∙ whole.realm_places ∙ sym count;
+      count_places = whole.count_places ∙ sym count;
       rec_places = whole.rec_places ∙ sym count;
       each = sound_after old new touched stays whole.each sound_touched;
       tables = tables_after;
       recs = HasRecs_stay old new stay_recs whole.each whole.recs (λ h g rec r at of there. (r, realm_other g (not_new g r there) ∙ there, omega arith));
+      counted = λ g. whole.counted g ∙ ap len (sym (recs_of_stay old new stay_recs whole.each g));
+      vmids_used = used-create old.realms old.used used whole.vmids_used rd (subst (λ n. rd < n) (sym whole.realm_places) rd_inside) realm no_realm_rd unused marked;
     }
 
     cell_rd : cell_of new rd ≡ record { state = InRd; realm = Some rd; bytes = zero_page; descriptor = Some (new_realm realm.vmid root) }

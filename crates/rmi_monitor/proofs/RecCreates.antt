@@ -27,7 +27,7 @@ use Rattle.realm_model.proofs.Outcomes.{check_true}
 use Rattle.realm_objects.specs.Attributes.{RealmAttributes, RecAttributes, realm_row, rec_row}
 use Rattle.rtt.specs.Tables.{rows}
 use Rattle.rmi_monitor.specs.View.{MonitorView, IsTaken, seen_in, after_command, limits_of}
-use Rattle.rmi_monitor.specs.Inside.{Fields, realm_at, recs_of, seen_as, IsWhole}
+use Rattle.rmi_monitor.specs.Inside.{Fields, realm_at, rec_count_at, recs_of, seen_as, IsWhole}
 use Rattle.rmi_monitor.specs.Places.{is_delegated_at, are_distinct, is_fit, IsInState}
 use Rattle.rmi_monitor.proofs.Checks.{delegated_state}
 use Rattle.rmi_monitor.proofs.Granules.{machine_is, cell_is, in_granules, not_free, seen_delegated, after_done}
@@ -206,17 +206,18 @@ module _ (monitor : MonitorView) (fields : Fields) (view_is : seen_as fields ≡
 -- ---- the fields as calls leave them
 
 module _ (fields : Fields) (rd g : ℕ) (others : List ℕ) (realm : RealmAttributes) where
-  abbrev fields_with : List Granule → List (Option RealmAttributes) → List (Option RecAttributes) → Fields
-  fields_with granules realms recs = record fields { granules = granules; realms = realms; recs = recs }
+  abbrev fields_with : List Granule → List (Option RealmAttributes) → List ℕ → List (Option RecAttributes) → Fields
+  fields_with granules realms rec_counts recs = record fields { granules = granules; realms = realms; rec_counts = rec_counts; recs = recs }
 
-  pub made_by : (begun granules : List Granule) (list : List ℕ) (rd' g' : ℕ) (now : RealmAttributes) (rec : RecAttributes) → begun ≡ set fields.granules g (record { state = InRec; realm = Some rd })
-      → granules ≡ set_each (record { state = InRecAux; realm = Some rd }) list begun → list ≡ others → rd' ≡ rd → g' ≡ g → now ≡ with_rec_more realm → rec ≡ new_rec realm.next others
-      → fields_with granules (set fields.realms rd' (Some now)) (set fields.recs g' (Some rec)) ≡ made fields rd g others realm
-  made_by begun granules list rd' g' now rec first then same rd_is g_is realm_is rec_is =
-      (λ i. record fields { granules = then i; realms = set fields.realms (rd_is i) (Some (realm_is i)); recs = set fields.recs (g_is i) (Some (rec_is i)) })
+  pub made_by : (begun granules : List Granule) (list : List ℕ) (rd' g' at count : ℕ) (now : RealmAttributes) (rec : RecAttributes) → begun ≡ set fields.granules g (record { state = InRec; realm = Some rd })
+      → granules ≡ set_each (record { state = InRecAux; realm = Some rd }) list begun → list ≡ others → rd' ≡ rd → g' ≡ g → now ≡ with_rec_more realm → rec ≡ new_rec realm.next others → at ≡ rd → count ≡ rec_count_at fields rd
+      → fields_with granules (set fields.realms rd' (Some now)) (set fields.rec_counts at (count + 1)) (set fields.recs g' (Some rec)) ≡ made fields rd g others realm
+  made_by begun granules list rd' g' at count now rec first then same rd_is g_is realm_is rec_is at_is count_is =
+      (λ i. record fields { granules = then i; realms = set fields.realms (rd_is i) (Some (realm_is i)); rec_counts = set fields.rec_counts (at_is i) (count_is i + 1); recs = set fields.recs (g_is i) (Some (rec_is i)) })
       ∙ (λ i. record fields {
         granules = set_each (record { state = InRecAux; realm = Some rd }) (same i) (first i);
         realms = set fields.realms rd (Some (with_rec_more realm));
+        rec_counts = set fields.rec_counts rd (rec_count_at fields rd + 1);
         recs = set fields.recs g (Some (new_rec realm.next others));
       })
 

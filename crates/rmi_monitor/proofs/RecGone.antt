@@ -1,5 +1,5 @@
 -- A REC is removed: its granule and its auxiliaries are DELEGATED and zero.
-use Rattle.std.proofs.Common.{◌≡◌, ◌≢◌, ℕ, ◌<◌, true, false, List, [], ◌∷◌, length, set, None, refl, sym, ap, ◌∙◌, subst}
+use Rattle.std.proofs.Common.{◌≡◌, ◌≢◌, ℕ, ◌-◌, ◌<◌, true, false, List, [], ◌∷◌, length, set, None, refl, sym, ap, ◌∙◌, subst}
 use Rattle.std.specs.Prelude.{◌==◌, is_some}
 use Rattle.std.proofs.lemmas.Bool.{eqb-true, eqb-false}
 use Rattle.std.proofs.lemmas.List.{length-set, get_or-set_same, get_or-set_other}
@@ -15,9 +15,10 @@ use Rattle.realm_model.proofs.Booleans.{or_parts, true_false, false_from, none_f
 use Rattle.realm_model.proofs.Lists.{is_in, index_of}
 use Rattle.realm_model.proofs.SetEach.{length-set_each}
 use Rattle.realm_objects.specs.Attributes.{RealmAttributes, RecAttributes}
-use Rattle.rmi_monitor.specs.Inside.{Fields, realm_at, rec_at, is_rec_state, IsSoundAt, IsWhole}
+use Rattle.rmi_monitor.specs.Inside.{Fields, realm_at, rec_count_at, rec_at, is_rec_state, IsSoundAt, IsWhole}
 use Rattle.rmi_monitor.proofs.Listed.{some_inside}
 use Rattle.rmi_monitor.proofs.Puts.{set_each_in, set_each_out}
+use Rattle.rmi_monitor.proofs.RealmAfter.{keeps_all}
 use Rattle.rmi_monitor.proofs.RecMoves.{Moves, is_moved_state}
 use Rattle.rmi_monitor.proofs.RecFound.{IsKept, rec_inside}
 use Rattle.rmi_monitor.proofs.RealmPlaces.{realm_inside, in_rd}
@@ -28,10 +29,11 @@ use Rattle.rmi_monitor.proofs.Comparisons.{either}
 abbrev pub left_granule : Granule
 left_granule = record { state = Delegated; realm = None }
 
-abbrev pub gone : Fields → ℕ → List ℕ → Fields
-gone old g others = record old {
+abbrev pub gone : Fields → ℕ → ℕ → List ℕ → Fields
+gone old rd g others = record old {
   granules = set_each left_granule others (set old.granules g left_granule);
   pages = set_each zero_page others (set old.pages g zero_page);
+  rec_counts = set old.rec_counts rd (rec_count_at old rd - 1);
   recs = set old.recs g None;
 }
 
@@ -40,7 +42,7 @@ module _ (old : Fields) (whole : IsWhole old) (rd g : ℕ) (rec : RecAttributes)
   others = rec.auxiliaries
 
   abbrev new : Fields
-  new = gone old g others
+  new = gone old rd g others
 
   -- ---- where they are before
 
@@ -122,6 +124,12 @@ module _ (old : Fields) (whole : IsWhole old) (rd g : ℕ) (rec : RecAttributes)
   pub rec_out : (h : ℕ) → h ≢ g → rec_at new h ≡ rec_at old h
   rec_out h differs = get_or-set_other old.recs g h None None differs
 
+  pub count_rd : rec_count_at new rd ≡ rec_count_at old rd - 1
+  count_rd = get_or-set_same old.rec_counts rd (rec_count_at old rd - 1) 0 (subst (λ n. rd < n) (sym whole.count_places) (realm_inside old whole rd realm is.there))
+
+  pub count_out : (h : ℕ) → h ≢ rd → rec_count_at new h ≡ rec_count_at old h
+  count_out h differs = get_or-set_other old.rec_counts rd h (rec_count_at old rd - 1) 0 differs
+
   pub no_rec : (h : ℕ) → is_in h others ≡ true → rec_at old h ≡ None
   no_rec h e = none_from (rec_at old h) ((whole.each h).rec ∙ ap is_rec_state (aux_state h e))
 
@@ -151,7 +159,8 @@ module _ (old : Fields) (whole : IsWhole old) (rd g : ℕ) (rec : RecAttributes)
     there = is.there;
     is = is.there;
     realms = λ h differs. refl;
-    root = refl;
+    keeps = keeps_all realm;
+    used = refl;
     recs = rec_out;
     moved = moved;
     aux = no_rec;

@@ -1,7 +1,9 @@
 -- A REC is removed: the RECs that are left are as they should be, and the machine is as the command says.
-use Rattle.std.proofs.Common.{◌≡◌, ◌≢◌, ℕ, ◌<◌, true, false, List, [], ◌∷◌, ◌++◌, length, map, Some, None, sym, ap, ◌∙◌, subst}
-use Rattle.std.specs.Prelude.{slice_get}
-use Rattle.std.specs.FinMap.{remove}
+use Rattle.std.proofs.Common.{◌≡◌, ◌≢◌, ℕ, ◌-◌, ◌<◌, true, false, List, [], ◌∷◌, ◌++◌, length, map, Some, None, refl, sym, ap, ◌∙◌, subst}
+use Rattle.std.specs.Prelude.{◌==◌, slice_get}
+use Rattle.std.specs.FinMap.{remove, len}
+use Rattle.std.proofs.lemmas.Bool.{eqb-true, eqb-false}
+use Rattle.std.proofs.lemmas.List.{length-set}
 use Rattle.granule_table.specs.Granules.{granule_at}
 use Rattle.granule_table.specs.declared.granule.Granule.{Granule}
 use Rattle.realm_model.specs.declared.states.GranuleState.TheVariants.{Rec as InRec, RecAux as InRecAux}
@@ -12,13 +14,13 @@ use Rattle.realm_model.proofs.Lists.{is_in, is_in_head, is_in_more, index_of}
 use Rattle.realm_objects.specs.Attributes.{RealmAttributes, RecAttributes, realm_row, rec_row}
 use Rattle.rtt.specs.Tables.{rows}
 use Rattle.rmi_monitor.specs.Gathered.{gathered}
-use Rattle.rmi_monitor.specs.Inside.{Fields, rec_at, rec_of, recs_of, cell_of, machine_of, IsRecOf, HasRecs, IsWhole}
-use Rattle.rmi_monitor.proofs.Gathered.{gathered-drop}
+use Rattle.rmi_monitor.specs.Inside.{Fields, rec_count_at, rec_at, rec_of, recs_of, cell_of, machine_of, IsRecOf, HasRecs, IsWhole}
+use Rattle.rmi_monitor.proofs.Gathered.{len-remove_there, gathered-drop}
 use Rattle.rmi_monitor.proofs.Puts.{out_of, many_put}
-use Rattle.rmi_monitor.proofs.RecMoves.{each_moved, backed_moved, tables_moved, rec_of_stays, cell_unmoved, cell_rd, zero_cell}
+use Rattle.rmi_monitor.proofs.RecMoves.{each_moved, backed_moved, tables_moved, rec_of_stays, recs_of_stays, cell_unmoved, cell_rd, zero_cell}
 use Rattle.rmi_monitor.proofs.RecEntries.{of_realm, of_other, numbered_recs, rec_of-none, rec_of-other, rec_of-some}
-use Rattle.rmi_monitor.proofs.RecGone.{gone, left_granule, granule_count, granule_in, granule_out, page_in, rec_g, rec_out, no_rec, no_realm_after, moves}
-use Rattle.rmi_monitor.proofs.RecFound.{IsKept, rec_inside}
+use Rattle.rmi_monitor.proofs.RecGone.{gone, left_granule, granule_count, granule_in, granule_out, page_in, rec_g, rec_out, count_rd, count_out, no_rec, no_realm_after, moves}
+use Rattle.rmi_monitor.proofs.RecFound.{IsKept, rec_inside, row_found}
 use Rattle.rmi_monitor.proofs.RealmPlaces.{realm_inside}
 use Rattle.rmi_monitor.proofs.Frames.{in_rec}
 
@@ -27,7 +29,7 @@ module _ (old : Fields) (whole : IsWhole old) (rd g : ℕ) (rec : RecAttributes)
   others = rec.auxiliaries
 
   abbrev new : Fields
-  new = gone old g others
+  new = gone old rd g others
 
   -- a REC that is left is another one
   differs : (h : ℕ) (other : RecAttributes) → rec_at new h ≡ Some other → h ≢ g
@@ -71,17 +73,7 @@ module _ (old : Fields) (whole : IsWhole old) (rd g : ℕ) (rec : RecAttributes)
     auxiliaries_once = λ h k one other i j a e e'. whole.recs.auxiliaries_once h k one other i j a (was_old h one e) (was_old k other e');
   }
 
-  pub whole_gone : IsWhole (gone old g rec.auxiliaries)
-  whole_gone = record {
-    backed = backed_moved old new rd g others realm realm (moves old whole rd g rec realm is) whole;
-    realm_places = whole.realm_places ∙ sym (granule_count old whole rd g rec realm is);
-    rec_places = (moves old whole rd g rec realm is).rec_count ∙ whole.rec_places ∙ sym (granule_count old whole rd g rec realm is);
-    each = each_moved old new rd g others realm realm (moves old whole rd g rec realm is) whole;
-    tables = tables_moved old new rd g others realm realm (moves old whole rd g rec realm is) whole;
-    recs = has_after;
-  }
-
-  -- ---- the machine
+  -- ---- the RECs of each realm
 
   -- the realm has one REC less
   recs_gone : recs_of new.granules new.recs rd ≡ remove (recs_of old.granules old.recs rd) rec.number
@@ -100,10 +92,41 @@ module _ (old : Fields) (whole : IsWhole old) (rd g : ℕ) (rec : RecAttributes)
       rec_of-none new.granules new.recs r g (rec_g old whole rd g rec realm is)
       ∙ sym (rec_of-other old.granules old.recs r g (of_other old.granules r g rd is.of (λ e. apart (sym e))))
 
+  counted_after : (r : ℕ) → rec_count_at new r ≡ len (recs_of new.granules new.recs r)
+  counted_after r = elim (r == rd) as (λ t. (r == rd) ≡ t → rec_count_at new r ≡ len (recs_of new.granules new.recs r)) [
+    | true ↦ λ e.
+        let same = eqb-true r rd e in
+        ap (rec_count_at new) same
+        ∙ count_rd old whole rd g rec realm is
+        ∙ ap (λ n. n - 1) (whole.counted rd)
+        ∙ sym (ap len recs_gone ∙ len-remove_there (recs_of old.granules old.recs rd) rec.number (rec_row g rec) (row_found old whole g rec rd realm is))
+        ∙ ap (λ k. len (recs_of new.granules new.recs k)) (sym same)
+    | false ↦ λ e.
+        let differs = eqb-false r rd e in
+        count_out old whole rd g rec realm is r differs
+        ∙ whole.counted r
+        ∙ ap len (sym (recs_of_stays old new rd g others realm realm (moves old whole rd g rec realm is) whole r (elsewhere r differs)))
+  ] refl
+
+  pub whole_gone : IsWhole (gone old rd g rec.auxiliaries)
+  whole_gone = record {
+    backed = backed_moved old new rd g others realm realm (moves old whole rd g rec realm is) whole;
+    realm_places = whole.realm_places ∙ sym (granule_count old whole rd g rec realm is);
+    count_places = length-set old.rec_counts rd (rec_count_at old rd - 1) ∙ whole.count_places ∙ sym (granule_count old whole rd g rec realm is);
+    rec_places = (moves old whole rd g rec realm is).rec_count ∙ whole.rec_places ∙ sym (granule_count old whole rd g rec realm is);
+    each = each_moved old new rd g others realm realm (moves old whole rd g rec realm is) whole;
+    tables = tables_moved old new rd g others realm realm (moves old whole rd g rec realm is) whole;
+    recs = has_after;
+    counted = counted_after;
+    vmids_used = whole.vmids_used;
+  }
+
+  -- ---- the machine
+
   abbrev row_gone : RealmRow
   row_gone = realm_row realm (remove (recs_of old.granules old.recs rd) rec.number) (rows old.pages realm.root)
 
-  pub machine_gone : machine_of (gone old g rec.auxiliaries)
+  pub machine_gone : machine_of (gone old rd g rec.auxiliaries)
       ≡ machine_after_all (Put g left ∷ map (λ a. Put a left) rec.auxiliaries ++ Put rd (record (cell_of old rd) { descriptor = Some row_gone }) ∷ []) (machine_of old)
   machine_gone =
       let zeroed : (h : ℕ) → is_in h (g ∷ others) ≡ true → cell_of new h ≡ left =

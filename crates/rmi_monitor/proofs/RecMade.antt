@@ -1,5 +1,5 @@
 -- A new REC of a realm: what always holds, holds still.
-use Rattle.std.proofs.Common.{◌≡◌, ◌≢◌, ℕ, ◌+◌, ◌<◌, true, false, List, ◌∷◌, length, set, Some, None, refl, sym, ap, ◌∙◌, subst}
+use Rattle.std.proofs.Common.{◌≡◌, ◌≢◌, ℕ, ◌+◌, ◌<◌, true, false, List, ◌∷◌, length, set, Some, None, refl, sym, ap, ◌∙◌, subst, arith}
 use Rattle.std.specs.Prelude.{◌==◌, is_some, slice_get}
 use Rattle.std.proofs.lemmas.Bool.{eqb-true, eqb-false}
 use Rattle.std.proofs.lemmas.List.{length-set, get_or-set_same, get_or-set_other}
@@ -17,7 +17,7 @@ use Rattle.realm_model.proofs.Booleans.{or_parts, true_false, none_from}
 use Rattle.realm_model.proofs.Lists.{is_in, is_in_head, is_in_more}
 use Rattle.realm_model.proofs.SetEach.{length-set_each}
 use Rattle.realm_objects.specs.Attributes.{RealmAttributes, RecAttributes}
-use Rattle.rmi_monitor.specs.Inside.{Fields, realm_at, rec_at, is_rec_state, IsSoundAt, IsWhole}
+use Rattle.rmi_monitor.specs.Inside.{Fields, realm_at, rec_count_at, rec_at, is_rec_state, IsSoundAt, IsWhole}
 use Rattle.rmi_monitor.proofs.Puts.{set_each_in, set_each_out}
 use Rattle.rmi_monitor.proofs.RecMoves.{Moves, is_moved_state}
 use Rattle.rmi_monitor.proofs.Comparisons.{either}
@@ -34,6 +34,7 @@ abbrev pub made : Fields → ℕ → ℕ → List ℕ → RealmAttributes → Fi
 made old rd g others realm = record old {
   granules = set_each (record { state = InRecAux; realm = Some rd }) others (set old.granules g (record { state = InRec; realm = Some rd }));
   realms = set old.realms rd (Some (with_rec_more realm));
+  rec_counts = set old.rec_counts rd (rec_count_at old rd + 1);
   recs = set old.recs g (Some (new_rec realm.next others));
 }
 
@@ -96,6 +97,12 @@ module _ (old : Fields) (whole : IsWhole old) (rd g : ℕ) (others : List ℕ) (
   pub realm_out : (h : ℕ) → h ≢ rd → realm_at new h ≡ realm_at old h
   realm_out h differs = get_or-set_other old.realms rd h (Some (with_rec_more realm)) None differs
 
+  pub count_rd : rec_count_at new rd ≡ rec_count_at old rd + 1
+  count_rd = get_or-set_same old.rec_counts rd (rec_count_at old rd + 1) 0 (subst (λ n. rd < n) (sym whole.count_places) can.rd_inside)
+
+  pub count_out : (h : ℕ) → h ≢ rd → rec_count_at new h ≡ rec_count_at old h
+  count_out h differs = get_or-set_other old.rec_counts rd h (rec_count_at old rd + 1) 0 differs
+
   -- a DELEGATED granule is none of a realm's, and zero
   pub no_rec : (h : ℕ) → is_in h (g ∷ others) ≡ true → rec_at old h ≡ None
   no_rec h e = none_from (rec_at old h) ((whole.each h).rec ∙ ap is_rec_state (can.delegated h e))
@@ -142,7 +149,8 @@ module _ (old : Fields) (whole : IsWhole old) (rd g : ℕ) (others : List ℕ) (
     there = can.there;
     is = realm_rd;
     realms = realm_out;
-    root = refl;
+    keeps = record { root = refl; vmid = refl; next = omega arith };
+    used = refl;
     recs = rec_out;
     moved = λ h e. ap is_moved_state (can.delegated h e);
     aux = λ h e. no_rec h (more h e);

@@ -1,8 +1,9 @@
 -- A new REC of a realm: the RECs are as they should be, and the machine is as the command says.
 use Rattle.std.proofs.Common.{◌≡◌, ◌≢◌, ℕ, ◌+◌, ◌<◌, true, false, List, [], ◌∷◌, ◌++◌, length, map, Some, None, refl, sym, ap, ◌∙◌, subst, arith}
 use Rattle.std.specs.Prelude.{◌==◌, slice_get}
-use Rattle.std.specs.FinMap.{insert}
+use Rattle.std.specs.FinMap.{get, insert, len}
 use Rattle.std.proofs.lemmas.Bool.{eqb-true, eqb-false}
+use Rattle.std.proofs.lemmas.List.{length-set}
 use Rattle.std.proofs.lemmas.Option.{same_Some}
 use Rattle.granule_table.specs.Granules.{granule_at, IsIn}
 use Rattle.granule_table.specs.declared.granule.Granule.{Granule}
@@ -14,12 +15,13 @@ use Rattle.realm_model.proofs.Lists.{is_in, is_in_head, is_in_more, is_in_at}
 use Rattle.realm_objects.specs.Attributes.{RealmAttributes, RecAttributes, realm_row, rec_row}
 use Rattle.rtt.specs.Tables.{rows}
 use Rattle.rmi_monitor.specs.Gathered.{gathered}
-use Rattle.rmi_monitor.specs.Inside.{Fields, realm_at, rec_at, rec_of, recs_of, cell_of, machine_of, IsRecOf, HasRecs, IsWhole}
-use Rattle.rmi_monitor.proofs.Gathered.{gathered-put}
+use Rattle.rmi_monitor.specs.Inside.{Fields, realm_at, rec_count_at, rec_at, rec_of, recs_of, cell_of, machine_of, IsRecOf, HasRecs, IsWhole}
+use Rattle.rmi_monitor.proofs.Gathered.{len-insert_new, gathered-put}
 use Rattle.rmi_monitor.proofs.Puts.{out_of, many_put}
-use Rattle.rmi_monitor.proofs.RecMoves.{each_moved, backed_moved, tables_moved, rec_of_stays, cell_unmoved, cell_rd, zero_cell}
-use Rattle.rmi_monitor.proofs.RecEntries.{of_realm, of_other, numbered_recs, rec_of-none, rec_of-other, rec_of-some}
-use Rattle.rmi_monitor.proofs.RecMade.{CanMake, made, new_rec, with_rec_more, granule_g, granule_aux, granule_out, granule_count, rec_g, rec_out, realm_rd, realm_out, no_rec, no_realm_after, zero_after, moves}
+use Rattle.rmi_monitor.proofs.RecMoves.{each_moved, backed_moved, tables_moved, vmids_moved, rec_of_stays, recs_of_stays, cell_unmoved, cell_rd, zero_cell}
+use Rattle.rmi_monitor.proofs.RealmRecs.{recs_of-without}
+use Rattle.rmi_monitor.proofs.RecEntries.{IsEntry, entry_at, of_realm, of_other, numbered_recs, rec_of-none, rec_of-other, rec_of-some}
+use Rattle.rmi_monitor.proofs.RecMade.{CanMake, made, new_rec, with_rec_more, granule_g, granule_aux, granule_out, granule_count, rec_g, rec_out, realm_rd, realm_out, count_rd, count_out, no_rec, no_realm_after, zero_after, moves}
 
 module _ (old : Fields) (whole : IsWhole old) (rd g : ℕ) (others : List ℕ) (realm : RealmAttributes) (can : CanMake old rd g others realm) where
   abbrev new : Fields
@@ -79,14 +81,18 @@ module _ (old : Fields) (whole : IsWhole old) (rd g : ℕ) (others : List ℕ) (
   ] refl
 
   -- no other REC of the realm has the new number
-  apart : (h : ℕ) (rec : RecAttributes) → h ≢ g → rec_at new h ≡ Some rec → (granule_at new.granules h).realm ≡ Some rd → rec.number ≡ realm.next → ⊥
-  apart h rec differs e of number =
-      let at = was_old h rec differs e in
+  apart_before : (h : ℕ) (rec : RecAttributes) → rec_at old h ≡ Some rec → (granule_at old.granules h).realm ≡ Some rd → rec.number ≡ realm.next → ⊥
+  apart_before h rec at of number =
       let before : IsRecOf old h rec = whole.recs.of h rec at in
-      let same : before.rd ≡ rd = same_Some before.rd rd (sym before.of ∙ sym (old_realm h rec at) ∙ of) in
+      let same : before.rd ≡ rd = same_Some before.rd rd (sym before.of ∙ of) in
       let was : before.realm ≡ realm = same_Some before.realm realm (sym before.there ∙ ap (realm_at old) same ∙ can.there) in
       let less : rec.number < realm.next = subst (λ (x : RealmAttributes). rec.number < x.next) was before.below in
       omega (arith, less, number)
+
+  apart : (h : ℕ) (rec : RecAttributes) → h ≢ g → rec_at new h ≡ Some rec → (granule_at new.granules h).realm ≡ Some rd → rec.number ≡ realm.next → ⊥
+  apart h rec differs e of number =
+      let at = was_old h rec differs e in
+      apart_before h rec at (sym (old_realm h rec at) ∙ of) number
 
   number_is : (h : ℕ) (rec : RecAttributes) → h ≡ g → rec_at new h ≡ Some rec → rec.number ≡ realm.next
   number_is h rec same e = ap (λ (x : RecAttributes). x.number) (sym (is_new h rec same e))
@@ -166,17 +172,7 @@ module _ (old : Fields) (whole : IsWhole old) (rd g : ℕ) (others : List ℕ) (
   has_after : HasRecs new
   has_after = record { of = of_after; once = once_after; auxiliaries = aux_after; auxiliaries_once = aux_once_after }
 
-  pub whole_made : IsWhole (made old rd g others realm)
-  whole_made = record {
-    backed = backed_moved old new rd g others realm (with_rec_more realm) (moves old whole rd g others realm can) whole;
-    realm_places = (moves old whole rd g others realm can).realm_count ∙ whole.realm_places ∙ sym (granule_count old whole rd g others realm can);
-    rec_places = (moves old whole rd g others realm can).rec_count ∙ whole.rec_places ∙ sym (granule_count old whole rd g others realm can);
-    each = each_moved old new rd g others realm (with_rec_more realm) (moves old whole rd g others realm can) whole;
-    tables = tables_moved old new rd g others realm (with_rec_more realm) (moves old whole rd g others realm can) whole;
-    recs = has_after;
-  }
-
-  -- ---- the machine
+  -- ---- the RECs of each realm
 
   -- the realm has one more REC
   recs_made : recs_of new.granules new.recs rd ≡ insert (recs_of old.granules old.recs rd) realm.next (rec_row g (new_rec realm.next others))
@@ -194,6 +190,43 @@ module _ (old : Fields) (whole : IsWhole old) (rd g : ℕ) (others : List ℕ) (
   elsewhere r differs =
       rec_of-other new.granules new.recs r g (of_other new.granules r g rd g_realm (λ e. differs (sym e)))
       ∙ sym (rec_of-none old.granules old.recs r g (no_rec old whole rd g others realm can g (is_in_head g others)))
+
+  -- no REC of the realm had the new number
+  number_free : get (recs_of old.granules old.recs rd) realm.next ≡ None
+  number_free = recs_of-without old.granules old.recs rd realm.next (λ h lt row at.
+      let place : IsEntry old.granules old.recs rd h realm.next row = entry_at old.granules rd h old.recs realm.next row at in
+      apart_before h place.rec place.at place.of place.numbered)
+
+  counted_after : (r : ℕ) → rec_count_at new r ≡ len (recs_of new.granules new.recs r)
+  counted_after r = elim (r == rd) as (λ t. (r == rd) ≡ t → rec_count_at new r ≡ len (recs_of new.granules new.recs r)) [
+    | true ↦ λ e.
+        let same = eqb-true r rd e in
+        ap (rec_count_at new) same
+        ∙ count_rd old whole rd g others realm can
+        ∙ ap (λ n. n + 1) (whole.counted rd)
+        ∙ sym (ap len recs_made ∙ len-insert_new (recs_of old.granules old.recs rd) realm.next (rec_row g (new_rec realm.next others)) number_free)
+        ∙ ap (λ k. len (recs_of new.granules new.recs k)) (sym same)
+    | false ↦ λ e.
+        let differs = eqb-false r rd e in
+        count_out old whole rd g others realm can r differs
+        ∙ whole.counted r
+        ∙ ap len (sym (recs_of_stays old new rd g others realm (with_rec_more realm) (moves old whole rd g others realm can) whole r (elsewhere r differs)))
+  ] refl
+
+  pub whole_made : IsWhole (made old rd g others realm)
+  whole_made = record {
+    backed = backed_moved old new rd g others realm (with_rec_more realm) (moves old whole rd g others realm can) whole;
+    realm_places = (moves old whole rd g others realm can).realm_count ∙ whole.realm_places ∙ sym (granule_count old whole rd g others realm can);
+    count_places = length-set old.rec_counts rd (rec_count_at old rd + 1) ∙ whole.count_places ∙ sym (granule_count old whole rd g others realm can);
+    rec_places = (moves old whole rd g others realm can).rec_count ∙ whole.rec_places ∙ sym (granule_count old whole rd g others realm can);
+    each = each_moved old new rd g others realm (with_rec_more realm) (moves old whole rd g others realm can) whole;
+    tables = tables_moved old new rd g others realm (with_rec_more realm) (moves old whole rd g others realm can) whole;
+    recs = has_after;
+    counted = counted_after;
+    vmids_used = vmids_moved old new rd g others realm (with_rec_more realm) (moves old whole rd g others realm can) whole;
+  }
+
+  -- ---- the machine
 
   abbrev row_made : RealmRow
   row_made = realm_row (with_rec_more realm) (insert (recs_of old.granules old.recs rd) realm.next (rec_row g (new_rec realm.next others))) (rows old.pages realm.root)

@@ -25,7 +25,9 @@ use Rattle.rmi_monitor.proofs.Frames.{Stays, sound_after, backed_after, alone_af
 use Rattle.rmi_monitor.proofs.Gathered.{gathered-same}
 use Rattle.rmi_monitor.proofs.Machines.{cell_stays, descriptor_stays}
 use Rattle.rmi_monitor.proofs.Puts.{out_of}
+use Rattle.rmi_monitor.proofs.RealmAfter.{Keeps}
 use Rattle.rmi_monitor.proofs.RecEntries.{rec_of-none}
+use Rattle.rmi_monitor.proofs.UsedVmids.{AreUsed, used-kept}
 use Rattle.rmi_monitor.proofs.Comparisons.{either}
 
 -- the RD, the REC and its auxiliaries
@@ -50,7 +52,8 @@ pub record Moves (old new : Fields) (rd g : ℕ) (others : List ℕ) (realm now 
   pub there : realm_at old rd ≡ Some realm
   pub is : realm_at new rd ≡ Some now
   pub realms : (h : ℕ) → h ≢ rd → realm_at new h ≡ realm_at old h
-  pub root : now.root ≡ realm.root
+  pub keeps : Keeps realm now
+  pub used : new.used ≡ old.used
   pub recs : (h : ℕ) → h ≢ g → rec_at new h ≡ rec_at old h
   pub moved : (h : ℕ) → is_in h (g ∷ others) ≡ true → is_moved_state (granule_at old.granules h).state ≡ true
   pub aux : (h : ℕ) → is_in h others ≡ true → rec_at old h ≡ None
@@ -120,7 +123,7 @@ module _ (old new : Fields) (rd g : ℕ) (others : List ℕ) (realm now : RealmA
   tables_moved r a at = elim (r == rd) as (λ t. (r == rd) ≡ t → HasTables new.pages new.granules r a.root) [
     | true ↦ λ e.
         let same = eqb-true r rd e in
-        let root : realm.root ≡ a.root = sym moves.root ∙ ap (λ (x : RealmAttributes). x.root) (same_Some now a (sym moves.is ∙ ap (realm_at new) (sym same) ∙ at)) in
+        let root : realm.root ≡ a.root = sym moves.keeps.root ∙ ap (λ (x : RealmAttributes). x.root) (same_Some now a (sym moves.is ∙ ap (realm_at new) (sym same) ∙ at)) in
         subst (λ q. HasTables new.pages new.granules q a.root) (sym same) (subst (HasTables new.pages new.granules rd) root
         (HasTables-alone old.pages old.granules new.pages new.granules rd realm.root (whole.tables rd realm moves.there) (alone_moved rd)))
     | false ↦ λ e.
@@ -153,6 +156,10 @@ module _ (old new : Fields) (rd g : ℕ) (others : List ℕ) (realm now : RealmA
         | false ↦ λ e. rec_of_stays r h (eqb-false h g e)
       ] refl)
 
+  pub vmids_moved : AreUsed new.realms new.used
+  vmids_moved = subst (AreUsed new.realms) (sym moves.used)
+      (used-kept old.realms new.realms old.used whole.vmids_used moves.realm_count rd realm now moves.there moves.is moves.keeps.vmid moves.realms)
+
   -- ---- cells
 
   translation : (r : ℕ) (a : RealmAttributes) → realm_at old r ≡ Some a → rows new.pages a.root ≡ rows old.pages a.root
@@ -170,7 +177,7 @@ module _ (old new : Fields) (rd g : ℕ) (others : List ℕ) (realm now : RealmA
       let granule : granule_at new.granules rd ≡ granule_at old.granules rd = moves.granule rd rd_stays in
       let descriptor : descriptor_of new rd ≡ Some D =
       ap (option_map (λ a. realm_row a (recs_of new.granules new.recs rd) (rows new.pages a.root))) moves.is
-      ∙ ap (λ t. Some (realm_row now (recs_of new.granules new.recs rd) t)) (ap (rows new.pages) moves.root ∙ translation rd realm moves.there)
+      ∙ ap (λ t. Some (realm_row now (recs_of new.granules new.recs rd) t)) (ap (rows new.pages) moves.keeps.root ∙ translation rd realm moves.there)
       ∙ ap Some row in
       ap (λ (x : Granule). record { state = x.state; realm = x.realm; bytes = bytes_of x.state (page_at new.pages rd); descriptor = descriptor_of new rd }) granule
       ∙ (λ i. record {

@@ -1,5 +1,5 @@
 -- A call on a realm's tables, which moves a granule to or from the realm, or none; the realm's attributes may have changed.
-use Rattle.std.proofs.Common.{◌≡◌, ◌≢◌, ℕ, ◌<◌, ◌≤◌, Bool, true, false, List, length, set, Option, Some, None, option_map, refl, sym, ap, ◌∙◌, subst}
+use Rattle.std.proofs.Common.{◌≡◌, ◌≢◌, ℕ, ◌<◌, Bool, true, false, List, length, set, Option, Some, None, option_map, refl, sym, ap, ◌∙◌, subst}
 use Rattle.std.specs.Prelude.{◌==◌, ◌||◌, is_some}
 use Rattle.std.proofs.lemmas.Bool.{eqb-true, eqb-false, or_parts, eq-eqb, ne_eqb, or_right}
 use Rattle.std.proofs.lemmas.List.{length-set, get_or-set_same, get_or-set_other}
@@ -18,7 +18,7 @@ use Rattle.rmi_monitor.specs.Inside.{Fields, realm_at, recs_of, descriptor_of, b
 use Rattle.rmi_monitor.proofs.Machines.{one_put, two_put}
 use Rattle.rmi_monitor.proofs.Comparisons.{or_rest, neither}
 use Rattle.rmi_monitor.proofs.RealmPlaces.{realm_inside, in_rd, no_realm_there}
-use Rattle.rmi_monitor.proofs.RealmAfter.{Changes, whole_changed, cell_unchanged, descriptor_changed}
+use Rattle.rmi_monitor.proofs.RealmAfter.{Keeps, Changes, whole_changed, cell_unchanged, descriptor_changed}
 
 -- a DELEGATED granule, a page of data or a table
 abbrev pub is_moved_state : GranuleState → Bool
@@ -47,7 +47,7 @@ abbrev pub with_row_of : Cell → RealmRow → Cell
 with_row_of cell row = record cell { descriptor = Some row }
 
 module _ (old : Fields) (whole : IsWhole old) (rd : ℕ) (realm now : RealmAttributes) (there : realm_at old rd ≡ Some realm)
-    (root : now.root ≡ realm.root) (next : realm.next ≤ now.next) (granules : List Granule) (pages : List (List ℕ)) (free : List Bool)
+    (keeps : Keeps realm now) (granules : List Granule) (pages : List (List ℕ)) (free : List Bool)
     (flags : free ≡ old.free) (backed : IsBacked pages free granules) (tables : HasTables pages granules rd realm.root)
     (alone : LeavesOthers rd old.pages old.granules pages granules) where
   abbrev new : Fields
@@ -109,11 +109,12 @@ module _ (old : Fields) (whole : IsWhole old) (rd : ℕ) (realm now : RealmAttri
       there = there;
       is = realm_is;
       others = realm_other;
-      root = root;
-      next = next;
+      keeps = keeps;
       backed = backed;
-      realm_places = length-set old.realms rd (Some now) ∙ whole.realm_places ∙ sym (ap length same);
-      rec_places = whole.rec_places ∙ sym (ap length same);
+      realm_count = length-set old.realms rd (Some now);
+      rec_count = refl;
+      counts = refl;
+      used = refl;
       rec = λ g. refl;
       rec_granule = λ g is. granule_same g;
       auxiliary = λ g is. granule_same g;
@@ -196,11 +197,12 @@ module _ (old : Fields) (whole : IsWhole old) (rd : ℕ) (realm now : RealmAttri
       there = there;
       is = realm_is;
       others = realm_other;
-      root = root;
-      next = next;
+      keeps = keeps;
       backed = backed;
-      realm_places = length-set old.realms rd (Some now) ∙ whole.realm_places ∙ sym count;
-      rec_places = whole.rec_places ∙ sym count;
+      realm_count = length-set old.realms rd (Some now);
+      rec_count = refl;
+      counts = refl;
+      used = refl;
       rec = λ g. refl;
       rec_granule = λ g at. granule_other g (not_here InRec refl g at);
       auxiliary = λ g at. granule_other g (not_here InRecAux refl g at);

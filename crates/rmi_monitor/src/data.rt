@@ -6,7 +6,7 @@ ghost use Rattle.rmi_monitor.specs.View.{IsTaken, Answers, seen_in, after_comman
 use crate::Monitor;
 use crate::inputs::{protected, rtt_refusal};
 use crate::places::{is_delegated, is_undelegated};
-use granule_addr::{Gran, Level};
+use granule_addr::Gran;
 use page_arena::PageStore;
 use realm_model::{Ripas, Rmi};
 use realm_objects::data_event;
@@ -52,7 +52,7 @@ impl<S: PageStore> Monitor<S> {
             &mut self.granules,
             page,
             ipa,
-            Ripas::Ram,
+            Some(Ripas::Ram),
         ) {
             return Err(rtt_refusal(refusal));
         }
@@ -86,15 +86,8 @@ impl<S: PageStore> Monitor<S> {
             rd,
             root: realm.root(),
         };
-        let walk = tables.walk(&self.store, &self.granules, ipa, Level::last());
         tables
-            .map(
-                &mut self.store,
-                &mut self.granules,
-                page,
-                ipa,
-                walk.entry.ripas,
-            )
+            .map(&mut self.store, &mut self.granules, page, ipa, None)
             .map_err(rtt_refusal)
     }
 

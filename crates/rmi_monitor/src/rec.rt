@@ -66,6 +66,7 @@ impl<S: PageStore> Monitor<S> {
         let number = realm.next_rec();
         realm.measure(&rec_event(number));
         self.recs[rec.number() as usize] = Some(Rec::new(number, auxiliaries));
+        self.rec_counts[rd.number() as usize] += 1;
         Ok(number)
     }
 
@@ -127,6 +128,9 @@ impl<S: PageStore> Monitor<S> {
         if !kept.is_ready() {
             return Err(Rmi::REC);
         }
+        let Some(rd) = self.granules.realm_of(rec) else {
+            unreachable!()
+        };
         release(&mut self.store, &mut self.granules, rec, GranuleState::Rec);
         release_all(
             &mut self.store,
@@ -135,6 +139,7 @@ impl<S: PageStore> Monitor<S> {
             GranuleState::RecAux,
         );
         self.recs[rec.number() as usize] = None;
+        self.rec_counts[rd.number() as usize] -= 1;
         Ok(())
     }
 
