@@ -10,7 +10,8 @@ use Rattle.rtt.specs.Realm.{LeavesOthers}
 use Rattle.rmi_monitor.specs.View.{MonitorView, IsTaken, seen_in, after_command}
 use Rattle.rmi_monitor.specs.Inside.{Fields, realm_at, machine_of, seen_as, IsWhole}
 use Rattle.rmi_monitor.proofs.Granules.{cell_is, machine_is, after_done}
-use Rattle.rmi_monitor.proofs.TableMoves.{whole_still, machine_still, with_row_of}
+use Rattle.rmi_monitor.proofs.RealmAfter.{with_row_of}
+use Rattle.rmi_monitor.proofs.TableMoves.{whole_still, machine_still}
 use Rattle.rmi_monitor.proofs.RealmFound.{row_of, nowhere, somewhere}
 
 -- the fields with other attributes of a realm

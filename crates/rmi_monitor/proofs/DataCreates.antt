@@ -25,10 +25,11 @@ use Rattle.rmi_monitor.specs.Places.{is_delegated_at, is_undelegated_at}
 use Rattle.rmi_monitor.proofs.Checks.{delegated_state, undelegated_state}
 use Rattle.rmi_monitor.proofs.Granules.{in_granules, cell_is, seen_delegated, seen_undelegated}
 use Rattle.rmi_monitor.proofs.Outcomes.{check_false}
-use Rattle.rmi_monitor.proofs.DataMaps.{Mapped, no_table, rows_kept, page_written, mapped_written, mapped_whole, mapped_seen}
+use Rattle.rmi_monitor.proofs.DataMaps.{Mapped, rows_kept, page_written, mapped_written, mapped_whole, mapped_seen}
 use Rattle.rmi_monitor.proofs.Refusals.{Passes, passes_from, row_refused, row_passes}
 use Rattle.rmi_monitor.proofs.RealmCommands.{with_call}
 use Rattle.rmi_monitor.proofs.RealmAfter.{Keeps}
+use Rattle.rmi_monitor.proofs.RealmPlaces.{no_table}
 use Rattle.rmi_monitor.proofs.RealmFound.{row_of, nowhere, somewhere}
 
 module _ (monitor : MonitorView) (fields : Fields) (view_is : seen_as fields ≡ monitor) (whole : IsWhole fields) (rd : ℕ) (taken : IsTaken monitor rd)

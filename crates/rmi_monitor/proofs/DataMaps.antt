@@ -4,7 +4,7 @@ use Rattle.std.proofs.lemmas.List.{length-set, get_or-set_same, get_or-set_other
 use Rattle.granule_table.specs.Granules.{granule_at, undelegated}
 use Rattle.granule_table.specs.declared.granule.Granule.{Granule}
 use Rattle.page_arena.specs.Page.{page_at}
-use Rattle.realm_model.specs.declared.states.GranuleState.TheVariants.{Delegated, Data as InData, Rtt as InRtt}
+use Rattle.realm_model.specs.declared.states.GranuleState.TheVariants.{Delegated, Data as InData}
 use Rattle.realm_model.specs.Machine.{RealmRow, held}
 use Rattle.realm_model.specs.Update.{Put, Outcome}
 use Rattle.realm_model.specs.Command.Check.{put_realm}
@@ -18,11 +18,6 @@ use Rattle.rmi_monitor.proofs.DataPages.{alone_twice, alone_written, tables_writ
 use Rattle.rmi_monitor.proofs.RealmAfter.{Keeps}
 use Rattle.rmi_monitor.proofs.TableMoves.{is_moved_state}
 use Rattle.rmi_monitor.proofs.RealmCommands.{with_call, whole_after_move, seen_after_move}
-
--- a granule that is no table of the realm
-pub no_table : (fields : Fields) (whole : IsWhole fields) (rd : ℕ) (realm : RealmAttributes) → realm_at fields rd ≡ Some realm
-    → (g : ℕ) → (granule_at fields.granules g).state ≢ InRtt → IsTableOf fields.pages realm.root g → ⊥
-no_table fields whole rd realm there g not_rtt of = not_rtt (ap (λ (x : Granule). x.state) ((whole.tables rd realm there).own.tables of.level of.ipa g of.inside of.at).is)
 
 -- a page that is inside before, is inside after the map, and after a page is written
 pub still_inside : (old granules : List Granule) (g : ℕ) (to : Granule) (pages : List (List ℕ)) (free : List Bool) → granules ≡ set old g to → IsBacked pages free granules

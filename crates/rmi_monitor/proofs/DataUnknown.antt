@@ -25,11 +25,12 @@ use Rattle.rmi_monitor.specs.Places.{is_delegated_at}
 use Rattle.rmi_monitor.proofs.Checks.{delegated_state}
 use Rattle.rmi_monitor.proofs.Granules.{in_granules, seen_delegated}
 use Rattle.rmi_monitor.proofs.Outcomes.{check_false, after_err}
-use Rattle.rmi_monitor.proofs.DataMaps.{Mapped, no_table, mapped_whole, mapped_seen}
+use Rattle.rmi_monitor.proofs.DataMaps.{Mapped, mapped_whole, mapped_seen}
 use Rattle.rmi_monitor.proofs.Refusals.{refused_with, not_refused, Passes, passes_from, row_refused, row_passes}
 use Rattle.rmi_monitor.proofs.RealmCommands.{nothing_moved, with_call}
 use Rattle.rmi_monitor.proofs.Listed.{put_back}
 use Rattle.rmi_monitor.proofs.RealmAfter.{keeps_all}
+use Rattle.rmi_monitor.proofs.RealmPlaces.{no_table}
 use Rattle.rmi_monitor.proofs.RealmFound.{row_of, nowhere, somewhere}
 
 module _ (monitor : MonitorView) (fields : Fields) (view_is : seen_as fields ≡ monitor) (whole : IsWhole fields) (rd : ℕ) (taken : IsTaken monitor rd)

@@ -15,8 +15,8 @@ use Rattle.rtt.specs.Realm.{IsBacked, HasTables, IsTableOf, LeavesOthers}
 use Rattle.rmi_monitor.specs.View.{MonitorView, IsTaken, seen_in, after_command}
 use Rattle.rmi_monitor.specs.Inside.{Fields, realm_at, recs_of, bytes_of, machine_of, seen_as, IsWhole, cell_of}
 use Rattle.rmi_monitor.proofs.Granules.{machine_is, cell_is, after_done}
-use Rattle.rmi_monitor.proofs.RealmAfter.{Keeps}
-use Rattle.rmi_monitor.proofs.TableMoves.{is_moved_state, with_row_of, whole_moved_to, machine_moved_to}
+use Rattle.rmi_monitor.proofs.RealmAfter.{Keeps, with_row_of}
+use Rattle.rmi_monitor.proofs.TableMoves.{is_moved_state, whole_moved_to, machine_moved_to}
 use Rattle.rmi_monitor.proofs.Listed.{put_back}
 
 -- the fields as a call on a realm's tables leaves them

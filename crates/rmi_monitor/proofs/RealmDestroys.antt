@@ -1,7 +1,6 @@
 -- A realm is gone, over the fields of a monitor.
 use Rattle.std.proofs.Common.{◌≡◌, ◌≢◌, ℕ, ◌<◌, Bool, true, false, List, [], length, set, Some, None, is_some, refl, sym, ap, ◌∙◌, subst, arith}
 use Rattle.std.specs.Prelude.{◌==◌, ◌||◌}
-use Rattle.std.specs.FinMap.{len}
 use Rattle.std.proofs.lemmas.Bool.{eqb-true, eqb-false, or_parts}
 use Rattle.std.proofs.lemmas.List.{length-set, get_or-set_same, get_or-set_other}
 use Rattle.std.proofs.lemmas.Option.{same_Some}
@@ -16,14 +15,13 @@ use Rattle.realm_model.specs.Sound.{is_rd_state}
 use Rattle.realm_objects.specs.Attributes.{RealmAttributes, RecAttributes}
 use Rattle.rtt.specs.Tables.{table_at}
 use Rattle.rtt.specs.Realm.{LeavesAlone}
-use Rattle.rtt.specs.FrameLaws.{rows-alone, HasTables-alone}
 use Rattle.rtt.specs.Calls.{with_state}
 use Rattle.rmi_monitor.specs.Inside.{Fields, realm_at, rec_at, machine_of, is_rec_state, IsSoundAt, IsWhole}
 use Rattle.rmi_monitor.specs.Vmids.{IsMarked}
-use Rattle.rmi_monitor.proofs.Machines.{two_put, cell_stays, descriptor_stays}
-use Rattle.rmi_monitor.proofs.Frames.{Stays, StayRecs, sound_after, backed_after, recs_of_stay, HasRecs_stay}
+use Rattle.rmi_monitor.proofs.Machines.{two_put}
+use Rattle.rmi_monitor.proofs.Frames.{Stays, StayRecs, backed_after, recs_stay, Leaves, whole_after, cell_after}
 use Rattle.rmi_monitor.proofs.HostMoves.{cell_of-host}
-use Rattle.rmi_monitor.proofs.Comparisons.{or_rest, neither}
+use Rattle.rmi_monitor.proofs.Comparisons.{or_rest, either, neither}
 use Rattle.rmi_monitor.proofs.RealmPlaces.{realm_inside, in_rd, no_realm_there}
 use Rattle.rmi_monitor.proofs.UsedVmids.{used-destroy}
 
@@ -127,7 +125,6 @@ module _ (old : Fields) (whole : IsWhole old) (rd : ℕ) (realm : RealmAttribute
       page_count = length-set (set old.pages root zero_page) rd zero_page ∙ page_count_root;
       granule = λ g e. granule_other g (untouched g e).1 (untouched g e).0;
       page = λ g e not_table. page_other g (untouched g e).1 (untouched g e).0;
-      realm = λ g e. realm_other g (untouched g e).1;
       rec = λ g e. refl;
     }
 
@@ -171,12 +168,6 @@ module _ (old : Fields) (whole : IsWhole old) (rd : ℕ) (realm : RealmAttribute
           rec = (whole.each root).rec ∙ ap is_rec_state root_was ∙ sym (ap is_rec_state state);
         }
 
-    sound_touched : (g : ℕ) → touched g ≡ true → IsSoundAt new g
-    sound_touched g e = elim (g == root) as (λ t. (g == root) ≡ t → IsSoundAt new g) [
-      | true ↦ λ at. subst (IsSoundAt new) (sym (eqb-true g root at)) sound_root
-      | false ↦ λ at. subst (IsSoundAt new) (sym (eqb-true g rd (or_rest (g == root) (g == rd) at e))) sound_rd
-    ] refl
-
     taken_touched : (g : ℕ) → touched g ≡ true → is_free old.free g ≡ false
     taken_touched g e = elim (g == root) as (λ t. (g == root) ≡ t → is_free old.free g ≡ false) [
       | true ↦ λ at. ap (is_free old.free) (eqb-true g root at) ∙ whole.backed.taken root root_in.inside (λ is. let differ : Undelegated ≡ InRtt = sym is ∙ root_was in cc)
@@ -191,32 +182,29 @@ module _ (old : Fields) (whole : IsWhole old) (rd : ℕ) (realm : RealmAttribute
       auxiliary = λ g at. let away = not_realm InRecAux refl g at in granule_other g away.0 away.1;
     }
 
-    -- a realm that is there now is another one
-    not_gone : (g : ℕ) (r : RealmAttributes) → realm_at new g ≡ Some r → g ≢ rd
-    not_gone g r at e = let differ : None ≡ Some r = sym no_realm_now ∙ ap (realm_at new) (sym e) ∙ at in cc
-
-    pub whole_destroyed : IsWhole new
-    whole_destroyed = record {
+    leaves : Leaves old new rd touched
+    leaves = record {
+      stays = stays;
+      realm_places = length-set old.realms rd None;
+      count_places = refl;
+      rec_places = refl;
       backed = backed_after old new touched stays whole.backed taken_touched;
-      realm_places = length-set old.realms rd None ∙ whole.realm_places ∙ sym count;
-      count_places = whole.count_places ∙ sym count;
-      rec_places = whole.rec_places ∙ sym count;
-      each = sound_after old new touched stays whole.each sound_touched;
-      tables = λ g r at.
-          let differs = not_gone g r at in
-          HasTables-alone old.pages old.granules pages_without without_both g r.root (whole.tables g r (sym (realm_other g differs) ∙ at)) (alone g differs);
-      recs = HasRecs_stay old new stay_recs whole.each whole.recs (λ h g rec r at of is. (r, realm_other g (λ e. no_rec h rec at (of ∙ ap Some e)) ∙ is, omega arith));
-      counted = λ g. whole.counted g ∙ ap len (sym (recs_of_stay old new stay_recs whole.each g));
+      sound = λ g differs e.
+          subst (IsSoundAt new) (sym (either (g == root) (g == rd) e (eqb-true g root) (λ s. absurd (differs (eqb-true g rd s))))) sound_root;
+      sound_rd = sound_rd;
+      realms = realm_other;
+      tables = λ r at. let differ : None ≡ Some r = sym no_realm_now ∙ at in cc;
+      alone = alone;
+      recs = recs_stay old new stay_recs whole refl (λ h g rec r at of is. (r, realm_other g (λ e. no_rec h rec at (of ∙ ap Some e)) ∙ is, omega arith)) rd;
       vmids_used = used-destroy old.realms old.used used whole.vmids_used rd (subst (λ n. rd < n) (sym whole.realm_places) rd_inside) realm there marked;
     }
+
+    pub whole_destroyed : IsWhole new
+    whole_destroyed = whole_after old new rd touched leaves whole
 
     pub machine_destroyed : machine_of new ≡ set (set (machine_of old) rd left) root left
     machine_destroyed =
         two_put old new count rd root left left rd_inside root_in.inside apart
         (cell_of-host new rd sound_rd (ap (λ (x : Granule). x.state) rd_is) refl page_rd)
         (cell_of-host new root sound_root (ap (λ (x : Granule). x.state) root_is) refl page_root)
-        (λ g within not_rd not_root.
-        let e : touched g ≡ false = neither g root rd not_root not_rd in
-        cell_stays old new g (stays.granule g e) (stays.page g e)
-        (descriptor_stays old new g (realm_other g not_rd) (recs_of_stay old new stay_recs whole.each g)
-        (λ r is. rows-alone old.pages old.granules pages_without without_both g r.root (whole.tables g r is) (alone g not_rd))))
+        (λ g within not_rd not_root. cell_after old new rd touched leaves whole g (neither g root rd not_root not_rd) not_rd)

@@ -11,7 +11,6 @@ use Rattle.std.proofs.lemmas.List.{length-set, get_or-set_other}
 use Rattle.std.proofs.lemmas.Option.{same_Some, slice_get-get_or}
 use Rattle.granule_table.specs.Granules.{granule_at, undelegated}
 use Rattle.granule_table.specs.declared.granule.Granule.{Granule}
-use Rattle.page_arena.specs.Page.{is_free}
 use Rattle.realm_model.specs.declared.states.GranuleState.TheVariants.{Delegated, Rec as InRec, RecAux as InRecAux}
 use Rattle.realm_model.specs.declared.rmi.Rmi.{Rmi}
 use Rattle.realm_model.specs.Measurement.{measurement_after, rec_event}
@@ -30,7 +29,7 @@ use Rattle.rmi_monitor.specs.View.{MonitorView, IsTaken, seen_in, after_command,
 use Rattle.rmi_monitor.specs.Inside.{Fields, realm_at, rec_count_at, recs_of, seen_as, IsWhole}
 use Rattle.rmi_monitor.specs.Places.{is_delegated_at, are_distinct, is_fit, IsInState}
 use Rattle.rmi_monitor.proofs.Checks.{delegated_state}
-use Rattle.rmi_monitor.proofs.Granules.{machine_is, cell_is, in_granules, not_free, seen_delegated, after_done}
+use Rattle.rmi_monitor.proofs.Granules.{machine_is, cell_is, in_granules, seen_delegated, after_done}
 use Rattle.rmi_monitor.proofs.Listed.{once_from_distinct, holds_in, put_back}
 use Rattle.rmi_monitor.proofs.RecMade.{CanMake, made, new_rec, with_rec_more}
 use Rattle.rmi_monitor.proofs.RecMadeAfter.{whole_made, machine_made}
@@ -183,11 +182,7 @@ module _ (monitor : MonitorView) (fields : Fields) (view_is : seen_as fields ≡
 
       can : CanMake fields rd g others realm
       can = record {
-        rd_inside = in_granules monitor fields view_is whole rd rd_taken;
         inside = λ h k. in_granules monitor fields view_is whole h (taken h k);
-        taken = λ h k. either (h == rd) (is_in h (g ∷ others)) k
-            (λ same. subst (λ j. is_free fields.free j ≡ false) (sym (eqb-true h rd same)) (not_free monitor fields view_is whole rd rd_taken))
-            (λ k. not_free monitor fields view_is whole h (taken h k));
         there = there;
         delegated = all_delegated;
         own = own;
