@@ -25,7 +25,7 @@ use Rattle.realm_model.proofs.Lists.{is_in, all_in, is_in_at, is_in_head, is_in_
 use Rattle.realm_model.proofs.Outcomes.{check_true}
 use Rattle.realm_objects.specs.Attributes.{RealmAttributes, RecAttributes, realm_row, rec_row}
 use Rattle.rtt.specs.Tables.{rows}
-use Rattle.rmi_monitor.specs.View.{MonitorView, IsTaken, seen_in, after_command, limits_of}
+use Rattle.rmi_monitor.specs.View.{MonitorView, IsTaken, seen_in, after_command}
 use Rattle.rmi_monitor.specs.Inside.{Fields, realm_at, rec_count_at, recs_of, seen_as, IsWhole}
 use Rattle.rmi_monitor.specs.Places.{is_delegated_at, are_distinct, is_fit, IsInState}
 use Rattle.rmi_monitor.proofs.Checks.{delegated_state}
@@ -69,7 +69,7 @@ module _ (monitor : MonitorView) where
 module _ (monitor : MonitorView) (fields : Fields) (view_is : seen_as fields ≡ monitor) (whole : IsWhole fields) (rd g : ℕ) (others : List ℕ)
     (rd_taken : IsTaken monitor rd) (g_taken : IsTaken monitor g) (others_taken : All (IsTaken monitor) others) where
   abbrev outcome : Outcome
-  outcome = rec_create (limits_of monitor) (seen_in monitor rd) (seen_in monitor g) (map (seen_in monitor) others)
+  outcome = rec_create monitor.aux (seen_in monitor rd) (seen_in monitor g) (map (seen_in monitor) others)
 
   abbrev fit : Bool
   fit = is_fit fields.granules g others fields.aux

@@ -87,7 +87,7 @@ module _ (fields : Fields) (whole : IsWhole fields) (g : ℕ) (rec : RecAttribut
 
 -- ---- the command
 
-module _ (monitor : MonitorView) (fields : Fields) (view_is : seen_as fields ≡ monitor) (whole : IsWhole fields) (g : ℕ) (taken : IsTaken monitor g)
+module _ (monitor : MonitorView) (fields : Fields) (view_is : seen_as fields ≡ monitor) (whole : IsWhole fields) (g : ℕ)
     (rec : RecAttributes) (rd : ℕ) (realm : RealmAttributes) (kept : IsKept fields g rec rd realm) where
   -- the updates, by the cell of the RD
   abbrev updates_by : Cell → List Update
@@ -113,11 +113,11 @@ module _ (monitor : MonitorView) (fields : Fields) (view_is : seen_as fields ≡
   pub not_ready : (answer : Bool) (new : MonitorView) → ((granule : ℕ) → answer ≡ is_ready (rec_row granule rec)) → answer ≡ false → new ≡ monitor
       → IsOnRec {A = Unit {0}} rec_destroy monitor g (Err error_rec) new
   not_ready answer new says is same =
-      on_rec monitor fields view_is whole rec_destroy g taken rec rd realm kept (Err error_rec) (Err error_rec) new
+      on_rec monitor fields view_is whole rec_destroy g rec rd realm kept (Err error_rec) (Err error_rec) new
       (checked ∙ check_false (is_ready (rec_row g rec)) error_rec (Ok updates) (sym (says g) ∙ is)) refl same
 
   pub ready : (answer : Bool) (new : MonitorView) → ((granule : ℕ) → answer ≡ is_ready (rec_row granule rec)) → answer ≡ true → new ≡ seen_as (gone fields rd g rec.auxiliaries)
       → IsOnRec {A = Unit {0}} rec_destroy monitor g (Ok tt) new
   ready answer new says is same =
-      on_rec monitor fields view_is whole rec_destroy g taken rec rd realm kept (Ok tt) (Ok updates) new
+      on_rec monitor fields view_is whole rec_destroy g rec rd realm kept (Ok tt) (Ok updates) new
       (checked ∙ check_true (is_ready (rec_row g rec)) error_rec (Ok updates) (sym (says g) ∙ is)) tt (same ∙ seen_gone)

@@ -73,7 +73,7 @@ module _ (monitor : MonitorView) (fields : Fields) (view_is : seen_as fields ≡
 
   -- ---- what comes of a command on a REC
 
-  module _ (command : Seen → ℕ → Outcome) (granule : ℕ) (taken : IsTaken monitor granule) where
+  module _ (command : Seen → ℕ → Outcome) (granule : ℕ) where
     -- on a granule that is no REC
     pub on_none : {A : Type 0} (new : MonitorView) → rec_at fields granule ≡ None → new ≡ monitor → IsOnRec {A = A} command monitor granule (Err error_input) new
     on_none new gone same = record {
@@ -95,13 +95,19 @@ module _ (monitor : MonitorView) (fields : Fields) (view_is : seen_as fields ≡
           let number_same : rec.number ≡ number = ap (λ (r : RecAttributes). r.number) rec_same ∙ found.3 in
           λ i. command (seen_in monitor (realm_same i)) (number_same i)
 
-      in_other_state : {P : Type 0} → (cell_at monitor.machine granule).state ≢ InRec → P
-      in_other_state other = absurd (other (ap (λ (c : Cell). c.state) (cell_is monitor fields view_is whole granule taken.inside) ∙ in_rec fields granule (whole.each granule) rec kept.at))
+      is_rec : IsRec monitor.machine rd rec.number granule
+      is_rec = record {
+        realm = row_of fields rd realm;
+        there = descriptor_there monitor fields view_is whole rd realm kept.there;
+        rec = rec_row granule rec;
+        numbered = row_found fields whole granule rec rd realm kept;
+        is = refl;
+      }
 
       pub on_rec : {A : Type 0} (result : Result A Rmi) (outcome : Outcome) (new : MonitorView) → command (seen_in monitor rd) rec.number ≡ outcome → Answers result outcome
           → new ≡ after_command outcome monitor → IsOnRec command monitor granule result new
       on_rec result outcome new comes answers changed = record {
         answer = λ other number is. subst (Answers result) (sym comes ∙ same_command other number is) answers;
         machine = λ other number is. changed ∙ ap (λ o. after_command o monitor) (sym comes ∙ same_command other number is);
-        none = λ other. in_other_state other;
+        none = λ nobody. absurd (nobody rd rec.number is_rec);
       }

@@ -116,7 +116,9 @@ impl<S: PageStore> Monitor<S> {
 
     /// How many granules there are, 1 to 4,096.
     pub fn pages(&self) -> u16
-        ensures { result ≡ length self.now.machine }
+        ensures value { result ≡ length self.now.machine }
+        ensures some { 1 ≤ result }
+        ensures few { result ≤ 4096 }
     {
         self.store.pages()
     }
@@ -132,7 +134,8 @@ impl<S: PageStore> Monitor<S> {
     /// The 4,096 bytes of a granule that is no table. Of a table nothing is said: its contents are rows.
     pub fn bytes(&self, granule: Gran) -> &[u8]
         requires { granule < length self.now.machine }
-        ensures { IsPageOf (cell_at self.now.machine granule) result.now }
+        ensures count { length result.now ≡ 4096 }
+        ensures value { IsPageOf (cell_at self.now.machine granule) result.now }
     {
         self.store.bytes(granule)
     }

@@ -7,7 +7,7 @@ ghost use Rattle.rmi_monitor.specs.View.{IsTaken, Answers, seen_in, after_comman
 ghost use Rattle.rmi_monitor.specs.Places.{are_fit_for_realm};
 
 use crate::Monitor;
-use crate::places::is_delegated;
+use crate::places::{is_delegated, release, tables_of};
 use granule_addr::{Gran, Vmid};
 use granule_table::GranuleTable;
 use page_arena::PageStore;
@@ -16,7 +16,7 @@ use realm_objects::RealmDesc;
 use rtt::Tables;
 
 // Whether two granules and a VMID can be those of a new realm.
-fn are_fit(granules: &GranuleTable, rd: Gran, root: Gran, vmid: Vmid, vmids: u8) -> bool
+fn can_be_realm(granules: &GranuleTable, rd: Gran, root: Gran, vmid: Vmid, vmids: u8) -> bool
     requires rd { rd < length granules.now }
     requires root { root < length granules.now }
     ensures { result ≡ are_fit_for_realm granules.now rd root vmid vmids }
@@ -41,7 +41,7 @@ impl<S: PageStore> Monitor<S> {
         if self.used.contains(vmid) {
             return Err(Rmi::INPUT);
         }
-        if !are_fit(&self.granules, rd, root, vmid, self.vmids) {
+        if !can_be_realm(&self.granules, rd, root, vmid, self.vmids) {
             return Err(Rmi::INPUT);
         }
         self.granules
@@ -87,16 +87,10 @@ impl<S: PageStore> Monitor<S> {
         if recs > 0 {
             return Err(Rmi::REALM);
         }
-        let tables = Tables {
-            rd,
-            root: realm.root(),
-        };
-        if !tables.close_root(&mut self.store, &mut self.granules) {
+        if !tables_of(rd, realm).close_root(&mut self.store, &mut self.granules) {
             return Err(Rmi::REALM);
         }
-        self.store.fill(rd, 0);
-        self.granules
-            .shift(rd, GranuleState::Rd, GranuleState::Delegated, None);
+        release(&mut self.store, &mut self.granules, rd, GranuleState::Rd);
         self.used.remove(realm.vmid());
         self.realms[rd.number() as usize] = None;
         Ok(())

@@ -4,7 +4,7 @@ use Rattle.realm_model.specs.Rows.{Row, Rows, Walk, walk}
 use Rattle.rtt.specs.declared.refusal.Rtt.{Rtt}
 
 -- The level where a walk ended, unless that is the level wanted and the row there passes. A walk that ends nowhere counts
--- as one that ends at level 0.
+-- as one that ends at level 0; in the tables of a realm none does.
 abbrev pub refusal_at : ℕ → (Row → Bool) → Option Walk → Option ℕ
 refusal_at wanted passes None = Some 0
 refusal_at wanted passes (Some end) = cond (end.level == wanted && passes end.row) None (Some end.level)

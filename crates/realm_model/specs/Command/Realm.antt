@@ -6,7 +6,7 @@ use Rattle.realm_model.specs.declared.states.RealmState.TheVariants.{New, Active
 use Rattle.realm_model.specs.Rows.{root_rows, has_root_table}
 use Rattle.realm_model.specs.Measurement.{zero_measurement}
 use Rattle.granule_addr.specs.Page.{zero_page}
-use Rattle.realm_model.specs.Machine.{Limits, RealmRow, Seen, left, held}
+use Rattle.realm_model.specs.Machine.{RealmRow, Seen, left, held}
 use Rattle.realm_model.specs.Update.{Outcome, Put}
 use Rattle.realm_model.specs.Command.Check.{check, error_input, error_realm, is_delegated, is_new, with_realm, put_realm}
 
@@ -22,11 +22,12 @@ new_realm vmid root = record {
   rows = root_rows;
 }
 
--- Two DELEGATED granules become the RD and the root table of a new realm. RMM 1.0, RMI_REALM_CREATE.
+-- Two DELEGATED granules become the RD and the root table of a new realm, of a machine with so many VMIDs.
+-- RMM 1.0, RMI_REALM_CREATE.
 -- That no realm uses the VMID is an input check too, and stands with the step, since it looks at the whole machine.
-abbrev pub realm_create : Limits → Seen → Seen → ℕ → Outcome
-realm_create limits rd root vmid =
-    check (is_delegated rd && is_delegated root && not (rd.number == root.number) && nat_le 1 vmid && nat_le vmid limits.vmids) error_input
+abbrev pub realm_create : ℕ → Seen → Seen → ℕ → Outcome
+realm_create vmids rd root vmid =
+    check (is_delegated rd && is_delegated root && not (rd.number == root.number) && nat_le 1 vmid && nat_le vmid vmids) error_input
     (Ok (Put rd.number (record { state = Rd; realm = Some rd.number; bytes = zero_page; descriptor = Some (new_realm vmid root.number) })
     ∷ Put root.number (held Rtt rd.number) ∷ []))
 

@@ -17,12 +17,12 @@ index-requires g c =
 pub returns-in_default : goal.returns-in_default
 returns-in_default g c =
     let at = rec_read c.args.self.now _ c.self.view_is c.self.invariant c.args.rec c.requires c.number.result c.number.ensures.value c.index.result.now None c.index.ensures c.in_default.is in
-    on_none c.args.self.now _ c.self.view_is c.self.invariant rec_destroy c.args.rec c.requires {A = Unit {0}} _ at refl
+    on_none c.args.self.now _ c.self.view_is c.self.invariant rec_destroy c.args.rec {A = Unit {0}} _ at refl
 
 pub returns-then-not-is_ready : goal.returns-then-not-is_ready
 returns-then-not-is_ready g c =
     let at = rec_read c.args.self.now _ c.self.view_is c.self.invariant c.args.rec c.requires c.number.result c.number.ensures.value c.index.result.now (Some c.in-Some.kept) c.index.ensures c.in-Some.is in
-    not_ready c.args.self.now _ c.self.view_is c.self.invariant c.args.rec c.requires c.in-Some.kept _ _ (kept_at _ c.self.invariant c.args.rec c.in-Some.kept at) c.is_ready.result _ c.is_ready.ensures c.if-not-is_ready.true refl
+    not_ready c.args.self.now _ c.self.view_is c.self.invariant c.args.rec c.in-Some.kept _ _ (kept_at _ c.self.invariant c.args.rec c.in-Some.kept at) c.is_ready.result _ c.is_ready.ensures c.if-not-is_ready.true refl
 
 pub realm_of-requires : goal.realm_of-requires
 realm_of-requires g c = in_granules c.args.self.now _ c.self.view_is c.self.invariant c.args.rec c.requires
@@ -96,7 +96,7 @@ returns g c =
     let of = sym c.realm_of.ensures ∙ c.in-Some-realm_of.is in
     let inside = realm_inside _ c.self.invariant c.in-Some-realm_of.rd _ (its_realm _ c.self.invariant c.args.rec c.in-Some.kept at c.in-Some-realm_of.rd of) in
     let read = count_read _ c.self.invariant c.in-Some-realm_of.rd inside c.number-3.result c.number-3.ensures.value c.index_mut-2.result.now c.index_mut-2.ensures.value in
-    ready c.args.self.now _ c.self.view_is c.self.invariant c.args.rec c.requires c.in-Some.kept _ _ (kept_by _ c.self.invariant c.args.rec c.in-Some.kept at c.in-Some-realm_of.rd of) c.is_ready.result _ c.is_ready.ensures c.if-not-is_ready.false
+    ready c.args.self.now _ c.self.view_is c.self.invariant c.args.rec c.in-Some.kept _ _ (kept_by _ c.self.invariant c.args.rec c.in-Some.kept at c.in-Some-realm_of.rd of) c.is_ready.result _ c.is_ready.ensures c.if-not-is_ready.false
     (ap seen_as (gone_by _ c.self.invariant c.args.rec c.in-Some.kept at c.in-Some-realm_of.rd c.release_all.new.granules c.release.new.granules _ _ _ _ c.auxiliaries.result.now c.number-2.result c.number-3.result c.index_mut-2.result.now
     c.auxiliaries.ensures.value c.number-2.ensures.value c.release.ensures.shifted c.release_all.ensures.shifted c.release.ensures.cleared c.release_all.ensures.cleared c.release.ensures.flags c.release_all.ensures.flags
     c.number-3.ensures.value read))
