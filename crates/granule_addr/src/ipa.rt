@@ -1,6 +1,6 @@
 //! Granules of a realm's address space.
 ghost use Rattle.std.specs.Prelude.{◌≡◌, ◌↔◌, ◌^◌, ◌<◌, ◌&&◌, IsTrue, Some, None, if◌then◌else◌};
-ghost use Rattle.granule_addr.specs.Ipa.{is_width, is_in_space, is_protected_at, first_covered, entry_index, start_index};
+ghost use Rattle.granule_addr.specs.Ipa.{is_width, is_in_space, is_protected_at, entry_index, start_index};
 
 use crate::{IpaWidth, Level};
 use std::marker::Model;
@@ -39,17 +39,6 @@ impl IpaGran {
         ensures below { result < 2 ^ 31 }
     {
         self.0
-    }
-
-    /// The first IPA granule of the level's entry that covers this one.
-    pub fn first_at(self, level: Level) -> IpaGran
-        ensures { result ≡ first_covered level self }
-    {
-        match level.number() {
-            1 => IpaGran(self.0 / 262_144 * 262_144),
-            2 => IpaGran(self.0 / 512 * 512),
-            _ => self,
-        }
     }
 }
 

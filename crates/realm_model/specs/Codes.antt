@@ -1,4 +1,4 @@
--- Codes of cells, by which a proof tells machines apart: a struct can have a machine or a world as what contracts see of it.
+-- Codes of cells, by which a proof tells machines apart: a struct can have a machine as what contracts see of it.
 use Rattle.std.specs.Prelude.{ℕ, List, Option, refl}
 use Rattle.std.specs.Coded.{Coded, code_by, coded×, coded_ℕ, coded_list, coded_option}
 use Rattle.std.specs.FinMap as map
@@ -16,7 +16,6 @@ use Rattle.realm_model.specs.contracts.states.Hipas as hipas
 use Rattle.realm_model.specs.contracts.states.Ripas as ripas
 use Rattle.realm_model.specs.Rows.{Row, Rows}
 use Rattle.realm_model.specs.Machine.{RecRow, RealmRow, Cell, Machine}
-use Rattle.realm_model.specs.World.{World}
 
 abbrev pub row_code : Coded Row
 row_code = code_by (Hipas × (Ripas × Option ℕ)) (coded× hipas.the_row.coded (coded× ripas.the_row.coded (coded_option coded_ℕ)))
@@ -45,7 +44,3 @@ cell_code = code_by (GranuleState × (Option ℕ × (List ℕ × Option RealmRow
 
 abbrev pub machine_code : Coded Machine
 machine_code = coded_list cell_code
-
-abbrev pub world_code : Coded World
-world_code = code_by (Machine × List (Option ℕ)) (coded× machine_code (coded_list (coded_option coded_ℕ)))
-    (λ w. (w.machine, w.leases)) (λ p. record { machine = p.0; leases = p.1 }) (λ _. refl)

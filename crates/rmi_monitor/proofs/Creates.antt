@@ -23,10 +23,11 @@ use Rattle.rtt.specs.Realm.{IsBacked, HasTables, LeavesOthers}
 use Rattle.rtt.specs.Calls.{with_state}
 use Rattle.rmi_monitor.specs.View.{MonitorView, IsTaken, seen_in, after_command, create_realm}
 use Rattle.rmi_monitor.specs.Inside.{Fields, machine_of, seen_as, IsWhole}
-use Rattle.rmi_monitor.specs.Places.{is_delegated_at, is_realm_with, are_fit_for_realm}
+use Rattle.rmi_monitor.specs.Places.{is_delegated_at, are_fit_for_realm}
+use Rattle.rmi_monitor.specs.Vmids.{is_used, IsMarked}
 use Rattle.rmi_monitor.proofs.Granules.{machine_is, in_granules, after_done, seen_delegated}
 use Rattle.rmi_monitor.proofs.Checks.{delegated_state}
-use Rattle.rmi_monitor.proofs.UsedVmids.{used_vmids}
+use Rattle.rmi_monitor.proofs.UsedVmids.{any_has_vmid}
 use Rattle.rmi_monitor.proofs.RealmCreates.{root_delegated, backed_with_rd, whole_created, machine_created}
 
 module _ (monitor : MonitorView) (fields : Fields) (view_is : seen_as fields ≡ monitor) (whole : IsWhole fields)
@@ -45,19 +46,19 @@ module _ (monitor : MonitorView) (fields : Fields) (view_is : seen_as fields ≡
   fit_seen =
       (λ i. seen_delegated monitor fields view_is whole rd rd_taken i && seen_delegated monitor fields view_is whole root root_taken i && not (rd == root) && nat_le 1 vmid && nat_le vmid ((ap (λ (m : MonitorView). m.vmids) (sym view_is)) i))
 
-  used_seen : list_any (has_vmid vmid) monitor.machine ≡ list_any (is_realm_with vmid) fields.realms
-  used_seen = ap (list_any (has_vmid vmid)) (sym (machine_is monitor fields view_is whole)) ∙ used_vmids fields whole vmid
+  used_seen : list_any (has_vmid vmid) monitor.machine ≡ is_used fields.used vmid
+  used_seen = ap (list_any (has_vmid vmid)) (sym (machine_is monitor fields view_is whole)) ∙ any_has_vmid fields whole vmid
 
   -- the two checks, as they are made
-  checked : (used fit : Bool) → list_any (is_realm_with vmid) fields.realms ≡ used → are_fit_for_realm fields.granules rd root vmid fields.vmids ≡ fit
+  checked : (used fit : Bool) → is_used fields.used vmid ≡ used → are_fit_for_realm fields.granules rd root vmid fields.vmids ≡ fit
       → outcome ≡ check (not used) error_input (check fit error_input (Ok updates))
   checked used fit u f i = check (not ((used_seen ∙ u) i)) error_input (check ((fit_seen ∙ f) i) error_input (Ok updates))
 
-  pub create_used : list_any (is_realm_with vmid) fields.realms ≡ true → outcome ≡ Err error_input
+  pub create_used : is_used fields.used vmid ≡ true → outcome ≡ Err error_input
   unfolding check
   create_used u = checked true (are_fit_for_realm fields.granules rd root vmid fields.vmids) u refl
 
-  module _ (unused : list_any (is_realm_with vmid) fields.realms ≡ false) where
+  module _ (unused : is_used fields.used vmid ≡ false) where
     pub create_unfit : are_fit_for_realm fields.granules rd root vmid fields.vmids ≡ false → outcome ≡ Err error_input
     unfolding check
     create_unfit f = checked false false unused f
@@ -109,7 +110,8 @@ module _ (monitor : MonitorView) (fields : Fields) (view_is : seen_as fields ≡
         module _ (realm : RealmAttributes) (realm_vmid : realm.vmid ≡ vmid) (realm_root : realm.root ≡ root) (fresh : realm_row realm empty root_rows ≡ new_realm vmid root)
             (granules : List Granule) (pages : List (List ℕ)) (free : List Bool) (moved : granules ≡ with_state shifted root InRtt (Some rd)) (flags : free ≡ fields.free)
             (backed : IsBacked pages free granules) (tables : HasTables pages granules rd root) (translation : rows pages root ≡ root_rows)
-            (page_stays : (g : ℕ) → g ≢ root → page_at pages g ≡ page_at fields.pages g) (alone : LeavesOthers rd fields.pages shifted pages granules) (n : ℕ) (n_is : n ≡ rd) where
+            (page_stays : (g : ℕ) → g ≢ root → page_at pages g ≡ page_at fields.pages g) (alone : LeavesOthers rd fields.pages shifted pages granules)
+            (used : List Bool) (mark : IsMarked fields.used used vmid true) (n : ℕ) (n_is : n ≡ rd) where
           abbrev now : List Granule
           now = with_state (with_state fields.granules rd InRd (Some rd)) root InRtt (Some rd)
 
@@ -117,7 +119,7 @@ module _ (monitor : MonitorView) (fields : Fields) (view_is : seen_as fields ≡
           granules_are = moved ∙ ap (λ gs. with_state gs root InRtt (Some rd)) shift
 
           abbrev after_create : List Granule → ℕ → Fields
-          after_create gs place = record fields { granules = gs; pages = pages; free = free; realms = set fields.realms place (Some realm) }
+          after_create gs place = record fields { granules = gs; pages = pages; free = free; realms = set fields.realms place (Some realm); used = used }
 
           fresh_row : realm_row realm empty root_rows ≡ new_realm realm.vmid root
           fresh_row = fresh ∙ ap (λ v. new_realm v root) (sym realm_vmid)
@@ -131,18 +133,24 @@ module _ (monitor : MonitorView) (fields : Fields) (view_is : seen_as fields ≡
           alone_now : LeavesOthers rd fields.pages (with_state fields.granules rd InRd (Some rd)) pages now
           alone_now = subst (λ gs. LeavesOthers rd fields.pages gs pages now) shift (subst (λ gs. LeavesOthers rd fields.pages shifted pages gs) granules_are alone)
 
+          unused_now : is_used fields.used realm.vmid ≡ false
+          unused_now = ap (is_used fields.used) realm_vmid ∙ unused
+
+          marked : IsMarked fields.used used realm.vmid true
+          marked = subst (λ v. IsMarked fields.used used v true) (sym realm_vmid) mark
+
           written : after_create granules n ≡ after_create now rd
           written i = after_create (granules_are i) (n_is i)
 
           pub whole_after_create : IsWhole (after_create granules n)
           whole_after_create =
               subst IsWhole (sym written)
-              (whole_created fields whole rd root apart rd_inside root_inside rd_was root_was realm realm_root fresh_row pages free flags backed_now tables_now translation page_stays alone_now)
+              (whole_created fields whole rd root apart rd_inside root_inside rd_was root_was realm realm_root fresh_row pages free flags backed_now tables_now translation page_stays alone_now used unused_now marked)
 
           machine_after : machine_of (after_create now rd) ≡ machine_after_all updates monitor.machine
           unfolding machine_after_all
           machine_after =
-              machine_created fields whole rd root apart rd_inside root_inside rd_was root_was realm realm_root fresh_row pages free flags backed_now tables_now translation page_stays alone_now
+              machine_created fields whole rd root apart rd_inside root_inside rd_was root_was realm realm_root fresh_row pages free flags backed_now tables_now translation page_stays alone_now used unused_now marked
               ∙ ap (λ v. set (set (machine_of fields) rd (record { state = InRd; realm = Some rd; bytes = zero_page; descriptor = Some (new_realm v root) })) root (held InRtt rd)) realm_vmid
               ∙ ap (λ m. set (set m rd rd_cell) root (held InRtt rd)) (machine_is monitor fields view_is whole)
 

@@ -1,5 +1,5 @@
 -- A DELEGATED granule becomes a page of a NEW realm with the bytes of another granule, over the fields of a monitor.
-use Rattle.std.proofs.Common.{◌≡◌, ◌≢◌, ℕ, ◌<◌, ◌≤◌, ◌&&◌, Bool, true, false, List, [], ◌∷◌, length, set, Option, Some, None, Ok, Err, sym, ap, ◌∙◌, subst, arith}
+use Rattle.std.proofs.Common.{◌≡◌, ◌≢◌, ℕ, ◌<◌, ◌&&◌, Bool, true, false, List, [], ◌∷◌, length, set, Option, Some, None, Ok, Err, refl, sym, ap, ◌∙◌, subst, arith}
 use Rattle.std.proofs.lemmas.Bool.{and_from, and_right}
 use Rattle.std.proofs.lemmas.List.{get_or-set_other}
 use Rattle.granule_table.specs.Granules.{granule_at}
@@ -18,16 +18,18 @@ use Rattle.realm_model.proofs.Outcomes.{check_true}
 use Rattle.realm_objects.specs.Attributes.{RealmAttributes, realm_row}
 use Rattle.rtt.specs.Tables.{rows}
 use Rattle.rtt.specs.Realm.{IsBacked, HasTables, LeavesOthers}
-use Rattle.rtt.specs.Calls.{with_state, ChangesTablesOnly, map_refusal}
+use Rattle.rtt.specs.Calls.{with_state, ChangesTablesOnly, GainsPage, map_refusal}
 use Rattle.rmi_monitor.specs.View.{MonitorView, IsTaken, seen_in, after_command}
 use Rattle.rmi_monitor.specs.Inside.{Fields, realm_at, bytes_of, seen_as, IsWhole}
 use Rattle.rmi_monitor.specs.Places.{is_delegated_at, is_undelegated_at}
 use Rattle.rmi_monitor.proofs.Checks.{delegated_state, undelegated_state}
 use Rattle.rmi_monitor.proofs.Granules.{in_granules, cell_is, seen_delegated, seen_undelegated}
 use Rattle.rmi_monitor.proofs.Outcomes.{check_false}
-use Rattle.rmi_monitor.proofs.DataMaps.{Mapped, no_table, rows_kept, page_written, mapped_written, mapped_whole, mapped_seen}
+use Rattle.rmi_monitor.proofs.DataMaps.{Mapped, rows_kept, page_written, mapped_written, mapped_whole, mapped_seen}
 use Rattle.rmi_monitor.proofs.Refusals.{Passes, passes_from, row_refused, row_passes}
 use Rattle.rmi_monitor.proofs.RealmCommands.{with_call}
+use Rattle.rmi_monitor.proofs.RealmAfter.{Keeps}
+use Rattle.rmi_monitor.proofs.RealmPlaces.{no_table}
 use Rattle.rmi_monitor.proofs.RealmFound.{row_of, nowhere, somewhere}
 
 module _ (monitor : MonitorView) (fields : Fields) (view_is : seen_as fields ≡ monitor) (whole : IsWhole fields) (rd : ℕ) (taken : IsTaken monitor rd)
@@ -93,7 +95,7 @@ module _ (monitor : MonitorView) (fields : Fields) (view_is : seen_as fields ≡
 
           -- what the calls leave: the map, the copy, and the measurement
           module _ (granules : List Granule) (pages : List (List ℕ)) (free : List Bool)
-              (gains : rows pages realm.root ≡ put_row (rows fields.pages realm.root) 3 ipa (assigned Ram g)) (moved : granules ≡ with_state fields.granules g InData (Some rd))
+              (gains : GainsPage (rows fields.pages realm.root) ipa g (Some Ram) (rows pages realm.root)) (moved : granules ≡ with_state fields.granules g InData (Some rd))
               (tables : HasTables pages granules rd realm.root) (backed : IsBacked pages free granules) (flags : free ≡ fields.free)
               (others : ChangesTablesOnly realm.root fields.pages pages) (alone : LeavesOthers rd fields.pages fields.granules pages granules)
               (copied : List (List ℕ)) (copies : copied ≡ set pages g (page_at pages source)) (kept : List Bool) (keeps : kept ≡ free)
@@ -144,17 +146,14 @@ module _ (monitor : MonitorView) (fields : Fields) (view_is : seen_as fields ≡
             rows_now : rows copied realm.root ≡ put_row (rows fields.pages realm.root) 3 ipa (assigned Ram g)
             rows_now =
                 ap (λ (ps : List (List ℕ)). rows ps realm.root) copies
-                ∙ rows_kept fields rd realm.root g inside granules pages free map (page_at pages source) ∙ gains
+                ∙ rows_kept fields rd realm.root g inside granules pages free map (page_at pages source) ∙ gains found.row found.at
 
-            same_root : now.root ≡ realm.root
-            same_root = ap (λ (r : RealmAttributes). r.root) made
-
-            no_less : realm.next ≤ now.next
-            no_less = subst (λ (n : ℕ). realm.next ≤ n) (sym (ap (λ (r : RealmAttributes). r.next) made)) (omega arith)
+            same_realm : Keeps realm now
+            same_realm = subst (Keeps realm) (sym made) (record { root = refl; vmid = refl; next = omega arith })
 
             pub create_whole : IsWhole after
             create_whole =
-                mapped_whole monitor fields view_is whole rd taken realm there now same_root no_less g inside was granules copied kept realms put map_after
+                mapped_whole monitor fields view_is whole rd taken realm there now same_realm g inside was granules copied kept realms put map_after
 
             row_now : realm_row now row.recs (rows copied realm.root) ≡ record row {
               rows = put_row row.rows 3 ipa (assigned Ram g);
@@ -166,5 +165,5 @@ module _ (monitor : MonitorView) (fields : Fields) (view_is : seen_as fields ≡
 
             pub create_seen : seen_as after ≡ after_command outcome monitor
             create_seen =
-                mapped_seen monitor fields view_is whole rd taken realm there now same_root no_less g inside was granules copied kept realms put map_after
+                mapped_seen monitor fields view_is whole rd taken realm there now same_realm g inside was granules copied kept realms put map_after
                 outcome (seen_in monitor source).cell.bytes _ page_is row_now done

@@ -1,5 +1,5 @@
 -- A page of data leaves its realm, over the fields of a monitor.
-use Rattle.std.proofs.Common.{◌≡◌, ℕ, Bool, true, false, List, [], ◌∷◌, Some, None, Result, Ok, Err, refl, sym, ap, ◌∙◌, subst, arith}
+use Rattle.std.proofs.Common.{◌≡◌, ℕ, Bool, true, false, List, [], ◌∷◌, Some, None, Result, Ok, Err, refl, sym, ap, ◌∙◌, subst}
 use Rattle.std.specs.Result.{OnOk, OnErr}
 use Rattle.std.proofs.lemmas.Option.{same_Some}
 use Rattle.granule_table.specs.Granules.{IsIn}
@@ -27,6 +27,7 @@ use Rattle.rmi_monitor.proofs.TableMoves.{is_moved_state}
 use Rattle.rmi_monitor.proofs.Refusals.{refused_with, not_refused, Passes, passes_from, row_refused, row_passes}
 use Rattle.rmi_monitor.proofs.RealmCommands.{nothing_moved, with_call, whole_after_move, seen_after_move}
 use Rattle.rmi_monitor.proofs.Listed.{put_back}
+use Rattle.rmi_monitor.proofs.RealmAfter.{keeps_all}
 use Rattle.rmi_monitor.proofs.RealmFound.{row_of, nowhere, somewhere}
 
 module _ (monitor : MonitorView) (fields : Fields) (view_is : seen_as fields ≡ monitor) (whole : IsWhole fields) (rd : ℕ) (taken : IsTaken monitor rd) (ipa : ℕ) where
@@ -91,14 +92,14 @@ module _ (monitor : MonitorView) (fields : Fields) (view_is : seen_as fields ≡
 
           pub destroy_whole : IsWhole (with_call fields granules pages free fields.realms)
           destroy_whole =
-              whole_after_move monitor fields view_is whole rd taken realm there realm refl (omega arith) granules pages free fields.realms
+              whole_after_move monitor fields view_is whole rd taken realm there realm (keeps_all realm) granules pages free fields.realms
               (sym (put_back fields.realms rd None (Some realm) there)) flags backed tables alone page.0 in_data.inside Delegated None (moved page.0 leads)
               (ap (λ (x : Granule). is_moved_state x.state) in_data.is) refl (λ e. refl) (λ e. cleared page.0 leads)
               (λ g differs not_table. others g (λ l. differs (leads_once g l)) not_table)
 
           pub destroy_seen : seen_as (with_call fields granules pages free fields.realms) ≡ after_command outcome monitor
           destroy_seen =
-              seen_after_move monitor fields view_is whole rd taken realm there realm refl (omega arith) granules pages free fields.realms
+              seen_after_move monitor fields view_is whole rd taken realm there realm (keeps_all realm) granules pages free fields.realms
               (sym (put_back fields.realms rd None (Some realm) there)) flags backed tables alone page.0 in_data.inside Delegated None (moved page.0 leads)
               (ap (λ (x : Granule). is_moved_state x.state) in_data.is) refl (λ e. refl) (λ e. cleared page.0 leads)
               (λ g differs not_table. others g (λ l. differs (leads_once g l)) not_table)

@@ -1,10 +1,10 @@
 -- A DELEGATED granule becomes a page of data of a realm: what the map leaves, before and after its page is written.
-use Rattle.std.proofs.Common.{◌≡◌, ◌≢◌, ℕ, ◌<◌, ◌≤◌, Bool, List, [], ◌∷◌, length, set, Option, Some, Ok, refl, sym, ap, ◌∙◌, subst}
+use Rattle.std.proofs.Common.{◌≡◌, ◌≢◌, ℕ, ◌<◌, Bool, List, [], ◌∷◌, length, set, Option, Some, Ok, refl, sym, ap, ◌∙◌, subst}
 use Rattle.std.proofs.lemmas.List.{length-set, get_or-set_same, get_or-set_other}
 use Rattle.granule_table.specs.Granules.{granule_at, undelegated}
 use Rattle.granule_table.specs.declared.granule.Granule.{Granule}
 use Rattle.page_arena.specs.Page.{page_at}
-use Rattle.realm_model.specs.declared.states.GranuleState.TheVariants.{Delegated, Data as InData, Rtt as InRtt}
+use Rattle.realm_model.specs.declared.states.GranuleState.TheVariants.{Delegated, Data as InData}
 use Rattle.realm_model.specs.Machine.{RealmRow, held}
 use Rattle.realm_model.specs.Update.{Put, Outcome}
 use Rattle.realm_model.specs.Command.Check.{put_realm}
@@ -15,13 +15,9 @@ use Rattle.rtt.specs.Calls.{with_state}
 use Rattle.rmi_monitor.specs.View.{MonitorView, IsTaken, seen_in, after_command}
 use Rattle.rmi_monitor.specs.Inside.{Fields, realm_at, recs_of, seen_as, IsWhole}
 use Rattle.rmi_monitor.proofs.DataPages.{alone_twice, alone_written, tables_written, rows_written, backed_written}
+use Rattle.rmi_monitor.proofs.RealmAfter.{Keeps}
 use Rattle.rmi_monitor.proofs.TableMoves.{is_moved_state}
 use Rattle.rmi_monitor.proofs.RealmCommands.{with_call, whole_after_move, seen_after_move}
-
--- a granule that is no table of the realm
-pub no_table : (fields : Fields) (whole : IsWhole fields) (rd : ℕ) (realm : RealmAttributes) → realm_at fields rd ≡ Some realm
-    → (g : ℕ) → (granule_at fields.granules g).state ≢ InRtt → IsTableOf fields.pages realm.root g → ⊥
-no_table fields whole rd realm there g not_rtt of = not_rtt (ap (λ (x : Granule). x.state) ((whole.tables rd realm there).own.tables of.level of.ipa g of.inside of.at).is)
 
 -- a page that is inside before, is inside after the map, and after a page is written
 pub still_inside : (old granules : List Granule) (g : ℕ) (to : Granule) (pages : List (List ℕ)) (free : List Bool) → granules ≡ set old g to → IsBacked pages free granules
@@ -68,13 +64,13 @@ module _ (fields : Fields) (rd root g : ℕ) (inside : g < length fields.granule
   }
 
 module _ (monitor : MonitorView) (fields : Fields) (view_is : seen_as fields ≡ monitor) (whole : IsWhole fields) (rd : ℕ) (taken : IsTaken monitor rd)
-    (realm : RealmAttributes) (there : realm_at fields rd ≡ Some realm) (now : RealmAttributes) (root : now.root ≡ realm.root) (next : realm.next ≤ now.next)
+    (realm : RealmAttributes) (there : realm_at fields rd ≡ Some realm) (now : RealmAttributes) (keeps : Keeps realm now)
     (g : ℕ) (inside : g < length fields.granules) (was : (granule_at fields.granules g).state ≡ Delegated)
     (granules : List Granule) (pages : List (List ℕ)) (free : List Bool) (realms : List (Option RealmAttributes)) (put : realms ≡ set fields.realms rd (Some now))
     (map : Mapped fields rd realm.root g granules pages free) where
   pub mapped_whole : IsWhole (with_call fields granules pages free realms)
   mapped_whole =
-      whole_after_move monitor fields view_is whole rd taken realm there now root next granules pages free realms put map.flags map.backed map.tables map.alone
+      whole_after_move monitor fields view_is whole rd taken realm there now keeps granules pages free realms put map.flags map.backed map.tables map.alone
       g inside InData (Some rd) map.moved (ap is_moved_state was) refl (λ e. cc) (λ e. cc) map.others
 
   -- the monitor after a command that makes it a page with those bytes
@@ -83,6 +79,6 @@ module _ (monitor : MonitorView) (fields : Fields) (view_is : seen_as fields ≡
       → outcome ≡ Ok (Put g (record (held InData rd) { bytes = bytes }) ∷ put_realm (seen_in monitor rd) row ∷ [])
       → seen_as (with_call fields granules pages free realms) ≡ after_command outcome monitor
   mapped_seen outcome bytes row page row_is done =
-      seen_after_move monitor fields view_is whole rd taken realm there now root next granules pages free realms put map.flags map.backed map.tables map.alone
+      seen_after_move monitor fields view_is whole rd taken realm there now keeps granules pages free realms put map.flags map.backed map.tables map.alone
       g inside InData (Some rd) map.moved (ap is_moved_state was) refl (λ e. cc) (λ e. cc) map.others
       outcome (record (held InData rd) { bytes = bytes }) row (λ i. record (held InData rd) { bytes = page i }) row_is done

@@ -1,14 +1,13 @@
 -- A DELEGATED granule becomes a page of zeros of a realm, over the fields of a monitor.
-use Rattle.std.proofs.Common.{◌≡◌, ℕ, ◌&&◌, Bool, true, false, List, [], ◌∷◌, Some, None, Result, Ok, Err, refl, sym, ap, ◌∙◌, subst, arith}
+use Rattle.std.proofs.Common.{◌≡◌, ℕ, ◌&&◌, Bool, true, false, List, [], ◌∷◌, Some, None, Result, Ok, Err, refl, sym, ap, ◌∙◌, subst}
 use Rattle.std.specs.Result.{OnOk, OnErr}
 use Rattle.std.proofs.lemmas.Bool.{and_from, and_right}
-use Rattle.std.proofs.lemmas.Option.{same_Some}
 use Rattle.granule_table.specs.Granules.{granule_at}
 use Rattle.granule_table.specs.declared.granule.Granule.{Granule}
 use Rattle.granule_addr.specs.Page.{zero_page}
 use Rattle.page_arena.specs.Page.{page_at}
 use Rattle.realm_model.specs.declared.states.GranuleState.TheVariants.{Delegated, Data as InData, Rtt as InRtt}
-use Rattle.realm_model.specs.Rows.{Row, Walk, walk, is_unassigned, assigned, put_row}
+use Rattle.realm_model.specs.Rows.{Row, is_unassigned, assigned, put_row}
 use Rattle.realm_model.specs.Machine.{RealmRow, held}
 use Rattle.realm_model.specs.Update.{Update, Put, Outcome}
 use Rattle.realm_model.specs.Command.Check.{check, error_input, error_rtt, is_delegated, is_protected, with_row, put_realm}
@@ -19,17 +18,19 @@ use Rattle.rtt.specs.declared.refusal.Rtt.{Rtt}
 use Rattle.rtt.specs.Refusal.{IsRefused}
 use Rattle.rtt.specs.Tables.{rows}
 use Rattle.rtt.specs.Realm.{IsBacked, HasTables, LeavesOthers}
-use Rattle.rtt.specs.Calls.{with_state, ChangesTablesOnly, map_refusal}
+use Rattle.rtt.specs.Calls.{with_state, ChangesTablesOnly, GainsPage, map_refusal}
 use Rattle.rmi_monitor.specs.View.{MonitorView, IsTaken, seen_in, after_command}
 use Rattle.rmi_monitor.specs.Inside.{Fields, realm_at, seen_as, IsWhole}
 use Rattle.rmi_monitor.specs.Places.{is_delegated_at}
 use Rattle.rmi_monitor.proofs.Checks.{delegated_state}
 use Rattle.rmi_monitor.proofs.Granules.{in_granules, seen_delegated}
 use Rattle.rmi_monitor.proofs.Outcomes.{check_false, after_err}
-use Rattle.rmi_monitor.proofs.DataMaps.{Mapped, no_table, mapped_whole, mapped_seen}
+use Rattle.rmi_monitor.proofs.DataMaps.{Mapped, mapped_whole, mapped_seen}
 use Rattle.rmi_monitor.proofs.Refusals.{refused_with, not_refused, Passes, passes_from, row_refused, row_passes}
 use Rattle.rmi_monitor.proofs.RealmCommands.{nothing_moved, with_call}
 use Rattle.rmi_monitor.proofs.Listed.{put_back}
+use Rattle.rmi_monitor.proofs.RealmAfter.{keeps_all}
+use Rattle.rmi_monitor.proofs.RealmPlaces.{no_table}
 use Rattle.rmi_monitor.proofs.RealmFound.{row_of, nowhere, somewhere}
 
 module _ (monitor : MonitorView) (fields : Fields) (view_is : seen_as fields ≡ monitor) (whole : IsWhole fields) (rd : ℕ) (taken : IsTaken monitor rd)
@@ -76,9 +77,8 @@ module _ (monitor : MonitorView) (fields : Fields) (view_is : seen_as fields ≡
         pub unknown_done : (updates : List Update) × (outcome ≡ Ok updates)
         unknown_done = (_, done)
 
-      -- what the call leaves, whatever it answers; the RIPAS is that of the row where the walk ended
-      module _ (end : Walk) (walked : walk (rows fields.pages realm.root) ipa 3 ≡ Some end)
-          (granules : List Granule) (pages : List (List ℕ)) (free : List Bool)
+      -- what the call leaves, whatever it answers
+      module _ (granules : List Granule) (pages : List (List ℕ)) (free : List Bool)
           (tables : HasTables pages granules rd realm.root) (backed : IsBacked pages free granules) (flags : free ≡ fields.free)
           (others : ChangesTablesOnly realm.root fields.pages pages) (alone : LeavesOthers rd fields.pages fields.granules pages granules) where
         abbrev after : Fields
@@ -91,7 +91,7 @@ module _ (monitor : MonitorView) (fields : Fields) (view_is : seen_as fields ≡
         page_zero = others g (no_table fields whole rd realm there g (λ e. let differ : Delegated ≡ InRtt = sym was ∙ e in cc)) ∙ (whole.each g).zero was
 
         both : (called : Result (Unit {0}) Rtt) → IsRefused called (map_refusal (rows fields.pages realm.root) ipa)
-            → OnOk called (rows pages realm.root ≡ put_row (rows fields.pages realm.root) 3 ipa (assigned end.row.ripas g))
+            → OnOk called (GainsPage (rows fields.pages realm.root) ipa g None (rows pages realm.root))
             → OnOk called (granules ≡ with_state fields.granules g InData (Some rd))
             → OnErr called ((pages ≡ fields.pages) × (granules ≡ fields.granules))
             → IsWhole after × (seen_as after ≡ after_command outcome monitor)
@@ -100,12 +100,11 @@ module _ (monitor : MonitorView) (fields : Fields) (view_is : seen_as fields ≡
             let map : Mapped fields rd realm.root g granules pages free =
             record { moved = moved; tables = tables; backed = backed; flags = flags; others = λ h differs not_table. others h not_table; alone = alone } in
             let inside = in_granules monitor fields view_is whole g page_taken in
-            let put = sym (put_back fields.realms rd None (Some realm) there) in
-            let same = same_Some _ _ (sym walked ∙ (found accepted).walked) in (
-              mapped_whole monitor fields view_is whole rd taken realm there realm refl (omega arith) g inside was granules pages free fields.realms put map,
-              mapped_seen monitor fields view_is whole rd taken realm there realm refl (omega arith) g inside was granules pages free fields.realms put map
+            let put = sym (put_back fields.realms rd None (Some realm) there) in (
+              mapped_whole monitor fields view_is whole rd taken realm there realm (keeps_all realm) g inside was granules pages free fields.realms put map,
+              mapped_seen monitor fields view_is whole rd taken realm there realm (keeps_all realm) g inside was granules pages free fields.realms put map
                   outcome zero_page (record row { rows = put_row row.rows 3 ipa (assigned (found accepted).row.ripas g) }) page_zero
-                  (λ i. record row { rows = (gains ∙ ap (λ (w : Walk). put_row (rows fields.pages realm.root) 3 ipa (assigned w.row.ripas g)) same) i }) (done accepted),
+                  (λ i. record row { rows = gains (found accepted).row (found accepted).at i }) (done accepted),
             )
         both (Err refusal) is gains moved unchanged =
             let same : after ≡ fields = nothing_moved fields granules pages free fields.realms unchanged.1 unchanged.0 flags refl in (
@@ -116,7 +115,7 @@ module _ (monitor : MonitorView) (fields : Fields) (view_is : seen_as fields ≡
             )
 
         module _ (called : Result (Unit {0}) Rtt) (answer : IsRefused called (map_refusal (rows fields.pages realm.root) ipa))
-            (gains : OnOk called (rows pages realm.root ≡ put_row (rows fields.pages realm.root) 3 ipa (assigned end.row.ripas g)))
+            (gains : OnOk called (GainsPage (rows fields.pages realm.root) ipa g None (rows pages realm.root)))
             (moved : OnOk called (granules ≡ with_state fields.granules g InData (Some rd)))
             (unchanged : OnErr called ((pages ≡ fields.pages) × (granules ≡ fields.granules))) where
           pub unknown_whole_after : IsWhole after

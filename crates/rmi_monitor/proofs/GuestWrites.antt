@@ -48,7 +48,7 @@ unassigned_row level row = by row.hipas row.granule
     by Assigned (Some page) kind e = absurd (none-some page (sym e))
     by Table granule kind e = refl
 
-module _ (monitor : MonitorView) (fields : Fields) (view_is : seen_as fields ≡ monitor) (whole : IsWhole fields) (granule : ℕ) (taken : IsTaken monitor granule)
+module _ (monitor : MonitorView) (fields : Fields) (view_is : seen_as fields ≡ monitor) (whole : IsWhole fields) (granule : ℕ)
     (rec : RecAttributes) (rd : ℕ) (realm : RealmAttributes) (kept : IsKept fields granule rec rd realm) (ipa offset value : ℕ) where
   abbrev command : Seen → ℕ → Outcome
   command seen number = guest_write seen number ipa offset value
@@ -71,7 +71,7 @@ module _ (monitor : MonitorView) (fields : Fields) (view_is : seen_as fields ≡
 
   refused : (rmi : Rmi) → command (seen_in monitor rd) rec.number ≡ Err rmi
       → IsOnRec {A = Unit {0}} (λ seen number. guest_write seen number ipa offset value) monitor granule (Err rmi) monitor
-  refused rmi comes = on_rec monitor fields view_is whole command granule taken rec rd realm kept (Err rmi) (Err rmi) monitor comes refl refl
+  refused rmi comes = on_rec monitor fields view_is whole command granule rec rd realm kept (Err rmi) (Err rmi) monitor comes refl refl
 
   pub write_unprotected : is_protected ipa ≡ false → IsOnRec {A = Unit {0}} (λ seen number. guest_write seen number ipa offset value) monitor granule (Err error_input) monitor
   write_unprotected is = refused error_input (write_is ∙ check_false (is_protected ipa) error_input here is)
@@ -103,7 +103,7 @@ module _ (monitor : MonitorView) (fields : Fields) (view_is : seen_as fields ≡
           → IsOnRec (λ seen number. guest_write seen number ipa offset value) monitor granule (Ok (tt {0})) (seen_as (record fields { pages = pages; free = free }))
       write_done page leads is pages free written same =
           let row = assigned_row end.row page leads in
-          on_rec monitor fields view_is whole command granule taken rec rd realm kept (Ok tt) (Ok (PutByte page offset value ∷ [])) _
+          on_rec monitor fields view_is whole command granule rec rd realm kept (Ok tt) (Ok (PutByte page offset value ∷ [])) _
           (write_walks ∙ check_true (is_assigned end.row) (error_rtt end.level) _ row.0 ∙ granule_there end.row (λ g. Ok (PutByte g offset value ∷ [])) page row.1)
           tt
           (byte_put fields whole rd page offset value is pages free written same monitor view_is)

@@ -33,8 +33,8 @@ holds_in P xs x each there =
     subst P (get_or_from_slice_get xs found.0 x x found.1) (each found.0 x (slice_get_within xs found.0 x found.1))
 
 -- what is read at a place, by a number that is its
-pub read_at : {A : Type 0} (xs : List (Option A)) (i place : ℕ) (x y : Option A) → i ≡ place → place < length xs → x ≡ get_or xs i x → x ≡ y → get_or xs place None ≡ y
-read_at xs i place x y same inside read is = get_or_default xs place None x inside ∙ ap (λ (n : ℕ). get_or xs n x) (sym same) ∙ sym read ∙ is
+pub read_at : {A : Type 0} (xs : List A) (i place : ℕ) (d x y : A) → i ≡ place → place < length xs → x ≡ get_or xs i x → x ≡ y → get_or xs place d ≡ y
+read_at xs i place d x y same inside read is = get_or_default xs place d x inside ∙ ap (λ (n : ℕ). get_or xs n x) (sym same) ∙ sym read ∙ is
 
 -- and written back
 pub put_back : {A : Type 0} (xs : List A) (i : ℕ) (d x : A) → get_or xs i d ≡ x → set xs i x ≡ xs

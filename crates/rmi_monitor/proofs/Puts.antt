@@ -40,6 +40,25 @@ module _ {X : Type 0} (y : X) where
             ∙ get_or-set_same xs p y d (subst (λ j. j < length xs) same within)
       ] refl
 
+-- a list with one element at a place, and another at each of some others
+abbrev pub put_all : {X : Type 0} → List X → ℕ → List ℕ → X → X → List X
+put_all xs g others x y = set_each y others (set xs g x)
+
+module _ {X : Type 0} (xs : List X) (g : ℕ) (others : List ℕ) (x y d : X) where
+  pub length-put_all : length (put_all xs g others x y) ≡ length xs
+  length-put_all = length-set_each y others (set xs g x) ∙ length-set xs g x
+
+  pub put_all-first : is_in g others ≡ false → g < length xs → get_or (put_all xs g others x y) g d ≡ x
+  put_all-first own inside = set_each_out y others (set xs g x) g d own ∙ get_or-set_same xs g x d inside
+
+  pub put_all-rest : (h : ℕ) → h < length xs → is_in h others ≡ true → get_or (put_all xs g others x y) h d ≡ y
+  put_all-rest h inside there = set_each_in y others (set xs g x) h d (subst (λ n. h < n) (sym (length-set xs g x)) inside) there
+
+  pub put_all-out : (h : ℕ) → is_in h (g ∷ others) ≡ false → get_or (put_all xs g others x y) h d ≡ get_or xs h d
+  put_all-out h out =
+      let parts = or_parts (h == g) (is_in h others) out in
+      set_each_out y others (set xs g x) h d parts.1 ∙ get_or-set_other xs g h x d (eqb-false h g parts.0)
+
 -- what puts of one cell make of a machine
 pub after_puts : (places : List ℕ) (y : Cell) (updates : List Update) (machine : Machine)
     → machine_after_all (map (λ a. Put a y) places ++ updates) machine ≡ machine_after_all updates (set_each y places machine)

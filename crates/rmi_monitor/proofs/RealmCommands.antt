@@ -1,5 +1,5 @@
 -- The monitor after a command on a realm, by what its call leaves.
-use Rattle.std.proofs.Common.{◌≡◌, ℕ, ◌<◌, ◌≤◌, Bool, true, List, [], ◌∷◌, length, set, Option, Some, None, Ok, refl, sym, ap, ◌∙◌, subst, get_or}
+use Rattle.std.proofs.Common.{◌≡◌, ℕ, ◌<◌, Bool, true, List, [], ◌∷◌, length, set, Option, Some, None, Ok, refl, sym, ap, ◌∙◌, subst, get_or}
 use Rattle.granule_table.specs.Granules.{granule_at}
 use Rattle.granule_table.specs.declared.granule.Granule.{Granule}
 use Rattle.granule_addr.specs.Page.{zero_page}
@@ -15,7 +15,8 @@ use Rattle.rtt.specs.Realm.{IsBacked, HasTables, IsTableOf, LeavesOthers}
 use Rattle.rmi_monitor.specs.View.{MonitorView, IsTaken, seen_in, after_command}
 use Rattle.rmi_monitor.specs.Inside.{Fields, realm_at, recs_of, bytes_of, machine_of, seen_as, IsWhole, cell_of}
 use Rattle.rmi_monitor.proofs.Granules.{machine_is, cell_is, after_done}
-use Rattle.rmi_monitor.proofs.TableMoves.{is_moved_state, with_row_of, whole_moved_to, machine_moved_to}
+use Rattle.rmi_monitor.proofs.RealmAfter.{Keeps, with_row_of}
+use Rattle.rmi_monitor.proofs.TableMoves.{is_moved_state, whole_moved_to, machine_moved_to}
 use Rattle.rmi_monitor.proofs.Listed.{put_back}
 
 -- the fields as a call on a realm's tables leaves them
@@ -47,7 +48,7 @@ module _ (monitor : MonitorView) (fields : Fields) (view_is : seen_as fields ≡
 
   module _ (realm : RealmAttributes) (there : realm_at fields rd ≡ Some realm) where
     -- a call that moves a granule
-    module _ (now : RealmAttributes) (root : now.root ≡ realm.root) (next : realm.next ≤ now.next)
+    module _ (now : RealmAttributes) (keeps : Keeps realm now)
         (granules : List Granule) (pages : List (List ℕ)) (free : List Bool) (realms : List (Option RealmAttributes)) (put : realms ≡ set fields.realms rd (Some now))
         (flags : free ≡ fields.free) (backed : IsBacked pages free granules) (tables : HasTables pages granules rd realm.root)
         (alone : LeavesOthers rd fields.pages fields.granules pages granules)
@@ -62,7 +63,7 @@ module _ (monitor : MonitorView) (fields : Fields) (view_is : seen_as fields ≡
       pub whole_after_move : IsWhole (with_call fields granules pages free realms)
       whole_after_move =
           subst (λ (rs : List (Option RealmAttributes)). IsWhole (with_now rs)) (sym put)
-          (whole_moved_to fields whole rd realm now there root next granules pages free flags backed tables alone m inside state owner moved was is host zero page_stays)
+          (whole_moved_to fields whole rd realm now there keeps granules pages free flags backed tables alone m inside state owner moved was is host zero page_stays)
 
       -- the monitor after a command that puts that granule and the realm's row
       pub seen_after_move : (outcome : Outcome) (cell : Cell) (row : RealmRow)
@@ -74,5 +75,5 @@ module _ (monitor : MonitorView) (fields : Fields) (view_is : seen_as fields ≡
       seen_after_move outcome cell row here there_is done =
           after_done monitor fields view_is whole (with_call fields granules pages free realms) (Put m cell ∷ put_realm (seen_in monitor rd) row ∷ []) outcome done refl refl flags
           (ap (λ (rs : List (Option RealmAttributes)). machine_of (with_now rs)) put
-          ∙ machine_moved_to fields whole rd realm now there root next granules pages free flags backed tables alone m inside state owner moved was is host zero page_stays
+          ∙ machine_moved_to fields whole rd realm now there keeps granules pages free flags backed tables alone m inside state owner moved was is host zero page_stays
           ∙ (λ i. set (set (machine_is monitor fields view_is whole i) m (here i)) rd (with_row_of (sym (cell_is monitor fields view_is whole rd taken.inside) i) (there_is i))))

@@ -18,13 +18,14 @@ use Rattle.realm_model.specs.Command.Realm.{new_realm}
 use Rattle.realm_objects.specs.Attributes.{RealmAttributes, realm_row}
 use Rattle.rtt.specs.Tables.{rows}
 use Rattle.rtt.specs.Realm.{IsBacked, HasTables, LeavesAlone, LeavesOthers}
-use Rattle.rtt.specs.FrameLaws.{rows-alone, HasTables-alone}
 use Rattle.rmi_monitor.specs.Inside.{Fields, realm_at, recs_of, descriptor_of, bytes_of, cell_of, machine_of, is_rec_state, IsSoundAt, IsWhole}
-use Rattle.rmi_monitor.proofs.Machines.{two_put, cell_stays, descriptor_stays}
-use Rattle.rmi_monitor.proofs.Frames.{Stays, StayRecs, sound_after, recs_of_stay, HasRecs_stay}
-use Rattle.rmi_monitor.proofs.Comparisons.{or_rest, neither}
+use Rattle.rmi_monitor.specs.Vmids.{is_used, IsMarked}
+use Rattle.rmi_monitor.proofs.Machines.{two_put, cell_plain}
+use Rattle.rmi_monitor.proofs.Frames.{Stays, StayRecs, recs_of_stay, recs_stay, Leaves, whole_after, cell_after}
+use Rattle.rmi_monitor.proofs.Comparisons.{either, neither}
 use Rattle.rmi_monitor.proofs.RealmPlaces.{no_realm_there}
 use Rattle.rmi_monitor.proofs.RealmRecs.{recs_of-none}
+use Rattle.rmi_monitor.proofs.UsedVmids.{used-create}
 
 -- the state that both granules are in before
 abbrev is_delegated_state : GranuleState → Bool
@@ -87,9 +88,10 @@ module _ (old : Fields) (whole : IsWhole old) (rd root : ℕ) (apart : rd ≢ ro
   module _ (realm : RealmAttributes) (realm_root : realm.root ≡ root) (fresh : realm_row realm empty root_rows ≡ new_realm realm.vmid root)
       (pages : List (List ℕ)) (free : List Bool) (flags : free ≡ old.free) (backed : IsBacked pages free with_root) (tables : HasTables pages with_root rd root)
       (translation : rows pages root ≡ root_rows) (page_stays : (g : ℕ) → g ≢ root → page_at pages g ≡ page_at old.pages g)
-      (alone : LeavesOthers rd old.pages with_rd pages with_root) where
+      (alone : LeavesOthers rd old.pages with_rd pages with_root)
+      (used : List Bool) (unused : is_used old.used realm.vmid ≡ false) (marked : IsMarked old.used used realm.vmid true) where
     abbrev new : Fields
-    new = record old { granules = with_root; pages = pages; free = free; realms = set old.realms rd (Some realm) }
+    new = record old { granules = with_root; pages = pages; free = free; realms = set old.realms rd (Some realm); used = used }
 
     abbrev touched : ℕ → Bool
     touched g = (g == root) || (g == rd)
@@ -110,7 +112,6 @@ module _ (old : Fields) (whole : IsWhole old) (rd root : ℕ) (apart : rd ≢ ro
       page_count = sym backed.as_many ∙ count ∙ whole.backed.as_many;
       granule = λ g e. granule_other g (untouched g e).1 (untouched g e).0;
       page = λ g e not_table. page_stays g (untouched g e).0;
-      realm = λ g e. realm_other g (untouched g e).1;
       rec = λ g e. refl;
     }
 
@@ -156,12 +157,6 @@ module _ (old : Fields) (whole : IsWhole old) (rd root : ℕ) (apart : rd ≢ ro
           rec = (whole.each root).rec ∙ ap is_rec_state root_was ∙ sym (ap is_rec_state state);
         }
 
-    sound_touched : (g : ℕ) → touched g ≡ true → IsSoundAt new g
-    sound_touched g e = elim (g == root) as (λ t. (g == root) ≡ t → IsSoundAt new g) [
-      | true ↦ λ at. subst (IsSoundAt new) (sym (eqb-true g root at)) sound_root
-      | false ↦ λ at. subst (IsSoundAt new) (sym (eqb-true g rd (or_rest (g == root) (g == rd) at e))) sound_rd
-    ] refl
-
     stay_recs : StayRecs old new
     stay_recs = record {
       granule_count = count;
@@ -170,35 +165,34 @@ module _ (old : Fields) (whole : IsWhole old) (rd root : ℕ) (apart : rd ≢ ro
       auxiliary = λ g at. let away = not_delegated InRecAux refl g at in granule_other g away.0 away.1;
     }
 
-    tables_after : (g : ℕ) (r : RealmAttributes) → realm_at new g ≡ Some r → HasTables pages with_root g r.root
-    tables_after g r at = elim (g == rd) as (λ t. (g == rd) ≡ t → HasTables pages with_root g r.root) [
-      | true ↦ λ e.
-          let same = eqb-true g rd e in
-          let is : root ≡ r.root = sym realm_root ∙ ap (λ (x : RealmAttributes). x.root) (same_Some realm r (sym realm_is ∙ ap (realm_at new) (sym same) ∙ at)) in
-          subst (λ h. HasTables pages with_root h r.root) (sym same) (subst (HasTables pages with_root rd) is tables)
-      | false ↦ λ e.
-          let differs = eqb-false g rd e in
-          HasTables-alone old.pages old.granules pages with_root g r.root (whole.tables g r (sym (realm_other g differs) ∙ at)) (alone_from g differs)
-    ] refl
-
     -- a realm that was there is another one
     not_new : (g : ℕ) (r : RealmAttributes) → realm_at old g ≡ Some r → g ≢ rd
     not_new g r at e = let differ : None ≡ Some r = sym no_realm_rd ∙ ap (realm_at old) (sym e) ∙ at in cc
 
-    pub whole_created : IsWhole new
-    whole_created = record {
+    leaves : Leaves old new rd touched
+    leaves = record {
+      stays = stays;
+      realm_places = length-set old.realms rd (Some realm);
+      count_places = refl;
+      rec_places = refl;
       backed = backed;
-      realm_places = length-set old.realms rd (Some realm) ∙ whole.realm_places ∙ sym count;
-      rec_places = whole.rec_places ∙ sym count;
-      each = sound_after old new touched stays whole.each sound_touched;
-      tables = tables_after;
-      recs = HasRecs_stay old new stay_recs whole.each whole.recs (λ h g rec r at of there. (r, realm_other g (not_new g r there) ∙ there, omega arith));
+      sound = λ g differs e.
+          subst (IsSoundAt new) (sym (either (g == root) (g == rd) e (eqb-true g root) (λ s. absurd (differs (eqb-true g rd s))))) sound_root;
+      sound_rd = sound_rd;
+      realms = realm_other;
+      tables = λ r at. subst (HasTables pages with_root rd) (sym realm_root ∙ ap (λ (x : RealmAttributes). x.root) (same_Some realm r (sym realm_is ∙ at))) tables;
+      alone = alone_from;
+      recs = recs_stay old new stay_recs whole refl (λ h g rec r at of there. (r, realm_other g (not_new g r there) ∙ there, omega arith)) rd;
+      vmids_used = used-create old.realms old.used used whole.vmids_used rd (subst (λ n. rd < n) (sym whole.realm_places) rd_inside) realm no_realm_rd unused marked;
     }
+
+    pub whole_created : IsWhole new
+    whole_created = whole_after old new rd touched leaves whole
 
     cell_rd : cell_of new rd ≡ record { state = InRd; realm = Some rd; bytes = zero_page; descriptor = Some (new_realm realm.vmid root) }
     cell_rd =
         let page : page_at pages rd ≡ zero_page = page_stays rd apart ∙ (whole.each rd).zero rd_was in
-        let recs : recs_of new.granules new.recs rd ≡ empty = recs_of_stay old new stay_recs whole.each rd ∙ recs_of-none old whole rd no_realm_rd in
+        let recs : recs_of new.granules new.recs rd ≡ empty = recs_of_stay old new stay_recs whole rd ∙ recs_of-none old whole rd no_realm_rd in
         let translated : rows pages realm.root ≡ root_rows = ap (rows pages) realm_root ∙ translation in
         let row : descriptor_of new rd ≡ Some (new_realm realm.vmid root) =
         ap (option_map (λ (r : RealmAttributes). realm_row r (recs_of new.granules new.recs rd) (rows pages r.root))) realm_is
@@ -206,17 +200,10 @@ module _ (old : Fields) (whole : IsWhole old) (rd root : ℕ) (apart : rd ≢ ro
         (λ i. record { state = (rd_is i).state; realm = (rd_is i).realm; bytes = bytes_of (rd_is i).state (page i); descriptor = row i })
 
     cell_root : cell_of new root ≡ held InRtt rd
-    cell_root =
-        let row : descriptor_of new root ≡ None =
-        ap (option_map (λ (r : RealmAttributes). realm_row r (recs_of new.granules new.recs root) (rows pages r.root))) (realm_other root rd_root_differ ∙ no_realm_root) in
-        (λ i. record { state = (root_is i).state; realm = (root_is i).realm; bytes = bytes_of (root_is i).state (page_at pages root); descriptor = row i })
+    cell_root = cell_plain new root (record { state = InRtt; realm = Some rd }) (page_at pages root) root_is refl (realm_other root rd_root_differ ∙ no_realm_root)
 
     pub machine_created : machine_of new
         ≡ set (set (machine_of old) rd (record { state = InRd; realm = Some rd; bytes = zero_page; descriptor = Some (new_realm realm.vmid root) })) root (held InRtt rd)
     machine_created =
         two_put old new count rd root _ _ rd_inside root_inside apart cell_rd cell_root
-        (λ g within not_rd not_root.
-        let e : touched g ≡ false = neither g root rd not_root not_rd in
-        cell_stays old new g (stays.granule g e) (stays.page g e)
-        (descriptor_stays old new g (realm_other g not_rd) (recs_of_stay old new stay_recs whole.each g)
-        (λ r there. rows-alone old.pages old.granules pages with_root g r.root (whole.tables g r there) (alone_from g not_rd))))
+        (λ g within not_rd not_root. cell_after old new rd touched leaves whole g (neither g root rd not_root not_rd) not_rd)

@@ -15,14 +15,15 @@ use Rattle.realm_model.specs.Sound.{is_rd_state}
 use Rattle.realm_objects.specs.Attributes.{RealmAttributes, RecAttributes}
 use Rattle.rtt.specs.Tables.{table_at}
 use Rattle.rtt.specs.Realm.{LeavesAlone}
-use Rattle.rtt.specs.FrameLaws.{rows-alone, HasTables-alone}
 use Rattle.rtt.specs.Calls.{with_state}
 use Rattle.rmi_monitor.specs.Inside.{Fields, realm_at, rec_at, machine_of, is_rec_state, IsSoundAt, IsWhole}
-use Rattle.rmi_monitor.proofs.Machines.{two_put, cell_stays, descriptor_stays}
-use Rattle.rmi_monitor.proofs.Frames.{Stays, StayRecs, sound_after, backed_after, recs_of_stay, HasRecs_stay}
+use Rattle.rmi_monitor.specs.Vmids.{IsMarked}
+use Rattle.rmi_monitor.proofs.Machines.{two_put}
+use Rattle.rmi_monitor.proofs.Frames.{Stays, StayRecs, backed_after, recs_stay, Leaves, whole_after, cell_after}
 use Rattle.rmi_monitor.proofs.HostMoves.{cell_of-host}
-use Rattle.rmi_monitor.proofs.Comparisons.{or_rest, neither}
+use Rattle.rmi_monitor.proofs.Comparisons.{or_rest, either, neither}
 use Rattle.rmi_monitor.proofs.RealmPlaces.{realm_inside, in_rd, no_realm_there}
+use Rattle.rmi_monitor.proofs.UsedVmids.{used-destroy}
 
 -- the states of the RD and of the root
 abbrev is_realm_state : GranuleState → Bool
@@ -100,115 +101,110 @@ module _ (old : Fields) (whole : IsWhole old) (rd : ℕ) (realm : RealmAttribute
   page_other g not_rd not_root =
       get_or-set_other (set old.pages root zero_page) rd g zero_page [] not_rd ∙ get_or-set_other old.pages root g zero_page [] not_root
 
-  abbrev new : Fields
-  new = record old { granules = without_both; pages = pages_without; realms = set old.realms rd None }
+  -- its VMID is not used any more
+  module _ (used : List Bool) (marked : IsMarked old.used used realm.vmid false) where
+    abbrev new : Fields
+    new = record old { granules = without_both; pages = pages_without; realms = set old.realms rd None; used = used }
 
-  abbrev touched : ℕ → Bool
-  touched g = (g == root) || (g == rd)
+    abbrev touched : ℕ → Bool
+    touched g = (g == root) || (g == rd)
 
-  untouched : (g : ℕ) → touched g ≡ false → (g ≢ root) × (g ≢ rd)
-  untouched g e = (eqb-false g root ((or_parts (g == root) (g == rd) e).0), eqb-false g rd ((or_parts (g == root) (g == rd) e).1))
+    untouched : (g : ℕ) → touched g ≡ false → (g ≢ root) × (g ≢ rd)
+    untouched g e = (eqb-false g root ((or_parts (g == root) (g == rd) e).0), eqb-false g rd ((or_parts (g == root) (g == rd) e).1))
 
-  no_realm_now : realm_at new rd ≡ None
-  no_realm_now = get_or-set_same old.realms rd None None (subst (λ n. rd < n) (sym whole.realm_places) rd_inside)
+    no_realm_now : realm_at new rd ≡ None
+    no_realm_now = get_or-set_same old.realms rd None None (subst (λ n. rd < n) (sym whole.realm_places) rd_inside)
 
-  realm_other : (g : ℕ) → g ≢ rd → realm_at new g ≡ realm_at old g
-  realm_other g differs = get_or-set_other old.realms rd g None None differs
+    realm_other : (g : ℕ) → g ≢ rd → realm_at new g ≡ realm_at old g
+    realm_other g differs = get_or-set_other old.realms rd g None None differs
 
-  stays : Stays old new touched
-  stays = record {
-    free = refl;
-    granule_count = count;
-    page_count = length-set (set old.pages root zero_page) rd zero_page ∙ page_count_root;
-    granule = λ g e. granule_other g (untouched g e).1 (untouched g e).0;
-    page = λ g e not_table. page_other g (untouched g e).1 (untouched g e).0;
-    realm = λ g e. realm_other g (untouched g e).1;
-    rec = λ g e. refl;
-  }
+    stays : Stays old new touched
+    stays = record {
+      free = refl;
+      granule_count = count;
+      page_count = length-set (set old.pages root zero_page) rd zero_page ∙ page_count_root;
+      granule = λ g e. granule_other g (untouched g e).1 (untouched g e).0;
+      page = λ g e not_table. page_other g (untouched g e).1 (untouched g e).0;
+      rec = λ g e. refl;
+    }
 
-  not_realm : (wanted : GranuleState) → is_realm_state wanted ≡ false → (g : ℕ) → (granule_at old.granules g).state ≡ wanted → (g ≢ rd) × (g ≢ root)
-  not_realm wanted other g at = (
-    λ e. let differ : true ≡ false = ap is_realm_state (sym rd_was ∙ ap (λ k. (granule_at old.granules k).state) (sym e) ∙ at) ∙ other in cc,
-    λ e. let differ : true ≡ false = ap is_realm_state (sym root_was ∙ ap (λ k. (granule_at old.granules k).state) (sym e) ∙ at) ∙ other in cc,
-  )
+    not_realm : (wanted : GranuleState) → is_realm_state wanted ≡ false → (g : ℕ) → (granule_at old.granules g).state ≡ wanted → (g ≢ rd) × (g ≢ root)
+    not_realm wanted other g at = (
+      λ e. let differ : true ≡ false = ap is_realm_state (sym rd_was ∙ ap (λ k. (granule_at old.granules k).state) (sym e) ∙ at) ∙ other in cc,
+      λ e. let differ : true ≡ false = ap is_realm_state (sym root_was ∙ ap (λ k. (granule_at old.granules k).state) (sym e) ∙ at) ∙ other in cc,
+    )
 
-  -- another realm's table is neither
-  not_own : (g h : ℕ) → g ≢ rd → IsIn old.granules h InRtt (Some g) → (h ≢ rd) × (h ≢ root)
-  not_own g h differs is = (
-    λ e. let differ : InRd ≡ InRtt = sym rd_was ∙ ap (λ k. (granule_at old.granules k).state) (sym e) ∙ ap (λ (x : Granule). x.state) is.is in cc,
-    λ e. differs (same_Some g rd (sym (ap (λ (x : Granule). x.realm) is.is) ∙ ap (λ k. (granule_at old.granules k).realm) e ∙ ap (λ (x : Granule). x.realm) root_in.is)),
-  )
+    -- another realm's table is neither
+    not_own : (g h : ℕ) → g ≢ rd → IsIn old.granules h InRtt (Some g) → (h ≢ rd) × (h ≢ root)
+    not_own g h differs is = (
+      λ e. let differ : InRd ≡ InRtt = sym rd_was ∙ ap (λ k. (granule_at old.granules k).state) (sym e) ∙ ap (λ (x : Granule). x.state) is.is in cc,
+      λ e. differs (same_Some g rd (sym (ap (λ (x : Granule). x.realm) is.is) ∙ ap (λ k. (granule_at old.granules k).realm) e ∙ ap (λ (x : Granule). x.realm) root_in.is)),
+    )
 
-  alone : (g : ℕ) → g ≢ rd → LeavesAlone g old.pages old.granules pages_without without_both
-  alone g differs = record {
-    page = λ h is. let away = not_own g h differs is in page_other h away.0 away.1;
-    table = λ h is. let away = not_own g h differs is in record { inside = subst (λ n. h < n) (sym count) is.inside; is = granule_other h away.0 away.1 ∙ is.is };
-    «data» = λ h is. let away = not_realm InData refl h (ap (λ (x : Granule). x.state) is.is) in record { inside = subst (λ n. h < n) (sym count) is.inside; is = granule_other h away.0 away.1 ∙ is.is };
-  }
+    alone : (g : ℕ) → g ≢ rd → LeavesAlone g old.pages old.granules pages_without without_both
+    alone g differs = record {
+      page = λ h is. let away = not_own g h differs is in page_other h away.0 away.1;
+      table = λ h is. let away = not_own g h differs is in record { inside = subst (λ n. h < n) (sym count) is.inside; is = granule_other h away.0 away.1 ∙ is.is };
+      «data» = λ h is. let away = not_realm InData refl h (ap (λ (x : Granule). x.state) is.is) in record { inside = subst (λ n. h < n) (sym count) is.inside; is = granule_other h away.0 away.1 ∙ is.is };
+    }
 
-  sound_rd : IsSoundAt new rd
-  sound_rd =
-      let state : (granule_at without_both rd).state ≡ Delegated = ap (λ (x : Granule). x.state) rd_is in
-      record {
-        host = λ h. ap (λ (x : Granule). x.realm) rd_is;
-        zero = λ h. page_rd;
-        rd = ap is_some no_realm_now ∙ sym (ap is_rd_state state);
-        rec = (whole.each rd).rec ∙ ap is_rec_state rd_was ∙ sym (ap is_rec_state state);
-      }
+    sound_rd : IsSoundAt new rd
+    sound_rd =
+        let state : (granule_at without_both rd).state ≡ Delegated = ap (λ (x : Granule). x.state) rd_is in
+        record {
+          host = λ h. ap (λ (x : Granule). x.realm) rd_is;
+          zero = λ h. page_rd;
+          rd = ap is_some no_realm_now ∙ sym (ap is_rd_state state);
+          rec = (whole.each rd).rec ∙ ap is_rec_state rd_was ∙ sym (ap is_rec_state state);
+        }
 
-  sound_root : IsSoundAt new root
-  sound_root =
-      let state : (granule_at without_both root).state ≡ Delegated = ap (λ (x : Granule). x.state) root_is in
-      record {
-        host = λ h. ap (λ (x : Granule). x.realm) root_is;
-        zero = λ h. page_root;
-        rd = ap is_some (realm_other root (λ e. apart (sym e)) ∙ no_realm_there old root (whole.each root) (ap is_rd_state root_was)) ∙ sym (ap is_rd_state state);
-        rec = (whole.each root).rec ∙ ap is_rec_state root_was ∙ sym (ap is_rec_state state);
-      }
+    sound_root : IsSoundAt new root
+    sound_root =
+        let state : (granule_at without_both root).state ≡ Delegated = ap (λ (x : Granule). x.state) root_is in
+        record {
+          host = λ h. ap (λ (x : Granule). x.realm) root_is;
+          zero = λ h. page_root;
+          rd = ap is_some (realm_other root (λ e. apart (sym e)) ∙ no_realm_there old root (whole.each root) (ap is_rd_state root_was)) ∙ sym (ap is_rd_state state);
+          rec = (whole.each root).rec ∙ ap is_rec_state root_was ∙ sym (ap is_rec_state state);
+        }
 
-  sound_touched : (g : ℕ) → touched g ≡ true → IsSoundAt new g
-  sound_touched g e = elim (g == root) as (λ t. (g == root) ≡ t → IsSoundAt new g) [
-    | true ↦ λ at. subst (IsSoundAt new) (sym (eqb-true g root at)) sound_root
-    | false ↦ λ at. subst (IsSoundAt new) (sym (eqb-true g rd (or_rest (g == root) (g == rd) at e))) sound_rd
-  ] refl
+    taken_touched : (g : ℕ) → touched g ≡ true → is_free old.free g ≡ false
+    taken_touched g e = elim (g == root) as (λ t. (g == root) ≡ t → is_free old.free g ≡ false) [
+      | true ↦ λ at. ap (is_free old.free) (eqb-true g root at) ∙ whole.backed.taken root root_in.inside (λ is. let differ : Undelegated ≡ InRtt = sym is ∙ root_was in cc)
+      | false ↦ λ at. ap (is_free old.free) (eqb-true g rd (or_rest (g == root) (g == rd) at e)) ∙ whole.backed.taken rd rd_inside (λ is. let differ : Undelegated ≡ InRd = sym is ∙ rd_was in cc)
+    ] refl
 
-  taken_touched : (g : ℕ) → touched g ≡ true → is_free old.free g ≡ false
-  taken_touched g e = elim (g == root) as (λ t. (g == root) ≡ t → is_free old.free g ≡ false) [
-    | true ↦ λ at. ap (is_free old.free) (eqb-true g root at) ∙ whole.backed.taken root root_in.inside (λ is. let differ : Undelegated ≡ InRtt = sym is ∙ root_was in cc)
-    | false ↦ λ at. ap (is_free old.free) (eqb-true g rd (or_rest (g == root) (g == rd) at e)) ∙ whole.backed.taken rd rd_inside (λ is. let differ : Undelegated ≡ InRd = sym is ∙ rd_was in cc)
-  ] refl
+    stay_recs : StayRecs old new
+    stay_recs = record {
+      granule_count = count;
+      rec = λ g. refl;
+      granule = λ g at. let away = not_realm InRec refl g at in granule_other g away.0 away.1;
+      auxiliary = λ g at. let away = not_realm InRecAux refl g at in granule_other g away.0 away.1;
+    }
 
-  stay_recs : StayRecs old new
-  stay_recs = record {
-    granule_count = count;
-    rec = λ g. refl;
-    granule = λ g at. let away = not_realm InRec refl g at in granule_other g away.0 away.1;
-    auxiliary = λ g at. let away = not_realm InRecAux refl g at in granule_other g away.0 away.1;
-  }
+    leaves : Leaves old new rd touched
+    leaves = record {
+      stays = stays;
+      realm_places = length-set old.realms rd None;
+      count_places = refl;
+      rec_places = refl;
+      backed = backed_after old new touched stays whole.backed taken_touched;
+      sound = λ g differs e.
+          subst (IsSoundAt new) (sym (either (g == root) (g == rd) e (eqb-true g root) (λ s. absurd (differs (eqb-true g rd s))))) sound_root;
+      sound_rd = sound_rd;
+      realms = realm_other;
+      tables = λ r at. let differ : None ≡ Some r = sym no_realm_now ∙ at in cc;
+      alone = alone;
+      recs = recs_stay old new stay_recs whole refl (λ h g rec r at of is. (r, realm_other g (λ e. no_rec h rec at (of ∙ ap Some e)) ∙ is, omega arith)) rd;
+      vmids_used = used-destroy old.realms old.used used whole.vmids_used rd (subst (λ n. rd < n) (sym whole.realm_places) rd_inside) realm there marked;
+    }
 
-  -- a realm that is there now is another one
-  not_gone : (g : ℕ) (r : RealmAttributes) → realm_at new g ≡ Some r → g ≢ rd
-  not_gone g r at e = let differ : None ≡ Some r = sym no_realm_now ∙ ap (realm_at new) (sym e) ∙ at in cc
+    pub whole_destroyed : IsWhole new
+    whole_destroyed = whole_after old new rd touched leaves whole
 
-  pub whole_destroyed : IsWhole new
-  whole_destroyed = record {
-    backed = backed_after old new touched stays whole.backed taken_touched;
-    realm_places = length-set old.realms rd None ∙ whole.realm_places ∙ sym count;
-    rec_places = whole.rec_places ∙ sym count;
-    each = sound_after old new touched stays whole.each sound_touched;
-    tables = λ g r at.
-        let differs = not_gone g r at in
-        HasTables-alone old.pages old.granules pages_without without_both g r.root (whole.tables g r (sym (realm_other g differs) ∙ at)) (alone g differs);
-    recs = HasRecs_stay old new stay_recs whole.each whole.recs (λ h g rec r at of is. (r, realm_other g (λ e. no_rec h rec at (of ∙ ap Some e)) ∙ is, omega arith));
-  }
-
-  pub machine_destroyed : machine_of new ≡ set (set (machine_of old) rd left) root left
-  machine_destroyed =
-      two_put old new count rd root left left rd_inside root_in.inside apart
-      (cell_of-host new rd sound_rd (ap (λ (x : Granule). x.state) rd_is) refl page_rd)
-      (cell_of-host new root sound_root (ap (λ (x : Granule). x.state) root_is) refl page_root)
-      (λ g within not_rd not_root.
-      let e : touched g ≡ false = neither g root rd not_root not_rd in
-      cell_stays old new g (stays.granule g e) (stays.page g e)
-      (descriptor_stays old new g (realm_other g not_rd) (recs_of_stay old new stay_recs whole.each g)
-      (λ r is. rows-alone old.pages old.granules pages_without without_both g r.root (whole.tables g r is) (alone g not_rd))))
+    pub machine_destroyed : machine_of new ≡ set (set (machine_of old) rd left) root left
+    machine_destroyed =
+        two_put old new count rd root left left rd_inside root_in.inside apart
+        (cell_of-host new rd sound_rd (ap (λ (x : Granule). x.state) rd_is) refl page_rd)
+        (cell_of-host new root sound_root (ap (λ (x : Granule). x.state) root_is) refl page_root)
+        (λ g within not_rd not_root. cell_after old new rd touched leaves whole g (neither g root rd not_root not_rd) not_rd)

@@ -51,7 +51,7 @@ module _ (monitor : MonitorView) (fields : Fields) (view_is : seen_as fields ≡
     realm_place n same = subst (λ k. n < k) (as_many_granules monitor fields view_is whole ∙ sym whole.realm_places) (subst (λ k. k < length monitor.machine) (sym same) inside)
 
     pub realm_read : (n : ℕ) (x y : Option RealmAttributes) → n ≡ rd → x ≡ get_or fields.realms n x → x ≡ y → realm_at fields rd ≡ y
-    realm_read n x y same read is = read_at fields.realms n rd x y same (realm_place rd refl) read is
+    realm_read n x y same read is = read_at fields.realms n rd None x y same (realm_place rd refl) read is
 
     -- with the root that code reads of it
     pub realm_rooted : (n : ℕ) (x : Option RealmAttributes) (realm : RealmAttributes) (root : ℕ) → n ≡ rd → x ≡ get_or fields.realms n x → x ≡ Some realm → root ≡ realm.root

@@ -1,5 +1,5 @@
 -- A DELEGATED granule becomes a table of a realm: RMI_RTT_CREATE over the fields of a monitor.
-use Rattle.std.proofs.Common.{◌≡◌, ℕ, ◌-◌, Bool, true, false, List, [], ◌∷◌, Some, None, Ok, Err, refl, sym, ap, ◌∙◌, subst, arith}
+use Rattle.std.proofs.Common.{◌≡◌, ℕ, ◌-◌, Bool, true, false, List, [], ◌∷◌, Some, None, Ok, Err, refl, sym, ap, ◌∙◌, subst}
 use Rattle.std.specs.Prelude.{◌&&◌, not}
 use Rattle.std.proofs.lemmas.Bool.{and_from, and_left, and_right}
 use Rattle.granule_table.specs.Granules.{granule_at, IsIn}
@@ -24,6 +24,7 @@ use Rattle.rmi_monitor.proofs.Granules.{in_granules, seen_delegated}
 use Rattle.rmi_monitor.proofs.TableMoves.{is_moved_state}
 use Rattle.rmi_monitor.proofs.Refusals.{Passes, passes_from, row_refused, row_passes}
 use Rattle.rmi_monitor.proofs.Outcomes.{check_false, answers_ok}
+use Rattle.rmi_monitor.proofs.RealmAfter.{keeps_all}
 use Rattle.rmi_monitor.proofs.RealmFound.{row_of, nowhere, somewhere}
 use Rattle.rmi_monitor.proofs.RealmCommands.{whole_after_move, seen_after_move}
 use Rattle.rmi_monitor.proofs.Listed.{put_back}
@@ -115,11 +116,11 @@ module _ (monitor : MonitorView) (fields : Fields) (view_is : seen_as fields ≡
 
           pub whole_created : IsWhole new
           whole_created =
-              whole_after_move monitor fields view_is whole rd rd_taken realm there realm refl (omega arith) granules pages free fields.realms (sym (put_back fields.realms rd None (Some realm) there))
+              whole_after_move monitor fields view_is whole rd rd_taken realm there realm (keeps_all realm) granules pages free fields.realms (sym (put_back fields.realms rd None (Some realm) there))
               call.flags call.backed call.tables call.other_realms table is_in_delegated.inside InRtt (Some rd) call.moved (ap is_moved_state was) refl (λ e. cc) (λ e. cc) call.others
 
           pub create_done : seen_as new ≡ after_command outcome monitor
           create_done =
-              seen_after_move monitor fields view_is whole rd rd_taken realm there realm refl (omega arith) granules pages free fields.realms (sym (put_back fields.realms rd None (Some realm) there))
+              seen_after_move monitor fields view_is whole rd rd_taken realm there realm (keeps_all realm) granules pages free fields.realms (sym (put_back fields.realms rd None (Some realm) there))
               call.flags call.backed call.tables call.other_realms table is_in_delegated.inside InRtt (Some rd) call.moved (ap is_moved_state was) refl (λ e. cc) (λ e. cc) call.others
               outcome (held InRtt rd) _ refl (λ i. record (row_of fields rd realm) { rows = call.gains passed.row passed.at i }) created

@@ -1,5 +1,5 @@
 -- A table of a realm is taken away: RMI_RTT_DESTROY over the fields of a monitor.
-use Rattle.std.proofs.Common.{◌≡◌, ℕ, ◌-◌, Bool, true, false, List, [], ◌∷◌, Some, None, Ok, Err, refl, sym, ap, ◌∙◌, subst, arith}
+use Rattle.std.proofs.Common.{◌≡◌, ℕ, ◌-◌, Bool, true, false, List, [], ◌∷◌, Some, None, Ok, Err, refl, sym, ap, ◌∙◌, subst}
 use Rattle.std.specs.Prelude.{◌&&◌}
 use Rattle.std.proofs.lemmas.Bool.{and_from, and_left, and_right}
 use Rattle.granule_addr.specs.Page.{zero_page}
@@ -23,6 +23,7 @@ use Rattle.rmi_monitor.proofs.TableMoves.{is_moved_state}
 use Rattle.rmi_monitor.proofs.LedTo.{led_granule, led_is, led_in}
 use Rattle.rmi_monitor.proofs.Refusals.{Passes, passes_from, or_passes, both_refused, both_pass}
 use Rattle.rmi_monitor.proofs.Outcomes.{check_false, answers_ok}
+use Rattle.rmi_monitor.proofs.RealmAfter.{keeps_all}
 use Rattle.rmi_monitor.proofs.RealmFound.{row_of, nowhere, somewhere}
 use Rattle.rmi_monitor.proofs.RealmCommands.{whole_after_move, seen_after_move}
 use Rattle.rmi_monitor.proofs.Listed.{put_back}
@@ -122,11 +123,11 @@ module _ (monitor : MonitorView) (fields : Fields) (view_is : seen_as fields ≡
 
           pub whole_destroyed : IsWhole new
           whole_destroyed =
-              whole_after_move monitor fields view_is whole rd taken realm there realm refl (omega arith) granules pages free fields.realms (sym (put_back fields.realms rd None (Some realm) there))
+              whole_after_move monitor fields view_is whole rd taken realm there realm (keeps_all realm) granules pages free fields.realms (sym (put_back fields.realms rd None (Some realm) there))
               call.flags call.backed call.tables call.other_realms table lies.inside Delegated None (call.moved table leads) was refl (λ e. refl) (λ e. call.cleared table leads) (λ g differs. call.others g)
 
           pub destroy_done : seen_as new ≡ after_command outcome monitor
           destroy_done =
-              seen_after_move monitor fields view_is whole rd taken realm there realm refl (omega arith) granules pages free fields.realms (sym (put_back fields.realms rd None (Some realm) there))
+              seen_after_move monitor fields view_is whole rd taken realm there realm (keeps_all realm) granules pages free fields.realms (sym (put_back fields.realms rd None (Some realm) there))
               call.flags call.backed call.tables call.other_realms table lies.inside Delegated None (call.moved table leads) was refl (λ e. refl) (λ e. call.cleared table leads) (λ g differs. call.others g)
               outcome left _ (λ i. record left { bytes = call.cleared table leads i }) (λ i. record (row_of fields rd realm) { rows = call.loses i }) destroyed

@@ -117,11 +117,11 @@ module _ (monitor : MonitorView) (fields : Fields) (view_is : seen_as fields ≡
             pub whole_ram : IsWhole (new now)
             whole_ram =
                 subst (λ r. IsWhole (new r)) (sym now_is)
-                (whole_still fields whole rd realm (measured realm ipa count) there refl (omega arith) fields.granules pages free call.flags call.backed call.tables call.other_realms refl call.others)
+                (whole_still fields whole rd realm (measured realm ipa count) there (record { root = refl; vmid = refl; next = omega arith }) fields.granules pages free call.flags call.backed call.tables call.other_realms refl call.others)
 
             pub ripas_done : seen_as (new now) ≡ after_command outcome monitor
             ripas_done =
                 ap (λ r. seen_as (new r)) now_is
                 ∙ after_put monitor fields view_is whole rd taken outcome (new (measured realm ipa count)) refl refl call.flags _ _
                 (λ i. realm_row (measured realm ipa count) (recs_of fields.granules fields.recs rd) (call.gains i)) gives_ram
-                (machine_still fields whole rd realm (measured realm ipa count) there refl (omega arith) fields.granules pages free call.flags call.backed call.tables call.other_realms refl call.others)
+                (machine_still fields whole rd realm (measured realm ipa count) there (record { root = refl; vmid = refl; next = omega arith }) fields.granules pages free call.flags call.backed call.tables call.other_realms refl call.others)

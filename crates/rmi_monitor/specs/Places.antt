@@ -33,8 +33,8 @@ are_distinct [] = true
 are_distinct (granule ∷ others) = is_apart_from granule others && are_distinct others
 
 -- granules are DELEGATED, none is there twice, and those after the first are so many
-abbrev pub is_fit : List Granule → ℕ → List ℕ → ℕ → Bool
-is_fit granules first others count =
+abbrev pub are_fit_for_rec : List Granule → ℕ → List ℕ → ℕ → Bool
+are_fit_for_rec granules first others count =
     list_all (is_delegated_at granules) (first ∷ others) && are_distinct (first ∷ others) && length others == count
 
 -- a granule of the machine is in a state

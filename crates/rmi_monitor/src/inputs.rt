@@ -1,11 +1,9 @@
 //! Checks of what a command is given.
 ghost use Rattle.std.specs.Prelude.{◌≡◌, ◌+◌, ◌-◌, ◌/◌, ◌==◌, ◌&&◌, nat_le, Some, None, if◌then◌else◌};
 ghost use Rattle.realm_model.specs.Rows.{is_table_place};
-ghost use Rattle.realm_model.specs.Command.Check.{is_protected, error_rtt};
+ghost use Rattle.realm_model.specs.Command.Check.{is_protected};
 
 use granule_addr::{IPA_WIDTH, IpaGran, Level, is_protected};
-use realm_model::{Rmi, Status};
-use rtt::Rtt;
 
 // The IPA granule of that number, where it is protected.
 pub fn protected(ipa: u32) -> Option<IpaGran>
@@ -44,15 +42,5 @@ pub fn table_level(ipa: u32, level: u8) -> Option<Level>
         Level::new(level)
     } else {
         None
-    }
-}
-
-// The refusal of a call on tables.
-pub fn rtt_refusal(refusal: Rtt) -> Rmi
-    ensures { result ≡ error_rtt refusal.level }
-{
-    Rmi {
-        status: Status::Rtt,
-        index: refusal.level.number(),
     }
 }

@@ -15,6 +15,7 @@ mod realm;
 mod rec;
 mod recs;
 mod table;
+mod vmids;
 
 pub use monitor::Monitor;
 

@@ -1,15 +1,13 @@
 //! Commands on realms.
 ghost use Rattle.std.specs.Prelude.{◌≡◌, ◌<◌, option_map, length};
-ghost use Rattle.std.specs.List.{list_any};
 ghost use Rattle.std.specs.Option.{option_copied};
 ghost use Rattle.realm_model.specs.Machine.{cell_at};
 ghost use Rattle.realm_model.specs.Command.Realm as command;
 ghost use Rattle.rmi_monitor.specs.View.{IsTaken, Answers, seen_in, after_command, create_realm, attributes_of};
-ghost use Rattle.rmi_monitor.specs.Places.{are_fit_for_realm, is_realm_with};
+ghost use Rattle.rmi_monitor.specs.Places.{are_fit_for_realm};
 
 use crate::Monitor;
-use crate::places::is_delegated;
-use crate::recs::has_rec;
+use crate::places::{is_delegated, release, tables_of};
 use granule_addr::{Gran, Vmid};
 use granule_table::GranuleTable;
 use page_arena::PageStore;
@@ -17,15 +15,8 @@ use realm_model::{GranuleState, Rmi};
 use realm_objects::RealmDesc;
 use rtt::Tables;
 
-// Whether a realm uses the VMID.
-fn is_used(realms: &[Option<RealmDesc>], vmid: Vmid) -> bool
-    ensures { result ≡ list_any (is_realm_with vmid) realms.now }
-{
-    realms.iter().any(|place| matches!(place, Some(realm) if realm.vmid() == vmid))
-}
-
 // Whether two granules and a VMID can be those of a new realm.
-fn are_fit(granules: &GranuleTable, rd: Gran, root: Gran, vmid: Vmid, vmids: u8) -> bool
+fn can_be_realm(granules: &GranuleTable, rd: Gran, root: Gran, vmid: Vmid, vmids: u8) -> bool
     requires rd { rd < length granules.now }
     requires root { root < length granules.now }
     ensures { result ≡ are_fit_for_realm granules.now rd root vmid vmids }
@@ -47,16 +38,17 @@ impl<S: PageStore> Monitor<S> {
         ensures answer { Answers result (create_realm self.old rd root vmid) }
         ensures machine { self.new ≡ after_command (create_realm self.old rd root vmid) self.old }
     {
-        if is_used(&self.realms, vmid) {
+        if self.used.contains(vmid) {
             return Err(Rmi::INPUT);
         }
-        if !are_fit(&self.granules, rd, root, vmid, self.vmids) {
+        if !can_be_realm(&self.granules, rd, root, vmid, self.vmids) {
             return Err(Rmi::INPUT);
         }
         self.granules
             .shift(rd, GranuleState::Delegated, GranuleState::Rd, Some(rd));
         Tables { rd, root }.open_root(&mut self.store, &mut self.granules);
         self.realms[rd.number() as usize] = Some(RealmDesc::new(vmid, root));
+        self.used.insert(vmid);
         Ok(())
     }
 
@@ -91,19 +83,15 @@ impl<S: PageStore> Monitor<S> {
         let Some(realm) = &self.realms[rd.number() as usize] else {
             return Err(Rmi::INPUT);
         };
-        if has_rec(&self.granules, &self.recs, rd) {
+        let recs = self.rec_counts[rd.number() as usize];
+        if recs > 0 {
             return Err(Rmi::REALM);
         }
-        let tables = Tables {
-            rd,
-            root: realm.root(),
-        };
-        if !tables.close_root(&mut self.store, &mut self.granules) {
+        if !tables_of(rd, realm).close_root(&mut self.store, &mut self.granules) {
             return Err(Rmi::REALM);
         }
-        self.store.fill(rd, 0);
-        self.granules
-            .shift(rd, GranuleState::Rd, GranuleState::Delegated, None);
+        release(&mut self.store, &mut self.granules, rd, GranuleState::Rd);
+        self.used.remove(realm.vmid());
         self.realms[rd.number() as usize] = None;
         Ok(())
     }

@@ -126,7 +126,7 @@ fn map<S: PageStore>(
     ensures tables { HasTables (S.page_bytes store.new) granules.new tables.now.rd tables.now.root }
 {
     assert!(rt; is_delegated(granules, page));
-    tables.map(store, granules, page, ipa, ripas)
+    tables.map(store, granules, page, ipa, Some(ripas))
 }
 
 fn init<S: PageStore>(

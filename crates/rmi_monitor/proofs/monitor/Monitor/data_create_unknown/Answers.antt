@@ -1,8 +1,6 @@
-use Rattle.std.proofs.Common.{ℕ, ◌<◌, Some, sym, ap, subst, ◌∙◌, None, refl}
-use Rattle.realm_model.specs.Rows.{walk}
+use Rattle.std.proofs.Common.{ℕ, ◌<◌, sym, ap, subst, ◌∙◌, None, refl}
 use Rattle.realm_model.specs.Command.Check.{error_input, is_protected}
 use Rattle.realm_model.specs.Command.Data.{data_create_unknown}
-use Rattle.rtt.specs.contracts.walk.Walk.{the_view as walk_view}
 use Rattle.rtt.specs.Tables.{rows}
 use Rattle.rtt.specs.Calls.{map_refusal}
 use Rattle.rmi_monitor.specs.View.{Answers, seen_in, after_command}
@@ -54,11 +52,6 @@ returns-then-not-is_delegated g c =
       machine = after_err c.args.self.now error_input _ held;
     }
 
-pub walk-walk-requires-clause-tables : goal.walk-walk-requires-clause-tables
-walk-walk-requires-clause-tables g c =
-    c.self.invariant.tables c.args.rd (record c.in-Some.realm { root = c.root.result })
-    (realm_rooted c.args.self.now _ c.self.view_is c.self.invariant c.args.rd c.requires.rd_taken.inside c.number.result c.index.result.now c.in-Some.realm c.root.result c.number.ensures.value c.index.ensures c.in-Some.is c.root.ensures)
-
 pub map-requires-clause-tables : goal.map-requires-clause-tables
 map-requires-clause-tables g c =
     c.self.invariant.tables c.args.rd (record c.in-Some.realm { root = c.root.result })
@@ -69,9 +62,7 @@ invariant_of-self g c =
     unknown_whole_after c.args.self.now _ c.self.view_is c.self.invariant c.args.rd c.requires.rd_taken c.args.page c.requires.page_taken c.in-Some-protected.ipa (record c.in-Some.realm { root = c.root.result })
     (realm_rooted c.args.self.now _ c.self.view_is c.self.invariant c.args.rd c.requires.rd_taken.inside c.number.result c.index.result.now c.in-Some.realm c.root.result c.number.ensures.value c.index.ensures c.in-Some.is c.root.ensures)
     (protected_found c.args.ipa c.in-Some-protected.ipa c.in-Some-protected.ensures).0 (sym c.if-not-is_delegated.ensures)
-    _
-    (ap (λ (level : ℕ). walk (rows (g.S.PageStore.page_bytes c.self.inside.store) c.root.result) c.in-Some-protected.ipa level) (sym c.last.ensures)
-    ∙ c.walk-walk.ensures.walk ∙ (λ i. Some (sym (ap walk_view c.walk-inside.view_is ∙ c.walk.view_is) i))) _ _ _ c.map.ensures.tables c.map.ensures.backed c.map.ensures.flags c.map.ensures.others c.map.ensures.other_realms
+    _ _ _ c.map.ensures.tables c.map.ensures.backed c.map.ensures.flags c.map.ensures.others c.map.ensures.other_realms
     c.map.result c.map.ensures.answer c.map.ensures.rows c.map.ensures.moved c.map.ensures.unchanged
 
 pub returns-clause-answer : goal.returns-clause-answer
@@ -92,8 +83,6 @@ returns-clause-machine g c =
     unknown_seen_after c.args.self.now _ c.self.view_is c.self.invariant c.args.rd c.requires.rd_taken c.args.page c.requires.page_taken c.in-Some-protected.ipa (record c.in-Some.realm { root = c.root.result })
     (realm_rooted c.args.self.now _ c.self.view_is c.self.invariant c.args.rd c.requires.rd_taken.inside c.number.result c.index.result.now c.in-Some.realm c.root.result c.number.ensures.value c.index.ensures c.in-Some.is c.root.ensures)
     told.0 (sym c.if-not-is_delegated.ensures)
-    _
-    (ap (λ (level : ℕ). walk (rows (g.S.PageStore.page_bytes c.self.inside.store) c.root.result) c.in-Some-protected.ipa level) (sym c.last.ensures)
-    ∙ c.walk-walk.ensures.walk ∙ (λ i. Some (sym (ap walk_view c.walk-inside.view_is ∙ c.walk.view_is) i))) _ _ _ c.map.ensures.tables c.map.ensures.backed c.map.ensures.flags c.map.ensures.others c.map.ensures.other_realms
+    _ _ _ c.map.ensures.tables c.map.ensures.backed c.map.ensures.flags c.map.ensures.others c.map.ensures.other_realms
     c.map.result c.map.ensures.answer c.map.ensures.rows c.map.ensures.moved c.map.ensures.unchanged
     ∙ ap (λ (ipa : ℕ). after_command (data_create_unknown (seen_in c.args.self.now c.args.rd) (seen_in c.args.self.now c.args.page) ipa) c.args.self.now) told.1

@@ -19,14 +19,14 @@ index-requires g c =
 
 pub returns-in_default : goal.returns-in_default
 returns-in_default g c =
-    on_none c.args.self.now _ c.self.view_is c.self.invariant (λ rd number. guest_write rd number c.args.ipa c.args.offset c.args.value) c.args.rec c.requires c.args.self.now
+    on_none c.args.self.now _ c.self.view_is c.self.invariant (λ rd number. guest_write rd number c.args.ipa c.args.offset c.args.value) c.args.rec c.args.self.now
     (rec_read c.args.self.now _ c.self.view_is c.self.invariant c.args.rec c.requires c.number.result c.number.ensures.value _ None c.index.ensures c.in_default.is) refl
 
 pub realm_of-requires : goal.realm_of-requires
 realm_of-requires g c = in_granules c.args.self.now _ c.self.view_is c.self.invariant c.args.rec c.requires
 
-pub returns-in_default-realm_of : goal.returns-in_default-realm_of
-returns-in_default-realm_of g c =
+pub unreachable-requires : goal.unreachable-requires
+unreachable-requires g c =
     let at = rec_read c.args.self.now _ c.self.view_is c.self.invariant c.args.rec c.requires c.number.result c.number.ensures.value _ (Some c.in-Some.kept) c.index.ensures c.in-Some.is in
     no_rd _ c.self.invariant c.args.rec c.in-Some.kept at (sym c.realm_of.ensures ∙ c.in_default-realm_of.is)
 
@@ -36,8 +36,8 @@ index-requires-2 g c =
     let place = realm_place _ c.self.invariant c.args.rec c.in-Some.kept at c.in-Some-realm_of.rd (sym c.realm_of.ensures ∙ c.in-Some-realm_of.is) c.number-2.result c.number-2.ensures.value in
     omega arith
 
-pub returns-in_default-index : goal.returns-in_default-index
-returns-in_default-index g c =
+pub unreachable-requires-2 : goal.unreachable-requires-2
+unreachable-requires-2 g c =
     let at = rec_read c.args.self.now _ c.self.view_is c.self.invariant c.args.rec c.requires c.number.result c.number.ensures.value _ (Some c.in-Some.kept) c.index.ensures c.in-Some.is in
     let of = sym c.realm_of.ensures ∙ c.in-Some-realm_of.is in
     no_realm _ c.self.invariant c.args.rec c.in-Some.kept at c.in-Some-realm_of.rd of
@@ -48,7 +48,7 @@ returns-in_default-protected g c =
     let at = rec_read c.args.self.now _ c.self.view_is c.self.invariant c.args.rec c.requires c.number.result c.number.ensures.value _ (Some c.in-Some.kept) c.index.ensures c.in-Some.is in
     let kept = kept_there _ c.self.invariant c.args.rec c.in-Some.kept at c.in-Some-realm_of.rd (sym c.realm_of.ensures ∙ c.in-Some-realm_of.is)
     c.number-2.result c.number-2.ensures.value _ c.in-Some-index.realm c.index-2.ensures c.in-Some-index.is in
-    write_unprotected c.args.self.now _ c.self.view_is c.self.invariant c.args.rec c.requires c.in-Some.kept c.in-Some-realm_of.rd c.in-Some-index.realm kept c.args.ipa c.args.offset c.args.value
+    write_unprotected c.args.self.now _ c.self.view_is c.self.invariant c.args.rec c.in-Some.kept c.in-Some-realm_of.rd c.in-Some-index.realm kept c.args.ipa c.args.offset c.args.value
     (test_failed (is_protected c.args.ipa) c.args.ipa c.protected.result c.protected.ensures c.in_default-protected.is)
 
 pub returns-then-is_ready : goal.returns-then-is_ready
@@ -57,7 +57,7 @@ returns-then-is_ready g c =
     let kept = kept_there _ c.self.invariant c.args.rec c.in-Some.kept at c.in-Some-realm_of.rd (sym c.realm_of.ensures ∙ c.in-Some-realm_of.is)
     c.number-2.result c.number-2.ensures.value _ c.in-Some-index.realm c.index-2.ensures c.in-Some-index.is in
     let protected = test_held (is_protected c.args.ipa) c.args.ipa c.in-Some-protected.granule c.protected.result c.protected.ensures c.in-Some-protected.is in
-    write_ready c.args.self.now _ c.self.view_is c.self.invariant c.args.rec c.requires c.in-Some.kept c.in-Some-realm_of.rd c.in-Some-index.realm kept c.args.ipa c.args.offset c.args.value
+    write_ready c.args.self.now _ c.self.view_is c.self.invariant c.args.rec c.in-Some.kept c.in-Some-realm_of.rd c.in-Some-index.realm kept c.args.ipa c.args.offset c.args.value
     protected.0 (sym (c.is_ready.ensures c.args.rec) ∙ c.if-is_ready.true)
 
 pub walk-walk-requires-clause-tables : goal.walk-walk-requires-clause-tables
@@ -75,7 +75,7 @@ returns-in_default-page g c =
     c.number-2.result c.number-2.ensures.value _ c.in-Some-index.realm c.index-2.ensures c.in-Some-index.is in
     let protected = test_held (is_protected c.args.ipa) c.args.ipa c.in-Some-protected.granule c.protected.result c.protected.ensures c.in-Some-protected.is in
     let ends = (λ i. walk (rows (g.S.PageStore.page_bytes c.self.inside.store) (sym c.root.ensures i)) (sym protected.1 i) (sym c.last.ensures i)) ∙ c.walk-walk.ensures.walk in
-    write_unassigned c.args.self.now _ c.self.view_is c.self.invariant c.args.rec c.requires c.in-Some.kept c.in-Some-realm_of.rd c.in-Some-index.realm kept c.args.ipa c.args.offset c.args.value
+    write_unassigned c.args.self.now _ c.self.view_is c.self.invariant c.args.rec c.in-Some.kept c.in-Some-realm_of.rd c.in-Some-index.realm kept c.args.ipa c.args.offset c.args.value
     protected.0 (sym (c.is_ready.ensures c.args.rec) ∙ c.if-is_ready.false) c.walk-walk.result ends
     _ (c.number-in_default-page.ensures.value ∙ ap (λ (w : Walk). w.level) c.walk.view_is)
     (ap (λ (w : Walk). data_of w.row) (sym c.walk.view_is) ∙ sym c.page.ensures ∙ c.in_default-page.is)
@@ -99,6 +99,6 @@ returns g c =
     let protected = test_held (is_protected c.args.ipa) c.args.ipa c.in-Some-protected.granule c.protected.result c.protected.ensures c.in-Some-protected.is in
     let ends = (λ i. walk (rows (g.S.PageStore.page_bytes c.self.inside.store) (sym c.root.ensures i)) (sym protected.1 i) (sym c.last.ensures i)) ∙ c.walk-walk.ensures.walk in
     let leads = ap (λ (w : Walk). data_of w.row) (sym c.walk.view_is) ∙ sym c.page.ensures ∙ c.in-Some-page.is in
-    write_done c.args.self.now _ c.self.view_is c.self.invariant c.args.rec c.requires c.in-Some.kept c.in-Some-realm_of.rd c.in-Some-index.realm kept c.args.ipa c.args.offset c.args.value
+    write_done c.args.self.now _ c.self.view_is c.self.invariant c.args.rec c.in-Some.kept c.in-Some-realm_of.rd c.in-Some-index.realm kept c.args.ipa c.args.offset c.args.value
     protected.0 (sym (c.is_ready.ensures c.args.rec) ∙ c.if-is_ready.false) c.walk-walk.result ends
     c.in-Some-page.page leads (c.walk-walk.ensures.page c.in-Some-page.page leads) _ _ c.set.ensures.written c.set.ensures.flags

@@ -97,7 +97,7 @@ returns-in-Err-clause-answer g c = answers_err (Unit {0}) c.rtt_refusal.result _
 
 pub returns-in-Err-clause-machine : goal.returns-in-Err-clause-machine
 returns-in-Err-clause-machine g c =
-    (λ i. seen_as (fields_of c.self.inside.vmids c.self.inside.aux (c.in-Err.ensures.unchanged.1 i) (c.in-Err.ensures.unchanged.0 i) (c.create_table.ensures.flags i) c.self.inside.realms.items c.self.inside.recs.items))
+    (λ i. seen_as (fields_of c.self.inside.vmids c.self.inside.aux c.self.inside.used (c.in-Err.ensures.unchanged.1 i) (c.in-Err.ensures.unchanged.0 i) (c.create_table.ensures.flags i) c.self.inside.realms.items c.self.inside.rec_counts.items c.self.inside.recs.items))
     ∙ c.self.view_is ∙ after_err c.args.self.now c.rtt_refusal.result _ (refused g c)
 
 -- ---- the granule is a table

@@ -35,8 +35,8 @@ returns-in_default-clause-answer g c = answers_err (Unit {0}) error_input _ (no_
 
 pub returns-in_default-clause-machine : goal.returns-in_default-clause-machine
 returns-in_default-clause-machine g c =
-    (λ i. seen_as (fields_of c.self.inside.vmids c.self.inside.aux c.self.inside.granules (g.S.PageStore.page_bytes c.self.inside.store) (g.S.PageStore.free_flags c.self.inside.store)
-    (put_back c.self.inside.realms.items c.number.result c.index_mut.result.now c.index_mut.result.now (sym c.index_mut.ensures.value ∙ (λ j. c.index_mut.result.now)) i) c.self.inside.recs.items))
+    (λ i. seen_as (fields_of c.self.inside.vmids c.self.inside.aux c.self.inside.used c.self.inside.granules (g.S.PageStore.page_bytes c.self.inside.store) (g.S.PageStore.free_flags c.self.inside.store)
+    (put_back c.self.inside.realms.items c.number.result c.index_mut.result.now c.index_mut.result.now (sym c.index_mut.ensures.value ∙ (λ j. c.index_mut.result.now)) i) c.self.inside.rec_counts.items c.self.inside.recs.items))
     ∙ c.self.view_is ∙ after_err c.args.self.now error_input _ (no_realm g c)
 
 -- ---- no pages of one table
@@ -52,8 +52,8 @@ returns-in_default-protected_run-clause-answer g c = answers_err (Unit {0}) erro
 
 pub returns-in_default-protected_run-clause-machine : goal.returns-in_default-protected_run-clause-machine
 returns-in_default-protected_run-clause-machine g c =
-    (λ i. seen_as (fields_of c.self.inside.vmids c.self.inside.aux c.self.inside.granules (g.S.PageStore.page_bytes c.self.inside.store) (g.S.PageStore.free_flags c.self.inside.store)
-    (put_back c.self.inside.realms.items c.number.result c.index_mut.result.now (Some c.in-Some.realm) (sym c.index_mut.ensures.value ∙ c.in-Some.is) i) c.self.inside.recs.items))
+    (λ i. seen_as (fields_of c.self.inside.vmids c.self.inside.aux c.self.inside.used c.self.inside.granules (g.S.PageStore.page_bytes c.self.inside.store) (g.S.PageStore.free_flags c.self.inside.store)
+    (put_back c.self.inside.realms.items c.number.result c.index_mut.result.now (Some c.in-Some.realm) (sym c.index_mut.ensures.value ∙ c.in-Some.is) i) c.self.inside.rec_counts.items c.self.inside.recs.items))
     ∙ c.self.view_is ∙ after_err c.args.self.now error_input _ (no_run g c)
 
 -- ---- no NEW realm
@@ -70,8 +70,8 @@ returns-then-not-is_new-clause-answer g c = answers_err (Unit {0}) error_realm _
 
 pub returns-then-not-is_new-clause-machine : goal.returns-then-not-is_new-clause-machine
 returns-then-not-is_new-clause-machine g c =
-    (λ i. seen_as (fields_of c.self.inside.vmids c.self.inside.aux c.self.inside.granules (g.S.PageStore.page_bytes c.self.inside.store) (g.S.PageStore.free_flags c.self.inside.store)
-    (put_back c.self.inside.realms.items c.number.result c.index_mut.result.now (Some c.in-Some.realm) (sym c.index_mut.ensures.value ∙ c.in-Some.is) i) c.self.inside.recs.items))
+    (λ i. seen_as (fields_of c.self.inside.vmids c.self.inside.aux c.self.inside.used c.self.inside.granules (g.S.PageStore.page_bytes c.self.inside.store) (g.S.PageStore.free_flags c.self.inside.store)
+    (put_back c.self.inside.realms.items c.number.result c.index_mut.result.now (Some c.in-Some.realm) (sym c.index_mut.ensures.value ∙ c.in-Some.is) i) c.self.inside.rec_counts.items c.self.inside.recs.items))
     ∙ c.self.view_is ∙ after_err c.args.self.now error_realm _ (not_new g c)
 
 -- ---- the call
@@ -96,8 +96,8 @@ returns-in-Err-clause-answer g c = answers_err (Unit {0}) c.rtt_refusal.result _
 
 pub returns-in-Err-clause-machine : goal.returns-in-Err-clause-machine
 returns-in-Err-clause-machine g c =
-    (λ i. seen_as (fields_of c.self.inside.vmids c.self.inside.aux c.self.inside.granules (c.in-Err.ensures.unchanged i) (c.init_ripas.ensures.flags i)
-    (put_back c.self.inside.realms.items c.number.result c.index_mut.result.now (Some c.in-Some.realm) (sym c.index_mut.ensures.value ∙ c.in-Some.is) i) c.self.inside.recs.items))
+    (λ i. seen_as (fields_of c.self.inside.vmids c.self.inside.aux c.self.inside.used c.self.inside.granules (c.in-Err.ensures.unchanged i) (c.init_ripas.ensures.flags i)
+    (put_back c.self.inside.realms.items c.number.result c.index_mut.result.now (Some c.in-Some.realm) (sym c.index_mut.ensures.value ∙ c.in-Some.is) i) c.self.inside.rec_counts.items c.self.inside.recs.items))
     ∙ c.self.view_is ∙ after_err c.args.self.now c.rtt_refusal.result _ (refused g c)
 
 -- ---- the pages are RAM
@@ -130,8 +130,8 @@ now_is g c =
 
 pub invariant_of-self-2 : goal.invariant_of-self-2
 invariant_of-self-2 g c =
-    subst (λ n. IsWhole (fields_of c.self.inside.vmids c.self.inside.aux c.self.inside.granules (g.S.PageStore.page_bytes c.init_ripas.new.store) (g.S.PageStore.free_flags c.init_ripas.new.store)
-    (slice_set c.self.inside.realms.items n (Some c.measure.new.self)) c.self.inside.recs.items)) (sym c.number.ensures.value)
+    subst (λ n. IsWhole (fields_of c.self.inside.vmids c.self.inside.aux c.self.inside.used c.self.inside.granules (g.S.PageStore.page_bytes c.init_ripas.new.store) (g.S.PageStore.free_flags c.init_ripas.new.store)
+    (slice_set c.self.inside.realms.items n (Some c.measure.new.self)) c.self.inside.rec_counts.items c.self.inside.recs.items)) (sym c.number.ensures.value)
     (whole_ram c.args.self.now _ c.self.view_is c.self.invariant c.args.rd c.args.ipa c.args.count c.requires c.in-Some.realm
     (realm_read c.args.self.now _ c.self.view_is c.self.invariant c.args.rd c.requires.inside c.number.result c.index_mut.result.now (Some c.in-Some.realm) c.number.ensures.value c.index_mut.ensures.value c.in-Some.is)
     (test_held (is_run c.args.ipa c.args.count) c.args.ipa c.in-Some-protected_run.first c.protected_run.result c.protected_run.ensures c.in-Some-protected_run.is).0
@@ -146,8 +146,8 @@ returns-clause-answer g c =
 
 pub returns-clause-machine : goal.returns-clause-machine
 returns-clause-machine g c =
-    (λ i. seen_as (fields_of c.self.inside.vmids c.self.inside.aux c.self.inside.granules (g.S.PageStore.page_bytes c.init_ripas.new.store) (g.S.PageStore.free_flags c.init_ripas.new.store)
-    (slice_set c.self.inside.realms.items (c.number.ensures.value i) (Some c.measure.new.self)) c.self.inside.recs.items))
+    (λ i. seen_as (fields_of c.self.inside.vmids c.self.inside.aux c.self.inside.used c.self.inside.granules (g.S.PageStore.page_bytes c.init_ripas.new.store) (g.S.PageStore.free_flags c.init_ripas.new.store)
+    (slice_set c.self.inside.realms.items (c.number.ensures.value i) (Some c.measure.new.self)) c.self.inside.rec_counts.items c.self.inside.recs.items))
     ∙ ripas_done c.args.self.now _ c.self.view_is c.self.invariant c.args.rd c.args.ipa c.args.count c.requires c.in-Some.realm
     (realm_read c.args.self.now _ c.self.view_is c.self.invariant c.args.rd c.requires.inside c.number.result c.index_mut.result.now (Some c.in-Some.realm) c.number.ensures.value c.index_mut.ensures.value c.in-Some.is)
     (test_held (is_run c.args.ipa c.args.count) c.args.ipa c.in-Some-protected_run.first c.protected_run.result c.protected_run.ensures c.in-Some-protected_run.is).0

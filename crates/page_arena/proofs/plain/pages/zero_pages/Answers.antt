@@ -1,7 +1,7 @@
 use Rattle.std.proofs.Common.{◌++◌, ◌∷◌, [], List, ℕ, ap, ◌∙◌}
 use Rattle.std.proofs.lemmas.List.{replicate_more}
 use Rattle.granule_addr.specs.Page.{page_of, zero_page}
-use Rattle.page_arena.proofs.plain.clear.zero_pages.Goals as goal
+use Rattle.page_arena.proofs.plain.pages.zero_pages.Goals as goal
 
 pub loop-i-preserved : goal.loop-i-preserved
 unfolding page_of
