@@ -1,4 +1,9 @@
+pub mod WordLaws
+pub mod FiniteRowsLaws
+pub mod PlaceLaws
+pub mod FrameLaws
 pub mod EntryKinds
+pub mod StartTables
 pub mod TableAt
 pub mod RowsIn
 pub mod RowRuns

@@ -8,7 +8,7 @@ use Rattle.realm_model.proofs.Maps.{place_total}
 use Rattle.realm_model.proofs.Rows.{is_place as is_at, get-put_rows_other, all_rows_at}
 use Rattle.realm_model.proofs.Booleans.{false_from}
 use Rattle.std.proofs.lemmas.Option.{same_Some}
-use Rattle.rtt.specs.FiniteRowsLaws.{place_tells}
+use Rattle.rtt.proofs.FiniteRowsLaws.{place_tells}
 
 pub get-insert_row : (rows : Rows) (place q : ℕ × ℕ) (row : Row) → get (insert rows place row) q ≡ cond (is_at q place) (Some row) (get rows q)
 get-insert_row rows place q row = get-insert place_total rows place row q

@@ -3,24 +3,26 @@ use Rattle.std.proofs.Common.{◌≡◌, ◌≢◌, ℕ, zero, suc, ◌/◌, ◌
 use Rattle.std.proofs.lemmas.Bool.{cases_eq}
 use Rattle.std.proofs.lemmas.Option.{same_Some}
 use Rattle.granule_addr.specs.Ipa.{covered_count, entry_index}
+use Rattle.granule_addr.specs.Root.{start_table}
+use Rattle.granule_addr.specs.declared.root.Root.{Root}
 use Rattle.granule_table.specs.declared.granule.Granule.{Granule}
 use Rattle.realm_model.specs.declared.states.Hipas.TheVariants.{Unassigned}
 use Rattle.realm_model.specs.Rows.{Row}
 use Rattle.rtt.specs.Tables.{Entries, table_of, in_table, table_at, entry_at}
 use Rattle.rtt.specs.Realm.{IsInside, HasGranules, served_count}
 use Rattle.rtt.proofs.EntryKinds.{table_of-unassigned}
-use Rattle.rtt.specs.PlaceLaws.{option_cases, index_below, table_of_entry, index_of_entry, entry_of_index, is_under, under_cases, under_true, under_false}
+use Rattle.rtt.proofs.PlaceLaws.{option_cases, index_below, table_of_entry, index_of_entry, entry_of_index, is_under, under_cases, under_true, under_false}
 use Rattle.rtt.proofs.TableAt.{table_at-next, table_at-same}
 
 -- The entry is written in a table, in place of another. The table below the one, and that below the other, if there are
 -- such, have UNASSIGNED entries alone. No other entry of the realm's tables changes, but for those of a table that goes.
-pub record Writes (entries new : Entries) (root level ipa table : ℕ) (entry : Row) : Type 0 where
-  pub inside : IsInside level ipa
+pub record Writes (entries new : Entries) (root : Root) (level ipa table : ℕ) (entry : Row) : Type 0 where
+  pub inside : IsInside root.width level ipa
   pub at : table_at entries root level ipa ≡ Some table
   pub wrote : new table (entry_index level ipa) ≡ entry
   pub old_below : (child index : ℕ) → level < 3 → table_of (entries table (entry_index level ipa)) ≡ Some child → index < 512 → (entries child index).hipas ≡ Unassigned
   pub new_below : (child index : ℕ) → level < 3 → table_of entry ≡ Some child → index < 512 → (new child index).hipas ≡ Unassigned
-  pub kept : (other_level other other_table index : ℕ) → IsInside other_level other → table_at entries root other_level other ≡ Some other_table → index < 512
+  pub kept : (other_level other other_table index : ℕ) → IsInside root.width other_level other → table_at entries root other_level other ≡ Some other_table → index < 512
       → (other_level ≡ suc level → other / covered_count level ≢ ipa / covered_count level)
       → ((other_table ≡ table) × (index ≡ entry_index level ipa) → ⊥)
       → new other_table index ≡ entries other_table index
@@ -33,7 +35,7 @@ none_below : (entries : Entries) (o : Option ℕ) (index : ℕ) → ((child : �
 none_below entries None index h = refl
 none_below entries (Some child) index h = table_of-unassigned (entries child index) (h child refl)
 
-module _ (entries new : Entries) (granules : List Granule) (rd root level ipa table : ℕ) (entry : Row)
+module _ (entries new : Entries) (granules : List Granule) (rd : ℕ) (root : Root) (level ipa table : ℕ) (entry : Row)
     (own : HasGranules entries granules rd root) (w : Writes entries new root level ipa table entry) where
   abbrev old_entry : Row
   old_entry = entries table (entry_index level ipa)
@@ -43,7 +45,7 @@ module _ (entries new : Entries) (granules : List Granule) (rd root level ipa ta
   table_there other same = table_at-same entries root level other ipa w.inside.most (table_of_entry level other ipa same) ∙ w.at
 
   -- an entry of another place is another entry
-  pub same_entry : (other_level other other_table : ℕ) → IsInside other_level other → table_at entries root other_level other ≡ Some other_table
+  pub same_entry : (other_level other other_table : ℕ) → IsInside root.width other_level other → table_at entries root other_level other ≡ Some other_table
       → other_table ≡ table → entry_index other_level other ≡ entry_index level ipa
       → (other_level ≡ level) × (other / covered_count level ≡ ipa / covered_count level)
   same_entry other_level other other_table inside at same index =
@@ -60,7 +62,7 @@ module _ (entries new : Entries) (granules : List Granule) (rd root level ipa ta
       ∙ table_at-next entries root level other table w.inside.least (table_there other same)
       ∙ ap (λ (i : ℕ). table_of (entries table i)) (index_of_entry level other ipa same)
 
-  step : (p other : ℕ) → IsInside p other → p < 3 → table_at new root p other ≡ cond (is_under (suc level) level ipa p other) (table_of entry) (table_at entries root p other)
+  step : (p other : ℕ) → IsInside root.width p other → p < 3 → table_at new root p other ≡ cond (is_under (suc level) level ipa p other) (table_of entry) (table_at entries root p other)
       → in_table (λ t. table_of (new t (entry_index p other))) (table_at new root p other)
       ≡ cond (is_under (suc level) level ipa (suc p) other) (table_of entry) (in_table (λ t. table_of (entries t (entry_index p other))) (table_at entries root p other))
   step p other inside high ih =
@@ -113,7 +115,7 @@ module _ (entries new : Entries) (granules : List Granule) (rd root level ipa ta
       ]
 
   -- The tables afterwards: the one below the entry, and all others as they were.
-  pub table_at-written : (other_level other : ℕ) → IsInside other_level other
+  pub table_at-written : (other_level other : ℕ) → IsInside root.width other_level other
       → table_at new root other_level other ≡ cond (is_under (suc level) level ipa other_level other) (table_of entry) (table_at entries root other_level other)
   unfolding table_at
   table_at-written other_level other inside = written other_level inside.least inside.most
@@ -122,12 +124,12 @@ module _ (entries new : Entries) (granules : List Granule) (rd root level ipa ta
       written zero low high = absurd (omega arith)
       written (suc zero) low high =
           let off : is_under (suc level) level ipa 1 other ≡ false = under_false (suc level) level ipa 1 other (λ q _. let k = w.inside.least in omega arith) in
-          sym (ap (λ b. cond b (table_of entry) (Some root)) off)
+          sym (ap (λ b. cond b (table_of entry) (Some (start_table root other))) off)
       written (suc (suc l)) low high =
           step (suc l) other (record { least = omega arith; most = omega arith; below = inside.below }) (omega arith) (written (suc l) (omega arith) (omega arith))
 
   -- a table afterwards is new, or was there
-  pub table_cases : (l i t : ℕ) → IsInside l i → table_at new root l i ≡ Some t
+  pub table_cases : (l i t : ℕ) → IsInside root.width l i → table_at new root l i ≡ Some t
       → ((table_of entry ≡ Some t) × (l ≡ suc level) × (i / covered_count level ≡ ipa / covered_count level))
       ⊎ ((table_at entries root l i ≡ Some t) × (l ≡ suc level → i / covered_count level ≢ ipa / covered_count level))
   table_cases l i t inside is =
@@ -140,9 +142,9 @@ module _ (entries new : Entries) (granules : List Granule) (rd root level ipa ta
   -- What holds of the entry written, of those of the table below it, and of those kept, holds of each entry afterwards.
   pub each_written : (P : ℕ → ℕ → Type 0) → P table (entry_index level ipa)
       → ((child index : ℕ) → level < 3 → table_of entry ≡ Some child → index < 512 → P child index)
-      → ((l i t index : ℕ) → IsInside l i → table_at entries root l i ≡ Some t → index < 512 → (l ≡ suc level → i / covered_count level ≢ ipa / covered_count level)
+      → ((l i t index : ℕ) → IsInside root.width l i → table_at entries root l i ≡ Some t → index < 512 → (l ≡ suc level → i / covered_count level ≢ ipa / covered_count level)
       → ((t ≡ table) × (index ≡ entry_index level ipa) → ⊥) → P t index)
-      → (l i t index : ℕ) → IsInside l i → table_at new root l i ≡ Some t → index < 512 → P t index
+      → (l i t index : ℕ) → IsInside root.width l i → table_at new root l i ≡ Some t → index < 512 → P t index
   each_written P wrote below kept l i t index inside is few = elim (table_cases l i t inside is) [
     | inl n ↦ below t index (let a = n.1 in let b = inside.most in omega arith) n.0 few
     | inr o ↦ elim (cases_eq t table) [
@@ -155,7 +157,7 @@ module _ (entries new : Entries) (granules : List Granule) (rd root level ipa ta
   ]
 
   -- The entries afterwards: the one written, those of the table below it, and all others as they were.
-  pub entry_at-written : (other_level other : ℕ) → IsInside other_level other
+  pub entry_at-written : (other_level other : ℕ) → IsInside root.width other_level other
       → entry_at new root other_level other ≡ cond (is_under level level ipa other_level other) (Some entry)
       (cond (is_under (suc level) level ipa other_level other) (in_table (λ t. Some (new t (entry_index other_level other))) (table_of entry)) (entry_at entries root other_level other))
   entry_at-written l other inside =

@@ -1,9 +1,11 @@
 -- What the clauses of the calls on tables say.
 use Rattle.std.specs.Prelude.{◌≡◌, ℕ, ◌-◌, true, not, List, Option, Some, None, slice_set, if◌then◌else◌}
+use Rattle.granule_addr.specs.declared.root.Root.{Root}
 use Rattle.granule_table.specs.declared.granule.Granule.{Granule}
 use Rattle.page_arena.specs.Page.{page_at}
 use Rattle.realm_model.specs.declared.states.GranuleState.{GranuleState}
 use Rattle.realm_model.specs.Rows.{Row, Rows, row_at, unassigned, is_unassigned, is_assigned, is_table, unmapped_ripas, all_rows, put_row, with_table, is_table_unused}
+use Rattle.realm_model.specs.StepLaw.{set_each}
 use Rattle.rtt.specs.Realm.{IsTableOf}
 use Rattle.rtt.specs.Refusal.{refusal_of, or_refusal}
 
@@ -11,16 +13,20 @@ use Rattle.rtt.specs.Refusal.{refusal_of, or_refusal}
 abbrev pub with_state : List Granule → ℕ → GranuleState → Option ℕ → List Granule
 with_state granules granule state realm = slice_set granules granule (record { state = state; realm = realm })
 
+-- the granules with each of some in another state, and of that realm or of none
+abbrev pub with_states : List Granule → List ℕ → GranuleState → Option ℕ → List Granule
+with_states granules these state realm = set_each (record { state = state; realm = realm }) these granules
+
 -- the row of a level that covers an IPA granule leads to a granule
 abbrev pub LeadsTo : Rows → ℕ → ℕ → ℕ → Type 0
 LeadsTo rows level ipa granule = (row : Row) × (row_at rows level ipa ≡ Some row) × (row.granule ≡ Some granule)
 
 -- A page that is none of the realm's tables is as it was.
-abbrev pub ChangesTablesOnly : ℕ → List (List ℕ) → List (List ℕ) → Type 0
+abbrev pub ChangesTablesOnly : Root → List (List ℕ) → List (List ℕ) → Type 0
 ChangesTablesOnly root pages new_pages = (granule : ℕ) → ¬ (IsTableOf pages root granule) → page_at new_pages granule ≡ page_at pages granule
 
 -- The same, but for one more page.
-abbrev pub ChangesTablesAnd : (ℕ → Type 0) → ℕ → List (List ℕ) → List (List ℕ) → Type 0
+abbrev pub ChangesTablesAnd : (ℕ → Type 0) → Root → List (List ℕ) → List (List ℕ) → Type 0
 ChangesTablesAnd IsOneMore root pages new_pages =
     (granule : ℕ) → ¬ (IsOneMore granule) → ¬ (IsTableOf pages root granule) → page_at new_pages granule ≡ page_at pages granule
 

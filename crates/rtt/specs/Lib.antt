@@ -1,11 +1,7 @@
 pub mod Word
-pub mod WordLaws
 pub mod FiniteRows
-pub mod FiniteRowsLaws
 pub mod Tables
 pub mod Realm
-pub mod PlaceLaws
-pub mod FrameLaws
 pub mod Refusal
 pub mod Calls
 pub mod RowWords

@@ -1,7 +1,8 @@
 //! Pages of data, and RIPAS.
-ghost use Rattle.std.specs.Prelude.{◌≡◌, ℕ, ◌+◌, ◌-◌, ◌/◌, ◌≤◌, Some, None, OnOk, OnErr};
+ghost use Rattle.std.specs.Prelude.{◌≡◌, ℕ, ◌+◌, ◌-◌, ◌/◌, ◌<◌, ◌≤◌, Some, None, OnOk, OnErr};
 ghost use Rattle.granule_table.specs.Granules.{IsIn};
 ghost use Rattle.granule_addr.specs.Page.{zero_page};
+ghost use Rattle.granule_addr.specs.Root.{space_of};
 ghost use Rattle.page_arena.specs.Page.{page_at};
 ghost use Rattle.realm_model.specs.Rows.{assigned, put_row, with_ram, unmapped_ripas};
 ghost use Rattle.rtt.specs.Tables.{rows};
@@ -33,6 +34,7 @@ impl Tables {
     ) -> Result<(), Rtt>
         requires backed { IsBacked (S.page_bytes store.old) (S.free_flags store.old) granules.old }
         requires tables { HasTables (S.page_bytes store.old) granules.old self.now.rd self.now.root }
+        requires inside { ipa < space_of self.now.root.width }
         requires delegated { IsIn granules.old page GranuleState.Delegated None }
         ensures answer { IsRefused result (map_refusal (rows (S.page_bytes store.old) self.now.root) ipa) }
         ensures rows { OnOk result (rows (S.page_bytes store.new) self.now.root
@@ -78,6 +80,7 @@ impl Tables {
     ) -> Result<(), Rtt>
         requires backed { IsBacked (S.page_bytes store.old) (S.free_flags store.old) granules.old }
         requires tables { HasTables (S.page_bytes store.old) granules.old self.now.rd self.now.root }
+        requires inside { ipa < space_of self.now.root.width }
         ensures answer { IsRefused result (unmap_refusal (rows (S.page_bytes store.old) self.now.root) ipa) }
         ensures rows { OnOk result
             (LosesPage (rows (S.page_bytes store.old) self.now.root) ipa (rows (S.page_bytes store.new) self.now.root)) }
@@ -127,6 +130,7 @@ impl Tables {
     ) -> Result<(), Rtt>
         requires backed { IsBacked (S.page_bytes store.old) (S.free_flags store.old) granules.now }
         requires tables { HasTables (S.page_bytes store.old) granules.now self.now.rd self.now.root }
+        requires inside { ipa < space_of self.now.root.width }
         requires some { 1 ≤ count }
         requires few { count ≤ 512 }
         requires one_table { ipa / 512 ≡ (ipa + count - 1) / 512 }

@@ -2,6 +2,8 @@
 use Rattle.std.specs.Prelude.{◌≡◌, ℕ, zero, suc, ◌<◌, ◌≤◌, true, false, cond, List, Option, Some, None}
 use Rattle.std.proofs.Common.{refl, sym, ap, subst, ◌∙◌, arith}
 use Rattle.granule_addr.specs.Ipa.{entry_index}
+use Rattle.granule_addr.specs.Root.{space_of}
+use Rattle.granule_addr.specs.declared.root.Root.{Root}
 use Rattle.granule_table.specs.Granules.{IsIn}
 use Rattle.granule_table.specs.declared.granule.Granule.{Granule}
 use Rattle.page_arena.specs.Word.{word_of_page}
@@ -11,7 +13,7 @@ use Rattle.rtt.specs.FiniteRows.{rows_by}
 use Rattle.rtt.specs.Word.{entry_of, entry_word}
 use Rattle.rtt.specs.Tables.{Entries, entries_of, table_of, data_of, in_table, table_at, entry_at, data_at, is_place, row_in, rows_in, rows}
 use Rattle.rtt.specs.Realm.{IsInside, HasGranules, HasTables, LeavesAlone}
-use Rattle.rtt.specs.PlaceLaws.{index_below, inside_place}
+use Rattle.rtt.proofs.PlaceLaws.{index_below, inside_place}
 
 -- what is found in a table that is there, for both
 in_table-same : {A : Type 0} (look new_look : ℕ → Option A) (o : Option ℕ) → ((table : ℕ) → o ≡ Some table → new_look table ≡ look table) → in_table new_look o ≡ in_table look o
@@ -19,9 +21,9 @@ in_table-same look new_look None same = refl
 in_table-same look new_look (Some table) same = same table refl
 
 -- entries that lead to the same tables
-module _ (entries new : Entries) (root : ℕ)
-    (same : (level ipa table index : ℕ) → IsInside level ipa → table_at entries root level ipa ≡ Some table → index < 512 → table_of (new table index) ≡ table_of (entries table index)) where
-  pub same_table_at : (level ipa : ℕ) → IsInside level ipa → table_at new root level ipa ≡ table_at entries root level ipa
+module _ (entries new : Entries) (root : Root)
+    (same : (level ipa table index : ℕ) → IsInside root.width level ipa → table_at entries root level ipa ≡ Some table → index < 512 → table_of (new table index) ≡ table_of (entries table index)) where
+  pub same_table_at : (level ipa : ℕ) → IsInside root.width level ipa → table_at new root level ipa ≡ table_at entries root level ipa
   unfolding table_at
   same_table_at level ipa inside = down level inside.most
     where
@@ -35,8 +37,8 @@ module _ (entries new : Entries) (root : ℕ)
           (λ t at. same (suc l) ipa t index (record { least = omega arith; most = omega arith; below = inside.below }) at (index_below (suc l) ipa))
 
   -- and to the same pages
-  module _ (same_data : (level ipa table index : ℕ) → IsInside level ipa → table_at entries root level ipa ≡ Some table → index < 512 → data_of (new table index) ≡ data_of (entries table index)) where
-    pub same_data_at : (level ipa : ℕ) → IsInside level ipa → data_at new root level ipa ≡ data_at entries root level ipa
+  module _ (same_data : (level ipa table index : ℕ) → IsInside root.width level ipa → table_at entries root level ipa ≡ Some table → index < 512 → data_of (new table index) ≡ data_of (entries table index)) where
+    pub same_data_at : (level ipa : ℕ) → IsInside root.width level ipa → data_at new root level ipa ≡ data_at entries root level ipa
     same_data_at level ipa inside =
         let index = entry_index level ipa in
         ap (in_table (λ t. data_of (new t index))) (same_table_at level ipa inside)
@@ -56,9 +58,9 @@ module _ (entries new : Entries) (root : ℕ)
     }
 
 -- entries that are the same
-module _ (entries new : Entries) (root : ℕ)
-    (same : (level ipa table index : ℕ) → IsInside level ipa → table_at entries root level ipa ≡ Some table → index < 512 → new table index ≡ entries table index) where
-  pub same_entry_at : (level ipa : ℕ) → IsInside level ipa → entry_at new root level ipa ≡ entry_at entries root level ipa
+module _ (entries new : Entries) (root : Root)
+    (same : (level ipa table index : ℕ) → IsInside root.width level ipa → table_at entries root level ipa ≡ Some table → index < 512 → new table index ≡ entries table index) where
+  pub same_entry_at : (level ipa : ℕ) → IsInside root.width level ipa → entry_at new root level ipa ≡ entry_at entries root level ipa
   same_entry_at level ipa inside =
       let index = entry_index level ipa in
       ap (in_table (λ t. Some (new t index))) (same_table_at entries new root (λ l i t index there at few. ap table_of (same l i t index there at few)) level ipa inside)
@@ -67,20 +69,20 @@ module _ (entries new : Entries) (root : ℕ)
 
   same_row_in : (level ipa : ℕ) → row_in new root level ipa ≡ row_in entries root level ipa
   unfolding row_in
-  same_row_in level ipa = elim (is_place level ipa) as (λ b. is_place level ipa ≡ b → cond b (entry_at new root level ipa) None ≡ cond b (entry_at entries root level ipa) None) [
-    | true ↦ λ place. same_entry_at level ipa (inside_place level ipa place)
+  same_row_in level ipa = elim (is_place root.width level ipa) as (λ b. is_place root.width level ipa ≡ b → cond b (entry_at new root level ipa) None ≡ cond b (entry_at entries root level ipa) None) [
+    | true ↦ λ place. same_entry_at level ipa (inside_place root.width level ipa place)
     | false ↦ λ place. refl
   ] refl
 
   pub same_rows_in : rows_in new root ≡ rows_in entries root
   unfolding rows_in
-  same_rows_in = ap rows_by (λ i level ipa. same_row_in level ipa i)
+  same_rows_in = ap (rows_by (space_of root.width)) (λ i level ipa. same_row_in level ipa i)
 
 -- ---- the pages of a realm's own granules
 
-module _ (pages : List (List ℕ)) (granules : List Granule) (new_pages : List (List ℕ)) (new_granules : List Granule) (rd root : ℕ)
+module _ (pages : List (List ℕ)) (granules : List Granule) (new_pages : List (List ℕ)) (new_granules : List Granule) (rd : ℕ) (root : Root)
     (there : HasTables pages granules rd root) (alone : LeavesAlone rd pages granules new_pages new_granules) where
-  same_entry : (level ipa table index : ℕ) → IsInside level ipa → table_at (entries_of pages) root level ipa ≡ Some table → index < 512
+  same_entry : (level ipa table index : ℕ) → IsInside root.width level ipa → table_at (entries_of pages) root level ipa ≡ Some table → index < 512
       → entries_of new_pages table index ≡ entries_of pages table index
   unfolding entries_of
   same_entry level ipa table index inside at few = ap (λ page. entry_of (word_of_page page index)) (alone.page table (there.own.tables level ipa table inside at))
@@ -103,5 +105,5 @@ module _ (pages : List (List ℕ)) (granules : List Granule) (new_pages : List (
         ap (λ page. word_of_page page index) (alone.page table (there.own.tables level ipa table inside was))
         ∙ there.words level ipa table index inside was few
         ∙ ap entry_word (sym (same_entry level ipa table index inside was few));
-    sound = subst (λ r. IsSoundRows (look r)) (sym rows-alone) there.sound;
+    sound = subst (λ r. IsSoundRows root.width (look r)) (sym rows-alone) there.sound;
   }

@@ -8,7 +8,7 @@ use Rattle.realm_model.specs.Rows.{Row, Rows, place_cmp}
 use Rattle.realm_model.proofs.Maps.{place_total, same_place, place_cmp-IsAntisymmetric}
 use Rattle.realm_model.proofs.Rows.{is_place as is_at, place_self}
 use Rattle.realm_model.proofs.Booleans.{true_false}
-use Rattle.rtt.specs.FiniteRows.{ipa_count, row_before, rows_below, rows_by, IsBounded}
+use Rattle.rtt.specs.FiniteRows.{row_before, rows_below, rows_by, IsBounded}
 
 -- what a test of two places tells
 pub place_tells : (q k : ℕ × ℕ) → ((is_at q k ≡ true) × (q ≡ k)) ⊎ ((is_at q k ≡ false) × (q ≡ k → ⊥))
@@ -80,23 +80,23 @@ find_at at level (suc n) ipa lt =
           ]
     ]
 
-three_levels : (at : ℕ → ℕ → Option Row) (level ipa : ℕ) → get (rows_by at) (level, ipa)
-    ≡ first_some (find place_cmp (level, ipa) (rows_below at 1 ipa_count)) (first_some (find place_cmp (level, ipa) (rows_below at 2 ipa_count)) (find place_cmp (level, ipa) (rows_below at 3 ipa_count)))
+three_levels : (space : ℕ) (at : ℕ → ℕ → Option Row) (level ipa : ℕ) → get (rows_by space at) (level, ipa)
+    ≡ first_some (find place_cmp (level, ipa) (rows_below at 1 space)) (first_some (find place_cmp (level, ipa) (rows_below at 2 space)) (find place_cmp (level, ipa) (rows_below at 3 space)))
 unfolding rows_by
-three_levels at level ipa =
-    get-from_entries place_total (rows_below at 1 ipa_count ++ (rows_below at 2 ipa_count ++ rows_below at 3 ipa_count)) (level, ipa)
-    ∙ find-append (level, ipa) (rows_below at 1 ipa_count) (rows_below at 2 ipa_count ++ rows_below at 3 ipa_count)
-    ∙ ap (first_some (find place_cmp (level, ipa) (rows_below at 1 ipa_count))) (find-append (level, ipa) (rows_below at 2 ipa_count) (rows_below at 3 ipa_count))
+three_levels space at level ipa =
+    get-from_entries place_total (rows_below at 1 space ++ (rows_below at 2 space ++ rows_below at 3 space)) (level, ipa)
+    ∙ find-append (level, ipa) (rows_below at 1 space) (rows_below at 2 space ++ rows_below at 3 space)
+    ∙ ap (first_some (find place_cmp (level, ipa) (rows_below at 1 space))) (find-append (level, ipa) (rows_below at 2 space) (rows_below at 3 space))
 
 -- The rows have what the function has.
-pub get-rows_by : (at : ℕ → ℕ → Option Row) → IsBounded at → (level ipa : ℕ) → get (rows_by at) (level, ipa) ≡ at level ipa
+pub get-rows_by : (space : ℕ) (at : ℕ → ℕ → Option Row) → IsBounded space at → (level ipa : ℕ) → get (rows_by space at) (level, ipa) ≡ at level ipa
 unfolding first_some
-get-rows_by at bounded level ipa =
-    let at_level : (k : ℕ) → ipa < ipa_count → level ≡ k → find place_cmp (level, ipa) (rows_below at k ipa_count) ≡ at level ipa = λ k lt e.
-    ap (λ (j : ℕ). find place_cmp (level, ipa) (rows_below at j ipa_count)) (sym e) ∙ find_at at level ipa_count ipa lt in
-    let off : (k : ℕ) → level ≢ k → find place_cmp (level, ipa) (rows_below at k ipa_count) ≡ None = λ k ne.
-    find_none at k ipa_count level ipa (λ e lt. ne e) in
-    three_levels at level ipa ∙ elim (cases_lt ipa ipa_count) [
+get-rows_by space at bounded level ipa =
+    let at_level : (k : ℕ) → ipa < space → level ≡ k → find place_cmp (level, ipa) (rows_below at k space) ≡ at level ipa = λ k lt e.
+    ap (λ (j : ℕ). find place_cmp (level, ipa) (rows_below at j space)) (sym e) ∙ find_at at level space ipa lt in
+    let off : (k : ℕ) → level ≢ k → find place_cmp (level, ipa) (rows_below at k space) ≡ None = λ k ne.
+    find_none at k space level ipa (λ e lt. ne e) in
+    three_levels space at level ipa ∙ elim (cases_lt ipa space) [
       | inl lt ↦ elim (cases_eq level 1) [
         | inl one ↦ rw (at_level 1 lt one, off 2 (omega arith), off 3 (omega arith)) (first_some_none (at level ipa))
         | inr not_one ↦ elim (cases_eq level 2) [
@@ -108,6 +108,6 @@ get-rows_by at bounded level ipa =
         ]
       ]
       | inr past ↦
-          let none : (k : ℕ) → find place_cmp (level, ipa) (rows_below at k ipa_count) ≡ None = λ k. find_none at k ipa_count level ipa (λ e lt. omega arith) in
+          let none : (k : ℕ) → find place_cmp (level, ipa) (rows_below at k space) ≡ None = λ k. find_none at k space level ipa (λ e lt. omega arith) in
           rw (none 1, none 2, none 3) (sym (bounded.granules level ipa past))
     ]

@@ -1,13 +1,13 @@
 -- Places of IPA granules in tables: which entry of a level covers one, and which table holds the entry.
-use Rattle.std.proofs.Common.{◌≡◌, ◌≢◌, ℕ, zero, suc, ◌+◌, ◌*◌, ◌/◌, ◌%◌, ◌^◌, ◌<◌, ◌≤◌, Bool, true, false, cond, ◌&&◌, eqb, Option, Some, None, ◌⊎◌, inl, inr, ⊎_elim, refl, sym, ap, subst, ◌∙◌, arith, lit≤}
+use Rattle.std.proofs.Common.{◌≡◌, ◌≢◌, ℕ, zero, suc, ◌+◌, ◌*◌, ◌/◌, ◌%◌, ◌^◌, ◌<◌, ◌≤◌, Bool, true, false, cond, ◌&&◌, eqb, Option, Some, None, ◌⊎◌, inl, inr, ⊎_elim, refl, sym, ap, ◌∙◌, arith, lit≤}
 use Rattle.std.specs.Prelude.{◌==◌}
 use Rattle.std.proofs.Math.Nat.{div-div-eq-div-mul, div-add-mod, mul-div_cancel, div-mul-le_self}
 use Rattle.std.proofs.lemmas.Nat.{div-mul-add}
 use Rattle.std.proofs.lemmas.Bool.{and_parts, and_from, leb-true, le-leb, ltb-true, lt-ltb, eqb-true, eq-eqb}
 use Rattle.std.proofs.lemmas.Bool.Decides.{eqb_tells}
 use Rattle.granule_addr.specs.Ipa.{covered_count, first_covered, entry_index}
+use Rattle.granule_addr.specs.Root.{start_count, space_of}
 use Rattle.realm_model.specs.Sound.{IsPlace}
-use Rattle.rtt.specs.FiniteRows.{ipa_count, ipa_count_is}
 use Rattle.rtt.specs.Tables.{is_place}
 use Rattle.rtt.specs.Realm.{IsInside, served_count}
 
@@ -54,9 +54,9 @@ served_below (suc (suc (suc level))) low high = absurd (omega arith)
 
 -- ---- places
 
-pub place_facts : (level ipa : ℕ) → is_place level ipa ≡ true → IsPlace (level, ipa)
+pub place_facts : (width level ipa : ℕ) → is_place width level ipa ≡ true → IsPlace width (level, ipa)
 unfolding is_place
-place_facts level ipa e =
+place_facts width level ipa e =
     let a = and_parts _ _ e in
     let b = and_parts _ _ a.0 in
     let c = and_parts _ _ b.0 in
@@ -64,17 +64,17 @@ place_facts level ipa e =
       least = leb-true 1 level c.0;
       most = leb-true level 3 c.1;
       first = eqb-true (first_covered level ipa) ipa a.1;
-      inside = subst (λ (n : ℕ). ipa < n) ipa_count_is (ltb-true ipa ipa_count b.1);
+      inside = ltb-true ipa (space_of width) b.1;
     }
 
-pub inside_place : (level ipa : ℕ) → is_place level ipa ≡ true → IsInside level ipa
-inside_place level ipa e = let facts = place_facts level ipa e in record { least = facts.least; most = facts.most; below = facts.inside }
+pub inside_place : (width level ipa : ℕ) → is_place width level ipa ≡ true → IsInside width level ipa
+inside_place width level ipa e = let facts = place_facts width level ipa e in record { least = facts.least; most = facts.most; below = facts.inside }
 
-pub is_place_from : (level ipa : ℕ) → IsInside level ipa → first_covered level ipa ≡ ipa → is_place level ipa ≡ true
+pub is_place_from : (width level ipa : ℕ) → IsInside width level ipa → first_covered level ipa ≡ ipa → is_place width level ipa ≡ true
 unfolding is_place
-is_place_from level ipa inside first =
+is_place_from width level ipa inside first =
     and_from _ _ (and_from _ _ (and_from _ _ (le-leb 1 level inside.least) (le-leb level 3 inside.most))
-    (lt-ltb ipa ipa_count (subst (λ (n : ℕ). ipa < n) (sym ipa_count_is) inside.below)))
+    (lt-ltb ipa (space_of width) inside.below))
     (eq-eqb (first_covered level ipa) ipa first)
 
 -- the first IPA granule that an entry covers is a place, under that entry
@@ -84,14 +84,14 @@ first_covers level ipa = mul-div_cancel (ipa / covered_count level) (covered_pos
 pub first_first : (level ipa : ℕ) → first_covered level (first_covered level ipa) ≡ first_covered level ipa
 first_first level ipa = ap (λ (q : ℕ). q * covered_count level) (first_covers level ipa)
 
-pub first_inside : (level ipa : ℕ) → IsInside level ipa → IsInside level (first_covered level ipa)
-first_inside level ipa inside =
+pub first_inside : (width level ipa : ℕ) → IsInside width level ipa → IsInside width level (first_covered level ipa)
+first_inside width level ipa inside =
     let le : first_covered level ipa ≤ ipa = div-mul-le_self ipa (covered_count level) in
     let lt = inside.below in
     record { least = inside.least; most = inside.most; below = omega arith }
 
-pub first_is_place : (level ipa : ℕ) → IsInside level ipa → is_place level (first_covered level ipa) ≡ true
-first_is_place level ipa inside = is_place_from level (first_covered level ipa) (first_inside level ipa inside) (first_first level ipa)
+pub first_is_place : (width level ipa : ℕ) → IsInside width level ipa → is_place width level (first_covered level ipa) ≡ true
+first_is_place width level ipa inside = is_place_from width level (first_covered level ipa) (first_inside width level ipa inside) (first_first level ipa)
 
 -- a place under an entry of its level is the first IPA granule of that entry
 pub place_is_first : (level ipa other : ℕ) → first_covered level other ≡ other → other / covered_count level ≡ ipa / covered_count level → other ≡ first_covered level ipa
@@ -125,30 +125,32 @@ pub under_false : (wanted level ipa other_level other : ℕ) → (other_level �
 under_false wanted level ipa other_level other n = ⊎_elim (λ u. absurd (n u.1 u.2)) (λ u. u.0) (under_cases wanted level ipa other_level other)
 
 -- the places under an entry are the 512 of the table below it
-pub below_is_place : (level ipa index : ℕ) → IsInside level ipa → level < 3 → index < 512
+pub below_is_place : (width level ipa index : ℕ) → IsInside width level ipa → level < 3 → index < 512
     → ((first_covered level ipa + index * covered_count (suc level)) / covered_count level ≡ ipa / covered_count level)
-    × (is_place (suc level) (first_covered level ipa + index * covered_count (suc level)) ≡ true)
+    × (is_place width (suc level) (first_covered level ipa + index * covered_count (suc level)) ≡ true)
     × (entry_index (suc level) (first_covered level ipa + index * covered_count (suc level)) ≡ index)
-below_is_place zero ipa index inside high few = let low : 1 ≤ 0 = inside.least in absurd (omega arith)
-below_is_place (suc zero) ipa index inside high few =
+below_is_place width zero ipa index inside high few = let low : 1 ≤ 0 = inside.least in absurd (omega arith)
+below_is_place width (suc zero) ipa index inside high few =
     let b = ipa / 262144 in
-    let lt : ipa < 134217728 = inside.below in
     let n = b * 262144 + index * 512 in
     let q : n / 262144 ≡ b = div-mul-add b 262144 (index * 512) (omega arith) in
-    let m : n < 134217728 = omega arith in
     let f : n / 512 * 512 ≡ n = omega arith in
     let i : n / 512 % 512 ≡ index = omega arith in
-    (q, is_place_from 2 n (record { least = lit≤ tt; most = lit≤ tt; below = m }) f, i)
-below_is_place (suc (suc zero)) ipa index inside high few =
+    (q, is_place_from width 2 n (record { least = lit≤ tt; most = lit≤ tt; below = second_below (start_count width) ipa index inside.below few }) f, i)
+  where
+    second_below : (tables ipa index : ℕ) → ipa < tables * 134217728 → index < 512 → ipa / 262144 * 262144 + index * 512 < tables * 134217728
+    second_below tables ipa index lt few = omega arith
+below_is_place width (suc (suc zero)) ipa index inside high few =
     let b = ipa / 512 in
-    let lt : ipa < 134217728 = inside.below in
     let n = b * 512 + index * 1 in
     let q : n / 512 ≡ b = div-mul-add b 512 (index * 1) (omega arith) in
-    let m : n < 134217728 = omega arith in
     let f : n / 1 * 1 ≡ n = omega arith in
     let i : n / 1 % 512 ≡ index = omega arith in
-    (q, is_place_from 3 n (record { least = lit≤ tt; most = lit≤ tt; below = m }) f, i)
-below_is_place (suc (suc (suc level))) ipa index inside high few = absurd (omega arith)
+    (q, is_place_from width 3 n (record { least = lit≤ tt; most = lit≤ tt; below = third_below (start_count width) ipa index inside.below few }) f, i)
+  where
+    third_below : (tables ipa index : ℕ) → ipa < tables * 134217728 → index < 512 → ipa / 512 * 512 + index * 1 < tables * 134217728
+    third_below tables ipa index lt few = omega arith
+below_is_place width (suc (suc (suc level))) ipa index inside high few = absurd (omega arith)
 
 pub place_is_below : (level ipa other : ℕ) → 1 ≤ level → level < 3 → first_covered (suc level) other ≡ other → other / covered_count level ≡ ipa / covered_count level
     → other ≡ first_covered level ipa + entry_index (suc level) other * covered_count (suc level)
