@@ -1,5 +1,6 @@
 -- A table is made below an entry that led to none.
 use Rattle.std.proofs.Common.{◌≡◌, ◌≢◌, ℕ, suc, ◌+◌, ◌*◌, ◌/◌, ◌<◌, true, false, cond, List, Option, Some, None, inl, inr, ⊎_elim, refl, sym, ap, subst, ◌∙◌, arith}
+use Rattle.std.specs.Prelude.{option_and_then}
 use Rattle.std.specs.FinMap.{get}
 use Rattle.std.proofs.lemmas.Option.{same_Some}
 use Rattle.granule_addr.specs.Ipa.{covered_count, first_covered, entry_index}
@@ -13,7 +14,7 @@ use Rattle.realm_model.specs.declared.states.Ripas.{Ripas}
 use Rattle.realm_model.specs.Rows.{Row, Rows, put_row, put_rows, unassigned, table as table_row, with_table, is_table_place}
 use Rattle.realm_model.proofs.Rows.{is_place as is_at}
 use Rattle.rtt.proofs.FiniteRowsLaws.{place_tells}
-use Rattle.rtt.specs.Tables.{Entries, table_of, in_table, table_at, is_place, row_in, rows_in}
+use Rattle.rtt.specs.Tables.{Entries, table_of, table_at, is_place, row_in, rows_in}
 use Rattle.rtt.specs.Realm.{IsInside, HasGranules}
 use Rattle.rtt.proofs.PlaceLaws.{index_below, place_facts, below_is_place, place_is_below, is_under, under_cases}
 use Rattle.rtt.proofs.RowsIn.{get-rows_in, rows_in-from, row_in-none}
@@ -40,24 +41,24 @@ module _ (entries new : Entries) (granules : List Granule) (rd : ℕ) (root : Ro
   base_has l i = get-insert_row (rows_in entries root) (above, first) (l, i) entry ∙ ap (cond (is_at (l, i) (above, first)) (Some entry)) (get-rows_in entries root l i)
 
   made_row : (l i : ℕ) → cond (is_at (l, i) (above, first)) (Some entry)
-      (cond (is_under (suc above) above ipa l i) (cond (is_place root.width l i) (in_table (λ t. Some (new t (entry_index l i))) (table_of entry)) None) (row_in entries root l i))
+      (cond (is_under (suc above) above ipa l i) (cond (is_place root.width l i) (option_and_then (λ t. Some (new t (entry_index l i))) (table_of entry)) None) (row_in entries root l i))
       ≡ get made (l, i)
   made_row l i =
       let at_test = is_at (l, i) (above, first) in
       let under_test = is_under (suc above) above ipa l i in
       let index = entry_index l i in
-      let below = cond (is_place root.width l i) (in_table (λ t. Some (new t index)) (table_of entry)) None in
+      let below = cond (is_place root.width l i) (option_and_then (λ t. Some (new t index)) (table_of entry)) None in
       let was = row_in entries root l i in
       elim (under_cases (suc above) above ipa l i) [
         | inl u ↦
             let off : at_test ≡ false = ⊎_elim (λ t. let same : l ≡ above = ap (λ (q : ℕ × ℕ). q.0) t.1 in let deep = u.1 in absurd (omega arith)) (λ t. t.0) (place_tells (l, i) (above, first)) in
             ap (λ b. cond b (Some entry) (cond under_test below was)) off ∙ ap (λ b. cond b below was) u.0
-            ∙ elim (is_place root.width l i) as (λ b. is_place root.width l i ≡ b → cond b (in_table (λ t. Some (new t index)) (table_of entry)) None ≡ get made (l, i)) [
+            ∙ elim (is_place root.width l i) as (λ b. is_place root.width l i ≡ b → cond b (option_and_then (λ t. Some (new t index)) (table_of entry)) None ≡ get made (l, i)) [
               | true ↦ λ place.
                   let whole : first_covered (suc above) i ≡ i = ap (λ (k : ℕ). first_covered k i) (sym u.1) ∙ (place_facts root.width l i place).first in
                   let at : i ≡ first + entry_index (suc above) i * covered_count (suc above) = place_is_below above ipa i w.inside.least high whole u.2 in
                   let level_is : l ≡ suc above = u.1 in
-                  ap (in_table (λ t. Some (new t index))) leads
+                  ap (option_and_then (λ t. Some (new t index))) leads
                   ∙ ap (λ x. Some x) (fresh index (index_below l i))
                   ∙ sym (ap (get made) (λ j. (level_is j, at j)) ∙ get-put_rows_at (λ _. row) base (suc above) first 512 (entry_index (suc above) i) (index_below (suc above) i))
               | false ↦ λ place.

@@ -1,5 +1,5 @@
 -- Pages of data are mapped and unmapped.
-use Rattle.std.proofs.Common.{◌≡◌, ◌≢◌, ℕ, ◌<◌, Bool, true, false, List, [], length, set, Option, Some, None, refl, sym, ap, subst, ◌∙◌, arith}
+use Rattle.std.proofs.Common.{◌≡◌, ◌≢◌, ℕ, ◌<◌, Bool, true, List, [], length, set, Some, None, refl, sym, ap, subst, ◌∙◌, arith}
 use Rattle.std.proofs.lemmas.List.{length-set, get_or-set_same, get_or-set_other}
 use Rattle.std.proofs.lemmas.Option.{same_Some}
 use Rattle.granule_addr.specs.Ipa.{entry_index}
@@ -12,8 +12,6 @@ use Rattle.page_arena.specs.Page.{page_at, IsSized}
 use Rattle.page_arena.specs.Word.{with_word}
 use Rattle.page_arena.specs.Words.{page_at-with_word_other}
 use Rattle.realm_model.specs.declared.states.GranuleState.TheVariants.{Delegated, Data as InData, Rtt as InRtt}
-use Rattle.realm_model.specs.declared.states.Hipas.{Hipas}
-use Rattle.realm_model.specs.declared.states.Hipas.TheVariants.{Unassigned, Assigned, Table}
 use Rattle.realm_model.specs.declared.states.Ripas.{Ripas}
 use Rattle.realm_model.specs.Rows.{Row, row_at, unassigned, assigned, is_table, is_unassigned, put_row, unmapped_ripas}
 use Rattle.realm_model.specs.Sound.{look, IsSoundRows}
@@ -22,6 +20,7 @@ use Rattle.rtt.specs.Tables.{entries_of, table_at, data_of, rows}
 use Rattle.rtt.specs.Realm.{IsBacked, IsInside, HasTables, AreWords, LeavesOthers}
 use Rattle.rtt.proofs.PlaceLaws.{index_below}
 use Rattle.rtt.specs.Calls.{LeadsTo, ChangesTablesOnly, ChangesTablesAnd, LosesPage}
+use Rattle.rtt.proofs.EntryKinds.{unassigned_plain, data_of-leads}
 use Rattle.rtt.proofs.Owned.{Moves-set, apart_states}
 use Rattle.rtt.proofs.TableAt.{entry_at-some}
 use Rattle.rtt.proofs.RowsIn.{row_at-rows_in}
@@ -71,22 +70,6 @@ unfolding rows
 row_found pages root ipa table entry inside at is =
     row_at-rows_in (entries_of pages) root 3 ipa inside ∙ entry_at-some (entries_of pages) root 3 ipa table at ∙ ap (λ (r : Row). Some r) (sym is)
 
-unassigned_plain : (row : Row) → is_unassigned row ≡ true → is_table row ≡ false
-unassigned_plain row is = by_kind row.hipas is
-  where
-    by_kind : (h : Hipas) → elim h [ Unassigned ↦ true | Assigned ↦ false | Table ↦ false ] ≡ true → elim h [ Unassigned ↦ false | Assigned ↦ false | Table ↦ true ] ≡ false
-    by_kind Unassigned e = refl
-    by_kind Assigned e = cc
-    by_kind Table e = cc
-
-data_plain : (row : Row) (page : ℕ) → data_of row ≡ Some page → is_table row ≡ false
-data_plain row page leads = by_kind row.hipas leads
-  where
-    by_kind : (h : Hipas) → elim h [ Unassigned ↦ None | Assigned ↦ row.granule | Table ↦ None ] ≡ Some page → elim h [ Unassigned ↦ false | Assigned ↦ false | Table ↦ true ] ≡ false
-    by_kind Unassigned e = cc
-    by_kind Assigned e = refl
-    by_kind Table e = cc
-
 -- ---- a page is mapped
 
 pub record Mapped (pages new_pages : List (List ℕ)) (granules new_granules : List Granule) (rd : ℕ) (root : Root) (ipa : ℕ) (entry : Row) : Type 0 where
@@ -132,16 +115,6 @@ mapped pages new_pages flags granules new_granules rd root level ipa table index
 
 -- ---- a page is unmapped
 
--- an entry that leads to a page of data
-assigned_from : (row : Row) (page : ℕ) → data_of row ≡ Some page → row ≡ assigned row.ripas page
-assigned_from row page leads = by_kind row.hipas row.granule leads
-  where
-    by_kind : (h : Hipas) (o : Option ℕ) → elim h [ Unassigned ↦ None | Assigned ↦ o | Table ↦ None ] ≡ Some page
-        → ◌≡◌ {A = Row} (record { hipas = h; ripas = row.ripas; granule = o }) (assigned row.ripas page)
-    by_kind Unassigned o e = cc
-    by_kind Assigned o e = λ i. record { hipas = Assigned; ripas = row.ripas; granule = e i }
-    by_kind Table o e = cc
-
 pub record Unmapped (pages new_pages : List (List ℕ)) (granules new_granules : List Granule) (rd : ℕ) (root : Root) (ipa : ℕ) : Type 0 where
   pub rows_are : LosesPage (rows pages root) ipa (rows new_pages root)
   pub moved : (page : ℕ) → LeadsTo (rows pages root) 3 ipa page → new_granules ≡ set granules page (record { state = Delegated; realm = None })
@@ -179,7 +152,7 @@ module _ (pages mid : List (List ℕ)) (flags : List Bool) (sized : IsSized mid 
   row_is = row_found pages root ipa table entry inside at is
 
   its_granule : entry.granule ≡ Some page
-  its_granule = ap (λ (r : Row). r.granule) (assigned_from entry page (sym leads))
+  its_granule = ap (λ (r : Row). r.granule) (data_of-leads entry page (sym leads))
 
   page_is : (other : ℕ) → LeadsTo (rows pages root) 3 ipa other → page ≡ other
   page_is other there = same_Some _ _ (sym its_granule ∙ ap (λ (r : Row). r.granule) (same_Some _ _ (sym row_is ∙ there.1)) ∙ there.2)
@@ -210,7 +183,7 @@ module _ (pages mid : List (List ℕ)) (flags : List Bool) (sized : IsSized mid 
           (kept pages mid flags sized granules rd root ipa table row tables inside.below at within refl same)
           (set granules page (record { state = Delegated; realm = None })) page Delegated None refl (ap data_of (sym is) ∙ sym leads) (Moves-set granules page Delegated None lies.inside);
       words = leaf_words pages mid flags sized granules rd root ipa table row tables inside.below at within refl same;
-      sound = subst (λ r. IsSoundRows root.width (look r)) (sym rows_after) (unmapped_sound (rows pages root) ipa entry tables.sound row_is (data_plain entry page (sym leads)) ripas);
+      sound = subst (λ r. IsSoundRows root.width (look r)) (sym rows_after) (unmapped_sound (rows pages root) ipa entry tables.sound row_is (ap is_table (data_of-leads entry page (sym leads))) ripas);
     };
     others = λ granule not_page no_table.
         beside granule (λ q. no_table (record { level = 3; ipa = ipa; inside = inside; at = at ∙ ap (λ (k : ℕ). Some k) (sym q) })) (λ q. not_page (page_at_is granule q));

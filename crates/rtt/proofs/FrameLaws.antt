@@ -1,5 +1,5 @@
 -- A realm's tables rest on the pages of its own granules in RTT alone.
-use Rattle.std.specs.Prelude.{◌≡◌, ℕ, zero, suc, ◌<◌, ◌≤◌, true, false, cond, List, Option, Some, None}
+use Rattle.std.specs.Prelude.{◌≡◌, ℕ, zero, suc, ◌<◌, ◌≤◌, true, false, cond, List, Option, Some, None, option_and_then}
 use Rattle.std.proofs.Common.{refl, sym, ap, subst, ◌∙◌, arith}
 use Rattle.granule_addr.specs.Ipa.{entry_index}
 use Rattle.granule_addr.specs.Root.{space_of}
@@ -11,14 +11,14 @@ use Rattle.realm_model.specs.declared.states.GranuleState.TheVariants.{Data as I
 use Rattle.realm_model.specs.Sound.{look, IsSoundRows}
 use Rattle.rtt.specs.FiniteRows.{rows_by}
 use Rattle.rtt.specs.Word.{entry_of, entry_word}
-use Rattle.rtt.specs.Tables.{Entries, entries_of, table_of, data_of, in_table, table_at, entry_at, data_at, is_place, row_in, rows_in, rows}
+use Rattle.rtt.specs.Tables.{Entries, entries_of, table_of, data_of, table_at, entry_at, data_at, is_place, row_in, rows_in, rows}
 use Rattle.rtt.specs.Realm.{IsInside, HasGranules, HasTables, LeavesAlone}
 use Rattle.rtt.proofs.PlaceLaws.{index_below, inside_place}
 
 -- what is found in a table that is there, for both
-in_table-same : {A : Type 0} (look new_look : ℕ → Option A) (o : Option ℕ) → ((table : ℕ) → o ≡ Some table → new_look table ≡ look table) → in_table new_look o ≡ in_table look o
-in_table-same look new_look None same = refl
-in_table-same look new_look (Some table) same = same table refl
+option_and_then-same : {A : Type 0} (look new_look : ℕ → Option A) (o : Option ℕ) → ((table : ℕ) → o ≡ Some table → new_look table ≡ look table) → option_and_then new_look o ≡ option_and_then look o
+option_and_then-same look new_look None same = refl
+option_and_then-same look new_look (Some table) same = same table refl
 
 -- entries that lead to the same tables
 module _ (entries new : Entries) (root : Root)
@@ -32,8 +32,8 @@ module _ (entries new : Entries) (root : Root)
       down (suc zero) high = refl
       down (suc (suc l)) high =
           let index = entry_index (suc l) ipa in
-          ap (in_table (λ t. table_of (new t index))) (down (suc l) (omega arith))
-          ∙ in_table-same (λ t. table_of (entries t index)) (λ t. table_of (new t index)) (table_at entries root (suc l) ipa)
+          ap (option_and_then (λ t. table_of (new t index))) (down (suc l) (omega arith))
+          ∙ option_and_then-same (λ t. table_of (entries t index)) (λ t. table_of (new t index)) (table_at entries root (suc l) ipa)
           (λ t at. same (suc l) ipa t index (record { least = omega arith; most = omega arith; below = inside.below }) at (index_below (suc l) ipa))
 
   -- and to the same pages
@@ -41,8 +41,8 @@ module _ (entries new : Entries) (root : Root)
     pub same_data_at : (level ipa : ℕ) → IsInside root.width level ipa → data_at new root level ipa ≡ data_at entries root level ipa
     same_data_at level ipa inside =
         let index = entry_index level ipa in
-        ap (in_table (λ t. data_of (new t index))) (same_table_at level ipa inside)
-        ∙ in_table-same (λ t. data_of (entries t index)) (λ t. data_of (new t index)) (table_at entries root level ipa)
+        ap (option_and_then (λ t. data_of (new t index))) (same_table_at level ipa inside)
+        ∙ option_and_then-same (λ t. data_of (entries t index)) (λ t. data_of (new t index)) (table_at entries root level ipa)
         (λ t at. same_data level ipa t index inside at (index_below level ipa))
 
     -- The realm owns its granules as before, in whatever granules these stay.
@@ -63,8 +63,8 @@ module _ (entries new : Entries) (root : Root)
   pub same_entry_at : (level ipa : ℕ) → IsInside root.width level ipa → entry_at new root level ipa ≡ entry_at entries root level ipa
   same_entry_at level ipa inside =
       let index = entry_index level ipa in
-      ap (in_table (λ t. Some (new t index))) (same_table_at entries new root (λ l i t index there at few. ap table_of (same l i t index there at few)) level ipa inside)
-      ∙ in_table-same (λ t. Some (entries t index)) (λ t. Some (new t index)) (table_at entries root level ipa)
+      ap (option_and_then (λ t. Some (new t index))) (same_table_at entries new root (λ l i t index there at few. ap table_of (same l i t index there at few)) level ipa inside)
+      ∙ option_and_then-same (λ t. Some (entries t index)) (λ t. Some (new t index)) (table_at entries root level ipa)
       (λ t at. ap (λ x. Some x) (same level ipa t index inside at (index_below level ipa)))
 
   same_row_in : (level ipa : ℕ) → row_in new root level ipa ≡ row_in entries root level ipa

@@ -1,5 +1,6 @@
 -- An entry of a table of the last level is written: a page is mapped or unmapped, or a RIPAS changes.
 use Rattle.std.proofs.Common.{◌≡◌, ◌≢◌, ℕ, ◌/◌, ◌<◌, List, Option, Some, None, refl, sym, ap, subst, ◌∙◌, arith, lit≤}
+use Rattle.std.specs.Prelude.{option_and_then}
 use Rattle.std.proofs.lemmas.Option.{same_Some}
 use Rattle.granule_addr.specs.Ipa.{covered_count, entry_index}
 use Rattle.granule_addr.specs.Root.{space_of}
@@ -11,7 +12,7 @@ use Rattle.realm_model.specs.declared.states.GranuleState.TheVariants.{Delegated
 use Rattle.realm_model.specs.declared.states.Hipas.TheVariants.{Unassigned}
 use Rattle.realm_model.specs.declared.states.Ripas.{Ripas}
 use Rattle.realm_model.specs.Rows.{Row, assigned, put_row}
-use Rattle.rtt.specs.Tables.{Entries, data_of, in_table, table_at, data_at, rows_in}
+use Rattle.rtt.specs.Tables.{Entries, data_of, table_at, data_at, rows_in}
 use Rattle.rtt.specs.Realm.{IsInside, HasGranules}
 use Rattle.rtt.proofs.EntryKinds.{data_of-unassigned}
 use Rattle.rtt.proofs.Owned.{Moves, apart_states, HasGranules-written}
@@ -52,7 +53,7 @@ module _ (entries new : Entries) (granules : List Granule) (rd : ℕ) (root : Ro
       (λ child index deep _ _. absurd (omega arith)) (λ l i t index there is few _ apart. others l i t index there is few apart)
 
   own_data : (page : ℕ) → data_of old_entry ≡ Some page → data_at entries root 3 ipa ≡ Some page
-  own_data page is = ap (in_table (λ t. data_of (entries t (entry_index 3 ipa)))) at ∙ is
+  own_data page is = ap (option_and_then (λ t. data_of (entries t (entry_index 3 ipa)))) at ∙ is
 
   written : (new_granules : List Granule)
       → ((granule : ℕ) → IsIn granules granule InRtt (Some rd) → IsIn new_granules granule InRtt (Some rd))

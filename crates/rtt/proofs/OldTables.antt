@@ -12,10 +12,8 @@ use Rattle.page_arena.specs.Page.{page_at, IsSized}
 use Rattle.page_arena.specs.Word.{word_at, with_word}
 use Rattle.page_arena.specs.Words.{page_at-with_word_other}
 use Rattle.realm_model.specs.declared.states.GranuleState.TheVariants.{Delegated, Rtt as InRtt}
-use Rattle.realm_model.specs.declared.states.Hipas.{Hipas}
-use Rattle.realm_model.specs.declared.states.Hipas.TheVariants.{Unassigned, Assigned, Table}
 use Rattle.realm_model.specs.declared.states.Ripas.TheVariants.{Destroyed}
-use Rattle.realm_model.specs.Rows.{Row, row_at, unassigned, is_unassigned, is_table, without_table, is_table_place, is_table_unused}
+use Rattle.realm_model.specs.Rows.{Row, row_at, unassigned, is_unassigned, without_table, is_table_place, is_table_unused}
 use Rattle.realm_model.specs.Sound.{look, IsSoundRows}
 use Rattle.realm_model.proofs.SoundRows.{without_table_sound}
 use Rattle.realm_model.proofs.TablePlaces.{table_place}
@@ -25,6 +23,7 @@ use Rattle.rtt.specs.Realm.{IsBacked, IsInside, HasTables, LeavesOthers}
 use Rattle.rtt.proofs.PlaceLaws.{index_below}
 use Rattle.rtt.specs.Calls.{LeadsTo, ChangesTablesOnly}
 use Rattle.rtt.proofs.BelowRows.{level_inside, table_unused, unused_entry}
+use Rattle.rtt.proofs.EntryKinds.{table_of-leads}
 use Rattle.rtt.proofs.Owned.{Moves-set}
 use Rattle.rtt.proofs.OtherRealms.{others_left}
 use Rattle.rtt.proofs.TableAt.{entry_at-some}
@@ -32,23 +31,6 @@ use Rattle.rtt.proofs.RowsIn.{row_at-rows_in}
 use Rattle.rtt.proofs.Destroys.{its_place, destroyed_rows, destroyed_granules, destroyed_each}
 use Rattle.rtt.proofs.Walks.{table_at-below}
 use Rattle.rtt.proofs.Written.{IsExact, same_entry, same_exact, entry_written, exact_written, word_as}
-
--- an entry that leads to a table is TABLE
-pub is_table-leads : (row : Row) (granule : ℕ) → table_of row ≡ Some granule → is_table row ≡ true
-is_table-leads row granule leads = by_kind row.hipas leads
-  where
-    by_kind : (h : Hipas) → elim h [ Unassigned ↦ None | Assigned ↦ None | Table ↦ row.granule ] ≡ Some granule → elim h [ Unassigned ↦ false | Assigned ↦ false | Table ↦ true ] ≡ true
-    by_kind Unassigned e = cc
-    by_kind Assigned e = cc
-    by_kind Table e = refl
-
-leads_granule : (row : Row) (granule : ℕ) → table_of row ≡ Some granule → row.granule ≡ Some granule
-leads_granule row granule leads = by_kind row.hipas leads
-  where
-    by_kind : (h : Hipas) → elim h [ Unassigned ↦ None | Assigned ↦ None | Table ↦ row.granule ] ≡ Some granule → row.granule ≡ Some granule
-    by_kind Unassigned e = cc
-    by_kind Assigned e = cc
-    by_kind Table e = e
 
 -- whether the table has no ASSIGNED and no TABLE entry
 pub is_unused : (pages : List (List ℕ)) (root : Root) (level wanted ended ipa table granule : ℕ) (entry : Row) (answer : Bool) → wanted + 1 ≡ level → is_table_place ipa level ≡ true
@@ -137,7 +119,7 @@ module _ (pages mid : List (List ℕ)) (flags : List Bool) (sized : IsSized mid 
   row_there = ap (λ (l : ℕ). row_at (rows pages root) l ipa) above_is ∙ row_above
 
   its_granule : entry.granule ≡ Some granule
-  its_granule = leads_granule entry granule (sym leads)
+  its_granule = (table_of-leads entry granule (sym leads)).1
 
   granule_is : (other : ℕ) → LeadsTo (rows pages root) (level - 1) ipa other → granule ≡ other
   granule_is other there = same_Some _ _ (sym its_granule ∙ ap (λ (r : Row). r.granule) (same_Some _ _ (sym row_there ∙ there.1)) ∙ there.2)

@@ -1,5 +1,6 @@
 -- The granules of a realm's tables after an entry is written.
 use Rattle.std.proofs.Common.{◌≡◌, ◌≢◌, ℕ, suc, ◌/◌, ◌<◌, ◌≤◌, cond, set, List, length, Option, Some, None, ◌⊎◌, inl, inr, ⊎_elim, refl, sym, ap, ◌∙◌, arith}
+use Rattle.std.specs.Prelude.{option_and_then}
 use Rattle.std.proofs.lemmas.List.{length-set, get_or-set_same, get_or-set_other}
 use Rattle.std.proofs.lemmas.Option.{same_Some}
 use Rattle.granule_addr.specs.Ipa.{covered_count, entry_index}
@@ -10,7 +11,7 @@ use Rattle.realm_model.specs.declared.states.GranuleState.{GranuleState}
 use Rattle.realm_model.specs.declared.states.GranuleState.TheVariants.{Data as InData, Rtt as InRtt}
 use Rattle.realm_model.specs.declared.states.Hipas.TheVariants.{Unassigned}
 use Rattle.realm_model.specs.Rows.{Row}
-use Rattle.rtt.specs.Tables.{Entries, table_of, data_of, in_table, table_at, entry_at, data_at}
+use Rattle.rtt.specs.Tables.{Entries, table_of, data_of, table_at, entry_at, data_at}
 use Rattle.rtt.specs.Realm.{IsInside, HasGranules, served_count}
 use Rattle.rtt.proofs.EntryKinds.{data_of-unassigned}
 use Rattle.rtt.proofs.PlaceLaws.{index_below, served_below, is_under, under_cases}
@@ -65,7 +66,7 @@ pub record Fits (entries : Entries) (new_granules : List Granule) (rd : ℕ) (ro
       → data_at entries root other_level other ≡ Some page → (other_level ≡ level → other / covered_count level ≢ ipa / covered_count level) → ⊥
 
 none_of_data : (entries : Entries) (o : Option ℕ) (index : ℕ) → ((child : ℕ) → o ≡ Some child → (entries child index).hipas ≡ Unassigned)
-    → data_in (in_table (λ t. Some (entries t index)) o) ≡ None
+    → data_in (option_and_then (λ t. Some (entries t index)) o) ≡ None
 none_of_data entries None index h = refl
 none_of_data entries (Some child) index h = data_of-unassigned (entries child index) (h child refl)
 
@@ -77,7 +78,7 @@ module _ (entries new : Entries) (granules : List Granule) (rd : ℕ) (root : Ro
       ⊎ ((data_at entries root l i ≡ Some page) × (l ≡ level → i / covered_count level ≢ ipa / covered_count level))
   data_cases l i page inside is =
       let index = entry_index l i in
-      let below = in_table (λ t. Some (new t index)) (table_of entry) in
+      let below = option_and_then (λ t. Some (new t index)) (table_of entry) in
       let was = entry_at entries root l i in
       let under_test = is_under (suc level) level ipa l i in
       let now = data_at-entry new root l i ∙ ap data_in (entry_at-written entries new granules rd root level ipa table entry own w l i inside) in

@@ -1,5 +1,6 @@
 -- Pages of one table of the last level become RAM.
 use Rattle.std.proofs.Common.{◌≡◌, ℕ, ◌+◌, ◌-◌, ◌*◌, ◌/◌, ◌%◌, ◌<◌, ◌≤◌, true, false, List, Option, Some, None, ◌⊎◌, inl, inr, refl, sym, ap, ◌∙◌, arith, lit≤}
+use Rattle.std.specs.Prelude.{option_and_then}
 use Rattle.std.specs.FinMap.{get}
 use Rattle.std.proofs.lemmas.Bool.{cases_eq, cases_lt}
 use Rattle.std.proofs.lemmas.Option.{same_Some}
@@ -11,7 +12,7 @@ use Rattle.granule_table.specs.declared.granule.Granule.{Granule}
 use Rattle.realm_model.specs.declared.states.GranuleState.TheVariants.{Rtt as InRtt}
 use Rattle.realm_model.specs.declared.states.Hipas.TheVariants.{Unassigned}
 use Rattle.realm_model.specs.Rows.{Row, Rows, is_unassigned, all_rows, put_rows, as_ram, with_ram}
-use Rattle.rtt.specs.Tables.{Entries, table_of, data_of, in_table, table_at, is_place, row_in, rows_in}
+use Rattle.rtt.specs.Tables.{Entries, table_of, data_of, table_at, is_place, row_in, rows_in}
 use Rattle.rtt.specs.Realm.{IsInside, HasGranules, served_count}
 use Rattle.rtt.proofs.EntryKinds.{unassigned_kind, table_of-unassigned, data_of-unassigned}
 use Rattle.rtt.proofs.PlaceLaws.{option_cases, index_below, place_facts, inside_place, is_place_from}
@@ -142,13 +143,13 @@ module _ (entries : Entries) (root : Root) (ipa table count : ℕ) (below : ipa 
               let inside = inside_place root.width l i place in
               let first = (place_facts root.width l i place).first in
               let index = entry_index l i in
-              let now = ap (in_table (λ t. Some (new t index))) (ram_tables l i inside) in
+              let now = ap (option_and_then (λ t. Some (new t index))) (ram_tables l i inside) in
               elim (option_cases (table_at entries root l i)) [
                 | inl none ↦
                     beside l i
                     (λ k few q. let clash : None ≡ Some table = sym none ∙ ap (λ (p : ℕ × ℕ). table_at entries root p.0 p.1) q ∙ page_table k few in cc)
-                    (row_in-place new root l i place ∙ now ∙ ap (in_table (λ t. Some (new t index))) none
-                    ∙ sym (row_in-place entries root l i place ∙ ap (in_table (λ t. Some (entries t index))) none))
+                    (row_in-place new root l i place ∙ now ∙ ap (option_and_then (λ t. Some (new t index))) none
+                    ∙ sym (row_in-place entries root l i place ∙ ap (option_and_then (λ t. Some (entries t index))) none))
                 | inr found ↦ elim (entry_cases found.0 index (own.tables l i found.0 inside found.1) (index_below l i)) [
                   | inl p ↦ in_run l i p.0 p.1 (its_place l i found.0 p.0 inside first found.1 p.2 p.1 p.3)
                   | inr same ↦

@@ -1,5 +1,6 @@
 -- The starting tables: a realm that has no other table, and whether one stands below.
 use Rattle.std.proofs.Common.{◌≡◌, ◌≢◌, ℕ, zero, suc, ◌+◌, ◌*◌, ◌/◌, ◌%◌, ◌<◌, ◌≤◌, Bool, true, false, not, List, Some, None, inl, inr, refl, sym, ap, subst, ◌∙◌, arith, lit≤}
+use Rattle.std.specs.Prelude.{option_and_then}
 use Rattle.std.specs.FinMap.{get, empty, get-empty}
 use Rattle.std.proofs.lemmas.Bool.{cases_eq}
 use Rattle.std.proofs.lemmas.Option.{same_Some}
@@ -12,7 +13,7 @@ use Rattle.realm_model.specs.declared.states.GranuleState.TheVariants.{Rtt as In
 use Rattle.realm_model.specs.declared.states.Ripas.TheVariants.{Empty}
 use Rattle.realm_model.specs.Rows.{Row, place_cmp, put_rows, unassigned, is_table, root_rows, has_root_table}
 use Rattle.realm_model.proofs.Booleans.{not_true, not_false}
-use Rattle.rtt.specs.Tables.{Entries, table_of, data_of, in_table, table_at, entry_at, data_at, is_place, row_in, rows_in}
+use Rattle.rtt.specs.Tables.{Entries, table_of, data_of, table_at, entry_at, data_at, is_place, row_in, rows_in}
 use Rattle.rtt.specs.Realm.{IsInside, HasGranules, served_count}
 use Rattle.rtt.proofs.PlaceLaws.{index_below, place_facts, is_place_from}
 use Rattle.rtt.proofs.StartTables.{start_index_below}
@@ -39,7 +40,7 @@ module _ (entries : Entries) (root : Root) (blank : (number index : ℕ) → num
   no_second : (l i : ℕ) → i < space_of root.width → table_at entries root (suc (suc l)) i ≡ None
   unfolding table_at
   no_second zero i below = ap table_of (blank_at i below)
-  no_second (suc l) i below = ap (in_table (λ t. table_of (entries t (entry_index (suc (suc l)) i)))) (no_second l i below)
+  no_second (suc l) i below = ap (option_and_then (λ t. table_of (entries t (entry_index (suc (suc l)) i)))) (no_second l i below)
 
   only_root : (l i table : ℕ) → i < space_of root.width → table_at entries root l i ≡ Some table → (l ≡ 1) × (table ≡ start_table root i)
   unfolding table_at
@@ -51,7 +52,7 @@ module _ (entries : Entries) (root : Root) (blank : (number index : ℕ) → num
   unfolding table_at
   no_data zero i below = refl
   no_data (suc zero) i below = ap data_of (blank_at i below)
-  no_data (suc (suc l)) i below = ap (in_table (λ t. data_of (entries t (entry_index (suc (suc l)) i)))) (no_second l i below)
+  no_data (suc (suc l)) i below = ap (option_and_then (λ t. data_of (entries t (entry_index (suc (suc l)) i)))) (no_second l i below)
 
   -- The realm owns the starting tables.
   pub root_granules : (granules : List Granule) (rd : ℕ) → ((number : ℕ) → number < start_count root.width → IsIn granules (root.first + number) InRtt (Some rd)) → HasGranules entries granules rd root
@@ -78,7 +79,7 @@ module _ (entries : Entries) (root : Root) (blank : (number index : ℕ) → num
   no_entry : (l i : ℕ) → i < space_of root.width → 1 ≤ l → l ≢ 1 → entry_at entries root l i ≡ None
   no_entry zero i below low ne = absurd (omega arith)
   no_entry (suc zero) i below low ne = absurd (ne refl)
-  no_entry (suc (suc l)) i below low ne = ap (in_table (λ t. Some (entries t (entry_index (suc (suc l)) i)))) (no_second l i below)
+  no_entry (suc (suc l)) i below low ne = ap (option_and_then (λ t. Some (entries t (entry_index (suc (suc l)) i)))) (no_second l i below)
 
   -- The rows are those of starting tables alone.
   pub blank_rows : rows_in entries root ≡ root_rows root.width

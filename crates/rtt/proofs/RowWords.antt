@@ -1,6 +1,6 @@
 -- Rows and the words that they stand in.
 use Rattle.std.proofs.Common.{◌≡◌, ℕ, zero, suc, ◌-◌, Bool, true, false, cond, List, Option, Some, None, refl, sym, ap, subst, ◌∙◌, arith}
-use Rattle.std.specs.Prelude.{◌==◌}
+use Rattle.std.specs.Prelude.{◌==◌, option_and_then}
 use Rattle.std.proofs.lemmas.Bool.{ne_eqb}
 use Rattle.std.proofs.lemmas.Option.{same_Some}
 use Rattle.granule_addr.specs.Ipa.{first_covered, entry_index}
@@ -10,7 +10,7 @@ use Rattle.granule_table.specs.declared.granule.Granule.{Granule}
 use Rattle.page_arena.specs.Word.{word_at}
 use Rattle.realm_model.specs.Rows.{Row, row_at}
 use Rattle.rtt.specs.Word.{entry_word, IsEntry}
-use Rattle.rtt.specs.Tables.{Entries, entries_of, table_of, in_table, table_at, is_place, rows}
+use Rattle.rtt.specs.Tables.{Entries, entries_of, table_of, table_at, is_place, rows}
 use Rattle.rtt.specs.Realm.{IsInside, HasTables}
 use Rattle.rtt.specs.RowWords.{table_by, AreRowWords}
 use Rattle.rtt.proofs.PlaceLaws.{index_below}
@@ -19,7 +19,7 @@ use Rattle.rtt.proofs.RowsIn.{row_at-rows_in, get-rows_in, row_in-place, row_in-
 use Rattle.rtt.proofs.Written.{IsEntry-entries_of}
 
 -- an entry that is there is in a table
-in_some : (entries : Entries) (index : ℕ) (o : Option ℕ) (row : Row) → in_table (λ t. Some (entries t index)) o ≡ Some row → (t : ℕ) × (o ≡ Some t) × (entries t index ≡ row)
+in_some : (entries : Entries) (index : ℕ) (o : Option ℕ) (row : Row) → option_and_then (λ t. Some (entries t index)) o ≡ Some row → (t : ℕ) × (o ≡ Some t) × (entries t index ≡ row)
 in_some entries index None row e = cc
 in_some entries index (Some t) row e = (t, refl, same_Some _ _ e)
 
@@ -39,9 +39,9 @@ module _ (pages : List (List ℕ)) (root : Root) where
       let above : IsInside root.width (suc level) ipa = record { least = omega arith; most = omega arith; below = inside.below } in
       let no_root : (suc (suc level) == 1) ≡ false = ne_eqb (suc (suc level)) 1 (λ e. omega arith) in
       let minus : suc (suc level) - 1 ≡ suc level = omega arith in
-      let by_row : table_by (rows pages root) root (suc (suc level)) ipa ≡ elim (row_at (rows pages root) (suc level) ipa) [ Some row ↦ table_of row | None ↦ None ] =
-      (λ i. cond (no_root i) (Some (start_table root ipa)) (elim (row_at (rows pages root) (minus i) ipa) [ Some row ↦ table_of row | None ↦ None ])) in
-      elim (row_at (rows pages root) (suc level) ipa) as (λ o. row_at (rows pages root) (suc level) ipa ≡ o → elim o [ Some row ↦ table_of row | None ↦ None ] ≡ Some table → table_at (entries_of pages) root (suc (suc level)) ipa ≡ Some table) [
+      let by_row : table_by (rows pages root) root (suc (suc level)) ipa ≡ option_and_then table_of (row_at (rows pages root) (suc level) ipa) =
+      (λ i. cond (no_root i) (Some (start_table root ipa)) (option_and_then table_of (row_at (rows pages root) (minus i) ipa))) in
+      elim (row_at (rows pages root) (suc level) ipa) as (λ o. row_at (rows pages root) (suc level) ipa ≡ o → option_and_then table_of o ≡ Some table → table_at (entries_of pages) root (suc (suc level)) ipa ≡ Some table) [
         | None ↦ λ _ e. cc
         | Some row ↦ λ there e.
             let its = found (suc level) ipa row above there in

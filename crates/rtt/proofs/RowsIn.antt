@@ -1,5 +1,6 @@
 -- The rows that tables hold: what they have at each place, and where walks over them end.
 use Rattle.std.proofs.Common.{◌≡◌, ℕ, zero, suc, ◌<◌, ◌≤◌, true, false, cond, Option, Some, None, ◌⊎◌, inl, inr, ⊎_elim, refl, sym, ap, ◌∙◌, arith}
+use Rattle.std.specs.Prelude.{option_and_then}
 use Rattle.std.specs.FinMap.{get}
 use Rattle.std.proofs.lemmas.Bool.{cases_eq}
 use Rattle.granule_addr.specs.Ipa.{first_covered, entry_index}
@@ -8,7 +9,7 @@ use Rattle.granule_addr.specs.declared.root.Root.{Root}
 use Rattle.realm_model.specs.Rows.{Row, Rows, row_at, walk}
 use Rattle.rtt.specs.FiniteRows.{IsBounded}
 use Rattle.rtt.proofs.FiniteRowsLaws.{get-rows_by, same_rows}
-use Rattle.rtt.specs.Tables.{Entries, table_of, in_table, table_at, entry_at, is_place, row_in, rows_in}
+use Rattle.rtt.specs.Tables.{Entries, table_of, table_at, entry_at, is_place, row_in, rows_in}
 use Rattle.rtt.specs.Realm.{IsInside}
 use Rattle.rtt.proofs.PlaceLaws.{place_facts, first_covers, first_is_place}
 use Rattle.rtt.proofs.TableAt.{entry_at-same, entry_at-some, no_table}
@@ -74,7 +75,7 @@ walk_ends entries root level (suc wanted) ipa table inside le high at stop =
           let below : IsInside root.width (suc wanted) ipa = record { least = omega arith; most = high; below = inside.below } in
           let here : row_at (rows_in entries root) (suc wanted) ipa ≡ None =
           row_at-rows_in entries root (suc wanted) ipa below
-          ∙ ap (in_table (λ table. Some (entries table (entry_index (suc wanted) ipa)))) (no_table entries root level ipa table wanted low (omega arith) at none) in
+          ∙ ap (option_and_then (λ table. Some (entries table (entry_index (suc wanted) ipa)))) (no_table entries root level ipa table wanted low (omega arith) at none) in
           step_walk (rows_in entries root) ipa wanted None here
           ∙ walk_ends entries root level wanted ipa table inside (omega arith) (omega arith) at (inr none)
     ]

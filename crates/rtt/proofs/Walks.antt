@@ -1,5 +1,6 @@
 -- Walks over the words of pages, as a call takes them.
 use Rattle.std.proofs.Common.{◌≡◌, ℕ, ◌+◌, ◌*◌, ◌<◌, ◌≤◌, List, length, Some, None, ◌⊎◌, ⊎_elim, inl, inr, refl, sym, ap, ◌∙◌, arith, add-one}
+use Rattle.std.specs.Prelude.{option_and_then}
 use Rattle.granule_addr.specs.Ipa.{entry_index}
 use Rattle.granule_addr.specs.Root.{start_count, space_of, start_table}
 use Rattle.granule_addr.specs.declared.root.Root.{Root}
@@ -7,7 +8,7 @@ use Rattle.granule_table.specs.Granules.{IsIn}
 use Rattle.granule_table.specs.declared.granule.Granule.{Granule}
 use Rattle.realm_model.specs.declared.states.GranuleState.TheVariants.{Data as InData, Rtt as InRtt}
 use Rattle.realm_model.specs.Rows.{Row, Walk, walk}
-use Rattle.rtt.specs.Tables.{Entries, table_of, data_of, in_table, entries_of, table_at, rows}
+use Rattle.rtt.specs.Tables.{Entries, table_of, data_of, entries_of, table_at, rows}
 use Rattle.rtt.specs.Realm.{IsInside, HasTables, served_count}
 use Rattle.rtt.proofs.StartTables.{first_served, starts_fit}
 use Rattle.rtt.proofs.TableAt.{table_at-root, table_at-next}
@@ -61,7 +62,7 @@ pub page_in : (pages : List (List ℕ)) (granules : List Granule) (rd : ℕ) (ro
     → IsInside root.width level ipa → table_at (entries_of pages) root level ipa ≡ Some table → entry ≡ entries_of pages table (entry_index level ipa) → data_of entry ≡ Some page
     → IsIn granules page InData (Some rd)
 page_in pages granules rd root level ipa table page entry tables inside at is leads =
-    tables.own.«data» level ipa page inside (ap (in_table (λ t. data_of (entries_of pages t (entry_index level ipa)))) at ∙ ap data_of (sym is) ∙ leads)
+    tables.own.«data» level ipa page inside (ap (option_and_then (λ t. data_of (entries_of pages t (entry_index level ipa)))) at ∙ ap data_of (sym is) ∙ leads)
 
 -- where a walk ends
 pub walk_found : (pages : List (List ℕ)) (root : Root) (level wanted ipa table : ℕ) (entry : Row) → IsInside root.width level ipa → level ≤ wanted → wanted ≤ 3

@@ -1,5 +1,6 @@
 -- An entry is written in a table: which tables and entries there are afterwards.
 use Rattle.std.proofs.Common.{◌≡◌, ◌≢◌, ℕ, zero, suc, ◌/◌, ◌<◌, ◌≤◌, true, false, cond, List, Option, Some, None, ◌⊎◌, inl, inr, refl, sym, ap, subst, ◌∙◌, arith}
+use Rattle.std.specs.Prelude.{option_and_then}
 use Rattle.std.proofs.lemmas.Bool.{cases_eq}
 use Rattle.std.proofs.lemmas.Option.{same_Some}
 use Rattle.granule_addr.specs.Ipa.{covered_count, entry_index}
@@ -8,7 +9,7 @@ use Rattle.granule_addr.specs.declared.root.Root.{Root}
 use Rattle.granule_table.specs.declared.granule.Granule.{Granule}
 use Rattle.realm_model.specs.declared.states.Hipas.TheVariants.{Unassigned}
 use Rattle.realm_model.specs.Rows.{Row}
-use Rattle.rtt.specs.Tables.{Entries, table_of, in_table, table_at, entry_at}
+use Rattle.rtt.specs.Tables.{Entries, table_of, table_at, entry_at}
 use Rattle.rtt.specs.Realm.{IsInside, HasGranules, served_count}
 use Rattle.rtt.proofs.EntryKinds.{table_of-unassigned}
 use Rattle.rtt.proofs.PlaceLaws.{option_cases, index_below, table_of_entry, index_of_entry, entry_of_index, is_under, under_cases, under_true, under_false}
@@ -31,7 +32,7 @@ suc_same : (a b : ℕ) → suc a ≡ suc b → a ≡ b
 suc_same a b e = omega arith
 
 none_below : (entries : Entries) (o : Option ℕ) (index : ℕ) → ((child : ℕ) → o ≡ Some child → (entries child index).hipas ≡ Unassigned)
-    → in_table (λ table. table_of (entries table index)) o ≡ None
+    → option_and_then (λ table. table_of (entries table index)) o ≡ None
 none_below entries None index h = refl
 none_below entries (Some child) index h = table_of-unassigned (entries child index) (h child refl)
 
@@ -63,20 +64,20 @@ module _ (entries new : Entries) (granules : List Granule) (rd : ℕ) (root : Ro
       ∙ ap (λ (i : ℕ). table_of (entries table i)) (index_of_entry level other ipa same)
 
   step : (p other : ℕ) → IsInside root.width p other → p < 3 → table_at new root p other ≡ cond (is_under (suc level) level ipa p other) (table_of entry) (table_at entries root p other)
-      → in_table (λ t. table_of (new t (entry_index p other))) (table_at new root p other)
-      ≡ cond (is_under (suc level) level ipa (suc p) other) (table_of entry) (in_table (λ t. table_of (entries t (entry_index p other))) (table_at entries root p other))
+      → option_and_then (λ t. table_of (new t (entry_index p other))) (table_at new root p other)
+      ≡ cond (is_under (suc level) level ipa (suc p) other) (table_of entry) (option_and_then (λ t. table_of (entries t (entry_index p other))) (table_at entries root p other))
   step p other inside high ih =
       let i = entry_index p other in
       let few : i < 512 = index_below p other in
-      let was = in_table (λ t. table_of (entries t i)) (table_at entries root p other) in
+      let was = option_and_then (λ t. table_of (entries t i)) (table_at entries root p other) in
       elim (under_cases (suc level) level ipa p other) [
         | inl u ↦
             let deep : level < 3 = let k = u.1 in omega arith in
-            let after : in_table (λ t. table_of (new t i)) (table_at new root p other) ≡ None =
-            ap (in_table (λ t. table_of (new t i))) (ih ∙ ap (λ b. cond b (table_of entry) (table_at entries root p other)) u.0)
+            let after : option_and_then (λ t. table_of (new t i)) (table_at new root p other) ≡ None =
+            ap (option_and_then (λ t. table_of (new t i))) (ih ∙ ap (λ b. cond b (table_of entry) (table_at entries root p other)) u.0)
             ∙ none_below new (table_of entry) i (λ child c. w.new_below child i deep c few) in
             let before : was ≡ None =
-            ap (in_table (λ t. table_of (entries t i))) (table_under p other u.1 u.2)
+            ap (option_and_then (λ t. table_of (entries t i))) (table_under p other u.1 u.2)
             ∙ none_below entries (table_of old_entry) i (λ child c. w.old_below child i deep c few) in
             let off : is_under (suc level) level ipa (suc p) other ≡ false = under_false (suc level) level ipa (suc p) other (λ q _. let k = u.1 in omega arith) in
             after ∙ sym (ap (λ b. cond b (table_of entry) was) off ∙ before)
@@ -88,21 +89,21 @@ module _ (entries new : Entries) (granules : List Granule) (rd : ℕ) (root : Ro
               | inl none ↦
                   let off : is_under (suc level) level ipa (suc p) other ≡ false = under_false (suc level) level ipa (suc p) other (λ q cov.
                   let clash : None ≡ Some table = sym none ∙ there q cov in cc) in
-                  ap (in_table (λ t. table_of (new t i))) (same ∙ none)
-                  ∙ sym (ap (λ b. cond b (table_of entry) was) off ∙ ap (in_table (λ t. table_of (entries t i))) none)
+                  ap (option_and_then (λ t. table_of (new t i))) (same ∙ none)
+                  ∙ sym (ap (λ b. cond b (table_of entry) was) off ∙ ap (option_and_then (λ t. table_of (entries t i))) none)
               | inr found ↦
-                  let beside : ((found.0 ≡ table) × (i ≡ entry_index level ipa) → ⊥) → in_table (λ t. table_of (new t i)) (table_at new root p other) ≡ cond (is_under (suc level) level ipa (suc p) other) (table_of entry) was = λ apart.
+                  let beside : ((found.0 ≡ table) × (i ≡ entry_index level ipa) → ⊥) → option_and_then (λ t. table_of (new t i)) (table_at new root p other) ≡ cond (is_under (suc level) level ipa (suc p) other) (table_of entry) was = λ apart.
                   let off : is_under (suc level) level ipa (suc p) other ≡ false = under_false (suc level) level ipa (suc p) other (λ q cov.
                   apart (same_Some found.0 table (sym found.1 ∙ there q cov), ap (λ (k : ℕ). entry_index k other) (suc_same p level q) ∙ index_of_entry level other ipa cov)) in
-                  ap (in_table (λ t. table_of (new t i))) (same ∙ found.1)
+                  ap (option_and_then (λ t. table_of (new t i))) (same ∙ found.1)
                   ∙ ap table_of (w.kept p other found.0 i inside found.1 few u.1 apart)
-                  ∙ sym (ap (λ b. cond b (table_of entry) was) off ∙ ap (in_table (λ t. table_of (entries t i))) found.1) in
+                  ∙ sym (ap (λ b. cond b (table_of entry) was) off ∙ ap (option_and_then (λ t. table_of (entries t i))) found.1) in
                   elim (cases_eq found.0 table) [
                     | inl ge ↦ elim (cases_eq i (entry_index level ipa)) [
                       | inl ie ↦
                           let place = same_entry p other found.0 inside found.1 ge ie in
                           let on : is_under (suc level) level ipa (suc p) other ≡ true = under_true (suc level) level ipa (suc p) other (ap suc place.0) place.1 in
-                          ap (in_table (λ t. table_of (new t i))) (same ∙ found.1)
+                          ap (option_and_then (λ t. table_of (new t i))) (same ∙ found.1)
                           ∙ ap (λ (g : ℕ). table_of (new g i)) ge
                           ∙ ap (λ (j : ℕ). table_of (new table j)) ie
                           ∙ ap table_of w.wrote
@@ -159,11 +160,11 @@ module _ (entries new : Entries) (granules : List Granule) (rd : ℕ) (root : Ro
   -- The entries afterwards: the one written, those of the table below it, and all others as they were.
   pub entry_at-written : (other_level other : ℕ) → IsInside root.width other_level other
       → entry_at new root other_level other ≡ cond (is_under level level ipa other_level other) (Some entry)
-      (cond (is_under (suc level) level ipa other_level other) (in_table (λ t. Some (new t (entry_index other_level other))) (table_of entry)) (entry_at entries root other_level other))
+      (cond (is_under (suc level) level ipa other_level other) (option_and_then (λ t. Some (new t (entry_index other_level other))) (table_of entry)) (entry_at entries root other_level other))
   entry_at-written l other inside =
       let i = entry_index l other in
       let few : i < 512 = index_below l other in
-      let below = in_table (λ t. Some (new t i)) (table_of entry) in
+      let below = option_and_then (λ t. Some (new t i)) (table_of entry) in
       let was = entry_at entries root l other in
       let own_test = is_under level level ipa l other in
       let under_test = is_under (suc level) level ipa l other in
@@ -173,28 +174,28 @@ module _ (entries new : Entries) (granules : List Granule) (rd : ℕ) (root : Ro
       elim (under_cases (suc level) level ipa l other) [
         | inl u ↦
             let off : own_test ≡ false = under_false level level ipa l other (λ q _. let k = u.1 in omega arith) in
-            ap (in_table (λ t. Some (new t i))) (now ∙ ap (λ c. cond c (table_of entry) (table_at entries root l other)) u.0)
+            ap (option_and_then (λ t. Some (new t i))) (now ∙ ap (λ c. cond c (table_of entry) (table_at entries root l other)) u.0)
             ∙ sym (ap (λ c. cond c (Some entry) (cond under_test below was)) off ∙ ap (λ c. cond c below was) u.0)
         | inr u ↦
             let same : table_at new root l other ≡ table_at entries root l other = now ∙ ap (λ c. cond c (table_of entry) (table_at entries root l other)) u.0 in
             elim (option_cases (table_at entries root l other)) [
               | inl none ↦
                   let off : own_test ≡ false = under_false level level ipa l other (λ q cov. let clash : None ≡ Some table = sym none ∙ there q cov in cc) in
-                  ap (in_table (λ t. Some (new t i))) (same ∙ none)
-                  ∙ sym (ap (λ c. cond c (Some entry) (cond under_test below was)) off ∙ ap (λ c. cond c below was) u.0 ∙ ap (in_table (λ t. Some (entries t i))) none)
+                  ap (option_and_then (λ t. Some (new t i))) (same ∙ none)
+                  ∙ sym (ap (λ c. cond c (Some entry) (cond under_test below was)) off ∙ ap (λ c. cond c below was) u.0 ∙ ap (option_and_then (λ t. Some (entries t i))) none)
               | inr found ↦
-                  let beside : ((found.0 ≡ table) × (i ≡ entry_index level ipa) → ⊥) → in_table (λ t. Some (new t i)) (table_at new root l other) ≡ cond own_test (Some entry) (cond under_test below was) = λ apart.
+                  let beside : ((found.0 ≡ table) × (i ≡ entry_index level ipa) → ⊥) → option_and_then (λ t. Some (new t i)) (table_at new root l other) ≡ cond own_test (Some entry) (cond under_test below was) = λ apart.
                   let off : own_test ≡ false = under_false level level ipa l other (λ q cov.
                   apart (same_Some found.0 table (sym found.1 ∙ there q cov), ap (λ (k : ℕ). entry_index k other) q ∙ index_of_entry level other ipa cov)) in
-                  ap (in_table (λ t. Some (new t i))) (same ∙ found.1)
+                  ap (option_and_then (λ t. Some (new t i))) (same ∙ found.1)
                   ∙ ap (λ x. Some x) (w.kept l other found.0 i inside found.1 few u.1 apart)
-                  ∙ sym (ap (λ c. cond c (Some entry) (cond under_test below was)) off ∙ ap (λ c. cond c below was) u.0 ∙ ap (in_table (λ t. Some (entries t i))) found.1) in
+                  ∙ sym (ap (λ c. cond c (Some entry) (cond under_test below was)) off ∙ ap (λ c. cond c below was) u.0 ∙ ap (option_and_then (λ t. Some (entries t i))) found.1) in
                   elim (cases_eq found.0 table) [
                     | inl ge ↦ elim (cases_eq i (entry_index level ipa)) [
                       | inl ie ↦
                           let place = same_entry l other found.0 inside found.1 ge ie in
                           let on : own_test ≡ true = under_true level level ipa l other place.0 place.1 in
-                          ap (in_table (λ t. Some (new t i))) (same ∙ found.1)
+                          ap (option_and_then (λ t. Some (new t i))) (same ∙ found.1)
                           ∙ ap (λ (g : ℕ). Some (new g i)) ge
                           ∙ ap (λ (j : ℕ). Some (new table j)) ie
                           ∙ ap (λ x. Some x) w.wrote

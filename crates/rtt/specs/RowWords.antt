@@ -1,5 +1,5 @@
 -- The words of tables, by the rows alone. RMM 1.0, RTT entry.
-use Rattle.std.specs.Prelude.{◌≡◌, ℕ, ◌-◌, ◌==◌, List, Option, Some, None, if◌then◌else◌}
+use Rattle.std.specs.Prelude.{◌≡◌, ℕ, ◌-◌, ◌==◌, List, Option, Some, option_and_then, if◌then◌else◌}
 use Rattle.granule_addr.specs.Ipa.{entry_index}
 use Rattle.granule_addr.specs.Root.{start_table}
 use Rattle.granule_addr.specs.declared.root.Root.{Root}
@@ -12,7 +12,7 @@ use Rattle.rtt.specs.Realm.{IsInside}
 -- the table of a level that serves an IPA granule: a starting table, or what the row above leads to
 abbrev pub table_by : Rows → Root → ℕ → ℕ → Option ℕ
 table_by rows root level ipa =
-    if level == 1 then Some (start_table root ipa) else elim (row_at rows (level - 1) ipa) [ Some row ↦ table_of row | None ↦ None ]
+    if level == 1 then Some (start_table root ipa) else option_and_then table_of (row_at rows (level - 1) ipa)
 
 -- Each word of the tables, from the starting tables on, is the word of its row.
 abbrev pub AreWordsOf : List (List ℕ) → Rows → Root → Type 0

@@ -4,7 +4,8 @@ use Rattle.granule_table.specs.declared.granule.Granule.{Granule}
 use Rattle.realm_model.specs.declared.states.GranuleState.TheVariants.{Delegated, Rtt as InRtt}
 use Rattle.rtt.specs.Tables.{rows}
 use Rattle.rtt.proofs.Refusals.{refused, accepted, destroy_refusal-is}
-use Rattle.rtt.proofs.OldTables.{is_table-leads, is_unused, Gone, gone}
+use Rattle.rtt.proofs.EntryKinds.{table_of-leads}
+use Rattle.rtt.proofs.OldTables.{is_unused, Gone, gone}
 use Rattle.rtt.proofs.tables.Tables.destroy_table.Given.{Over}
 use Rattle.rtt.proofs.tables.Tables.destroy_table.Goals as goal
 
@@ -18,7 +19,7 @@ returns-then-not-all_unassigned-clause-answer g c =
     let pages = g.S.PageStore.page_bytes c.args.store.now in
     refused c.args.level _
     (destroy_refusal-is (rows pages c.args.self.now.root) c.args.ipa c.args.level c.find-upper.result.level c.above-wanted.result c.find-upper.result.entry c.find-upper.ensures.walk (omega arith) false (omega arith)
-    (is_table-leads c.find-upper.result.entry c.in-Some.table (sym c.in-Some.ensures))
+    (table_of-leads c.find-upper.result.entry c.in-Some.table (sym c.in-Some.ensures)).0
     (is_unused pages c.args.self.now.root c.args.level c.above-wanted.result c.find-upper.result.level c.args.ipa c.find-upper.result.table c.in-Some.table c.find-upper.result.entry false
     c.above-wanted.ensures c.requires.place c.find-upper.ensures.inside (omega arith) c.find-upper.ensures.table c.find-upper.ensures.entry c.in-Some.ensures c.if-not-all_unassigned.ensures))
 
@@ -35,7 +36,7 @@ returns-clause-answer g c =
     let pages = g.S.PageStore.page_bytes c.args.store.now in
     accepted _
     (destroy_refusal-is (rows pages c.args.self.now.root) c.args.ipa c.args.level c.find-upper.result.level c.above-wanted.result c.find-upper.result.entry c.find-upper.ensures.walk (omega arith) true (omega arith)
-    (is_table-leads c.find-upper.result.entry c.in-Some.table (sym c.in-Some.ensures))
+    (table_of-leads c.find-upper.result.entry c.in-Some.table (sym c.in-Some.ensures)).0
     (is_unused pages c.args.self.now.root c.args.level c.above-wanted.result c.find-upper.result.level c.args.ipa c.find-upper.result.table c.in-Some.table c.find-upper.result.entry true
     c.above-wanted.ensures c.requires.place c.find-upper.ensures.inside (omega arith) c.find-upper.ensures.table c.find-upper.ensures.entry c.in-Some.ensures c.if-not-all_unassigned.ensures))
 
