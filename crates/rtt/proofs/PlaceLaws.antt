@@ -6,7 +6,7 @@ use Rattle.std.proofs.lemmas.Nat.{div-mul-add}
 use Rattle.std.proofs.lemmas.Bool.{and_parts, and_from, leb-true, le-leb, ltb-true, lt-ltb, eqb-true, eq-eqb}
 use Rattle.std.proofs.lemmas.Bool.Decides.{eqb_tells}
 use Rattle.granule_addr.specs.Ipa.{covered_count, first_covered, entry_index}
-use Rattle.granule_addr.specs.Root.{start_count, space_of}
+use Rattle.granule_addr.specs.Root.{space_of}
 use Rattle.realm_model.specs.Sound.{IsPlace}
 use Rattle.rtt.specs.Tables.{is_place}
 use Rattle.rtt.specs.Realm.{IsInside, served_count}
@@ -132,24 +132,22 @@ pub below_is_place : (width level ipa index : ℕ) → IsInside width level ipa 
 below_is_place width zero ipa index inside high few = let low : 1 ≤ 0 = inside.least in absurd (omega arith)
 below_is_place width (suc zero) ipa index inside high few =
     let b = ipa / 262144 in
+    let lt : ipa < space_of width = inside.below in
     let n = b * 262144 + index * 512 in
     let q : n / 262144 ≡ b = div-mul-add b 262144 (index * 512) (omega arith) in
+    let m : n < space_of width = omega arith in
     let f : n / 512 * 512 ≡ n = omega arith in
     let i : n / 512 % 512 ≡ index = omega arith in
-    (q, is_place_from width 2 n (record { least = lit≤ tt; most = lit≤ tt; below = second_below (start_count width) ipa index inside.below few }) f, i)
-  where
-    second_below : (tables ipa index : ℕ) → ipa < tables * 134217728 → index < 512 → ipa / 262144 * 262144 + index * 512 < tables * 134217728
-    second_below tables ipa index lt few = omega arith
+    (q, is_place_from width 2 n (record { least = lit≤ tt; most = lit≤ tt; below = m }) f, i)
 below_is_place width (suc (suc zero)) ipa index inside high few =
     let b = ipa / 512 in
+    let lt : ipa < space_of width = inside.below in
     let n = b * 512 + index * 1 in
     let q : n / 512 ≡ b = div-mul-add b 512 (index * 1) (omega arith) in
+    let m : n < space_of width = omega arith in
     let f : n / 1 * 1 ≡ n = omega arith in
     let i : n / 1 % 512 ≡ index = omega arith in
-    (q, is_place_from width 3 n (record { least = lit≤ tt; most = lit≤ tt; below = third_below (start_count width) ipa index inside.below few }) f, i)
-  where
-    third_below : (tables ipa index : ℕ) → ipa < tables * 134217728 → index < 512 → ipa / 512 * 512 + index * 1 < tables * 134217728
-    third_below tables ipa index lt few = omega arith
+    (q, is_place_from width 3 n (record { least = lit≤ tt; most = lit≤ tt; below = m }) f, i)
 below_is_place width (suc (suc (suc level))) ipa index inside high few = absurd (omega arith)
 
 pub place_is_below : (level ipa other : ℕ) → 1 ≤ level → level < 3 → first_covered (suc level) other ≡ other → other / covered_count level ≡ ipa / covered_count level

@@ -5,7 +5,7 @@ use Rattle.std.specs.FinMap.{get}
 use Rattle.std.proofs.lemmas.Bool.{cases_eq, cases_lt}
 use Rattle.std.proofs.lemmas.Option.{same_Some}
 use Rattle.granule_addr.specs.Ipa.{covered_count, first_covered, entry_index}
-use Rattle.granule_addr.specs.Root.{start_count, space_of}
+use Rattle.granule_addr.specs.Root.{space_of}
 use Rattle.granule_addr.specs.declared.root.Root.{Root}
 use Rattle.granule_table.specs.Granules.{IsIn}
 use Rattle.granule_table.specs.declared.granule.Granule.{Granule}
@@ -30,13 +30,12 @@ module _ (entries : Entries) (root : Root) (ipa table count : ℕ) (below : ipa 
   page_place k few =
       let room : ipa / 1 % 512 + count ≤ 512 = fits in
       let n = ipa + k * 1 in
+      let lt : ipa < space_of root.width = below in
+      let inside : n < space_of root.width = omega arith in
       let first : n / 1 * 1 ≡ n = omega arith in
       let index : n / 1 % 512 ≡ ipa / 1 % 512 + k = omega arith in
       let served : n / 512 ≡ ipa / 512 = omega arith in
-      (is_place_from root.width 3 n (record { least = lit≤ tt; most = lit≤ tt; below = page_below (start_count root.width) ipa k count below fits few }) first, index, served)
-    where
-      page_below : (tables ipa k count : ℕ) → ipa < tables * 134217728 → ipa / 1 % 512 + count ≤ 512 → k < count → ipa + k * 1 < tables * 134217728
-      page_below tables ipa k count lt room few = omega arith
+      (is_place_from root.width 3 n (record { least = lit≤ tt; most = lit≤ tt; below = inside }) first, index, served)
 
   page_table : (k : ℕ) → k < count → table_at entries root 3 (ipa + k * covered_count 3) ≡ Some table
   page_table k few = table_at-same entries root 3 (ipa + k * covered_count 3) ipa (lit≤ tt) (page_place k few).2 ∙ at

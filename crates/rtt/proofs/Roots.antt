@@ -23,13 +23,9 @@ use Rattle.rtt.proofs.RowRuns.{get-put_rows_at, get-put_rows_beside, all_rows_ea
 
 -- the places of level 1
 root_place : (width k : ℕ) → k < 512 * start_count width → is_place width 1 (0 + k * 262144) ≡ true
-root_place width k few = is_place_from width 1 (0 + k * 262144) (record { least = lit≤ tt; most = lit≤ tt; below = below (start_count width) k few }) (first k)
-  where
-    first : (k : ℕ) → (0 + k * 262144) / 262144 * 262144 ≡ 0 + k * 262144
-    first k = omega arith
-
-    below : (tables k : ℕ) → k < 512 * tables → 0 + k * 262144 < tables * 134217728
-    below tables k few = omega arith
+root_place width k few =
+    let first : (0 + k * 262144) / 262144 * 262144 ≡ 0 + k * 262144 = omega arith in
+    is_place_from width 1 (0 + k * 262144) (record { least = lit≤ tt; most = lit≤ tt; below = omega arith }) first
 
 -- ---- starting tables whose entries are all UNASSIGNED and EMPTY
 
@@ -92,8 +88,8 @@ module _ (entries : Entries) (root : Root) (blank : (number index : ℕ) → num
       beside : (l i : ℕ) → ((k : ℕ) → k < count → ◌≡◌ {A = ℕ × ℕ} (l, i) (1, 0 + k * covered_count 1) → ⊥) → None ≡ get (put_rows (λ _. unassigned Empty) empty 1 0 count) (l, i)
       beside l i out = sym (get-put_rows_beside (λ _. unassigned Empty) empty 1 0 count (l, i) out ∙ get-empty place_cmp (l, i))
 
-      place_index : (tables i : ℕ) → i / 262144 * 262144 ≡ i → i < tables * 134217728 → (i / 262144 < 512 * tables) × (i ≡ 0 + i / 262144 * 262144)
-      place_index tables i first lt = (omega arith, omega arith)
+      place_index : (i : ℕ) → i / 262144 * 262144 ≡ i → i < space_of root.width → (i / 262144 < count) × (i ≡ 0 + i / 262144 * 262144)
+      place_index i first lt = (omega arith, omega arith)
 
       blank_row : (l i : ℕ) → row_in entries root l i ≡ get (put_rows (λ _. unassigned Empty) empty 1 0 count) (l, i)
       blank_row l i = elim (is_place root.width l i) as (λ b. is_place root.width l i ≡ b → row_in entries root l i ≡ get (put_rows (λ _. unassigned Empty) empty 1 0 count) (l, i)) [
@@ -102,7 +98,7 @@ module _ (entries : Entries) (root : Root) (blank : (number index : ℕ) → num
             row_in-place entries root l i place
             ∙ elim (cases_eq l 1) [
               | inl one ↦
-                  let at = place_index (start_count root.width) i (ap (λ (k : ℕ). first_covered k i) (sym one) ∙ facts.first) facts.inside in
+                  let at = place_index i (ap (λ (k : ℕ). first_covered k i) (sym one) ∙ facts.first) facts.inside in
                   ap (λ (k : ℕ). entry_at entries root k i) one
                   ∙ entry_at-some entries root 1 i (start_table root i) (table_at-root entries root i)
                   ∙ ap (λ x. Some x) (blank_at i facts.inside)
@@ -121,35 +117,26 @@ module _ (entries : Entries) (root : Root) where
   -- The rows at the places of level 1 are the entries of the starting tables, one table after another.
   pub root_row : (k : ℕ) → k < 512 * start_count root.width → get (rows_in entries root) (1, 0 + k * covered_count 1) ≡ Some (entries (root.first + k / 512) (k % 512))
   root_row k few =
+      let table : start_index (0 + k * 262144) ≡ k / 512 = omega arith in
+      let index : (0 + k * 262144) / 262144 % 512 ≡ k % 512 = omega arith in
       get-rows_in entries root 1 (0 + k * 262144)
       ∙ row_in-place entries root 1 (0 + k * 262144) (root_place root.width k few)
       ∙ entry_at-some entries root 1 (0 + k * 262144) (start_table root (0 + k * 262144)) (table_at-root entries root (0 + k * 262144))
-      ∙ (λ j. Some (entries (root.first + table k j) (index k j)))
-    where
-      table : (k : ℕ) → (0 + k * 262144) / 134217728 ≡ k / 512
-      table k = omega arith
-
-      index : (k : ℕ) → (0 + k * 262144) / 262144 % 512 ≡ k % 512
-      index k = omega arith
+      ∙ (λ j. Some (entries (root.first + table j) (index j)))
 
   abbrev no_table : Row → Bool
   no_table row = not (is_table row)
 
   pub no_root_table : has_root_table root.width (rows_in entries root) ≡ false → (number index : ℕ) → number < start_count root.width → index < 512 → is_table (entries (root.first + number) index) ≡ false
   no_root_table none number index few within =
-      let at = entry_number (start_count root.width) number index few within in
-      ap is_table (λ j. entries (root.first + (sym at.1) j) ((sym at.2) j))
-      ∙ not_true _ (all_rows_each no_table (rows_in entries root) 1 0 (512 * start_count root.width) (λ k. entries (root.first + k / 512) (k % 512)) root_row (not_false _ none) (number * 512 + index) at.0)
-    where
-      entry_number : (tables number index : ℕ) → number < tables → index < 512
-          → (number * 512 + index < 512 * tables) × ((number * 512 + index) / 512 ≡ number) × ((number * 512 + index) % 512 ≡ index)
-      entry_number tables number index few within = (omega arith, omega arith, omega arith)
+      let k = number * 512 + index in
+      let table : number ≡ k / 512 = omega arith in
+      let at : index ≡ k % 512 = omega arith in
+      ap is_table (λ j. entries (root.first + table j) (at j))
+      ∙ not_true _ (all_rows_each no_table (rows_in entries root) 1 0 (512 * start_count root.width) (λ k. entries (root.first + k / 512) (k % 512)) root_row (not_false _ none) k (omega arith))
 
   pub root_table : has_root_table root.width (rows_in entries root) ≡ true → (number : ℕ) × (index : ℕ) × (number < start_count root.width) × (index < 512) × (is_table (entries (root.first + number) index) ≡ true)
   root_table some =
       let found = all_rows_fails no_table (rows_in entries root) 1 0 (512 * start_count root.width) (λ k. entries (root.first + k / 512) (k % 512)) root_row (not_true _ some) in
-      let at = table_number (start_count root.width) found.0 found.1 in
-      (found.0 / 512, found.0 % 512, at.0, at.1, not_false _ found.2)
-    where
-      table_number : (tables k : ℕ) → k < 512 * tables → (k / 512 < tables) × (k % 512 < 512)
-      table_number tables k few = (omega arith, omega arith)
+      let few = found.1 in
+      (found.0 / 512, found.0 % 512, omega arith, omega arith, not_false _ found.2)

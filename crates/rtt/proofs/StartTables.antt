@@ -1,5 +1,5 @@
 -- The starting tables of a realm: adjacent granules, of which each serves 2^27 IPA granules.
-use Rattle.std.proofs.Common.{◌≡◌, ◌≢◌, ℕ, zero, suc, ◌+◌, ◌-◌, ◌*◌, ◌/◌, ◌<◌, ◌≤◌, List, length, set, get_or, ◌⊎◌, inl, inr, ⊎_elim, refl, sym, ap, subst, ◌∙◌, arith}
+use Rattle.std.proofs.Common.{◌≡◌, ◌≢◌, ℕ, zero, suc, ◌+◌, ◌-◌, ◌*◌, ◌<◌, ◌≤◌, List, length, set, get_or, ◌⊎◌, inl, inr, ⊎_elim, refl, sym, ap, subst, ◌∙◌, arith}
 use Rattle.std.specs.List.{All, range_with_len}
 use Rattle.std.proofs.lemmas.List.{length-set, get_or-set_same, get_or-set_other}
 use Rattle.std.proofs.lemmas.List.FromFn.{length-range_with_len, get_or-range_with_len}
@@ -64,14 +64,8 @@ starts_fit root n each =
 
 -- the number of the one that serves an IPA granule
 pub start_index_below : (width ipa : ℕ) → ipa < space_of width → start_index ipa < start_count width
-start_index_below width ipa = below (start_count width) ipa
-  where
-    below : (tables ipa : ℕ) → ipa < tables * 134217728 → ipa / 134217728 < tables
-    below tables ipa lt = omega arith
+start_index_below width ipa below = omega arith
 
 -- the first IPA granule of the one of a number
 pub first_served : (width number : ℕ) → number < start_count width → (number * served_count 1 < space_of width) × (start_index (number * served_count 1) ≡ number)
-first_served width number = served (start_count width) number
-  where
-    served : (tables number : ℕ) → number < tables → (number * 134217728 < tables * 134217728) × (number * 134217728 / 134217728 ≡ number)
-    served tables number few = (omega arith, omega arith)
+first_served width number few = (omega arith, omega arith)
