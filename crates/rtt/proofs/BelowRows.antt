@@ -1,5 +1,5 @@
 -- The rows of a table below an entry.
-use Rattle.std.proofs.Common.{◌≡◌, ℕ, suc, ◌+◌, ◌-◌, ◌*◌, ◌/◌, ◌<◌, ◌≤◌, true, false, Some, ⊎_elim, sym, ap, subst, ◌∙◌, arith}
+use Rattle.std.proofs.Common.{◌≡◌, ℕ, suc, ◌+◌, ◌-◌, ◌*◌, ◌/◌, ◌<◌, ◌≤◌, true, Some, ⊎_elim, sym, ap, subst, ◌∙◌, arith}
 use Rattle.std.specs.FinMap.{get}
 use Rattle.std.proofs.lemmas.Bool.{and_parts, eqb-true}
 use Rattle.granule_addr.specs.Ipa.{covered_count, first_covered, entry_index}
@@ -14,7 +14,7 @@ use Rattle.rtt.specs.Realm.{IsInside, served_count}
 use Rattle.rtt.proofs.PlaceLaws.{first_covers, served_below, below_is_place, is_under, under_cases}
 use Rattle.rtt.proofs.TableAt.{table_at-same, entry_at-some}
 use Rattle.rtt.proofs.RowsIn.{get-rows_in, row_in-place}
-use Rattle.rtt.proofs.RowRuns.{all_rows_each, all_rows_true, all_rows_false}
+use Rattle.rtt.proofs.RowRuns.{all_rows_each, all_rows_true}
 
 -- a level, and the one above it
 module _ (level above ipa : ℕ) (next : above + 1 ≡ level) (place : is_table_place ipa level ≡ true) where
@@ -85,7 +85,3 @@ module _ (level above ipa : ℕ) (next : above + 1 ≡ level) (place : is_table_
     pub unused_entry : is_table_unused (rows_in entries root) level ipa ≡ true → (index : ℕ) → index < 512 → is_unassigned (entries granule index) ≡ true
     unfolding is_table_unused
     unused_entry unused = all_rows_each is_unassigned (rows_in entries root) level ipa 512 (entries granule) table_rows unused
-
-    pub table_used : (index : ℕ) → index < 512 → is_unassigned (entries granule index) ≡ false → is_table_unused (rows_in entries root) level ipa ≡ false
-    unfolding is_table_unused
-    table_used = all_rows_false is_unassigned (rows_in entries root) level ipa 512 (entries granule) table_rows

@@ -2,8 +2,10 @@
 use Rattle.std.proofs.Common.{◌≡◌, ℕ, Bool, true, false, cond, Option, Some, None, refl, ap}
 use Rattle.realm_model.specs.declared.states.Hipas.{Hipas}
 use Rattle.realm_model.specs.declared.states.Hipas.TheVariants.{Unassigned, Assigned, Table}
+use Rattle.realm_model.specs.declared.states.Ripas.{Ripas}
 use Rattle.realm_model.specs.declared.states.Ripas.TheVariants.{Ram}
 use Rattle.realm_model.specs.Rows.{Row, is_unassigned, is_assigned, is_table, unassigned, assigned, as_ram}
+use Rattle.rtt.specs.Word.{IsSaid, IsEntry}
 use Rattle.rtt.specs.Tables.{table_of, data_of}
 
 -- an UNASSIGNED entry is of no other kind
@@ -45,7 +47,28 @@ leads false o granule e = cc
 pub table_of-leads : (row : Row) (granule : ℕ) → table_of row ≡ Some granule → (is_table row ≡ true) × (row.granule ≡ Some granule)
 table_of-leads row granule e = leads (is_table row) row.granule granule e
 
+-- an entry that leads to no table is of another kind
+pub table_of-none : (row : Row) → IsEntry row → table_of row ≡ None → is_table row ≡ false
+table_of-none row is e = by_kind row.hipas row.ripas row.granule is e
+  where
+    by_kind : (h : Hipas) (r : Ripas) (o : Option ℕ) → IsSaid h r o → cond (elim h [ Unassigned ↦ false | Assigned ↦ false | Table ↦ true ]) o None ≡ None
+        → elim h [ Unassigned ↦ false | Assigned ↦ false | Table ↦ true ] ≡ false
+    by_kind Unassigned r o is e = refl
+    by_kind Assigned r o is e = refl
+    by_kind Table r None is e = absurd is
+    by_kind Table r (Some granule) is e = cc
+
 -- ---- the page that an entry leads to
+
+pub data_of-none : (row : Row) → IsEntry row → data_of row ≡ None → is_assigned row ≡ false
+data_of-none row is e = by_kind row.hipas row.ripas row.granule is e
+  where
+    by_kind : (h : Hipas) (r : Ripas) (o : Option ℕ) → IsSaid h r o → cond (elim h [ Unassigned ↦ false | Assigned ↦ true | Table ↦ false ]) o None ≡ None
+        → elim h [ Unassigned ↦ false | Assigned ↦ true | Table ↦ false ] ≡ false
+    by_kind Unassigned r o is e = refl
+    by_kind Assigned r None is e = absurd is
+    by_kind Assigned r (Some granule) is e = cc
+    by_kind Table r o is e = refl
 
 pub data_of-leads : (row : Row) (page : ℕ) → data_of row ≡ Some page → row ≡ assigned row.ripas page
 data_of-leads row page e = let is = leads (is_assigned row) row.granule page e in by_kind row.hipas row.granule is.0 is.1

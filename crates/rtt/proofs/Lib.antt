@@ -21,7 +21,7 @@ pub mod RowWords
 pub mod OtherRealms
 pub mod RowShapes
 pub mod Written
-pub mod Refusals
+pub mod FoundRows
 pub mod DataPages
 pub mod RootTables
 pub mod RamPages

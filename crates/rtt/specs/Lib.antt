@@ -2,6 +2,7 @@ pub mod Word
 pub mod FiniteRows
 pub mod Tables
 pub mod Realm
-pub mod Refusal
-pub mod Calls
 pub mod RowWords
+pub mod Found
+pub mod Answer
+pub mod Calls

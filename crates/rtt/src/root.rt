@@ -8,8 +8,8 @@ ghost use Rattle.granule_table.specs.Granules.{granule_at, IsIn};
 ghost use Rattle.realm_model.specs.Rows as rows_of;
 ghost use Rattle.realm_model.specs.StepLaw.{set_each};
 ghost use Rattle.rtt.specs.Tables.{entries_of, rows};
-ghost use Rattle.rtt.specs.Realm.{IsBacked, HasTables, LeavesOthers};
-ghost use Rattle.rtt.specs.Calls.{with_states};
+ghost use Rattle.rtt.specs.Realm.{IsBacked, HasTables};
+ghost use Rattle.rtt.specs.Calls.{with_states, Keeps, KeepsRest};
 
 use crate::Tables;
 use crate::pages::leads_to_no_table;
@@ -30,10 +30,9 @@ impl Tables {
             ≡ set_each zero_page (starting_tables self.now.root) (S.page_bytes store.old) }
         ensures moved { granules.new
             ≡ with_states granules.old (starting_tables self.now.root) GranuleState.Rtt (Some self.now.rd) }
-        ensures tables { HasTables (S.page_bytes store.new) granules.new self.now.rd self.now.root }
-        ensures backed { IsBacked (S.page_bytes store.new) (S.free_flags store.new) granules.new }
-        ensures flags { S.free_flags store.new ≡ S.free_flags store.old }
-        ensures other_realms { LeavesOthers self.now.rd (S.page_bytes store.old) granules.old (S.page_bytes store.new) granules.new }
+        ensures keeps { Keeps self.now.rd self.now.root
+            (S.page_bytes store.old) (S.free_flags store.old) granules.old
+            (S.page_bytes store.new) (S.free_flags store.new) granules.new }
     {
         let table = Granule {
             state: GranuleState::Rtt,
@@ -56,9 +55,9 @@ impl Tables {
             ≡ with_states granules.old (starting_tables self.now.root) GranuleState.Delegated None) }
         ensures unchanged { OnFalse result
             ((S.page_bytes store.new ≡ S.page_bytes store.old) × (granules.new ≡ granules.old)) }
-        ensures backed { IsBacked (S.page_bytes store.new) (S.free_flags store.new) granules.new }
-        ensures flags { S.free_flags store.new ≡ S.free_flags store.old }
-        ensures other_realms { LeavesOthers self.now.rd (S.page_bytes store.old) granules.old (S.page_bytes store.new) granules.new }
+        ensures keeps { KeepsRest self.now.rd
+            (S.page_bytes store.old) (S.free_flags store.old) granules.old
+            (S.page_bytes store.new) (S.free_flags store.new) granules.new }
     {
         if !self.has_no_table_below(store) {
             return false;
@@ -102,7 +101,8 @@ impl Tables {
         ensures moved { granules.new ≡ set_each to.now (starting_tables self.now.root) granules.old }
         ensures flags { S.free_flags store.new ≡ S.free_flags store.old }
     {
-        for number in 0..self.root.width.start_count() {
+        let count = self.root.width.start_count();
+        for number in 0..count {
             let table = starting_table(self.root, number);
             store.fill(table, 0);
             granules.shift(table, from, to.state, to.realm);

@@ -32,9 +32,9 @@ done g c =
     closed (g.S.PageStore.page_bytes c.args.store.now) (g.S.PageStore.page_bytes c.clear_starting_tables.new.store) (g.S.PageStore.free_flags c.args.store.now)
     c.args.granules.now c.clear_starting_tables.new.granules c.args.self.now.rd c.args.self.now.root c.requires.backed c.requires.tables c.clear_starting_tables.ensures.cleared c.clear_starting_tables.ensures.moved
 
-pub returns-clause-backed : goal.returns-clause-backed
-returns-clause-backed g c =
-    subst (λ (flags : List Bool). IsBacked (g.S.PageStore.page_bytes c.clear_starting_tables.new.store) flags c.clear_starting_tables.new.granules) (sym c.clear_starting_tables.ensures.flags) (done g c).backed
-
-pub returns-clause-other_realms : goal.returns-clause-other_realms
-returns-clause-other_realms g c = (done g c).other_realms
+pub returns-clause-keeps : goal.returns-clause-keeps
+returns-clause-keeps g c = record {
+  backed = subst (λ (flags : List Bool). IsBacked (g.S.PageStore.page_bytes c.clear_starting_tables.new.store) flags c.clear_starting_tables.new.granules) (sym c.clear_starting_tables.ensures.flags) (done g c).backed;
+  flags = c.clear_starting_tables.ensures.flags;
+  other_realms = (done g c).other_realms;
+}

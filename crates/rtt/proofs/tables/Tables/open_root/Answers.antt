@@ -29,12 +29,12 @@ done g c =
 pub returns-clause-rows : goal.returns-clause-rows
 returns-clause-rows g c = (done g c).rows_are
 
-pub returns-clause-tables : goal.returns-clause-tables
-returns-clause-tables g c = (done g c).tables
-
-pub returns-clause-backed : goal.returns-clause-backed
-returns-clause-backed g c =
-    subst (λ (flags : List Bool). IsBacked (g.S.PageStore.page_bytes c.clear_starting_tables.new.store) flags c.clear_starting_tables.new.granules) (sym c.clear_starting_tables.ensures.flags) (done g c).backed
-
-pub returns-clause-other_realms : goal.returns-clause-other_realms
-returns-clause-other_realms g c = (done g c).other_realms
+pub returns-clause-keeps : goal.returns-clause-keeps
+returns-clause-keeps g c = record {
+  tables = (done g c).tables;
+  rest = record {
+    backed = subst (λ (flags : List Bool). IsBacked (g.S.PageStore.page_bytes c.clear_starting_tables.new.store) flags c.clear_starting_tables.new.granules) (sym c.clear_starting_tables.ensures.flags) (done g c).backed;
+    flags = c.clear_starting_tables.ensures.flags;
+    other_realms = (done g c).other_realms;
+  };
+}
