@@ -1,26 +1,18 @@
-use Rattle.std.proofs.Common.{ℕ, ◌+◌, ◌<◌, length, Some, inl, inr, sym, ap, ◌∙◌, arith}
-use Rattle.granule_addr.specs.Root.{start_table}
+use Rattle.std.proofs.Common.{ℕ, ◌+◌, Some, inl, inr, sym, ap, ◌∙◌, arith}
 use Rattle.rtt.specs.Tables.{entries_of}
 use Rattle.rtt.proofs.Walks.{table_at-start, table_at-below, table_inside, start_inside, child_in, page_in, walk_found}
-use Rattle.rtt.proofs.tables.find.Given.{Over}
 use Rattle.rtt.proofs.tables.find.Goals as goal
 use Rattle.rtt.proofs.tables.find.Goals.{else-levels-test, then-levels-test+in-None}
 
-start_lies : (g : Over) (c : goal.After-start_table g) → start_table c.args.tables.root c.args.ipa < length (g.S.PageStore.page_bytes c.args.store.now)
-start_lies g c = start_inside (g.S.PageStore.page_bytes c.args.store.now) c.args.granules.now c.args.tables.rd c.args.tables.root c.args.ipa c.requires.as_many c.requires.tables c.requires.inside
-
 pub starting_table-table-requires : goal.starting_table-table-requires
 starting_table-table-requires g c =
-    let lies = start_lies g c in
+    let lies = start_inside (g.S.PageStore.page_bytes c.args.store.now) c.args.granules.now c.args.tables.rd c.args.tables.root c.args.ipa c.requires.as_many c.requires.tables c.requires.inside in
     let few = (g.met.S.PageStore.sized c.args.store.now).few_pages in
-    let number = c.start_table.ensures.value in
     omega arith
 
 pub read-entry-requires-clause-inside : goal.read-entry-requires-clause-inside
 read-entry-requires-clause-inside g c =
     let lies = start_inside (g.S.PageStore.page_bytes c.args.store.now) c.args.granules.now c.args.tables.rd c.args.tables.root c.args.ipa c.requires.as_many c.requires.tables c.requires.inside in
-    let number = c.start_table.ensures.value in
-    let table = c.starting_table-table.ensures in
     omega arith
 
 pub levels-init : goal.levels-init
