@@ -72,7 +72,8 @@ row_found pages root ipa table entry inside at is =
 
 -- ---- a page is mapped
 
-pub record Mapped (pages new_pages : List (List ℕ)) (granules new_granules : List Granule) (rd : ℕ) (root : Root) (ipa : ℕ) (entry : Row) : Type 0 where
+pub record Mapped (pages new_pages : List (List ℕ)) (granules new_granules : List Granule) (rd : ℕ) (root : Root) (ipa : ℕ) (old entry : Row) : Type 0 where
+  pub was : row_at (rows pages root) 3 ipa ≡ Some old
   pub rows_are : rows new_pages root ≡ put_row (rows pages root) 3 ipa entry
   pub tables : HasTables new_pages new_granules rd root
   pub others : ChangesTablesOnly root pages new_pages
@@ -83,7 +84,7 @@ pub mapped : (pages new_pages : List (List ℕ)) (flags : List Bool) (granules n
     → IsInside root.width level ipa → level ≡ 3 → table_at (entries_of pages) root level ipa ≡ Some table → table < length pages → index ≡ entry_index level ipa
     → old ≡ entries_of pages table (entry_index level ipa) → is_unassigned old ≡ true → IsIn granules page Delegated None → row ≡ assigned ripas page
     → new_pages ≡ with_word pages table index (entry_word row) → new_granules ≡ set granules page (record { state = InData; realm = Some rd })
-    → Mapped pages new_pages granules new_granules rd root ipa (assigned ripas page)
+    → Mapped pages new_pages granules new_granules rd root ipa old (assigned ripas page)
 mapped pages new_pages flags granules new_granules rd root level ipa table index page ripas old row sized backed tables inside last at within index_is old_is free delegated row_is pages_are granules_are =
     let entry = assigned ripas page in
     let inside_last : IsInside root.width 3 ipa = subst (λ (l : ℕ). IsInside root.width l ipa) last inside in
@@ -99,6 +100,7 @@ mapped pages new_pages flags granules new_granules rd root level ipa table index
     let table_in : IsIn granules table InRtt (Some rd) = tables.own.tables 3 ipa table inside_last at_last in
     let beside : (granule : ℕ) → granule ≢ table → page_at after granule ≡ page_at pages granule = λ granule apart. page_at-with_word_other pages table (entry_index 3 ipa) (entry_word entry) granule apart in
     rw (written, granules_are) (record {
+      was = row_is;
       rows_are = rows_are;
       tables = record {
         own = leaf_mapped (entries_of pages) (entries_of after) granules rd root ipa table entry tables.own below at_last

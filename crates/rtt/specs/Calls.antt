@@ -1,10 +1,11 @@
 -- What the clauses of the calls on tables say.
-use Rattle.std.specs.Prelude.{◌≡◌, ℕ, ◌-◌, Bool, List, Option, Some, slice_set}
+use Rattle.std.specs.Prelude.{◌≡◌, ℕ, ◌-◌, Bool, List, Option, Some, unwrap_or, slice_set}
 use Rattle.granule_addr.specs.declared.root.Root.{Root}
 use Rattle.granule_table.specs.declared.granule.Granule.{Granule}
 use Rattle.page_arena.specs.Page.{page_at}
 use Rattle.realm_model.specs.declared.states.GranuleState.{GranuleState}
-use Rattle.realm_model.specs.Rows.{Row, Rows, row_at, unassigned, unmapped_ripas, put_row, with_table}
+use Rattle.realm_model.specs.declared.states.Ripas.{Ripas}
+use Rattle.realm_model.specs.Rows.{Row, Rows, row_at, unassigned, assigned, unmapped_ripas, put_row, with_table}
 use Rattle.realm_model.specs.StepLaw.{set_each}
 use Rattle.rtt.specs.Realm.{IsBacked, HasTables, IsTableOf, LeavesOthers}
 
@@ -51,6 +52,11 @@ ChangesTablesAnd IsOneMore root pages new_pages =
 abbrev pub GainsTable : Rows → ℕ → ℕ → ℕ → Rows → Type 0
 GainsTable old level ipa granule new =
     (above : Row) → row_at old (level - 1) ipa ≡ Some above → new ≡ with_table old level ipa granule above.ripas
+
+-- The row at an IPA granule leads to a page, and has that RIPAS, or where none is given its own. RMM 1.0, RMI_DATA_CREATE and
+-- RMI_DATA_CREATE_UNKNOWN.
+abbrev pub GainsPage : Rows → ℕ → ℕ → Option Ripas → Rows → Type 0
+GainsPage old ipa page ripas new = (row : Row) → row_at old 3 ipa ≡ Some row → new ≡ put_row old 3 ipa (assigned (unwrap_or ripas row.ripas) page)
 
 -- The row at an IPA granule is UNASSIGNED, and RAM has become DESTROYED. RMM 1.0, RMI_DATA_DESTROY.
 abbrev pub LosesPage : Rows → ℕ → Rows → Type 0
