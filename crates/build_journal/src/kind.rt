@@ -5,7 +5,7 @@ ghost use Rattle.build_journal.specs.Kind.{act_kind};
 use realm_model::Act;
 
 /// The kind of an act that can be reversed.
-#[derive(Clone, Copy, Debug, PartialEq, Eq)]
+#[derive(Clone, Copy)]
 pub enum Kind {
     Take,
     Delegate,

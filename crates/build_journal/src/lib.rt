@@ -4,8 +4,6 @@
 mod journal;
 mod kind;
 mod reverse;
-#[cfg(test)]
-mod tests;
 
 pub use journal::{JOURNAL_ROOM, Journal};
 pub use kind::{Kind, kind_of};

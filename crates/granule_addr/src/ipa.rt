@@ -9,7 +9,7 @@ use std::marker::Model;
 pub const IPA_WIDTH: u8 = 39;
 
 /// The number of an IPA granule: its IPA is the number times 4,096. RMM 1.0, Realm address space.
-#[derive(Clone, Copy, Debug, PartialEq, Eq, PartialOrd, Ord)]
+#[derive(Clone, Copy)]
 pub struct IpaGran(u32);
 
 impl Model for IpaGran {

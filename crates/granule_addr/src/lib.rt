@@ -17,6 +17,3 @@ pub use ids::{BuildId, RecNo, Vmid};
 pub use ipa::{IPA_WIDTH, IpaGran, index_at, is_protected};
 pub use level::Level;
 pub use page::PageOff;
-
-#[cfg(test)]
-mod tests;

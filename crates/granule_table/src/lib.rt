@@ -9,6 +9,3 @@ mod table;
 
 pub use granule::Granule;
 pub use table::GranuleTable;
-
-#[cfg(test)]
-mod tests;

@@ -9,6 +9,3 @@ mod run;
 mod stacks;
 
 pub use stacks::Leases;
-
-#[cfg(test)]
-mod tests;

@@ -14,8 +14,6 @@ mod refusal;
 mod reply;
 mod settings;
 mod step;
-#[cfg(test)]
-mod tests;
 mod undo;
 
 pub use build_journal::Kind;

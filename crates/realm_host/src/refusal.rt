@@ -4,7 +4,7 @@ use realm_model::Rmi;
 use thiserror::Error;
 
 /// A refusal: of those that apply and hold, the one with the lowest number is given, and nothing changes.
-#[derive(Clone, Copy, Debug, PartialEq, Eq, Error)]
+#[derive(Clone, Copy, Debug, Error)]
 pub enum Refusal {
     /// 1: the build isn't there.
     #[error("there is no such build")]

@@ -3,7 +3,7 @@ ghost use Rattle.std.specs.Prelude.{◌≡◌, ◌≤◌, ◌↔◌, IsSome, IfS
 
 /// The numbers that a host is booted with: VMIDs, auxiliary granules of each REC, events of each build in the history,
 /// and builds.
-#[derive(Clone, Copy, Debug, PartialEq, Eq)]
+#[derive(Drop)]
 pub struct Settings {
     pub vmids: u8,
     pub aux: u8,

@@ -2,7 +2,7 @@
 ghost use Rattle.std.specs.Prelude.{◌≡◌};
 
 /// A command of a build. Pages are named by the build's own numbers, from 0 in the order of taking.
-#[derive(Debug, PartialEq, Eq, Drop)]
+#[derive(Drop)]
 pub enum Cmd {
     /// A block of 2^order pages is leased.
     Take { order: u8 },
@@ -29,7 +29,7 @@ impl Cmd {
 }
 
 /// What a build asks for in one turn.
-#[derive(Debug, PartialEq, Eq, Drop)]
+#[derive(Drop)]
 pub enum Step {
     Ask(Cmd),
     /// The newest open act of the build is reversed.

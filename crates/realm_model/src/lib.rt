@@ -13,6 +13,3 @@ mod states;
 pub use act::{Act, Event, granules_again};
 pub use rmi::{Rmi, Status};
 pub use states::{GranuleState, Hipas, RealmState, RecState, Ripas};
-
-#[cfg(test)]
-mod tests;

@@ -2,7 +2,7 @@
 ghost use Rattle.std.specs.Prelude.{◌≡◌, ◌+◌, ◌*◌};
 
 /// Why a command is refused. RMM 1.0, RMI status codes.
-#[derive(Clone, Copy, Debug, PartialEq, Eq)]
+#[derive(Clone, Copy, Debug)]
 pub enum Status {
     Input,
     Realm,
@@ -27,7 +27,7 @@ impl Status {
 }
 
 /// A refusal: with RMI_ERROR_RTT the index is the level of a table, else it is 0.
-#[derive(Clone, Copy, Debug, PartialEq, Eq)]
+#[derive(Clone, Copy, Debug)]
 pub struct Rmi {
     pub status: Status,
     pub index: u8,

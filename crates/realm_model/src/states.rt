@@ -1,7 +1,7 @@
 //! States of granules, realms, RECs and table entries.
 
 /// The state of a granule. RMM 1.0, Granule state.
-#[derive(Clone, Copy, Debug, PartialEq, Eq)]
+#[derive(Clone, Copy, PartialEq, Eq)]
 pub enum GranuleState {
     Undelegated,
     Delegated,
@@ -13,21 +13,21 @@ pub enum GranuleState {
 }
 
 /// The state of a realm. RMM 1.0, Realm state.
-#[derive(Clone, Copy, Debug, PartialEq, Eq)]
+#[derive(Clone, Copy)]
 pub enum RealmState {
     New,
     Active,
 }
 
 /// The state of a REC. RMM 1.0, REC state.
-#[derive(Clone, Copy, Debug, PartialEq, Eq)]
+#[derive(Clone, Copy)]
 pub enum RecState {
     Ready,
     Running,
 }
 
 /// Whether a table entry leads to a page, to a table or to nothing. RMM 1.0, HIPAS and RTT entry.
-#[derive(Clone, Copy, Debug, PartialEq, Eq)]
+#[derive(Clone, Copy)]
 pub enum Hipas {
     Unassigned,
     Assigned,
@@ -35,7 +35,7 @@ pub enum Hipas {
 }
 
 /// What a realm may expect at an IPA. RMM 1.0, RIPAS.
-#[derive(Clone, Copy, Debug, PartialEq, Eq)]
+#[derive(Clone, Copy)]
 pub enum Ripas {
     Empty,
     Ram,

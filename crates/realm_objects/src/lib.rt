@@ -12,6 +12,3 @@ mod rec;
 pub use measurement::{data_event, extend_measurement, rec_event, ripas_event};
 pub use realm::RealmDesc;
 pub use rec::Rec;
-
-#[cfg(test)]
-mod tests;

@@ -12,7 +12,7 @@ use std::marker::Model;
 /// A realm execution context (REC): what the monitor keeps of one beside its granule.
 ///
 /// RMM 1.0, REC attributes.
-#[derive(Debug, Drop)]
+#[derive(Drop)]
 pub struct Rec {
     number: RecNo,
     state: RecState,

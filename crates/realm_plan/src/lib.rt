@@ -15,8 +15,6 @@ mod number;
 mod plan;
 mod run;
 mod step;
-#[cfg(test)]
-mod tests;
 mod turns;
 
 pub use fault::{PlanError, PlanFault};

@@ -1,8 +1,10 @@
 //! Steps and their texts.
 ghost use Rattle.std.specs.Prelude.{◌≡◌, ℕ, IfSome, IfNone};
+ghost use Rattle.realm_host.specs.declared.step.Cmd.TheVariants.{Take, Fill, Delegate};
 ghost use Rattle.realm_host.specs.declared.step.Step.{Step};
+ghost use Rattle.realm_host.specs.declared.step.Step.TheVariants.{Ask};
 ghost use Rattle.realm_plan.specs.Numbers.{AreAtMost};
-ghost use Rattle.realm_plan.specs.Step.{page_step_at, undo_step_at, step_at, step_of, IsStepText};
+ghost use Rattle.realm_plan.specs.Step.{one, two, page_step_at, undo_step_at, step_at, step_of, IsStepText};
 
 use crate::number::{cut_at_space, numbers_of};
 use realm_host::{Cmd, Step};
@@ -24,26 +26,41 @@ fn at_most<const N: usize>(numbers: &[u32], maxima: [u32; N]) -> Option<[u32; N]
     Some(found)
 }
 
+/// The step `take` with its numbers.
+fn take_step(numbers: &[u32]) -> Option<Step>
+    ensures { result ≡ one 255 (λ order. Ask (Take order)) numbers.now }
+{
+    let [order] = at_most(numbers, [255])?;
+    Some(Step::Ask(Cmd::Take { order: order as u8 }))
+}
+
+/// The step `fill` with its numbers.
+fn fill_step(numbers: &[u32]) -> Option<Step>
+    ensures { result ≡ two 4095 255 (λ page value. Ask (Fill page value)) numbers.now }
+{
+    let [page, value] = at_most(numbers, [4095, 255])?;
+    Some(Step::Ask(Cmd::Fill {
+        page: page as u16,
+        value: value as u8,
+    }))
+}
+
+/// The step `delegate` with its numbers.
+fn delegate_step(numbers: &[u32]) -> Option<Step>
+    ensures { result ≡ one 4095 (λ page. Ask (Delegate page)) numbers.now }
+{
+    let [page] = at_most(numbers, [4095])?;
+    Some(Step::Ask(Cmd::Delegate { page: page as u16 }))
+}
+
 /// The step that the word and its numbers are, where the word is of a command on pages.
 fn page_step(word: &str, numbers: &[u32]) -> Option<Step>
     ensures { result ≡ page_step_at word.now numbers.now }
 {
     match word {
-        "take" => {
-            let [order] = at_most(numbers, [255])?;
-            Some(Step::Ask(Cmd::Take { order: order as u8 }))
-        }
-        "fill" => {
-            let [page, value] = at_most(numbers, [4095, 255])?;
-            Some(Step::Ask(Cmd::Fill {
-                page: page as u16,
-                value: value as u8,
-            }))
-        }
-        "delegate" => {
-            let [page] = at_most(numbers, [4095])?;
-            Some(Step::Ask(Cmd::Delegate { page: page as u16 }))
-        }
+        "take" => take_step(numbers),
+        "fill" => fill_step(numbers),
+        "delegate" => delegate_step(numbers),
         _ => None,
     }
 }

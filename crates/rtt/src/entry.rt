@@ -10,7 +10,7 @@ use std::marker::Model;
 
 /// An entry of a translation table: UNASSIGNED ones lead to nothing, ASSIGNED ones to a page of data, TABLE ones to a table,
 /// and these have no RIPAS of their own. RMM 1.0, RTT entry.
-#[derive(Clone, Copy, Debug, PartialEq, Eq)]
+#[derive(Clone, Copy)]
 pub struct Entry {
     pub hipas: Hipas,
     pub ripas: Ripas,

@@ -14,7 +14,7 @@ use granule_table::GranuleTable;
 use page_arena::PageStore;
 
 /// The tables of a realm: its RD, and its root table. Nothing is kept beside their pages.
-#[derive(Clone, Copy, Debug, PartialEq, Eq)]
+#[derive(Clone, Copy)]
 pub struct Tables {
     /// The granule of the realm's RD.
     pub rd: Gran,

@@ -4,7 +4,7 @@ use granule_addr::Level;
 use std::marker::Model;
 
 /// Where a walk ends: the level of a table, and the entry there. RMM 1.0, RTT walk.
-#[derive(Clone, Copy, Debug, PartialEq, Eq)]
+#[derive(Clone, Copy)]
 pub struct Walk {
     pub level: Level,
     pub entry: Entry,
