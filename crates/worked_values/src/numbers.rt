@@ -41,14 +41,13 @@ fn blocks(rt: HostRuntime) {
 #[test]
 fn entries(rt: HostRuntime) {
     let ipa = IpaGran::new(788_999, 39);
-    for (number, index, first) in [(1, 3, 786_432), (2, 5, 788_992), (3, 7, 788_999)] {
+    for (number, index) in [(1, 3), (2, 5), (3, 7)] {
         let level = Level::new(number);
         let (Some(ipa), Some(level)) = (ipa, level) else {
             assert!(rt; false);
             return;
         };
         assert_eq!(rt; index_at(ipa, level), index, "of level {number}");
-        assert_eq!(rt; ipa.first_at(level).number(), first, "of level {number}");
     }
 }
 
