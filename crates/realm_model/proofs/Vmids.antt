@@ -176,9 +176,9 @@ realm_before limits w v b act square s k e is =
     from_put limits w (IsMade limits w act) did.0 k (cell_at w.machine k) did.1 (from_now limits w (IsMade limits w act) k) e (ap (λ (c : Cell). c.descriptor) (sym (cell_put b did.0 w v square did.2 k)) ∙ is)
 
 -- an act that makes no realm leaves none where none was
-none_made : (limits : Limits) (act : Act) (k : ℕ) (e : RealmRow) → makes_realm act ≡ false → IsMade limits act k e → ⊥
-none_made limits (Realm rd root v) k e plain made = cc
-none_made limits _ k e plain made = made
+none_made : (limits : Limits) (w : World) (act : Act) (k : ℕ) (e : RealmRow) → makes_realm act ≡ false → IsMade limits w act k e → ⊥
+none_made limits w (Realm rd root v) k e plain made = cc
+none_made limits w _ k e plain made = made
 
 pub still_none : (limits : Limits) (w v : World) (b : ℕ) (act : Act) → IsSquare w → makes_realm act ≡ false → step limits w (by b act) ≡ Some v
     → ((k : ℕ) → (cell_at w.machine k).descriptor ≡ None) → (k : ℕ) → (cell_at v.machine k).descriptor ≡ None
@@ -188,7 +188,7 @@ still_none limits w v b act square plain s none k = by_row (cell_at v.machine k)
     by_row None is = refl
     by_row (Some e) is = elim (realm_before limits w v b act square s k e is) [
       | inl was ↦ absurd (true_false _ (ap is_some was.1) (ap is_some (none k)))
-      | inr made ↦ absurd (none_made limits act k e plain made)
+      | inr made ↦ absurd (none_made limits w act k e plain made)
     ]
 
 vmids_step : (limits : Limits) (w v : World) (b : ℕ) (act : Act) → IsSized limits w → HasVmids limits w → step limits w (by b act) ≡ Some v → HasVmids limits v
