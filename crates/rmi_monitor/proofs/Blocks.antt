@@ -11,7 +11,7 @@ use Rattle.granule_table.specs.declared.granule.Granule.{Granule}
 use Rattle.realm_model.specs.declared.states.GranuleState.TheVariants.{Undelegated}
 use Rattle.realm_model.specs.Machine.{Cell, Machine, blank, cell_at}
 use Rattle.rtt.specs.Realm.{LeavesAlone}
-use Rattle.rtt.specs.FrameLaws.{rows-alone, HasTables-alone}
+use Rattle.rtt.proofs.FrameLaws.{rows-alone, HasTables-alone}
 use Rattle.rmi_monitor.specs.View.{MonitorView, IsGivable, with_block, without_block}
 use Rattle.rmi_monitor.specs.Inside.{Fields, descriptor_of, cell_of, machine_of, seen_as, IsSoundAt, IsWhole}
 use Rattle.rmi_monitor.proofs.Machines.{length-machine_of, cell_at-machine_of, same_machine, cell_stays, descriptor_stays}

@@ -9,7 +9,7 @@ use Rattle.realm_model.specs.declared.states.GranuleState.TheVariants.{Data as I
 use Rattle.realm_model.specs.Machine.{Cell, cell_at}
 use Rattle.realm_model.specs.Update.{PutByte, machine_after_all}
 use Rattle.rtt.specs.Realm.{LeavesAlone}
-use Rattle.rtt.specs.FrameLaws.{rows-alone, HasTables-alone}
+use Rattle.rtt.proofs.FrameLaws.{rows-alone, HasTables-alone}
 use Rattle.rmi_monitor.specs.View.{MonitorView, after_command}
 use Rattle.rmi_monitor.specs.Inside.{Fields, descriptor_of, bytes_of, cell_of, machine_of, seen_as, IsWhole}
 use Rattle.rmi_monitor.proofs.Machines.{one_put, cell_stays, descriptor_stays}

@@ -6,7 +6,7 @@ use Rattle.granule_table.specs.declared.granule.Granule.{Granule}
 use Rattle.realm_model.specs.declared.states.GranuleState.TheVariants.{Data as InData, Rtt as InRtt}
 use Rattle.rtt.specs.Tables.{rows}
 use Rattle.rtt.specs.Realm.{IsBacked, HasTables, LeavesAlone}
-use Rattle.rtt.specs.FrameLaws.{rows-alone, HasTables-alone}
+use Rattle.rtt.proofs.FrameLaws.{rows-alone, HasTables-alone}
 
 -- a realm that is left alone twice
 pub alone_twice : (rd : ℕ) (pages : List (List ℕ)) (granules : List Granule) (next : List (List ℕ)) (next_granules : List Granule) (last : List (List ℕ)) (last_granules : List Granule)

@@ -13,7 +13,7 @@ use Rattle.realm_model.specs.Sound.{is_host_state, is_rd_state}
 use Rattle.realm_model.specs.Machine.{RecRow}
 use Rattle.realm_objects.specs.Attributes.{RealmAttributes, RecAttributes, rec_row}
 use Rattle.rtt.specs.Realm.{IsBacked, HasTables, LeavesAlone, LeavesOthers}
-use Rattle.rtt.specs.FrameLaws.{rows-alone, HasTables-alone}
+use Rattle.rtt.proofs.FrameLaws.{rows-alone, HasTables-alone}
 use Rattle.rmi_monitor.specs.Inside.{Fields, realm_at, rec_count_at, rec_at, is_of_realm, rec_of, recs_of, cell_of, is_rec_state, IsSoundAt, IsRecOf, HasRecs, IsWhole}
 use Rattle.rmi_monitor.specs.Gathered.{gathered}
 use Rattle.rmi_monitor.proofs.Gathered.{gathered-same}

@@ -12,7 +12,7 @@ use Rattle.realm_model.specs.declared.states.GranuleState.TheVariants.{Undelegat
 use Rattle.realm_model.specs.Machine.{Cell}
 use Rattle.realm_model.specs.Sound.{is_host_state, is_rd_state}
 use Rattle.rtt.specs.Realm.{LeavesAlone}
-use Rattle.rtt.specs.FrameLaws.{HasTables-alone}
+use Rattle.rtt.proofs.FrameLaws.{HasTables-alone}
 use Rattle.rmi_monitor.specs.Inside.{Fields, bytes_of, cell_of, machine_of, is_rec_state, IsSoundAt, IsWhole}
 use Rattle.rmi_monitor.proofs.Machines.{one_put, cell_plain}
 use Rattle.rmi_monitor.proofs.Frames.{Stays, StayRecs, backed_after, alone_after, recs_stay, Leaves, whole_after, cell_after}

@@ -17,7 +17,7 @@ use Rattle.realm_model.proofs.Lists.{is_in, is_in_head, is_in_more}
 use Rattle.realm_objects.specs.Attributes.{RealmAttributes, RecAttributes, rec_row}
 use Rattle.rtt.specs.Tables.{rows}
 use Rattle.rtt.specs.Realm.{IsBacked, LeavesAlone}
-use Rattle.rtt.specs.FrameLaws.{rows-alone, HasTables-alone}
+use Rattle.rtt.proofs.FrameLaws.{rows-alone, HasTables-alone}
 use Rattle.rmi_monitor.specs.Gathered.{gathered}
 use Rattle.rmi_monitor.specs.Inside.{Fields, realm_at, rec_count_at, rec_at, rec_of, recs_of, bytes_of, cell_of, is_rec_state, IsSoundAt, IsWhole}
 use Rattle.rmi_monitor.proofs.Frames.{Stays, backed_after, alone_after, LeavesRecs}

@@ -30,7 +30,7 @@ impl<S: PageStore> Monitor<S> {
         let Some(realm) = &mut self.realms[rd.number() as usize] else {
             return Err(Rmi::INPUT);
         };
-        let Some(ipa) = protected(ipa) else {
+        let Some(ipa) = protected(ipa, realm.root().width) else {
             return Err(Rmi::INPUT);
         };
         if !is_delegated(&self.granules, page) {
@@ -69,7 +69,7 @@ impl<S: PageStore> Monitor<S> {
         let Some(realm) = &self.realms[rd.number() as usize] else {
             return Err(Rmi::INPUT);
         };
-        let Some(ipa) = protected(ipa) else {
+        let Some(ipa) = protected(ipa, realm.root().width) else {
             return Err(Rmi::INPUT);
         };
         if !is_delegated(&self.granules, page) {
@@ -91,7 +91,7 @@ impl<S: PageStore> Monitor<S> {
         let Some(realm) = &self.realms[rd.number() as usize] else {
             return Err(Rmi::INPUT);
         };
-        let Some(ipa) = protected(ipa) else {
+        let Some(ipa) = protected(ipa, realm.root().width) else {
             return Err(Rmi::INPUT);
         };
         tables_of(rd, realm).unmap(&mut self.store, &mut self.granules, ipa)?;

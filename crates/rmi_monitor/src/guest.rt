@@ -35,7 +35,7 @@ impl<S: PageStore> Monitor<S> {
         let Some(realm) = &self.realms[rd.number() as usize] else {
             unreachable!()
         };
-        let Some(granule) = protected(ipa) else {
+        let Some(granule) = protected(ipa, realm.root().width) else {
             return Err(Rmi::INPUT);
         };
         if kept.is_ready() {

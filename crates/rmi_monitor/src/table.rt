@@ -27,7 +27,7 @@ impl<S: PageStore> Monitor<S> {
         let Some(realm) = &self.realms[rd.number() as usize] else {
             return Err(Rmi::INPUT);
         };
-        let (Some(level), Some(ipa)) = (table_level(ipa, level), protected(ipa)) else {
+        let (Some(level), Some(ipa)) = (table_level(ipa, level), protected(ipa, realm.root().width)) else {
             return Err(Rmi::INPUT);
         };
         if !is_delegated(&self.granules, table) {
@@ -57,7 +57,7 @@ impl<S: PageStore> Monitor<S> {
         let Some(realm) = &self.realms[rd.number() as usize] else {
             return Err(Rmi::INPUT);
         };
-        let (Some(level), Some(ipa)) = (table_level(ipa, level), protected(ipa)) else {
+        let (Some(level), Some(ipa)) = (table_level(ipa, level), protected(ipa, realm.root().width)) else {
             return Err(Rmi::INPUT);
         };
         tables_of(rd, realm).destroy_table(&mut self.store, &mut self.granules, ipa, level)?;
@@ -77,7 +77,7 @@ impl<S: PageStore> Monitor<S> {
         let Some(realm) = &mut self.realms[rd.number() as usize] else {
             return Err(Rmi::INPUT);
         };
-        let Some(first) = protected_run(ipa, count) else {
+        let Some(first) = protected_run(ipa, count, realm.root().width) else {
             return Err(Rmi::INPUT);
         };
         if !realm.is_new() {
