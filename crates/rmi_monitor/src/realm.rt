@@ -26,13 +26,13 @@ fn can_start(granules: &GranuleTable, rd: Gran, number: u16) -> bool
     }
 }
 
-// Whether all that the root names can.
-fn can_all_start(granules: &GranuleTable, rd: Gran, root: Root) -> bool
-    ensures { IsTrue result ↔ ((number : ℕ) → number < start_count root.width
-        → is_fit_to_start granules.now rd (root.first + number) ≡ true) }
+// Whether all starting tables can.
+fn can_all_start(granules: &GranuleTable, tables: &Tables) -> bool
+    ensures { IsTrue result ↔ ((number : ℕ) → number < start_count tables.now.root.width
+        → is_fit_to_start granules.now tables.now.rd (tables.now.root.first + number) ≡ true) }
 {
-    for number in 0..root.width.start_count() {
-        if !can_start(granules, rd, root.first.number() + number) {
+    for number in 0..tables.root.width.start_count() {
+        if !can_start(granules, tables.rd, tables.root.first.number() + number) {
             return false;
         }
     }
@@ -40,13 +40,13 @@ fn can_all_start(granules: &GranuleTable, rd: Gran, root: Root) -> bool
 }
 
 // Whether an RD, starting tables and a VMID can be those of a new realm, as far as no other realm decides.
-fn can_be_realm(granules: &GranuleTable, rd: Gran, root: Root, vmid: Vmid, vmids: u8) -> bool
-    requires { rd < length granules.now }
-    ensures { result ≡ are_fit_for_realm granules.now rd root vmid vmids }
+fn can_be_realm(granules: &GranuleTable, tables: &Tables, vmid: Vmid, vmids: u8) -> bool
+    requires { tables.now.rd < length granules.now }
+    ensures { result ≡ are_fit_for_realm granules.now tables.now.rd tables.now.root vmid vmids }
 {
-    root.first.number() % root.width.start_count() == 0
-        && is_delegated(granules, rd)
-        && can_all_start(granules, rd, root)
+    tables.root.first.number() % tables.root.width.start_count() == 0
+        && is_delegated(granules, tables.rd)
+        && can_all_start(granules, tables)
         && vmid.number() <= vmids
 }
 
@@ -70,17 +70,21 @@ impl<S: PageStore> Monitor<S> {
         let Some(width) = IpaWidth::new(width) else {
             return Err(Rmi::INPUT);
         };
-        let root = Root { first: root, width };
         if self.used.contains(vmid) {
             return Err(Rmi::INPUT);
         }
-        if !can_be_realm(&self.granules, rd, root, vmid, self.vmids) {
+        let tables = Tables {
+            rd,
+            root: Root { first: root, width },
+        };
+        if !can_be_realm(&self.granules, &tables, vmid, self.vmids) {
             return Err(Rmi::INPUT);
         }
         self.granules
             .shift(rd, GranuleState::Delegated, GranuleState::Rd, Some(rd));
-        Tables { rd, root }.open_root(&mut self.store, &mut self.granules);
-        self.realms[rd.number() as usize] = Some(RealmDesc::new(vmid, root));
+        tables.open_root(&mut self.store, &mut self.granules);
+        let realm = RealmDesc::new(vmid, Root { first: root, width });
+        self.realms[rd.number() as usize] = Some(realm);
         self.used.insert(vmid);
         Ok(())
     }
