@@ -1,6 +1,7 @@
 -- lists and tests
 pub mod Comparisons
 pub mod Listed
+pub mod Starting
 pub mod Gathered
 -- what a command answers and leaves
 pub mod Outcomes

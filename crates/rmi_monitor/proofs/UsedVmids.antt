@@ -1,12 +1,13 @@
 -- VMIDs that realms have: which are used, and what a realm that comes or goes makes of them.
 use Rattle.std.proofs.Common.{◌≡◌, ◌≢◌, ℕ, zero, suc, ◌+◌, ◌<◌, ◌≤◌, Bool, true, false, cond, List, [], ◌∷◌, length, map, set, get_or, replicate, Option, Some, None, option_map, refl, sym, ap, ◌∙◌, subst, ⊎_elim, arith}
 use Rattle.std.specs.Prelude.{◌||◌, ◌==◌}
-use Rattle.std.specs.List.{list_any, count_by, range_with_len}
+use Rattle.std.specs.List.{list_any, count_by, cons_option, filter_map, range_with_len}
 use Rattle.std.proofs.lemmas.Bool.{cases_eq, eq-eqb, ne_eqb}
 use Rattle.std.proofs.lemmas.List.{ext_get_or}
 use Rattle.std.proofs.lemmas.List.FromFn.{get_or-map-range_with_len, length-map-range_with_len}
 use Rattle.std.proofs.lemmas.List.Sums.{sum_by-cons, sum_by-set}
-use Rattle.realm_model.specs.Step.{has_vmid}
+use Rattle.realm_model.specs.Machine.{Cell, RealmRow}
+use Rattle.realm_model.specs.Step.{used_vmids}
 use Rattle.realm_objects.specs.Attributes.{RealmAttributes, realm_row}
 use Rattle.rtt.specs.Tables.{rows}
 use Rattle.rmi_monitor.specs.Inside.{Fields, realm_at, recs_of, cell_of, machine_of, IsWhole}
@@ -20,6 +21,21 @@ list_any-map p f (x ∷ xs) = ap (λ t. p (f x) || t) (list_any-map p f xs)
 list_any-same : {A : Type 0} (p q : A → Bool) (xs : List A) → ((x : A) → p x ≡ q x) → list_any p xs ≡ list_any q xs
 list_any-same p q [] same = refl
 list_any-same p q (x ∷ xs) same = ap (λ t. t || list_any p xs) (same x) ∙ ap (λ t. q x || t) (list_any-same p q xs same)
+
+-- what an option of each gives
+abbrev tests : {B : Type 0} → (B → Bool) → Option B → Bool
+tests p o = elim o [ Some y ↦ p y | None ↦ false ]
+
+one_more : {B : Type 0} (p : B → Bool) (o : Option B) (ys : List B) (rest : Bool) → list_any p ys ≡ rest → list_any p (cons_option o ys) ≡ (tests p o || rest)
+one_more p None ys rest e = e
+one_more p (Some y) ys rest e = ap (λ t. p y || t) e
+
+list_any-filter_map : {A B : Type 0} (p : B → Bool) (f : A → Option B) (xs : List A) → list_any p (filter_map f xs) ≡ list_any (λ x. tests p (f x)) xs
+list_any-filter_map p f [] = refl
+list_any-filter_map p f (x ∷ xs) = one_more p (f x) (filter_map f xs) (list_any (λ y. tests p (f y)) xs) (list_any-filter_map p f xs)
+
+eqb-swap : (n m : ℕ) → (n == m) ≡ (m == n)
+eqb-swap n m = ⊎_elim (λ (same : n ≡ m). eq-eqb n m same ∙ sym (eq-eqb m n (sym same))) (λ (ne : n ≢ m). ne_eqb n m ne ∙ sym (ne_eqb m n (λ e. ne (sym e)))) (cases_eq n m)
 
 -- a list is what stands at its places
 at_places : {A : Type 0} (xs : List A) (d : A) → map (λ i. get_or xs i d) (range_with_len 0 (length xs)) ≡ xs
@@ -147,20 +163,27 @@ module _ (realms : List (Option RealmAttributes)) (old new : List Bool) (was : A
 -- ---- the machine
 
 module _ (fields : Fields) (whole : IsWhole fields) (vmid : ℕ) where
-  at_granule : (g : ℕ) → has_vmid vmid (cell_of fields g) ≡ is_realm_with vmid (realm_at fields g)
+  abbrev vmid_of : Cell → Option ℕ
+  vmid_of cell = option_map (λ (realm : RealmRow). realm.vmid) cell.descriptor
+
+  abbrev has_vmid : Cell → Bool
+  has_vmid cell = tests (λ v. vmid == v) (vmid_of cell)
+
+  at_granule : (g : ℕ) → has_vmid (cell_of fields g) ≡ is_realm_with vmid (realm_at fields g)
   at_granule g = by (realm_at fields g)
     where
       by : (o : Option RealmAttributes)
-          → elim (option_map (λ r. realm_row r (recs_of fields.granules fields.recs g) (rows fields.pages r.root)) o) [ Some realm ↦ realm.vmid == vmid | None ↦ false ] ≡ is_realm_with vmid o
-      by (Some r) = refl
+          → tests (λ v. vmid == v) (option_map (λ (realm : RealmRow). realm.vmid) (option_map (λ r. realm_row r (recs_of fields.granules fields.recs g) (rows fields.pages r.root)) o)) ≡ is_realm_with vmid o
+      by (Some r) = eqb-swap vmid r.vmid
       by None = refl
 
-  -- a realm of the machine has the VMID where it is used
-  pub any_has_vmid : list_any (has_vmid vmid) (machine_of fields) ≡ is_used fields.used vmid
+  -- a VMID is one of those in use where its flag says so
+  pub any_used : list_any (λ v. vmid == v) (used_vmids (machine_of fields)) ≡ is_used fields.used vmid
   unfolding machine_of
-  any_has_vmid =
-      list_any-map (has_vmid vmid) (cell_of fields) (range_with_len 0 (length fields.granules))
-      ∙ list_any-same (λ g. has_vmid vmid (cell_of fields g)) (λ g. is_realm_with vmid (realm_at fields g)) (range_with_len 0 (length fields.granules)) at_granule
+  any_used =
+      list_any-filter_map (λ v. vmid == v) vmid_of (map (cell_of fields) (range_with_len 0 (length fields.granules)))
+      ∙ list_any-map has_vmid (cell_of fields) (range_with_len 0 (length fields.granules))
+      ∙ list_any-same (λ g. has_vmid (cell_of fields g)) (λ g. is_realm_with vmid (realm_at fields g)) (range_with_len 0 (length fields.granules)) at_granule
       ∙ sym (list_any-map (is_realm_with vmid) (realm_at fields) (range_with_len 0 (length fields.granules)))
       ∙ ap (λ n. list_any (is_realm_with vmid) (map (realm_at fields) (range_with_len 0 n))) (sym whole.realm_places)
       ∙ ap (list_any (is_realm_with vmid)) (at_places fields.realms None)

@@ -1,7 +1,8 @@
 //! Commands on realms.
-ghost use Rattle.std.specs.Prelude.{◌≡◌, ◌↔◌, ℕ, ◌+◌, ◌<◌, true, IsTrue, option_map, length};
+ghost use Rattle.std.specs.Prelude.{◌≡◌, ◌<◌, option_map, length};
+ghost use Rattle.std.specs.List.{list_all};
 ghost use Rattle.std.specs.Option.{option_copied};
-ghost use Rattle.granule_addr.specs.Root.{start_count};
+ghost use Rattle.granule_addr.specs.Root.{starting_tables};
 ghost use Rattle.realm_model.specs.Machine.{cell_at};
 ghost use Rattle.realm_model.specs.Command.Realm as command;
 ghost use Rattle.rmi_monitor.specs.View.{IsTaken, Answers, seen_in, after_command, attributes_of, make_realm};
@@ -28,8 +29,7 @@ fn can_start(granules: &GranuleTable, rd: Gran, number: u16) -> bool
 
 // Whether all starting tables can.
 fn can_all_start(granules: &GranuleTable, tables: &Tables) -> bool
-    ensures { IsTrue result ↔ ((number : ℕ) → number < start_count tables.now.root.width
-        → is_fit_to_start granules.now tables.now.rd (tables.now.root.first + number) ≡ true) }
+    ensures { result ≡ list_all (is_fit_to_start granules.now tables.now.rd) (starting_tables tables.now.root) }
 {
     for number in 0..tables.root.width.start_count() {
         if !can_start(granules, tables.rd, tables.root.first.number() + number) {
