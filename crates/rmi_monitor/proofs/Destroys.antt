@@ -1,13 +1,13 @@
 -- What comes of removing a realm, by the places of a monitor.
 use Rattle.std.proofs.Common.{◌≡◌, ℕ, ◌<◌, ◌≤◌, Bool, true, false, List, [], ◌∷◌, length, map, set, get_or, Some, None, Ok, Err, refl, sym, ap, ◌∙◌, subst, arith}
-use Rattle.std.specs.Prelude.{◌==◌, ◌&&◌, ◌↔◌, IsTrue, not}
-use Rattle.std.specs.Bool.{OnTrue}
+use Rattle.std.specs.Prelude.{◌==◌, ◌&&◌, not}
 use Rattle.std.specs.FinMap.{len}
 use Rattle.std.proofs.lemmas.Bool.{eq-eqb, ne_eqb}
 use Rattle.std.proofs.lemmas.List.{length-set}
 use Rattle.granule_table.specs.Granules.{granule_at}
+use Rattle.page_arena.specs.Page.{is_free}
 use Rattle.granule_table.specs.declared.granule.Granule.{Granule}
-use Rattle.granule_addr.specs.Page.{page_of, zero_page}
+use Rattle.granule_addr.specs.Page.{zero_page}
 use Rattle.granule_addr.specs.Root.{starting_tables}
 use Rattle.granule_addr.specs.declared.root.Root.{Root}
 use Rattle.realm_model.specs.declared.states.GranuleState.TheVariants.{Delegated, Rd as InRd}
@@ -21,12 +21,12 @@ use Rattle.realm_model.proofs.Booleans.{not_true, not_false}
 use Rattle.realm_model.proofs.SetEach.{length-set_each}
 use Rattle.realm_objects.specs.Attributes.{RealmAttributes, RecAttributes}
 use Rattle.rtt.specs.Tables.{rows}
-use Rattle.rtt.specs.Realm.{HasTables}
 use Rattle.rtt.specs.Calls.{with_state, with_states}
 use Rattle.rmi_monitor.specs.View.{MonitorView, IsTaken, seen_in, after_command}
+use Rattle.rmi_monitor.specs.Places.{IsInState, HasPage}
 use Rattle.rmi_monitor.specs.Vmids.{IsMarked}
 use Rattle.rmi_monitor.specs.Inside.{Fields, realm_at, rec_at, rec_count_at, machine_of, seen_as, IsWhole}
-use Rattle.rmi_monitor.proofs.Granules.{machine_is, in_granules, in_pages, after_done}
+use Rattle.rmi_monitor.proofs.Granules.{machine_is, in_granules, in_pages, not_free, after_done}
 use Rattle.rmi_monitor.proofs.RealmPlaces.{in_rd}
 use Rattle.rmi_monitor.proofs.RealmDestroys.{rd_still, whole_destroyed, machine_destroyed}
 use Rattle.rmi_monitor.proofs.RealmFound.{row_of, nowhere, somewhere}
@@ -74,9 +74,6 @@ module _ (monitor : MonitorView) (fields : Fields) (view_is : seen_as fields ≡
         no_rec g rec at of = let some = some_recs fields whole g rec rd _ (kept_by fields whole g rec at rd of) in let zero = none in omega (arith, some, zero)
 
         module _ (root : Root) (root_is : root ≡ realm.root) where
-          pub destroy_tables : HasTables fields.pages fields.granules rd root
-          destroy_tables = subst (HasTables fields.pages fields.granules rd) (sym root_is) (whole.tables rd realm there)
-
           -- the root leads to a table
           pub destroy_with_table : false ≡ not (has_root_table root.width (rows fields.pages root)) → outcome ≡ Err error_realm
           unfolding check
@@ -89,11 +86,11 @@ module _ (monitor : MonitorView) (fields : Fields) (view_is : seen_as fields ≡
 
             -- after the root is closed
             module _ (granules : List Granule) (pages : List (List ℕ)) (moved : granules ≡ with_states fields.granules (starting_tables root) Delegated None) (cleared : pages ≡ set_each zero_page (starting_tables root) fields.pages) where
-              pub rd_in_pages : rd < length pages
+              rd_in_pages : rd < length pages
               rd_in_pages =
                   subst (λ n. rd < n) (sym (ap length cleared ∙ length-set_each zero_page (starting_tables root) fields.pages)) (in_pages monitor fields view_is whole rd taken)
 
-              pub rd_in_granules : rd < length granules
+              rd_in_granules : rd < length granules
               rd_in_granules =
                   subst (λ n. rd < n) (sym (ap length moved ∙ length-set_each (record { state = Delegated; realm = None }) (starting_tables root) fields.granules)) (in_granules monitor fields view_is whole rd taken)
 
@@ -102,14 +99,15 @@ module _ (monitor : MonitorView) (fields : Fields) (view_is : seen_as fields ≡
                   ap (λ gs. (granule_at gs rd).state) (moved ∙ ap (λ r. with_states fields.granules (starting_tables r) Delegated None) root_is)
                   ∙ ap (λ (x : Granule). x.state) (rd_still fields whole rd realm there no_rec) ∙ in_rd fields whole rd realm there
 
-              -- the RD is moved, since it was in RD
-              pub destroy_shifted : (done : Bool) (shifted : List Granule) → (IsTrue done ↔ ((granule_at granules rd).state ≡ InRd))
-                  → OnTrue done (shifted ≡ with_state granules rd Delegated None) → shifted ≡ with_state granules rd Delegated None
-              destroy_shifted true shifted answer is = is
-              destroy_shifted false shifted answer is = absurd (let told = answer.1 still_rd in cc)
+              -- the RD can be released
+              pub destroy_page : (free : List Bool) → free ≡ fields.free → HasPage pages free rd
+              destroy_page free flags = record { inside = rd_in_pages; taken = ap (λ fs. is_free fs rd) flags ∙ not_free monitor fields view_is whole rd taken }
+
+              pub destroy_stands : IsInState granules InRd rd
+              destroy_stands = record { inside = rd_in_granules; is = still_rd }
 
               module _ (shifted : List Granule) (filled : List (List ℕ)) (free : List Bool) (n : ℕ) (shift : shifted ≡ with_state granules rd Delegated None)
-                  (fill : filled ≡ set pages rd (page_of 0)) (flags : free ≡ fields.free) (n_is : n ≡ rd)
+                  (fill : filled ≡ set pages rd zero_page) (flags : free ≡ fields.free) (n_is : n ≡ rd)
                   (used : List Bool) (vmid : ℕ) (vmid_is : vmid ≡ realm.vmid) (mark : IsMarked fields.used used vmid false) where
                 abbrev after_destroy : List Granule → List (List ℕ) → List Bool → ℕ → Fields
                 after_destroy gs ps fs place = record fields { granules = gs; pages = ps; free = fs; realms = set fields.realms place None; used = used }
