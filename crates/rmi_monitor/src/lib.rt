@@ -17,6 +17,3 @@ mod recs;
 mod table;
 
 pub use monitor::Monitor;
-
-#[cfg(test)]
-mod tests;
