@@ -1,8 +1,8 @@
 //! A plan and the text of its run, over bytes in memory and over devices that fail.
 use super::{told_sink, told_source};
-use crate::fault::Fault;
-use crate::text::replay;
+use crate::wanted::{equal, holds};
 use realm_plan::PlanFault;
+use realm_program::{Fault, replay};
 use std::test::Fail;
 
 const PLAN: &[u8] = br#"pages = 1
@@ -19,13 +19,17 @@ const TEXT: &[u8] = b"0 take 0 = ok 0
 free 0
 ";
 
+fn is_device(outcome: Result<(), Fault>) -> bool {
+    matches!(outcome, Err(Fault::Device))
+}
+
 #[test]
 fn a_page_comes_back_empty(rt: HostRuntime) {
     let mut input = told_source(PLAN, 1000, None);
     let mut output = told_sink(rt.alloc(), 1000, None, false);
     let outcome = replay(rt.alloc(), &mut input, &mut output);
-    assert_eq!(rt; outcome, Ok(()));
-    assert_eq!(rt; output.device().got.as_slice(), TEXT);
+    holds(&rt, "the text is printed", outcome.is_ok());
+    holds(&rt, "all of it", output.device().has(TEXT));
 }
 
 #[test]
@@ -34,8 +38,9 @@ fn a_plan_that_is_too_long_is_not_read_to_its_end(rt: HostRuntime) -> Result<(),
     let mut input = told_source(&spaces, 1000, None);
     let mut output = told_sink(rt.alloc(), 1, None, false);
     let outcome = replay(rt.alloc(), &mut input, &mut output);
-    assert_eq!(rt; outcome, Err(Fault::Plan(PlanFault::Limit)));
-    assert_eq!(rt; input.device().rest.len(), 23);
+    let is_limit = matches!(outcome, Err(Fault::Plan(PlanFault::Limit)));
+    holds(&rt, "it is too long", is_limit);
+    equal(&rt, "bytes left", input.device().rest.len() as u64, 23);
     Ok(())
 }
 
@@ -45,9 +50,9 @@ fn a_read_that_fails_writes_nothing(rt: HostRuntime) {
         let mut input = told_source(PLAN, 25, Some(n));
         let mut output = told_sink(rt.alloc(), 1, None, false);
         let outcome = replay(rt.alloc(), &mut input, &mut output);
-        assert_eq!(rt; outcome, Err(Fault::Device));
-        let sink = output.device();
-        assert_eq!(rt; (sink.writes, sink.flushes), (0, 0));
+        holds(&rt, "a read failed", is_device(outcome));
+        equal(&rt, "writes", output.device().writes, 0);
+        equal(&rt, "flushes", output.device().flushes, 0);
     }
 }
 
@@ -57,8 +62,8 @@ fn a_write_that_fails_leaves_a_front_of_the_text(rt: HostRuntime) {
         let mut input = told_source(PLAN, 25, None);
         let mut output = told_sink(rt.alloc(), 1, Some(n as u64), false);
         let outcome = replay(rt.alloc(), &mut input, &mut output);
-        assert_eq!(rt; outcome, Err(Fault::Device));
-        assert_eq!(rt; output.device().got.as_slice(), &TEXT[..n]);
+        holds(&rt, "a write failed", is_device(outcome));
+        holds(&rt, "a front", output.device().has(&TEXT[..n]));
     }
 }
 
@@ -67,6 +72,6 @@ fn a_flush_that_fails_is_told(rt: HostRuntime) {
     let mut input = told_source(PLAN, 25, None);
     let mut output = told_sink(rt.alloc(), 10, None, true);
     let outcome = replay(rt.alloc(), &mut input, &mut output);
-    assert_eq!(rt; outcome, Err(Fault::Device));
-    assert_eq!(rt; output.device().got.as_slice(), TEXT);
+    holds(&rt, "the flush failed", is_device(outcome));
+    holds(&rt, "all was written", output.device().has(TEXT));
 }

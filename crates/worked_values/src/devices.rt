@@ -1,11 +1,11 @@
-//! What no clause says: that calls succeed, and what is asked of a device, above all of one that fails. What the program
-//! prints of plans, faults and command lines is compared by `tests/program`, over the built program.
+//! What is asked of a device, above all of one that fails: no clause counts the calls of any reader or writer. What the
+//! built program prints is compared by `tests/program`.
 ghost use Rattle.std.specs.Prelude.{◌≡◌, false};
 
-mod text;
+mod replay;
 mod told;
 
-use crate::told::Told;
+use realm_program::Told;
 use std::alloc::Global;
 use std::io;
 use std::io::{Read, Write};
@@ -62,6 +62,13 @@ struct Sink {
     flushes: u64,
     fails_at: Option<u64>,
     fails_to_flush: bool,
+}
+
+impl Sink {
+    /// Whether these are the bytes that were taken.
+    fn has(&self, bytes: &[u8]) -> bool {
+        self.got.as_slice() == bytes
+    }
 }
 
 impl Write for Sink {
