@@ -5,6 +5,7 @@ ghost use Rattle.std.specs.List.{All};
 ghost use Rattle.realm_model.specs.Machine.{RealmRow, cell_at};
 ghost use Rattle.rmi_monitor.specs.View.{AreAllTaken, IsRec};
 
+use crate::wanted::equal;
 use arrayvec::ArrayVec;
 use granule_addr::{Gran, Order, PageOff, RecNo, Vmid};
 use page_arena::{PageStore, PlainStore};
@@ -81,6 +82,23 @@ impl Bench {
             panic!(rt; "all are free");
         }
         Ok(Bench { monitor })
+    }
+
+    // Delegates the granules below that number.
+    fn delegate_below(&mut self, rt: &impl Abort, end: u16) {
+        for number in 0..end {
+            equal(rt, "delegate", self.delegate(number), 0);
+        }
+    }
+
+    /// With a realm of RD 0, no tables below its root, and DELEGATED granules 2 to 4.
+    pub fn with_realm(rt: &impl Abort, alloc: Global, aux: u8) -> Result<Bench, Fail>
+        requires { aux ≤ 16 }
+    {
+        let mut bench = Bench::new(rt, alloc, aux)?;
+        bench.delegate_below(rt, 5);
+        equal(rt, "a realm", bench.create(0, 1, 1), 0);
+        Ok(bench)
     }
 
     /// Whether a granule is in that state, and its bytes have that sum.

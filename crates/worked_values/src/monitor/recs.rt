@@ -1,28 +1,12 @@
-ghost use Rattle.std.specs.Prelude.{◌≤◌};
-
 use super::bench::Bench;
 use crate::measurement::{AFTER_REC_0, AFTER_REC_1};
 use crate::wanted::{equal, holds};
 use realm_model::GranuleState::{Data, Delegated, Rec, RecAux};
-use std::alloc::Global;
-use std::process::Abort;
 use std::test::Fail;
-
-// A realm without tables below its root, and DELEGATED granules 2 to 4.
-fn realm(rt: &impl Abort, alloc: Global, aux: u8) -> Result<Bench, Fail>
-    requires { aux ≤ 16 }
-{
-    let mut bench = Bench::new(rt, alloc, aux)?;
-    for number in 0..5 {
-        equal(rt, "delegate", bench.delegate(number), 0);
-    }
-    equal(rt, "a realm", bench.create(0, 1, 1), 0);
-    Ok(bench)
-}
 
 #[test]
 fn auxiliaries_are_all_taken_or_none(rt: HostRuntime) -> Result<(), Fail> {
-    let mut bench = realm(&rt, rt.alloc(), 2)?;
+    let mut bench = Bench::with_realm(&rt, rt.alloc(), 2)?;
     equal(&rt, "too few", bench.rec(0, 2), 1);
     equal(&rt, "not DELEGATED", bench.rec_with(0, 2, 3, 5), 1);
     equal(&rt, "one twice", bench.rec_with(0, 2, 3, 3), 1);
@@ -45,7 +29,7 @@ fn auxiliaries_are_all_taken_or_none(rt: HostRuntime) -> Result<(), Fail> {
 
 #[test]
 fn a_rec_runs_in_an_active_realm(rt: HostRuntime) -> Result<(), Fail> {
-    let mut bench = realm(&rt, rt.alloc(), 0)?;
+    let mut bench = Bench::with_realm(&rt, rt.alloc(), 0)?;
     equal(&rt, "a REC", bench.rec(0, 2), 0);
     equal(&rt, "the realm is NEW", bench.enter(0, 0), 2);
     equal(
@@ -69,7 +53,7 @@ fn a_rec_runs_in_an_active_realm(rt: HostRuntime) -> Result<(), Fail> {
 
 #[test]
 fn a_guest_writes_its_page(rt: HostRuntime) -> Result<(), Fail> {
-    let mut bench = realm(&rt, rt.alloc(), 0)?;
+    let mut bench = Bench::with_realm(&rt, rt.alloc(), 0)?;
     equal(&rt, "delegate", bench.delegate(5), 0);
     equal(&rt, "level 2", bench.rtt_create(0, 2, 0, 2), 0);
     equal(&rt, "level 3", bench.rtt_create(0, 3, 0, 3), 0);
@@ -86,7 +70,7 @@ fn a_guest_writes_its_page(rt: HostRuntime) -> Result<(), Fail> {
 
 #[test]
 fn numbers_and_the_measurement_go_on(rt: HostRuntime) -> Result<(), Fail> {
-    let mut bench = realm(&rt, rt.alloc(), 0)?;
+    let mut bench = Bench::with_realm(&rt, rt.alloc(), 0)?;
     holds(&rt, "new", bench.is_measured(0, [0; 32]));
     equal(&rt, "REC 0", bench.rec(0, 2), 0);
     holds(&rt, "the first", bench.is_measured(0, AFTER_REC_0));

@@ -7,12 +7,8 @@ use std::test::Fail;
 
 // A realm with a page of data at IPA granule 0, from granule 5, which is filled with sevens.
 fn realm_with_a_page(rt: &impl Abort, alloc: Global) -> Result<Bench, Fail> {
-    let mut bench = Bench::new(rt, alloc, 0)?;
-    for number in 0..5 {
-        equal(rt, "delegate", bench.delegate(number), 0);
-    }
+    let mut bench = Bench::with_realm(rt, alloc, 0)?;
     equal(rt, "sevens", bench.fill(5, 7), 0);
-    equal(rt, "a realm", bench.create(0, 1, 1), 0);
     equal(rt, "level 2", bench.rtt_create(0, 2, 0, 2), 0);
     equal(rt, "level 3", bench.rtt_create(0, 3, 0, 3), 0);
     equal(rt, "a page", bench.data(0, 4, 0, 5), 0);
