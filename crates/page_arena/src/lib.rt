@@ -12,6 +12,3 @@ mod store;
 pub use build_error::BuildError;
 pub use plain::PlainStore;
 pub use store::PageStore;
-
-#[cfg(test)]
-mod tests;

@@ -8,8 +8,6 @@
 mod fault;
 mod line;
 mod stop;
-#[cfg(test)]
-mod tests;
 mod text;
 mod told;
 

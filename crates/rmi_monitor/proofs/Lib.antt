@@ -21,7 +21,6 @@ pub mod HostMoves
 pub mod Granules
 pub mod Blocks
 pub mod Fresh
-pub mod Kept
 pub mod Sums
 pub mod Readings
 -- realms

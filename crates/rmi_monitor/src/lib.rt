@@ -18,6 +18,3 @@ mod table;
 mod vmids;
 
 pub use monitor::Monitor;
-
-#[cfg(test)]
-mod tests;

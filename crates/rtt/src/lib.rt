@@ -20,6 +20,3 @@ pub use entry::Entry;
 pub use refusal::Rtt;
 pub use tables::Tables;
 pub use walk::Walk;
-
-#[cfg(test)]
-mod tests;

@@ -1,14 +1,23 @@
-//! Values from outside, as tests: worked numbers, digests of another tool, and calls that find the memory that is there.
+//! Tests alone: worked numbers, digests of another tool, commands of the monitor with their result words, calls that find
+//! the memory that is there, and devices that fail.
 //!
 //! What a contract says needs no test. A rule that a definition and the code share is pinned here by a value that comes
 //! from neither. The tests stand in a crate of their own, since a crate with tests is proved twice.
 #![tactic(auto)]
 
 #[cfg(test)]
+mod devices;
+#[cfg(test)]
 mod measurement;
 #[cfg(test)]
 mod memory;
 #[cfg(test)]
+mod monitor;
+#[cfg(test)]
 mod numbers;
 #[cfg(test)]
+mod page_store;
+#[cfg(test)]
 mod refusals;
+#[cfg(test)]
+mod wanted;

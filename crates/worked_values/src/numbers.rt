@@ -2,7 +2,8 @@ use granule_addr::{
     BuildId, Gran, IpaGran, IpaWidth, Level, Order, PageOff, Vmid, align_down, buddy_of, index_at,
     is_protected, start_table,
 };
-use realm_model::{Rmi, Status};
+use realm_model::{Ripas, Rmi, Status};
+use rtt::Entry;
 
 // The last number of each kind, and the first that is none.
 #[test]
@@ -103,5 +104,21 @@ fn result_words(rt: HostRuntime) {
         (Status::Rtt, 255, 65_284),
     ] {
         assert_eq!(rt; Rmi { status, index }.word(), word);
+    }
+}
+
+// Bits 0 and 1 are the HIPAS, bits 2 and 3 the RIPAS, and from bit 12 on lies the granule.
+#[test]
+fn entry_words(rt: HostRuntime) {
+    let granule = |number| Gran::new(number, 4096).unwrap_or_default();
+    for (entry, word) in [
+        (Entry::unassigned(Ripas::Empty), 0),
+        (Entry::unassigned(Ripas::Destroyed), 8),
+        (Entry::assigned(Ripas::Ram, granule(5)), 20_485),
+        (Entry::table(granule(3)), 12_290),
+        (Entry::assigned(Ripas::Empty, granule(4095)), 16_773_121),
+    ] {
+        assert_eq!(rt; entry.to_word(), word);
+        assert_eq!(rt; Entry::from_word(word), entry);
     }
 }

@@ -1,5 +1,0 @@
-use Rattle.rmi_monitor.proofs.Kept.{givable_where_taken}
-use Rattle.rmi_monitor.proofs.tests.take_new.Goals as goal
-
-pub returns-clause-givable : goal.returns-clause-givable
-returns-clause-givable c = givable_where_taken 1 0 4 _ _ _ _ _ c.requires.fresh c.take_at.ensures.answer c.take_at.ensures.taken
