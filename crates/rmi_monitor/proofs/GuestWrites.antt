@@ -73,11 +73,11 @@ module _ (monitor : MonitorView) (fields : Fields) (view_is : seen_as fields ≡
       said : IsEntry end.row
       said = rows_said fields.pages realm.root end.level ipa end.row (walk_end (rows fields.pages realm.root) ipa 3 end ends)
 
-      pub write_unassigned : (level : ℕ) → level ≡ end.level → data_of end.row ≡ None
-          → IsOnRec {A = Unit {0}} (λ seen number. guest_write seen number ipa offset value) monitor granule (Err (error_rtt level)) monitor
-      write_unassigned level same none =
-          refused (error_rtt level)
-          (write_walks ∙ check_false (is_assigned end.row) (error_rtt end.level) _ (data_of-none end.row said none) ∙ ap (λ n. Err (error_rtt n)) (sym same))
+      pub write_unassigned : (rmi : Rmi) → rmi ≡ error_rtt end.level → data_of end.row ≡ None
+          → IsOnRec {A = Unit {0}} (λ seen number. guest_write seen number ipa offset value) monitor granule (Err rmi) monitor
+      write_unassigned rmi is none =
+          refused rmi
+          (write_walks ∙ check_false (is_assigned end.row) (error_rtt end.level) _ (data_of-none end.row said none) ∙ ap (λ (r : Rmi). Err r) (sym is))
 
       pub write_done : (page : ℕ) → data_of end.row ≡ Some page → IsIn fields.granules page InData (Some at.rd)
           → (pages : List (List ℕ)) (free : List Bool) → pages ≡ with_byte fields.pages page offset value → free ≡ fields.free

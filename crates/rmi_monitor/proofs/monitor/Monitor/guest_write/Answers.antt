@@ -1,5 +1,6 @@
 use Rattle.std.proofs.Common.{Some, None, refl, sym, ap, ◌∙◌, arith}
 use Rattle.realm_model.specs.Rows.{Walk}
+use Rattle.realm_model.specs.Command.Check.{error_rtt}
 use Rattle.realm_model.specs.Command.Rec.{guest_write}
 use Rattle.rtt.specs.Tables.{data_of}
 use Rattle.rmi_monitor.proofs.DataBytes.{page_inside, whole_written}
@@ -78,7 +79,7 @@ returns-in_default-page g c =
     let is = (located c.in-Some-index.realm c.args.ipa c.root.result c.root.ensures c.protected.result c.protected.ensures c.in-Some-realm_of.rd c.tables_of.result c.tables_of.ensures c.in-Some-protected.granule c.in-Some-protected.is) in
     write_unassigned c.args.self.now _ c.self.view_is c.self.invariant c.args.rec c.in-Some.kept c.in-Some-realm_of.rd c.in-Some-index.realm kept c.args.ipa c.args.offset c.args.value
     is.protected (sym (c.is_ready.ensures c.args.rec) ∙ c.if-is_ready.false) c.tables_of.result c.in-Some-protected.granule c.last.result is c.last.ensures c.walk-walk.result c.walk-walk.ensures.walk
-    _ (?)
+    _ (c.from.ensures ∙ ap (λ (w : Walk). error_rtt w.level) c.walk.view_is)
     (ap (λ (w : Walk). data_of w.row) (sym c.walk.view_is) ∙ sym c.page.ensures ∙ c.in_default-page.is)
 
 pub set-requires-clause-inside : goal.set-requires-clause-inside
