@@ -14,7 +14,7 @@ use Rattle.rmi_monitor.specs.View.{MonitorView, IsTaken, IsRec, IsOnRec, Answers
 use Rattle.rmi_monitor.specs.Inside.{Fields, realm_at, rec_at, rec_of, recs_of, seen_as, IsWhole}
 use Rattle.rmi_monitor.proofs.Gathered.{get-gathered, gathered-get}
 use Rattle.rmi_monitor.proofs.Granules.{cell_is}
-use Rattle.rmi_monitor.proofs.RealmFound.{row_of, somewhere, realm_found}
+use Rattle.rmi_monitor.proofs.RealmFound.{row_of, descriptor_there, somewhere, realm_found}
 use Rattle.rmi_monitor.proofs.Listed.{some_inside}
 use Rattle.rmi_monitor.proofs.RecEntries.{rec_of-some, IsEntry, entry_at, numbered_recs, of_realm}
 use Rattle.rmi_monitor.proofs.Frames.{in_rec}
