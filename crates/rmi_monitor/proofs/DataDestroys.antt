@@ -1,5 +1,5 @@
 -- A page of data leaves its realm, over the fields of a monitor.
-use Rattle.std.proofs.Common.{◌≡◌, ℕ, Bool, true, false, List, [], ◌∷◌, Some, None, Ok, Err, refl, sym, ap, ◌∙◌, subst, lit≤}
+use Rattle.std.proofs.Common.{◌≡◌, ℕ, Bool, false, List, [], ◌∷◌, Some, None, Ok, Err, refl, sym, ap, ◌∙◌, subst, lit≤}
 use Rattle.std.proofs.lemmas.Option.{same_Some}
 use Rattle.granule_addr.specs.Ipa.{is_protected_at}
 use Rattle.granule_table.specs.Granules.{IsIn}
@@ -10,7 +10,7 @@ use Rattle.realm_model.specs.declared.states.GranuleState.TheVariants.{Delegated
 use Rattle.realm_model.specs.Rows.{Row, Rows, is_assigned, unassigned, unmapped_ripas, put_row}
 use Rattle.realm_model.specs.Machine.{RealmRow, left}
 use Rattle.realm_model.specs.Update.{Put, Outcome}
-use Rattle.realm_model.specs.Command.Check.{check, error_input, error_rtt, with_granule, put_realm}
+use Rattle.realm_model.specs.Command.Check.{error_input, error_rtt, with_granule, put_realm}
 use Rattle.realm_model.specs.Command.Data.{data_destroy}
 use Rattle.realm_model.proofs.Outcomes.{check_true, granule_there}
 use Rattle.realm_objects.specs.Attributes.{RealmAttributes}

@@ -1,5 +1,5 @@
 -- A DELEGATED granule becomes a page of zeros of a realm, over the fields of a monitor.
-use Rattle.std.proofs.Common.{◌≡◌, ℕ, ◌&&◌, Bool, true, false, List, [], ◌∷◌, Some, None, Ok, Err, refl, sym, ap, ◌∙◌, subst}
+use Rattle.std.proofs.Common.{◌≡◌, ℕ, ◌&&◌, Bool, true, false, List, [], ◌∷◌, Some, None, Ok, Err, sym, ◌∙◌}
 use Rattle.std.proofs.lemmas.Bool.{and_from, and_left, and_right}
 use Rattle.granule_addr.specs.Ipa.{is_protected_at}
 use Rattle.granule_table.specs.Granules.{granule_at}
@@ -10,7 +10,7 @@ use Rattle.realm_model.specs.declared.states.GranuleState.TheVariants.{Delegated
 use Rattle.realm_model.specs.Rows.{Row, Rows, is_unassigned, assigned, put_row}
 use Rattle.realm_model.specs.Machine.{RealmRow, held}
 use Rattle.realm_model.specs.Update.{Put, Outcome}
-use Rattle.realm_model.specs.Command.Check.{check, error_input, error_rtt, is_delegated, put_realm}
+use Rattle.realm_model.specs.Command.Check.{error_input, error_rtt, is_delegated, put_realm}
 use Rattle.realm_model.specs.Command.Data.{data_create_unknown}
 use Rattle.realm_model.proofs.Outcomes.{check_true}
 use Rattle.realm_objects.specs.Attributes.{RealmAttributes}

@@ -1,5 +1,5 @@
 -- A guest's write, over the fields of a monitor: what it is refused for, and what it does.
-use Rattle.std.proofs.Common.{◌≡◌, ℕ, Bool, true, false, List, [], ◌∷◌, Ok, Err, Option, Some, None, refl, sym, ap, ◌∙◌, subst}
+use Rattle.std.proofs.Common.{◌≡◌, ℕ, Bool, true, false, List, [], ◌∷◌, Ok, Err, Some, None, refl, sym, ap, ◌∙◌, subst}
 use Rattle.std.specs.Prelude.{not}
 use Rattle.granule_addr.specs.Ipa.{is_protected_at}
 use Rattle.granule_table.specs.Granules.{IsIn}
@@ -19,7 +19,7 @@ use Rattle.rtt.specs.Word.{IsEntry}
 use Rattle.rtt.specs.Tables.{data_of, rows}
 use Rattle.rtt.proofs.EntryKinds.{data_of-none, data_of-leads}
 use Rattle.rtt.proofs.RowWords.{rows_said}
-use Rattle.rmi_monitor.specs.View.{MonitorView, IsTaken, IsOnRec, seen_in}
+use Rattle.rmi_monitor.specs.View.{MonitorView, IsOnRec, seen_in}
 use Rattle.rmi_monitor.specs.Inside.{Fields, seen_as, IsWhole}
 use Rattle.rmi_monitor.proofs.DataBytes.{byte_put}
 use Rattle.rmi_monitor.proofs.Located.{IsLocated}

@@ -68,8 +68,8 @@ returns-then-not-is_undelegated g c =
       machine = seen_unmoved c.args.self.now _ c.self.view_is _ _ _ refl refl refl c.number.result c.index_mut.result.now _ c.index_mut.ensures.value c.in-Some.is ∙ after_err c.args.self.now error_input _ delegated;
     }
 
-located_there : (g : Over) (c : goal.After-self-then-not-is_new-1 g) → data_create (seen_in c.args.self.now c.args.rd) (seen_in c.args.self.now c.args.page) c.args.ipa (seen_in c.args.self.now c.args.source) ≡ Err error_realm
-located_there g c =
+not_new : (g : Over) (c : goal.After-self-then-not-is_new-1 g) → data_create (seen_in c.args.self.now c.args.rd) (seen_in c.args.self.now c.args.page) c.args.ipa (seen_in c.args.self.now c.args.source) ≡ Err error_realm
+not_new g c =
     create_not_new c.args.self.now _ c.self.view_is c.self.invariant c.args.rd c.requires.rd_taken c.args.page c.requires.page_taken c.args.source c.requires.source_taken c.args.ipa c.in-Some.realm
     (realm_read c.args.self.now _ c.self.view_is c.self.invariant c.args.rd c.requires.rd_taken.inside c.number.result c.index_mut.result.now (Some c.in-Some.realm) c.number.ensures.value c.index_mut.ensures.value c.in-Some.is)
     (record { rd = c.args.rd; root = c.in-Some.realm.root }) c.in-Some-protected.ipa
@@ -79,8 +79,8 @@ located_there g c =
 pub returns-then-not-is_new : goal.returns-then-not-is_new
 returns-then-not-is_new g c =
     record {
-      answer = answers_err (Unit {0}) error_realm _ (located_there g c);
-      machine = seen_unmoved c.args.self.now _ c.self.view_is _ _ _ refl refl refl c.number.result c.index_mut.result.now _ c.index_mut.ensures.value c.in-Some.is ∙ after_err c.args.self.now error_realm _ (located_there g c);
+      answer = answers_err (Unit {0}) error_realm _ (not_new g c);
+      machine = seen_unmoved c.args.self.now _ c.self.view_is _ _ _ refl refl refl c.number.result c.index_mut.result.now _ c.index_mut.ensures.value c.in-Some.is ∙ after_err c.args.self.now error_realm _ (not_new g c);
     }
 
 -- ---- the call

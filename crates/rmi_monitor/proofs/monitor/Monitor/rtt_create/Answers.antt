@@ -1,4 +1,4 @@
-use Rattle.std.proofs.Common.{◌≡◌, ◌<◌, length, Some, None, Err, ap, ◌∙◌, arith, refl, sym}
+use Rattle.std.proofs.Common.{◌≡◌, ◌<◌, length, Some, None, Err, ◌∙◌, arith, refl, sym}
 use Rattle.realm_model.specs.Rows.{is_table_place}
 use Rattle.realm_model.specs.Command.Check.{error_input, error_rtt}
 use Rattle.realm_model.specs.Command.Table.{rtt_create}
