@@ -8,10 +8,12 @@
 mod build_error;
 mod plain;
 mod store;
+mod words;
 
 pub use build_error::BuildError;
 pub use plain::PlainStore;
 pub use store::PageStore;
+pub use words::{set_word_in, word_in};
 
 #[cfg(test)]
 mod tests;

@@ -5,14 +5,13 @@ ghost use Rattle.page_arena.specs.Page.{IsSized};
 
 mod clear;
 mod flags;
-mod words;
 
+use crate::words::{set_word_in, word_in};
 use crate::{BuildError, PageStore};
 use clear::{clear_run, zero_pages};
 use flags::{find_block, is_run_free, set_run};
 use granule_addr::{Gran, MOST_PAGES, Order, PageOff};
 use std::alloc::Global;
-use words::{set_word_in, word_in};
 
 /// A store that keeps pages and flags each in a vector, and looks for a free block from the lowest page on.
 #[derive(Drop)]

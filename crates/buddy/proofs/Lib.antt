@@ -1,0 +1,9 @@
+pub mod Aligned
+pub mod Halves
+pub mod Flags
+pub mod Maximal
+pub mod Heads
+pub mod InHand
+pub mod Held
+pub mod Linking
+pub mod Masks
