@@ -1,12 +1,12 @@
 -- Flags of blocks.
-use Rattle.std.proofs.Common.{◌≡◌, ℕ, zero, suc, ◌+◌, ◌-◌, ◌*◌, ◌%◌, ◌^◌, ◌<◌, ◌≤◌, Bool, true, false, List, length, ◌⊎◌, inl, inr, refl, sym, ap, subst, ◌∙◌, arith}
+use Rattle.std.proofs.Common.{◌≡◌, ℕ, zero, suc, ◌+◌, ◌%◌, ◌^◌, ◌<◌, ◌≤◌, Bool, true, false, List, length, ◌⊎◌, inl, inr, sym, ap, subst, ◌∙◌, arith}
 use Rattle.std.proofs.Math.Nat.{mod-one}
 use Rattle.std.proofs.lemmas.Bool.{cases_Bool, cases_eq, cases_lt, true≢false}
 use Rattle.std.proofs.lemmas.List.{ext_get_or, get_or_past}
 use Rattle.std.proofs.lemmas.Nat.{pow_pos}
 use Rattle.page_arena.specs.Page.{is_free}
-use Rattle.page_arena.specs.Block.{IsBlock, IsFreeBlock, IsTakenBlock, with_run, with_taken, with_given}
-use Rattle.page_arena.specs.Blocks.{taken_block, given_back, length-with_taken, is_free-with_taken_inside, is_free-with_taken_outside}
+use Rattle.page_arena.specs.Block.{IsBlock, IsFreeBlock, with_taken, with_given}
+use Rattle.page_arena.specs.Blocks.{given_back, length-with_taken, is_free-with_taken_inside, is_free-with_taken_outside}
 use Rattle.page_arena.specs.Runs.{inside_or_outside}
 use Rattle.buddy.specs.MaximalBlock.{LiesWithin}
 use Rattle.buddy.specs.Halves.{AreHalves}
@@ -16,7 +16,7 @@ use Rattle.buddy.proofs.Halves.{lower_first, swapped, half_aligned, half_within,
 
 -- a flag is not both
 pub clash : {P : Type 0} (b : Bool) → b ≡ true → b ≡ false → P
-clash b yes no = absurd (true≢false (sym yes ∙ no))
+clash b is is_not = absurd (true≢false (sym is ∙ is_not))
 
 -- a free granule is one of the machine's
 pub free_inside : (flags : List Bool) (x : ℕ) → is_free flags x ≡ true → x < length flags
@@ -78,10 +78,10 @@ free_next flags order known first =
       | inl aligned ↦
           let halves = lower_first order first aligned in
           elim (known first) [
-            | inr no ↦ inr (λ block. no (half_block true flags order first first (first + 2 ^ order) halves block))
+            | inr none ↦ inr (λ block. none (half_block true flags order first first (first + 2 ^ order) halves block))
             | inl low ↦
                 elim (known (first + 2 ^ order)) [
-                  | inr no ↦ inr (λ block. no (half_block true flags order first (first + 2 ^ order) first (swapped order first first (first + 2 ^ order) halves) block))
+                  | inr none ↦ inr (λ block. none (half_block true flags order first (first + 2 ^ order) first (swapped order first first (first + 2 ^ order) halves) block))
                   | inl high ↦ inl (whole_block true flags order first first (first + 2 ^ order) halves low high)
                 ]
           ]

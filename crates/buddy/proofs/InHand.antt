@@ -1,12 +1,12 @@
 -- A block in hand is split and merged.
-use Rattle.std.proofs.Common.{◌≡◌, ◌≢◌, ℕ, ◌+◌, ◌-◌, ◌^◌, ◌<◌, ◌≤◌, Bool, true, false, List, length, set, ◌⊎◌, sym, ap, subst, ◌∙◌, arith}
+use Rattle.std.proofs.Common.{◌≡◌, ◌≢◌, ℕ, ◌+◌, ◌^◌, ◌<◌, ◌≤◌, Bool, true, false, List, length, set, sym, subst, ◌∙◌, arith}
 use Rattle.std.proofs.lemmas.Nat.{pow_pos}
 use Rattle.page_arena.specs.Block.{IsFreeBlock, IsTakenBlock, with_taken, with_given}
 use Rattle.page_arena.specs.Blocks.{given_block, length-with_taken, is_free-with_taken_first}
 use Rattle.page_arena.specs.Runs.{with_run_same, with_run-with_run}
 use Rattle.buddy.specs.Halves.{AreHalves}
-use Rattle.buddy.specs.Heads.{head_at, start_at, AreMaximal}
-use Rattle.buddy.specs.InHand.{LiesIn, InHand, HasLooked}
+use Rattle.buddy.specs.Heads.{head_at, AreMaximal}
+use Rattle.buddy.specs.InHand.{InHand}
 use Rattle.buddy.proofs.Halves.{swapped, halves_apart}
 use Rattle.buddy.proofs.Flags.{half_block, whole_block, block_before, block_beside, none_inside, second_half, both_taken}
 use Rattle.buddy.proofs.Maximal.{alone_maximal}

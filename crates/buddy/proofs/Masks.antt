@@ -1,10 +1,10 @@
 -- The mask as blocks come and go.
 use Rattle.std.proofs.Common.{◌≡◌, ◌≢◌, ℕ, ◌+◌, ◌-◌, ◌*◌, ◌/◌, ◌%◌, ◌^◌, ◌<◌, ◌≤◌, ◌↔◌, List, length, set, inl, inr, sym, ap, ◌∙◌, subst, arith, w16, bit_and, bit_or}
+use Rattle.std.specs.Prelude.{Option, None, Some, is_some, true, false, IfSome, IfNone}
 use Rattle.std.specs.Int.{bit_at, bit_not, trailing_zeros}
 use Rattle.std.proofs.Math.Nat.{div-le_self}
-use Rattle.std.proofs.Math.Pow.{pow_mono}
-use Rattle.std.proofs.lemmas.Bool.{cases_eq, cases_lt}
-use Rattle.std.proofs.lemmas.List.{get_or-set_same, get_or-set_other}
+use Rattle.std.proofs.lemmas.Bool.{cases_eq, cases_lt, true≢false}
+use Rattle.std.proofs.lemmas.List.{get_or-set_same, get_or-set_other, get_or_past}
 use Rattle.std.proofs.lemmas.Nat.{and_le_l, one_shl, or_lt, pow_below, shr-shr}
 use Rattle.std.proofs.lemmas.Nat.Bits.{bit_at-zero, bit_at-trailing_zeros, bit_at_above, bit_at_set_same, bit_at_set_other, bit_at_clear_same, bit_at_clear_other}
 use Rattle.buddy.specs.Heads.{head_at}
@@ -59,6 +59,20 @@ module _ (mask : ℕ) (heads : List ℕ) (m : IsMask mask heads) (order : ℕ) w
         omega arith
 
 -- ---- heads come and go
+
+-- a granule that heads a block is one of the machine's
+pub head_inside : (heads : List ℕ) (g k : ℕ) → head_at heads g ≡ k + 1 → g < length heads
+head_inside heads g k head =
+    elim (cases_lt g (length heads)) [ inl within ↦ within | inr outside ↦ let past : head_at heads g ≡ 0 = get_or_past heads g 0 outside in absurd (omega arith) ]
+
+-- what comes where there is none, and where there is one
+pub of_none : {P : Type 0} (found : Option ℕ) → is_some found ≡ false → IfNone found P → P
+of_none None is p = p
+of_none (Some first) is p = absurd (true≢false is)
+
+pub of_some : {P : ℕ → Type 0} (found : Option ℕ) → is_some found ≡ true → IfSome found P → (first : ℕ) × P first
+of_some None is p = absurd (true≢false (sym is))
+of_some (Some first) is p = (first, p)
 
 -- an order other than those that a granule's head was of and is of
 other_order : (heads : List ℕ) (g head k : ℕ) → head_at heads g ≢ k + 1 → head ≢ k + 1 → g < length heads → HasHead (set heads g head) k ↔ HasHead heads k

@@ -1,9 +1,8 @@
 -- Maximal blocks: each free block lies in one, and no two of them share a granule.
-use Rattle.std.proofs.Common.{◌≡◌, ◌≢◌, ℕ, zero, suc, ◌+◌, ◌-◌, ◌*◌, ◌/◌, ◌%◌, ◌^◌, ◌<◌, ◌≤◌, Bool, true, false, List, length, ◌⊎◌, inl, inr, sym, ap, ◌∙◌, arith}
+use Rattle.std.proofs.Common.{◌≡◌, ◌≢◌, ℕ, zero, suc, ◌+◌, ◌-◌, ◌%◌, ◌^◌, ◌<◌, ◌≤◌, Bool, true, List, inl, inr, arith}
 use Rattle.std.proofs.Math.Pow.{pow_mono}
 use Rattle.std.proofs.lemmas.Bool.{cases_lt}
 use Rattle.std.proofs.lemmas.Nat.{pow_pos}
-use Rattle.page_arena.specs.Page.{is_free}
 use Rattle.page_arena.specs.Block.{IsFreeBlock, with_taken}
 use Rattle.buddy.specs.MaximalBlock.{IsMaximalBlock, LiesWithin}
 use Rattle.buddy.specs.Halves.{AreHalves}
@@ -30,14 +29,14 @@ climb flags (suc more) order first sum free =
     let inside : LiesWithin order first (order + 1) base = nested order first (order + 1) base (omega arith) free.aligned aligned (omega arith) (omega arith) in
     elim (free_or_not flags (order + 1) base) [
       | inl wider ↦ let h = climb flags more (order + 1) base (omega arith) wider in (h.0, h.1, h.2, (omega arith, omega arith))
-      | inr no ↦ (
+      | inr none ↦ (
         order,
         first,
         record {
           low = omega arith;
           free = free;
           widest = λ larger start above low wide within.
-              no (sub_block true flags (order + 1) base larger start aligned (nested (order + 1) base larger start (omega arith) aligned wide.aligned (omega arith) (omega arith)) wide);
+              none (sub_block true flags (order + 1) base larger start aligned (nested (order + 1) base larger start (omega arith) aligned wide.aligned (omega arith) (omega arith)) wide);
         },
         within_itself order first,
       )

@@ -97,7 +97,7 @@ fn free_buddy(lists: &FreeLists, first: usize, order: usize) -> Option<usize>
     requires first { first < 4096 }
     requires order { order < 10 }
     ensures order { IfSome result (λ _. order < 9) }
-    ensures buddy { IfSome result (λ other. other ≡ buddy_of first order) }
+    ensures buddy { IfSome result (λ other. other ≡ buddy_at first order) }
     ensures head { IfSome result (λ other. head_at lists.now other ≡ order + 1) }
     ensures none { IfNone result (order < 9 → head_at lists.now (buddy_at first order) ≢ order + 1) }
 {

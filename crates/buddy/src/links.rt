@@ -99,7 +99,8 @@ impl Links {
 
     /// Takes a granule out of the list of an order, and joins its neighbours.
     pub(crate) fn take_out(&mut self, granule: usize, order: usize)
-        requires { head_at self.old granule ≡ order + 1 }
+        requires order { order < 10 }
+        requires head { head_at self.old granule ≡ order + 1 }
         ensures { self.new ≡ slice_set self.old granule 0 }
     {
         let next = self.next[granule];

@@ -80,7 +80,8 @@ impl FreeLists {
 
     /// Takes a block out of its list.
     pub(crate) fn take_out(&mut self, granule: usize, order: usize)
-        requires { head_at self.old granule ≡ order + 1 }
+        requires order { order < 10 }
+        requires head { head_at self.old granule ≡ order + 1 }
         ensures { self.new ≡ slice_set self.old granule 0 }
     {
         self.links.take_out(granule, order);
