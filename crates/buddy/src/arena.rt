@@ -44,7 +44,8 @@ impl BuddyArena {
 
     /// Whether a block is one of those that the lists hold: a free block that lies in no larger one.
     pub fn is_free_block(&self, order: Order, first: Gran) -> bool
-        ensures { IsTrue result ↔ IsMaximalBlock self.now.index order first }
+        ensures { IsTrue result ↔
+            IsMaximalBlock (⟦<BuddyArena as PageStore>⟧.free_flags self.now) order first }
     {
         self.index
             .is_free_block(order.number() as usize, first.number() as usize)
@@ -85,8 +86,8 @@ impl PageStore for BuddyArena {
         ensures refused { IfNone result (self.new.visits ≡ 0) }
     {
         self.visits = 0;
-        let (first, visits) = self.index.take(order.number() as usize)?;
-        self.visits = visits;
+        let (first, turns) = self.index.take(order.number() as usize)?;
+        self.visits = turns;
         Gran::new(first as u16, MOST_PAGES)
     }
 
