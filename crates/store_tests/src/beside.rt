@@ -10,7 +10,7 @@ use std::process::Abort;
 /// A store, and a list that says of each page whether it is free. Each call is made on both, and what the store
 /// answers is compared with what the list says.
 #[derive(Drop)]
-pub struct Beside<S: PageStore + Drop> {
+pub(crate) struct Beside<S: PageStore + Drop> {
     store: S,
     free: Vec<bool>,
     ghost same: { S.free_flags store ≡ free.items },
@@ -40,7 +40,7 @@ fn set_run(flags: &mut [bool], first: usize, count: usize, flag: bool)
 }
 
 /// Whether a block lies inside the machine and all its flags are `wanted`.
-pub fn is_block(flags: &[bool], order: Order, first: usize, wanted: bool) -> bool
+pub(crate) fn is_block(flags: &[bool], order: Order, first: usize, wanted: bool) -> bool
     ensures { IsTrue result → IsBlock wanted flags.now order first }
 {
     let size = order.size() as usize;
@@ -52,23 +52,23 @@ pub fn is_block(flags: &[bool], order: Order, first: usize, wanted: bool) -> boo
 
 impl<S: PageStore + Drop> Beside<S> {
     /// A store that is all free.
-    pub fn new(alloc: Global, store: S) -> Result<Beside<S>, AllocError>
+    pub(crate) fn new(alloc: Global, store: S) -> Result<Beside<S>, AllocError>
         requires { S.free_flags store ≡ replicate (length (S.page_bytes store)) true }
     {
         let free = vec![in alloc; true; store.pages() as usize]?;
         Ok(Beside { store, free })
     }
 
-    pub fn store(&self) -> &S {
+    pub(crate) fn store(&self) -> &S {
         &self.store
     }
 
-    pub fn flags(&self) -> &[bool] {
+    pub(crate) fn flags(&self) -> &[bool] {
         &self.free
     }
 
     /// Takes a block. It has to be free, and none comes only where there is none.
-    pub fn take(&mut self, rt: &impl Abort, order: Order) -> Option<Gran> {
+    pub(crate) fn take(&mut self, rt: &impl Abort, order: Order) -> Option<Gran> {
         let size = order.size() as usize;
         let found = self.store.take(order);
         match found {
@@ -88,7 +88,7 @@ impl<S: PageStore + Drop> Beside<S> {
     }
 
     /// Takes that block. It is taken where it is free, and only there.
-    pub fn take_at(&mut self, rt: &impl Abort, order: Order, first: Gran) -> bool {
+    pub(crate) fn take_at(&mut self, rt: &impl Abort, order: Order, first: Gran) -> bool {
         let size = order.size() as usize;
         let start = first.number() as usize;
         let is_free = is_block(&self.free, order, start, true);
@@ -101,7 +101,7 @@ impl<S: PageStore + Drop> Beside<S> {
     }
 
     /// Gives a block back, where it is taken.
-    pub fn give(&mut self, first: Gran, order: Order) -> bool {
+    pub(crate) fn give(&mut self, first: Gran, order: Order) -> bool {
         let size = order.size() as usize;
         let start = first.number() as usize;
         if !is_block(&self.free, order, start, false) {
@@ -113,7 +113,7 @@ impl<S: PageStore + Drop> Beside<S> {
     }
 
     /// As many pages are free as flags are up.
-    pub fn counts(&self, rt: &impl Abort) {
+    pub(crate) fn counts(&self, rt: &impl Abort) {
         let free = self.free.iter().filter(|flag| **flag).count();
         assert_eq!(rt; self.store.free_count() as usize, free);
         assert_eq!(rt; self.store.pages() as usize, self.free.len());

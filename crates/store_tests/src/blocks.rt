@@ -7,11 +7,11 @@ use std::marker::Send;
 use std::process::Abort;
 use std::test::Fail;
 
-pub fn order(rt: &impl Abort, number: u8) -> Order {
+pub(crate) fn order(rt: &impl Abort, number: u8) -> Order {
     Order::new(number).expect(rt, "an order")
 }
 
-pub fn granule(rt: &impl Abort, number: u16) -> Gran {
+pub(crate) fn granule(rt: &impl Abort, number: u16) -> Gran {
     Gran::new(number, 4096).expect(rt, "a granule")
 }
 

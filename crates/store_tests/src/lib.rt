@@ -8,6 +8,8 @@ mod beside;
 #[cfg(test)]
 mod blocks;
 #[cfg(test)]
+mod bytes;
+#[cfg(test)]
 mod random;
 #[cfg(test)]
 mod sequences;

@@ -3,17 +3,17 @@ ghost use Rattle.std.specs.Prelude.{◌<◌};
 
 /// A linear congruential generator, with the constants of Numerical Recipes.
 #[derive(Drop)]
-pub struct Random {
+pub(crate) struct Random {
     state: u32,
 }
 
 impl Random {
-    pub fn new(seed: u32) -> Random {
+    pub(crate) fn new(seed: u32) -> Random {
         Random { state: seed }
     }
 
     /// A number below another one. The upper bits are the good ones.
-    pub fn below(&mut self, end: u32) -> u32
+    pub(crate) fn below(&mut self, end: u32) -> u32
         requires { 0 < end }
         ensures { result < end }
     {

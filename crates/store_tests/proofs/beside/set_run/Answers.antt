@@ -1,4 +1,4 @@
-use Rattle.std.proofs.Common.{◌≡◌, ℕ, ◌+◌, ◌-◌, ◌<◌, set, ap, sym, ◌∙◌, arith}
+use Rattle.std.proofs.Common.{◌≡◌, ℕ, ◌+◌, ◌-◌, set, ap, sym, ◌∙◌, arith}
 use Rattle.page_arena.specs.Block.{with_run}
 use Rattle.page_arena.specs.Runs.{with_run_none, with_run_more}
 use Rattle.store_tests.proofs.beside.set_run.Goals as goal
