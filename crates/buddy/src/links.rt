@@ -48,13 +48,6 @@ impl Links {
         })
     }
 
-    pub(crate) fn len(&self) -> usize
-        ensures count { result ≡ length self.now }
-        ensures few { result ≤ 4096 }
-    {
-        self.heads.len()
-    }
-
     /// Of a granule that heads a block, one more than the block's order; else 0.
     pub(crate) fn head(&self, granule: usize) -> u8
         ensures { result ≡ head_at self.now granule }

@@ -36,13 +36,6 @@ impl FreeLists {
         Ok(FreeLists { links, mask: 0 })
     }
 
-    pub(crate) fn len(&self) -> usize
-        ensures count { result ≡ length self.now }
-        ensures few { result ≤ 4096 }
-    {
-        self.links.len()
-    }
-
     /// Of a granule that heads a block, one more than the block's order; else 0.
     pub(crate) fn head(&self, granule: usize) -> u8
         ensures { result ≡ head_at self.now granule }

@@ -69,16 +69,21 @@ fn is_in_larger(flags: &[bool], first: u16, number: u8) -> bool
     }
 }
 
+// A sequence of calls, and then the counts are compared.
+fn turns<S: PageStore + Drop>(rt: &impl Abort, both: &mut Beside<S>, random: &mut Random) {
+    for _turn in 0..TURNS {
+        turn(rt, both, random);
+    }
+    both.counts(rt);
+}
+
 #[test]
 fn of_an_arena(rt: HostRuntime) -> Result<(), Fail> {
     let mut random = Random::new(1);
     for pages in SIZES {
         let arena = BuddyArena::build(rt.alloc(), pages)?;
         let mut both = Beside::new(rt.alloc(), arena)?;
-        for _turn in 0..TURNS {
-            turn(&rt, &mut both, &mut random);
-        }
-        both.counts(&rt);
+        turns(&rt, &mut both, &mut random);
         lists_are_maximal(&rt, &both);
     }
     Ok(())
@@ -89,11 +94,7 @@ fn of_a_plain_store(rt: HostRuntime) -> Result<(), Fail> {
     let mut random = Random::new(2);
     for pages in SIZES {
         let plain = PlainStore::build(rt.alloc(), pages)?;
-        let mut both = Beside::new(rt.alloc(), plain)?;
-        for _turn in 0..TURNS {
-            turn(&rt, &mut both, &mut random);
-        }
-        both.counts(&rt);
+        turns(&rt, &mut Beside::new(rt.alloc(), plain)?, &mut random);
     }
     Ok(())
 }
