@@ -93,6 +93,25 @@ fn visits_of_one_page(rt: HostRuntime) -> Result<(), Fail> {
     Ok(())
 }
 
+// The same calls on a store that has no lists and counts no visits.
+#[test]
+fn of_a_plain_store(rt: HostRuntime) -> Result<(), Fail> {
+    let (page, whole) = (order(&rt, 0), order(&rt, 9));
+    let (first, ninth) = (granule(&rt, 0), granule(&rt, 9));
+    let plain = PlainStore::build(rt.alloc(), 13)?;
+    let mut both = Beside::new(rt.alloc(), plain)?;
+    assert!(rt; both.take_at(&rt, page, ninth) && both.give(ninth, page));
+    assert_eq!(rt; both.take(&rt, order(&rt, 4)), None);
+    assert_eq!(rt; both.take(&rt, order(&rt, 3)), Some(first));
+    let plain = PlainStore::build(rt.alloc(), 512)?;
+    let mut both = Beside::new(rt.alloc(), plain)?;
+    assert_eq!(rt; both.take(&rt, page), Some(first));
+    assert!(rt; both.give(first, page));
+    assert_eq!(rt; both.take(&rt, whole), Some(first));
+    assert_eq!(rt; both.take(&rt, page), None);
+    Ok(())
+}
+
 // An arena can be handed to another thread.
 fn crosses<S: Send>(_store: &S) {}
 
