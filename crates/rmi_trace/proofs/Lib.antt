@@ -1,0 +1,6 @@
+pub mod Rows
+pub mod Auxiliaries
+pub mod CommandMeans
+pub mod CommandSpells
+pub mod RequestGrammar
+pub mod RequestTexts

@@ -1,0 +1,4 @@
+pub mod Written
+pub mod Rows
+pub mod Commands
+pub mod Requests
