@@ -4,3 +4,5 @@ pub mod CommandMeans
 pub mod CommandSpells
 pub mod RequestGrammar
 pub mod RequestTexts
+pub mod Answered
+pub mod Meanings

@@ -7,8 +7,10 @@
 #![tactic(auto)]
 
 mod command;
+mod line;
 mod request;
 mod requests;
 
+pub use line::{Line, cut_answer, lines_have_one_meaning, parse, requests_are_told_apart};
 pub use request::{Command, Opening, Reading, Request};
 pub use requests::request_of;
