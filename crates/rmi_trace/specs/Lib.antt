@@ -3,3 +3,4 @@ pub mod Rows
 pub mod Commands
 pub mod Requests
 pub mod Lines
+pub mod Answers

@@ -6,11 +6,13 @@
 //! inside a machine is for the monitor to say.
 #![tactic(auto)]
 
+mod answer;
 mod command;
 mod line;
 mod request;
 mod requests;
 
+pub use answer::{Answer, MOST_BYTES, RealmState, RecState, State};
 pub use line::{Line, cut_answer, lines_have_one_meaning, parse, requests_are_told_apart};
 pub use request::{Command, Opening, Reading, Request};
 pub use requests::request_of;
