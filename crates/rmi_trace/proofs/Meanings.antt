@@ -1,14 +1,14 @@
 -- What a line means, as a relation and as a function.
-use Rattle.std.proofs.Common.{◌≡◌, ℕ, List, [], ◌∷◌, true, false, cond, IsUtf8, Option, Some, None, refl, sym, ap, subst, ◌∙◌, inl, inr}
+use Rattle.std.proofs.Common.{◌≡◌, ℕ, List, [], ◌∷◌, true, false, cond, IsUtf8, Option, Some, None, refl, sym, ap, subst, ◌∙◌, inl, inr, length, leb}
 use Rattle.std.specs.Str.{is_utf8}
-use Rattle.std.proofs.lemmas.Bool.{cases_Bool, eq-eqb, eqb-true, false≢true}
+use Rattle.std.proofs.lemmas.Bool.{cases_Bool, eq-eqb, eqb-true, le-leb, leb-true, and_parts, false≢true}
 use Rattle.std.proofs.lemmas.Str.{IsUtf8-from_is_utf8, is_utf8-from_IsUtf8}
 use Rattle.number_text.specs.Grammar.{meaning_of_text}
 use Rattle.rmi_trace.specs.declared.line.Line.{Line}
 use Rattle.rmi_trace.specs.declared.line.Line.TheVariants as line
 use Rattle.rmi_trace.specs.declared.request.Request.{Request}
 use Rattle.rmi_trace.specs.Requests.{request_at}
-use Rattle.rmi_trace.specs.Lines.{text_of, before_answer, is_remark, IsRemark, Means, line_of_request, line_of}
+use Rattle.rmi_trace.specs.Lines.{text_of, before_answer, is_readable, IsReadable, is_remark, IsRemark, Means, line_of_request, line_of}
 use Rattle.rmi_trace.specs.Written.{IsWritten}
 use Rattle.rmi_trace.proofs.RequestTexts.{written-from_meaning, meaning-written, IsUtf8-written}
 
@@ -32,9 +32,17 @@ test-from_not_remark text is_not = elim (cases_Bool (is_remark text)) [
   | inr test ↦ test
 ]
 
-utf8-test-from_not : (bytes : List ℕ) → ¬ IsUtf8 bytes → is_utf8 bytes ≡ false
-utf8-test-from_not bytes is_not = elim (cases_Bool (is_utf8 bytes)) [
-  | inl test ↦ absurd (is_not (IsUtf8-from_is_utf8 bytes test))
+test-from_readable : (bytes : List ℕ) → IsReadable bytes → is_readable bytes ≡ true
+test-from_readable bytes is = rw (le-leb (length bytes) 65536 is.0, is_utf8-from_IsUtf8 bytes is.1) refl
+
+readable-from_test : (bytes : List ℕ) → is_readable bytes ≡ true → IsReadable bytes
+readable-from_test bytes test =
+    let parts = and_parts (leb (length bytes) 65536) (is_utf8 bytes) test in
+    (leb-true (length bytes) 65536 parts.0, IsUtf8-from_is_utf8 bytes parts.1)
+
+test-from_not_readable : (bytes : List ℕ) → ¬ IsReadable bytes → is_readable bytes ≡ false
+test-from_not_readable bytes is_not = elim (cases_Bool (is_readable bytes)) [
+  | inl test ↦ absurd (is_not (readable-from_test bytes test))
   | inr test ↦ test
 ]
 
@@ -43,16 +51,16 @@ utf8-test-from_not bytes is_not = elim (cases_Bool (is_utf8 bytes)) [
 abbrev pub asked : List ℕ → List ℕ
 asked bytes = before_answer (text_of bytes)
 
-pub line_of-not_utf8 : (bytes : List ℕ) → ¬ IsUtf8 bytes → line.Neither ≡ line_of bytes
-line_of-not_utf8 bytes is_not = rw (utf8-test-from_not bytes is_not) refl
+pub line_of-not_readable : (bytes : List ℕ) → ¬ IsReadable bytes → line.Neither ≡ line_of bytes
+line_of-not_readable bytes is_not = rw (test-from_not_readable bytes is_not) refl
 
-pub line_of-remark : (bytes : List ℕ) → IsUtf8 bytes → is_remark (text_of bytes) ≡ true → line.Remark ≡ line_of bytes
-line_of-remark bytes is test = rw (is_utf8-from_IsUtf8 bytes is, test) refl
+pub line_of-remark : (bytes : List ℕ) → IsReadable bytes → is_remark (text_of bytes) ≡ true → line.Remark ≡ line_of bytes
+line_of-remark bytes is test = rw (test-from_readable bytes is, test) refl
 
-pub line_of-asked : (bytes : List ℕ) (found : Option Request) → IsUtf8 bytes → is_remark (text_of bytes) ≡ false → found ≡ meaning_of_text request_at (asked bytes) → line_of_request found ≡ line_of bytes
+pub line_of-asked : (bytes : List ℕ) (found : Option Request) → IsReadable bytes → is_remark (text_of bytes) ≡ false → found ≡ meaning_of_text request_at (asked bytes) → line_of_request found ≡ line_of bytes
 line_of-asked bytes found is test same =
     ap line_of_request same
-    ∙ sym (ap (λ u. cond u (cond (is_remark (text_of bytes)) line.Remark (line_of_request (meaning_of_text request_at (asked bytes)))) line.Neither) (is_utf8-from_IsUtf8 bytes is)
+    ∙ sym (ap (λ u. cond u (cond (is_remark (text_of bytes)) line.Remark (line_of_request (meaning_of_text request_at (asked bytes)))) line.Neither) (test-from_readable bytes is)
     ∙ ap (λ u. cond u line.Remark (line_of_request (meaning_of_text request_at (asked bytes)))) test)
 
 -- no request is written in bytes that are not UTF-8
@@ -60,20 +68,20 @@ none_asked : (text : List ℕ) (found : Option Request) → meaning_of_text requ
 none_asked text None e is_not = refl
 none_asked text (Some request) e is_not = absurd (is_not (IsUtf8-written text request (written-from_meaning text request e)))
 
-pub line_of-not_asked : (bytes : List ℕ) → IsUtf8 bytes → is_remark (text_of bytes) ≡ false → ¬ IsUtf8 (asked bytes) → line.Neither ≡ line_of bytes
+pub line_of-not_asked : (bytes : List ℕ) → IsReadable bytes → is_remark (text_of bytes) ≡ false → ¬ IsUtf8 (asked bytes) → line.Neither ≡ line_of bytes
 line_of-not_asked bytes is test is_not = line_of-asked bytes None is test (none_asked (asked bytes) (meaning_of_text request_at (asked bytes)) refl is_not)
 
 -- ---- the relation
 
-asked_means : (bytes : List ℕ) (found : Option Request) → meaning_of_text request_at (asked bytes) ≡ found → IsUtf8 bytes → ¬ IsRemark (text_of bytes) → Means bytes (line_of_request found)
+asked_means : (bytes : List ℕ) (found : Option Request) → meaning_of_text request_at (asked bytes) ≡ found → IsReadable bytes → ¬ IsRemark (text_of bytes) → Means bytes (line_of_request found)
 asked_means bytes (Some request) e is is_not = (is, is_not, written-from_meaning (asked bytes) request e)
 asked_means bytes None e is is_not = λ _. (is_not, λ request written. let bad : None ≡ Some request = sym e ∙ meaning-written (asked bytes) request written in cc)
 
 pub means-line_of : (bytes : List ℕ) → Means bytes (line_of bytes)
-means-line_of bytes = elim (cases_Bool (is_utf8 bytes)) [
-  | inr none ↦ rw none (λ is. absurd (false≢true (sym none ∙ is_utf8-from_IsUtf8 bytes is)))
+means-line_of bytes = elim (cases_Bool (is_readable bytes)) [
+  | inr none ↦ rw none (λ is. absurd (false≢true (sym none ∙ test-from_readable bytes is)))
   | inl some ↦
-      let is = IsUtf8-from_is_utf8 bytes some in
+      let is = readable-from_test bytes some in
       elim (cases_Bool (is_remark (text_of bytes))) [
         | inl test ↦ rw (some, test) (is, remark-from_test (text_of bytes) test)
         | inr test ↦ rw (some, test) (asked_means bytes (meaning_of_text request_at (asked bytes)) refl is (not_remark-from_test (text_of bytes) test))
@@ -88,10 +96,10 @@ pub line_of-means : (bytes : List ℕ) (l : Line) → Means bytes l → l ≡ li
 line_of-means bytes line.Remark (is, remark) = line_of-remark bytes is (test-from_remark (text_of bytes) remark)
 line_of-means bytes (line.Request request) (is, is_not, written) =
     line_of-asked bytes (Some request) is (test-from_not_remark (text_of bytes) is_not) (sym (meaning-written (asked bytes) request written))
-line_of-means bytes line.Neither means = elim (cases_Bool (is_utf8 bytes)) [
+line_of-means bytes line.Neither means = elim (cases_Bool (is_readable bytes)) [
   | inr none ↦ rw none refl
   | inl some ↦
-      let is = IsUtf8-from_is_utf8 bytes some in
+      let is = readable-from_test bytes some in
       let (is_not, none) = means is in
       line_of-asked bytes None is (test-from_not_remark (text_of bytes) is_not) (neither bytes (meaning_of_text request_at (asked bytes)) refl none)
 ]

@@ -1,5 +1,5 @@
 -- The texts of answers.
-use Rattle.std.specs.Prelude.{ℕ, List, ◌++◌, codes, decimal}
+use Rattle.std.specs.Prelude.{ℕ, List, [], ◌∷◌, ◌++◌, codes, decimal}
 use Rattle.hex.specs.Hex.{encode_lower}
 use Rattle.number_text.specs.Numbers.{spelled_numbers}
 use Rattle.rmi_trace.specs.declared.answer.State.{State}
@@ -53,3 +53,11 @@ answer_text (answer.Realm s vmid root width next) = realm_text s vmid root width
 answer_text (answer.Measurement bytes) = measurement_text bytes
 answer_text (answer.Rec number s auxiliaries) = rec_text number s auxiliaries.items
 answer_text answer.NoCommand = codes "no command"
+
+-- ---- lines
+
+abbrev pub repeated_line : List ℕ → List ℕ
+repeated_line line = line ++ 10 ∷ []
+
+abbrev pub answered_line : List ℕ → Answer → List ℕ
+answered_line asked given = asked ++ codes " = " ++ answer_text given ++ 10 ∷ []

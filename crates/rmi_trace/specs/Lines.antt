@@ -1,5 +1,5 @@
 -- What a line of a trace means.
-use Rattle.std.specs.Prelude.{◌≡◌, ℕ, ◌-◌, ◌==◌, nat_eq, List, [], ◌∷◌, codes, length, take, drop, slice_index, if◌then◌else◌, Bool, true, Option, Some, None, IsUtf8, ◌⊎◌}
+use Rattle.std.specs.Prelude.{◌≡◌, ℕ, ◌-◌, ◌≤◌, ◌==◌, ◌&&◌, nat_eq, nat_le, List, [], ◌∷◌, codes, length, take, drop, slice_index, if◌then◌else◌, Bool, true, Option, Some, None, IsUtf8, ◌⊎◌}
 use Rattle.std.specs.List.{starts_with, ends_with}
 use Rattle.std.specs.Str.{is_utf8}
 use Rattle.number_text.specs.Grammar.{meaning_of_text}
@@ -22,6 +22,13 @@ abbrev pub answer_in : List ℕ → Option (List ℕ)
 answer_in [] = None
 answer_in (b ∷ bs) = if starts_with nat_eq (b ∷ bs) (codes " = ") then Some (drop 3 (b ∷ bs)) else answer_in bs
 
+-- a line that is read: short enough, and UTF-8
+abbrev pub is_readable : List ℕ → Bool
+is_readable bytes = nat_le (length bytes) 65536 && is_utf8 bytes
+
+abbrev pub IsReadable : List ℕ → Type 0
+IsReadable bytes = (length bytes ≤ 65536) × IsUtf8 bytes
+
 -- a comment begins with `#`
 abbrev pub is_remark : List ℕ → Bool
 is_remark [] = true
@@ -30,11 +37,11 @@ is_remark (b ∷ bs) = b == 35
 abbrev pub IsRemark : List ℕ → Type 0
 IsRemark text = (text ≡ []) ⊎ (slice_index text 0 ≡ 35)
 
--- text that is no remark means the request that is written before its answer; all else is no command
+-- a line that is read and is no remark means the request that is written before its answer; all else is no command
 abbrev pub Means : List ℕ → Line → Type 0
-Means bytes line.Remark = IsUtf8 bytes × IsRemark (text_of bytes)
-Means bytes (line.Request request) = IsUtf8 bytes × (¬ IsRemark (text_of bytes)) × IsWritten (before_answer (text_of bytes)) request
-Means bytes line.Neither = IsUtf8 bytes → (¬ IsRemark (text_of bytes)) × ((request : Request) → IsWritten (before_answer (text_of bytes)) request → ⊥)
+Means bytes line.Remark = IsReadable bytes × IsRemark (text_of bytes)
+Means bytes (line.Request request) = IsReadable bytes × (¬ IsRemark (text_of bytes)) × IsWritten (before_answer (text_of bytes)) request
+Means bytes line.Neither = IsReadable bytes → (¬ IsRemark (text_of bytes)) × ((request : Request) → IsWritten (before_answer (text_of bytes)) request → ⊥)
 
 -- the same as a function
 abbrev pub line_of_request : Option Request → Line
@@ -43,5 +50,5 @@ line_of_request None = line.Neither
 
 abbrev pub line_of : List ℕ → Line
 line_of bytes =
-    if is_utf8 bytes then (if is_remark (text_of bytes) then line.Remark else line_of_request (meaning_of_text request_at (before_answer (text_of bytes))))
+    if is_readable bytes then (if is_remark (text_of bytes) then line.Remark else line_of_request (meaning_of_text request_at (before_answer (text_of bytes))))
     else line.Neither

@@ -11,8 +11,12 @@ mod command;
 mod line;
 mod request;
 mod requests;
+mod text;
 
 pub use answer::{Answer, MOST_BYTES, RealmState, RecState, State};
-pub use line::{Line, cut_answer, lines_have_one_meaning, parse, requests_are_told_apart};
+pub use line::{
+    Line, MOST_LINE, cut_answer, lines_have_one_meaning, parse, requests_are_told_apart,
+};
 pub use request::{Command, Opening, Reading, Request};
 pub use requests::request_of;
+pub use text::{push_answered, push_line};

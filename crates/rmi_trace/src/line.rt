@@ -9,6 +9,9 @@ ghost use Rattle.rmi_trace.specs.Written.{IsWritten};
 use crate::request::Request;
 use crate::requests::request_of;
 
+/// The most bytes that a line has: a longer one is no command.
+pub const MOST_LINE: usize = 65_536;
+
 /// What a line is.
 #[derive(Debug, Drop)]
 pub enum Line {
@@ -53,11 +56,14 @@ fn is_remark(text: &[u8]) -> bool
     }
 }
 
-/// What the line is. A line that is not UTF-8 is no command. It takes no memory.
+/// What the line is. A line of more than `MOST_LINE` bytes, or one that is not UTF-8, is no command. It takes no memory.
 pub fn parse(line: &[u8]) -> Line
     ensures meant { Means line.now result }
     ensures exact { result ≡ line_of line.now }
 {
+    if line.len() > MOST_LINE {
+        return Line::Neither;
+    }
     let Ok(_) = str::from_utf8(line) else {
         return Line::Neither;
     };
