@@ -41,10 +41,10 @@ rec_text number s auxiliaries = codes "number " ++ decimal number ++ rec_word s 
 abbrev pub measurement_text : List ℕ → List ℕ
 measurement_text bytes = encode_lower bytes
 
--- what stands behind ` = `
+-- what stands behind ` = `; a value stands behind the result word of RMI_SUCCESS
 abbrev pub answer_text : Answer → List ℕ
-answer_text (answer.Result word) = decimal word
-answer_text (answer.Success value) = codes "0 " ++ decimal value
+answer_text (answer.ResultWord word) = decimal word
+answer_text (answer.Value value) = codes "0 " ++ decimal value
 answer_text answer.Nothing = codes "none"
 answer_text (answer.State s) = state_word s
 answer_text (answer.Sum sum) = decimal sum

@@ -1,4 +1,4 @@
--- The command of a word and its numbers: a row for each word.
+-- The command that is written with a word and its numbers, as a function: a row for each word.
 use Rattle.std.specs.Prelude.{ℕ, nat_le, ◌&&◌, List, ◌∷◌, codes, length, if◌then◌else◌, Option, Some, None, option_map}
 use Rattle.std.specs.List.{list_all}
 use Rattle.std.specs.Option.{option_or}

@@ -38,13 +38,9 @@ pub enum RecState {
 #[derive(Debug, Drop)]
 pub enum Answer {
     /// The result word of a command.
-    Result {
-        word: u64,
-    },
+    ResultWord(u64),
     /// RMI_SUCCESS, and the byte that was read or the number of the REC.
-    Success {
-        value: u16,
-    },
+    Value(u16),
     /// The reading is of nothing.
     Nothing,
     State(State),
@@ -173,8 +169,8 @@ impl Answer {
     {
         let mut text = ArrayVec::new();
         match self {
-            Answer::Result { word } => push_number(&mut text, *word),
-            Answer::Success { value } => {
+            Answer::ResultWord(word) => push_number(&mut text, *word),
+            Answer::Value(value) => {
                 push(&mut text, b"0 ");
                 push_short(&mut text, *value);
             }

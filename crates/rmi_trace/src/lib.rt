@@ -8,15 +8,14 @@
 
 mod answer;
 mod command;
+mod law;
 mod line;
 mod request;
 mod requests;
 mod text;
 
 pub use answer::{Answer, MOST_BYTES, RealmState, RecState, State};
-pub use line::{
-    Line, MOST_LINE, cut_answer, lines_have_one_meaning, parse, requests_are_told_apart,
-};
+pub use law::{lines_have_one_meaning, requests_are_told_apart};
+pub use line::{Line, MOST_LINE, cut_answer, parse};
 pub use request::{Command, Opening, Reading, Request};
-pub use requests::request_of;
 pub use text::{push_answered, push_line};

@@ -1,10 +1,7 @@
 //! Lines of a trace, without the line feed that ends them.
-ghost use Rattle.std.specs.Prelude.{◌≡◌, length, List, ℕ};
+ghost use Rattle.std.specs.Prelude.{◌≡◌};
 ghost use Rattle.std.specs.Option.{option_copied};
-ghost use Rattle.rmi_trace.specs.declared.line.Line.{Line};
-ghost use Rattle.rmi_trace.specs.declared.request.Request.{Request};
 ghost use Rattle.rmi_trace.specs.Lines.{text_of, before_answer, answer_in, is_remark, line_of, Means};
-ghost use Rattle.rmi_trace.specs.Written.{IsWritten};
 
 use crate::request::Request;
 use crate::requests::request_of;
@@ -78,13 +75,3 @@ pub fn parse(line: &[u8]) -> Line
         None => Line::Neither,
     }
 }
-
-/// No two requests are written alike.
-pub fn requests_are_told_apart()
-    ensures { (text : List ℕ) (a b : Request) → IsWritten text a → IsWritten text b → a ≡ b }
-{}
-
-/// A line means one thing.
-pub fn lines_have_one_meaning()
-    ensures { (bytes : List ℕ) (a b : Line) → Means bytes a → Means bytes b → a ≡ b }
-{}

@@ -1,12 +1,15 @@
-//! What a line of a trace asks for. Each operand has the number type of what it names.
+//! What a line of a trace asks for.
+//!
+//! Each operand has the number type of what it names: granules, counts and offsets 16 bits, IPA granules 32, VMIDs,
+//! widths, levels and bytes 8. So a line can name what no machine has, which is for the monitor to refuse.
 use arrayvec::ArrayVec;
 
-/// A fresh machine: every page is taken and zero.
+/// A fresh machine, in which every page is taken and zero: of 1 to 4,096 pages, with 1 to 255 VMIDs, and with up to 16
+/// auxiliary granules for each REC.
 #[derive(Debug, Drop)]
 pub struct Opening {
     pub pages: u16,
     pub vmids: u8,
-    /// How many auxiliary granules a REC has.
     pub auxiliaries: u8,
 }
 
