@@ -8,8 +8,8 @@ use Rattle.rmi_trace.specs.declared.line.Line.{Line}
 use Rattle.rmi_trace.specs.declared.line.Line.TheVariants as line
 use Rattle.rmi_trace.specs.declared.request.Request.{Request}
 use Rattle.rmi_trace.specs.Requests.{request_at}
-use Rattle.rmi_trace.specs.Lines.{text_of, before_answer, is_readable, IsReadable, is_remark, IsRemark, Means, line_of_request, line_of}
-use Rattle.rmi_trace.specs.Written.{IsWritten}
+use Rattle.rmi_trace.specs.Lines.{text_of, before_answer, is_readable, IsReadable, is_remark, IsRemark, Asks, Means, line_of_request, line_of}
+use Rattle.rmi_trace.proofs.Asking.{asks-from_written, written-from_asks, not_remark-asks}
 use Rattle.rmi_trace.proofs.RequestTexts.{written-from_meaning, meaning-written, IsUtf8-written}
 
 -- ---- tests
@@ -74,8 +74,13 @@ line_of-not_asked bytes is test is_not = line_of-asked bytes None is test (none_
 -- ---- the relation
 
 asked_means : (bytes : List ℕ) (found : Option Request) → meaning_of_text request_at (asked bytes) ≡ found → IsReadable bytes → ¬ IsRemark (text_of bytes) → Means bytes (line_of_request found)
-asked_means bytes (Some request) e is is_not = (is, is_not, written-from_meaning (asked bytes) request e)
-asked_means bytes None e is is_not = λ _. (is_not, λ request written. let bad : None ≡ Some request = sym e ∙ meaning-written (asked bytes) request written in cc)
+asked_means bytes (Some request) e is is_not = (is, asks-from_written (text_of bytes) request (written-from_meaning (asked bytes) request e))
+asked_means bytes None e is is_not = λ _. (
+  is_not,
+  λ request asks.
+      let bad : None ≡ Some request = sym e ∙ meaning-written (asked bytes) request (written-from_asks (text_of bytes) request asks) in
+      cc,
+)
 
 pub means-line_of : (bytes : List ℕ) → Means bytes (line_of bytes)
 means-line_of bytes = elim (cases_Bool (is_readable bytes)) [
@@ -88,14 +93,14 @@ means-line_of bytes = elim (cases_Bool (is_readable bytes)) [
       ]
 ]
 
-neither : (bytes : List ℕ) (found : Option Request) → meaning_of_text request_at (asked bytes) ≡ found → ((request : Request) → IsWritten (asked bytes) request → ⊥) → None ≡ found
+neither : (bytes : List ℕ) (found : Option Request) → meaning_of_text request_at (asked bytes) ≡ found → ((request : Request) → ¬ Asks (text_of bytes) request) → None ≡ found
 neither bytes None e none = refl
-neither bytes (Some request) e none = absurd (none request (written-from_meaning (asked bytes) request e))
+neither bytes (Some request) e none = absurd (none request (asks-from_written (text_of bytes) request (written-from_meaning (asked bytes) request e)))
 
 pub line_of-means : (bytes : List ℕ) (l : Line) → Means bytes l → l ≡ line_of bytes
 line_of-means bytes line.Remark (is, remark) = line_of-remark bytes is (test-from_remark (text_of bytes) remark)
-line_of-means bytes (line.Request request) (is, is_not, written) =
-    line_of-asked bytes (Some request) is (test-from_not_remark (text_of bytes) is_not) (sym (meaning-written (asked bytes) request written))
+line_of-means bytes (line.Request request) (is, asks) =
+    line_of-asked bytes (Some request) is (not_remark-asks (text_of bytes) request asks) (sym (meaning-written (asked bytes) request (written-from_asks (text_of bytes) request asks)))
 line_of-means bytes line.Neither means = elim (cases_Bool (is_readable bytes)) [
   | inr none ↦ rw none refl
   | inl some ↦

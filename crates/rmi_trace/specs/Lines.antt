@@ -1,5 +1,5 @@
 -- What a line of a trace means.
-use Rattle.std.specs.Prelude.{◌≡◌, ℕ, ◌-◌, ◌≤◌, ◌==◌, ◌&&◌, nat_eq, nat_le, List, [], ◌∷◌, codes, length, take, drop, slice_index, if◌then◌else◌, Bool, true, Option, Some, None, IsUtf8, ◌⊎◌}
+use Rattle.std.specs.Prelude.{◌≡◌, ℕ, ◌-◌, ◌≤◌, ◌==◌, ◌&&◌, nat_eq, nat_le, List, [], ◌∷◌, ◌++◌, codes, length, take, drop, slice_index, if◌then◌else◌, Bool, true, Option, Some, None, IsUtf8, ◌⊎◌}
 use Rattle.std.specs.List.{starts_with, ends_with}
 use Rattle.std.specs.Str.{is_utf8}
 use Rattle.number_text.specs.Grammar.{meaning_of_text}
@@ -13,6 +13,30 @@ use Rattle.rmi_trace.specs.Written.{IsWritten}
 abbrev pub text_of : List ℕ → List ℕ
 text_of line = if ends_with nat_eq line (13 ∷ []) then take (length line - 1) line else line
 
+-- a line that is read is short enough, and UTF-8
+abbrev pub IsReadable : List ℕ → Type 0
+IsReadable bytes = (length bytes ≤ 65536) × IsUtf8 bytes
+
+-- an empty line, or a comment
+abbrev pub IsRemark : List ℕ → Type 0
+IsRemark text = (text ≡ []) ⊎ (slice_index text 0 ≡ 35)
+
+-- the text is what is asked, alone or before an answer
+abbrev pub IsAsked : List ℕ → List ℕ → Type 0
+IsAsked text asked = (text ≡ asked) ⊎ ((answer : List ℕ) × (text ≡ asked ++ (codes " = " ++ answer)))
+
+-- the text is that of a request, alone or before an answer
+abbrev pub Asks : List ℕ → Request → Type 0
+Asks text request = (asked : List ℕ) × IsAsked text asked × IsWritten asked request
+
+-- what a line means: no command where it is neither a remark nor a request
+abbrev pub Means : List ℕ → Line → Type 0
+Means bytes line.Remark = IsReadable bytes × IsRemark (text_of bytes)
+Means bytes (line.Request request) = IsReadable bytes × Asks (text_of bytes) request
+Means bytes line.Neither = IsReadable bytes → (¬ IsRemark (text_of bytes)) × ((request : Request) → ¬ Asks (text_of bytes) request)
+
+-- ---- the same as functions
+
 -- what stands before the first ` = `, and the answer that stands behind it
 abbrev pub before_answer : List ℕ → List ℕ
 before_answer [] = []
@@ -22,28 +46,13 @@ abbrev pub answer_in : List ℕ → Option (List ℕ)
 answer_in [] = None
 answer_in (b ∷ bs) = if starts_with nat_eq (b ∷ bs) (codes " = ") then Some (drop 3 (b ∷ bs)) else answer_in bs
 
--- a line that is read: short enough, and UTF-8
 abbrev pub is_readable : List ℕ → Bool
 is_readable bytes = nat_le (length bytes) 65536 && is_utf8 bytes
 
-abbrev pub IsReadable : List ℕ → Type 0
-IsReadable bytes = (length bytes ≤ 65536) × IsUtf8 bytes
-
--- a comment begins with `#`
 abbrev pub is_remark : List ℕ → Bool
 is_remark [] = true
 is_remark (b ∷ bs) = b == 35
 
-abbrev pub IsRemark : List ℕ → Type 0
-IsRemark text = (text ≡ []) ⊎ (slice_index text 0 ≡ 35)
-
--- a line that is read and is no remark means the request that is written before its answer; all else is no command
-abbrev pub Means : List ℕ → Line → Type 0
-Means bytes line.Remark = IsReadable bytes × IsRemark (text_of bytes)
-Means bytes (line.Request request) = IsReadable bytes × (¬ IsRemark (text_of bytes)) × IsWritten (before_answer (text_of bytes)) request
-Means bytes line.Neither = IsReadable bytes → (¬ IsRemark (text_of bytes)) × ((request : Request) → IsWritten (before_answer (text_of bytes)) request → ⊥)
-
--- the same as a function
 abbrev pub line_of_request : Option Request → Line
 line_of_request (Some request) = line.Request request
 line_of_request None = line.Neither

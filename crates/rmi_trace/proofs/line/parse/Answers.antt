@@ -1,4 +1,4 @@
-use Rattle.std.proofs.Common.{◌≡◌, true, false, Some, IsUtf8, sym, ap, subst, ◌∙◌}
+use Rattle.std.proofs.Common.{◌≡◌, true, false, Some, None, IsUtf8, sym, ap, subst, ◌∙◌}
 use Rattle.number_text.specs.Grammar.{meaning_of_text}
 use Rattle.rmi_trace.specs.Requests.{request_at}
 use Rattle.rmi_trace.specs.Lines.{text_of, is_remark}
@@ -27,3 +27,16 @@ returns-in-Some-clause-exact c =
     let found : Some c.in-Some.request ≡ meaning_of_text request_at (asked c.args.line.now) =
     c.in-Some.ensures.exact ∙ ap (meaning_of_text request_at) (c.in-Ok-from_utf8.ensures.cases.0 ∙ c.cut_answer.ensures.before) in
     line_of-asked c.args.line.now (Some c.in-Some.request) (c.if-line-gt-MOST_LINE.false, c.in-Ok.ensures.cases.1) test found
+
+pub returns-in-Some-clause-meant : goal.returns-in-Some-clause-meant
+returns-in-Some-clause-meant c = meant-line_of c.args.line.now _ (returns-in-Some-clause-exact c)
+
+pub returns-in-None-clause-exact : goal.returns-in-None-clause-exact
+returns-in-None-clause-exact c =
+    let test : is_remark (text_of c.args.line.now) ≡ false = ap is_remark (sym c.text_of.ensures) ∙ sym c.if-is_remark.ensures in
+    let found : None ≡ meaning_of_text request_at (asked c.args.line.now) =
+    c.in-None.ensures.exact ∙ ap (meaning_of_text request_at) (c.in-Ok-from_utf8.ensures.cases.0 ∙ c.cut_answer.ensures.before) in
+    line_of-asked c.args.line.now None (c.if-line-gt-MOST_LINE.false, c.in-Ok.ensures.cases.1) test found
+
+pub returns-in-None-clause-meant : goal.returns-in-None-clause-meant
+returns-in-None-clause-meant c = meant-line_of c.args.line.now _ (returns-in-None-clause-exact c)
