@@ -46,10 +46,10 @@ module _ (limits : Limits) (w : World) (sound : IsSoundPart w) (T : RealmRow →
   abbrev pub Allows : Act → Type 0
   Allows (Realm rd root v) = Unit {0}
   Allows (UnRealm rd root v) = ⊥
-  Allows (Rec g aux n) = (d : RealmRow) (rec : RecRow) (m : List ℕ) → is_ready rec ≡ true → T d (record d { recs = insert d.recs d.next rec; next = d.next + 1; measurement = m })
-  Allows (UnRec g aux n) = (d : RealmRow) (rec : RecRow) → get d.recs n ≡ Some rec → is_ready rec ≡ true → T d (record d { recs = remove d.recs n })
-  Allows (Enter n) = (d : RealmRow) (rec : RecRow) → IsSoundRealm d → get d.recs n ≡ Some rec → is_ready rec ≡ true → T d (record d { recs = insert d.recs n (record rec { state = Running }) })
-  Allows (Exit n) = (d : RealmRow) (rec : RecRow) → IsSoundRealm d → get d.recs n ≡ Some rec → is_ready rec ≡ false → T d (record d { recs = insert d.recs n (record rec { state = Ready }) })
+  Allows (Rec g aux n) = (d : RealmRow) (rec : RecRow) (m : List ℕ) → is_ready rec.state ≡ true → T d (record d { recs = insert d.recs d.next rec; next = d.next + 1; measurement = m })
+  Allows (UnRec g aux n) = (d : RealmRow) (rec : RecRow) → get d.recs n ≡ Some rec → is_ready rec.state ≡ true → T d (record d { recs = remove d.recs n })
+  Allows (Enter n) = (d : RealmRow) (rec : RecRow) → IsSoundRealm d → get d.recs n ≡ Some rec → is_ready rec.state ≡ true → T d (record d { recs = insert d.recs n (record rec { state = Running }) })
+  Allows (Exit n) = (d : RealmRow) (rec : RecRow) → IsSoundRealm d → get d.recs n ≡ Some rec → is_ready rec.state ≡ false → T d (record d { recs = insert d.recs n (record rec { state = Ready }) })
   Allows _ = (d e : RealmRow) → e ≡ record d { state = e.state; measurement = e.measurement; rows = e.rows } → T d e
 
   -- the last update is the realm's

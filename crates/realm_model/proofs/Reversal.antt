@@ -384,17 +384,17 @@ module _ (limits : Limits) (b : ℕ) (u w : World) (su : IsSoundPart u) (sw : Is
 
   planned_rec : (used : List ℕ) (d2 : RealmRow) (k g : ℕ) (aux : ArrayVec ℕ 16 (Unit {0})) (n : ℕ) (rec : RecRow) → (cell_at w.machine k).descriptor ≡ Some d2 → get d2.recs n ≡ Some rec → granules_of_rec rec ≡ (g, aux.items) → realm_of b w ≡ Some (seen w.machine k)
       → outcome_of limits used (UnRec g aux n) (realm_of b w) (map (seen w.machine) (named (UnRec g aux n)))
-      ≡ check (is_ready rec) error_rec (Ok (lefts (g ∷ aux.items) ++ Put k (record (cell_at w.machine k) { descriptor = Some (record d2 { recs = remove d2.recs n }) }) ∷ []))
+      ≡ check (is_ready rec.state) error_rec (Ok (lefts (g ∷ aux.items) ++ Put k (record (cell_at w.machine k) { descriptor = Some (record d2 { recs = remove d2.recs n }) }) ∷ []))
   unfolding outcome_of named
   planned_rec used d2 k g aux n rec there at own found =
       ap (λ o. outcome_of limits used (UnRec g aux n) o (map (seen w.machine) (named (UnRec g aux n)))) found
       ∙ realm_there (seen w.machine k) _ d2 there
       ∙ rec_there d2 n _ rec at
-      ∙ ap (λ (p : ℕ × List ℕ). check (is_ready rec) error_rec (Ok (lefts (p.0 ∷ p.1) ++ Put k (record (cell_at w.machine k) { descriptor = Some (record d2 { recs = remove d2.recs n }) }) ∷ []))) own
+      ∙ ap (λ (p : ℕ × List ℕ). check (is_ready rec.state) error_rec (Ok (lefts (p.0 ∷ p.1) ++ Put k (record (cell_at w.machine k) { descriptor = Some (record d2 { recs = remove d2.recs n }) }) ∷ []))) own
 
   abbrev runs : Option RecRow → Bool
   runs None = false
-  runs (Some rec) = not (is_ready rec)
+  runs (Some rec) = not (is_ready rec.state)
 
   abbrev fits_rec : ℕ → List ℕ → Option RecRow → Bool
   fits_rec g items None = false
@@ -434,7 +434,7 @@ module _ (limits : Limits) (b : ℕ) (u w : World) (su : IsSoundPart u) (sw : Is
         | false ↦ λ e. sym (ap (option_map granules_of_rec) (get-insert nat_cmp_total d.recs d.next rec1 q ∙ ap (λ t. cond t (Some rec1) (get d.recs q)) (ap (eq_by_cmp nat_cmp q) (sym number) ∙ e))) ∙ both.same.recs q
       ] refl ∙ sym (ap (option_map granules_of_rec) (get-remove nat_cmp_total d2.recs n q)) in
       record {
-        ready = is_ready rec.0;
+        ready = is_ready rec.0.state;
         refusal = error_rec;
         updates = lefts (g ∷ aux.items) ++ tail;
         planned = λ used. planned_rec used d2 k g aux n rec.0 both.there there rec.2 both.found;
@@ -444,7 +444,7 @@ module _ (limits : Limits) (b : ℕ) (u w : World) (su : IsSoundPart u) (sw : Is
             ∙ and_from _ _ (eq-eqb rec.0.granule g (ap (λ (p : ℕ × List ℕ). p.0) rec.2)) ((bytes_decides rec.0.auxiliaries aux.items).1 (ap (λ (p : ℕ × List ℕ). p.1) rec.2));
         back = back_left u w (us ++ Put k z ∷ []) tail (g ∷ aux.items) (rec_granules g k (held InRec k) z aux.items) (in_all (g ∷ aux.items) frees)
             (tail_one u k _ (realm_tail rd d d1 d3 at is at_k (record { vmid = both.same.vmid; root = both.same.root; recs = recs_back; rows = both.same.rows }))) leads;
-        ready_if = λ r. not_false (is_ready rec.0)
+        ready_if = λ r. not_false (is_ready rec.0.state)
             (sym (ap (λ o. realm_is o (λ x y. runs (get y.recs n))) both.found ∙ ap (λ o. elim o [ Some y ↦ runs (get y.recs n) | None ↦ false ]) both.there ∙ ap runs there) ∙ r);
       }
     where

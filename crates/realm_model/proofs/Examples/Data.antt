@@ -16,7 +16,7 @@ use Rattle.realm_model.specs.declared.states.RecState.{RecState}
 use Rattle.realm_model.specs.declared.states.RecState.TheVariants.{Ready, Running}
 use Rattle.realm_model.specs.declared.states.Ripas.{Ripas as RipasOf}
 use Rattle.realm_model.specs.declared.states.Ripas.TheVariants.{Empty, Ram, Destroyed}
-use Rattle.realm_model.specs.Rows.{Row, Rows, root_rows, unmapped_ripas}
+use Rattle.realm_model.specs.Rows.{Row, Rows, unmapped_ripas}
 use Rattle.realm_model.specs.Measurement.{zero_measurement, measurement_after, data_event, ripas_event, rec_event}
 use Rattle.realm_model.specs.Machine.{Limits, RecRow, RealmRow, Cell}
 use Rattle.realm_model.specs.Act.{named, reverse_of, is_reverse}

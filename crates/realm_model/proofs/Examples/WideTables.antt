@@ -1,6 +1,6 @@
 -- A realm of four starting tables: tables and a page under the second one, and all of it undone.
 use Rattle.std.proofs.Common.{◌≡◌, ℕ, ◌+◌, ◌*◌, Bool, true, false, cond, ◌&&◌, not, List, [], ◌∷◌, ◌++◌, map, Some, None, Err, refl, sym, ap, ◌∙◌, arith, lit≤}
-use Rattle.std.specs.Prelude.{◌==◌, is_some, nat_eq, option_map, option_and_then}
+use Rattle.std.specs.Prelude.{is_some, nat_eq, option_map, option_and_then}
 use Rattle.std.specs.Option.{option_eq}
 use Rattle.std.specs.Ordering.{nat_cmp}
 use Rattle.std.specs.FinMap.{get, insert, empty, len, get-insert, get-empty, len-empty}
@@ -19,7 +19,7 @@ use Rattle.realm_model.specs.declared.states.Ripas.TheVariants.{Empty, Destroyed
 use Rattle.realm_model.specs.Rows.{Row, Rows, place_cmp, root_rows, put_row, drop_rows, with_table, without_table, is_unassigned, is_table, is_table_unused, all_rows, unassigned, table}
 use Rattle.realm_model.specs.Ownership.{mapping_of_row}
 use Rattle.realm_model.specs.Sound.{look, IsSoundRows}
-use Rattle.realm_model.specs.Machine.{Limits, RecRow, RealmRow, Cell}
+use Rattle.realm_model.specs.Machine.{Limits, RecRow, Cell}
 use Rattle.realm_model.specs.Update.{Outcome}
 use Rattle.realm_model.specs.Act.{named, reverse_of, is_reverse}
 use Rattle.realm_model.specs.Command.Check.{check, with_realm, with_granule}

@@ -13,7 +13,7 @@ abbrev pub data_create : Seen → Seen → ℕ → Seen → Outcome
 data_create rd g ipa source =
     with_realm rd (λ realm.
     check (is_delegated g && is_undelegated source && is_protected realm ipa) error_input
-    (check (is_new realm) error_realm
+    (check (is_new realm.state) error_realm
     (with_row realm.rows ipa 3 (λ row.
     check (is_unassigned row) (error_rtt 3)
     (Ok (Put g.number (record (held Data rd.number) { bytes = source.cell.bytes })

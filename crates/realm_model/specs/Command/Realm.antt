@@ -44,7 +44,7 @@ realm_create vmids used rd tables root vmid =
 abbrev pub realm_activate : Seen → Outcome
 realm_activate rd =
     with_realm rd (λ realm.
-    check (is_new realm) error_realm
+    check (is_new realm.state) error_realm
     (Ok (put_realm rd (record realm { state = Active }) ∷ [])))
 
 -- A realm with no REC and no table below its starting tables is gone; its RD and starting tables are DELEGATED.

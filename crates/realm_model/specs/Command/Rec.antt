@@ -16,7 +16,7 @@ abbrev pub rec_create : ℕ → Seen → Seen → List Seen → Outcome
 rec_create aux rd g auxiliaries =
     with_realm rd (λ realm.
     check (list_all is_delegated (g ∷ auxiliaries) && all_different (g ∷ auxiliaries) && length auxiliaries == aux) error_input
-    (check (is_new realm) error_realm
+    (check (is_new realm.state) error_realm
     (Ok (Put g.number (held InRec rd.number)
     ∷ map (λ a. Put a.number (held RecAux rd.number)) auxiliaries
     ++ put_realm rd (record realm {
@@ -29,22 +29,22 @@ rec_create aux rd g auxiliaries =
 abbrev pub rec_enter : Seen → ℕ → Outcome
 rec_enter rd number =
     with_realm rd (λ realm. with_rec realm number (λ rec.
-    check (not (is_new realm)) error_realm
-    (check (is_ready rec) error_rec
+    check (not (is_new realm.state)) error_realm
+    (check (is_ready rec.state) error_rec
     (Ok (put_rec rd realm number (record rec { state = Running }) ∷ [])))))
 
 -- A RUNNING REC stops running. RMM 1.0, REC exit; as a command of its own it is this profile's.
 abbrev pub rec_exit : Seen → ℕ → Outcome
 rec_exit rd number =
     with_realm rd (λ realm. with_rec realm number (λ rec.
-    check (not (is_ready rec)) error_rec
+    check (not (is_ready rec.state)) error_rec
     (Ok (put_rec rd realm number (record rec { state = Ready }) ∷ []))))
 
 -- A READY REC is gone; its granules are DELEGATED. Numbers are not used again. RMM 1.0, RMI_REC_DESTROY.
 abbrev pub rec_destroy : Seen → ℕ → Outcome
 rec_destroy rd number =
     with_realm rd (λ realm. with_rec realm number (λ rec.
-    check (is_ready rec) error_rec
+    check (is_ready rec.state) error_rec
     (Ok (Put rec.granule left ∷ map (λ a. Put a left) rec.auxiliaries
     ++ put_realm rd (record realm { recs = remove realm.recs number }) ∷ []))))
 
@@ -53,7 +53,7 @@ abbrev pub guest_write : Seen → ℕ → ℕ → ℕ → ℕ → Outcome
 guest_write rd number ipa offset value =
     with_realm rd (λ realm. with_rec realm number (λ rec.
     check (is_protected realm ipa) error_input
-    (check (not (is_ready rec)) error_rec
+    (check (not (is_ready rec.state)) error_rec
     (with_end realm.rows ipa 3 (λ end.
     check (is_assigned end.row) (error_rtt end.level)
     (with_granule end.row (λ granule. Ok (PutByte granule offset value ∷ []))))))))

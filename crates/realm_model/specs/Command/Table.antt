@@ -34,7 +34,7 @@ abbrev pub rtt_init_ripas : Seen → ℕ → ℕ → Outcome
 rtt_init_ripas rd ipa count =
     with_realm rd (λ realm.
     check (nat_le 1 count && nat_le count 512 && ipa / 512 == (ipa + count - 1) / 512 && is_protected realm ipa) error_input
-    (check (is_new realm) error_realm
+    (check (is_new realm.state) error_realm
     (with_row realm.rows ipa 3 (λ row.
     check (all_rows is_unassigned realm.rows 3 ipa count) (error_rtt 3)
     (Ok (put_realm rd (record realm {
