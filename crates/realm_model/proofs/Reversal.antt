@@ -27,7 +27,7 @@ use Rattle.realm_model.specs.declared.rmi.Rmi.{Rmi}
 use Rattle.realm_model.specs.declared.act.Act.{Act}
 use Rattle.realm_model.specs.declared.act.Act.TheVariants.{Take, UnTake, Fill, Peek, Delegate, Undelegate, Realm, UnRealm, Activate, Rtt, UnRtt, Ripas as ToRam, Data, Unknown, UnData, Rec, UnRec, Enter, Exit, Poke}
 use Rattle.realm_model.specs.Rows.{Row, row_at, put_row, assigned, unassigned, unmapped_ripas, with_table, without_table, root_rows, is_unassigned, is_assigned, is_table, is_table_unused, place_cmp, is_table_place, has_root_table}
-use Rattle.realm_model.specs.Machine.{Limits, RecRow, RealmRow, Cell, Machine, Seen, left, held, held as held_cell, cell_at, seen}
+use Rattle.realm_model.specs.Machine.{Limits, RecRow, RealmRow, Cell, Machine, Seen, numbers_of, left, held, held as held_cell, cell_at, seen}
 use Rattle.realm_model.specs.Update.{Update, Put, granule_of}
 use Rattle.realm_model.specs.Command.Check.{error_input, check, is_undelegated, is_delegated, is_ready, is_protected, error_rec}
 use Rattle.realm_model.specs.Measurement.{measurement_after, data_event, rec_event}
@@ -115,7 +115,7 @@ delegated_leaves o u g sound e =
 pub no_recs : (m : FinMap nat_cmp RecRow) → ((n : ℕ) → get m n ≡ None) → len m ≡ 0
 no_recs m h = ap len (same_map nat_cmp_total nat_cmp-IsAntisymmetric m empty (λ n. h n ∙ sym (get-empty nat_cmp n))) ∙ len-empty nat_cmp RecRow
 
-pub seen_numbers : (m : Machine) (gs : List ℕ) → map (λ (a : Seen). a.number) (map (seen m) gs) ≡ gs
+pub seen_numbers : (m : Machine) (gs : List ℕ) → numbers_of (map (seen m) gs) ≡ gs
 seen_numbers m [] = refl
 seen_numbers m (g ∷ gs) = ap (λ r. g ∷ r) (seen_numbers m gs)
 
@@ -406,7 +406,7 @@ module _ (limits : Limits) (b : ℕ) (u w : World) (su : IsSoundPart u) (sw : Is
       → Leads ((Put g (held InRec rd.number) ∷ auxes rd.number aux.items)
       ++ Put rd.number (record rd.cell {
         descriptor = Some (record d {
-          recs = insert d.recs d.next (record { granule = g; auxiliaries = map (λ (a : Seen). a.number) (map (seen u.machine) aux.items); state = Ready });
+          recs = insert d.recs d.next (record { granule = g; auxiliaries = numbers_of (map (seen u.machine) aux.items); state = Ready });
           next = d.next + 1;
           measurement = m;
         });
@@ -415,7 +415,7 @@ module _ (limits : Limits) (b : ℕ) (u w : World) (su : IsSoundPart u) (sw : Is
   unfolding outcome_of named fits
   undone_rec rd d m g aux n at is held_rd frees number leads =
       let k = rd.number in
-      let rec1 : RecRow = record { granule = g; auxiliaries = map (λ (a : Seen). a.number) (map (seen u.machine) aux.items); state = Ready } in
+      let rec1 : RecRow = record { granule = g; auxiliaries = numbers_of (map (seen u.machine) aux.items); state = Ready } in
       let d1 : RealmRow = record d { recs = insert d.recs d.next rec1; next = d.next + 1; measurement = m } in
       let z : Cell = record rd.cell { descriptor = Some d1 } in
       let us : List Update = Put g (held InRec k) ∷ auxes k aux.items in

@@ -45,9 +45,13 @@ is_undelegated g = elim g.cell.state [ Undelegated ↦ true | _ ↦ false ]
 abbrev pub is_delegated : Seen → Bool
 is_delegated g = elim g.cell.state [ Delegated ↦ true | _ ↦ false ]
 
-abbrev pub all_different : List Seen → Bool
-all_different [] = true
-all_different (g ∷ gs) = not (list_any (λ h. g.number == h.number) gs) && all_different gs
+-- none of the others is that number, and no number is there twice
+abbrev pub is_apart_from : ℕ → List ℕ → Bool
+is_apart_from number others = not (list_any (λ other. number == other) others)
+
+abbrev pub are_distinct : List ℕ → Bool
+are_distinct [] = true
+are_distinct (number ∷ others) = is_apart_from number others && are_distinct others
 
 abbrev pub is_new : RealmState → Bool
 is_new New = true
