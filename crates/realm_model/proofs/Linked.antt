@@ -81,7 +81,7 @@ module _ (limits : Limits) (w : World) (sound : IsSoundPart w) (old : IsLinked (
       → R (Put g c ∷ Put rd.number (record rd.cell { descriptor = Some (record d { rows = put_row d.rows 3 ipa (assigned ripas g); measurement = m }) }) ∷ [])
   data_linked rd d at is g c ripas ipa m row free bare state mine there plain =
       let place : ℕ × ℕ = (3, first_covered 3 ipa) in
-      let nowhere : row_target (look d.rows place) ≡ None = ap (λ o. row_target (option_map mapping_of_row o)) there ∙ unassigned_target row.hipas row.granule plain in
+      let nowhere : row_target (look d.rows place) ≡ None = ap (λ o. row_target (option_map mapping_of_row o)) there ∙ unassigned_target row.state row.granule plain in
       row_more w sound old rd d (record d { rows = put_row d.rows 3 ipa (assigned ripas g); measurement = m }) at is refl refl g c place free bare mine
       (leaf_target d.rows place (assigned ripas g) ∙ (λ i. Some (g, sym state i)))
       (λ q to h. elim (leaf_new d.rows place (assigned ripas g) q to h) [ inl same ↦ inl same | inr new ↦ inr new.0 ])
@@ -137,7 +137,7 @@ module _ (limits : Limits) (w : World) (sound : IsSoundPart w) (old : IsLinked (
       let up : ℕ × ℕ = (level - 1, first_covered (level - 1) ipa) in
       let cases = without_table_cases d.rows level ipa end.row rows (table_place ipa level (and_parts _ _ place).0) there unused in
       Yields-Ok R _ (row_less w sound old rd d (record d { rows = without_table d.rows level ipa }) at is refl refl pa up InRtt
-      (ap (λ o. row_target (option_map mapping_of_row o)) there ∙ table_target end.row.hipas end.row.granule pa table to)
+      (ap (λ o. row_target (option_map mapping_of_row o)) there ∙ table_target end.row.state end.row.granule pa table to)
       (λ q t h. elim (cases q) [
         | inl empty ↦ absurd (true_false _ (ap is_some h) (ap (λ o. is_some (row_target o)) empty.1))
         | inr rest ↦ elim rest [ inl gone ↦ absurd (true_false _ (ap is_some h) (ap (λ o. is_some (row_target o)) gone.0)) | inr same ↦ ap row_target (sym same.0) ∙ h ]
@@ -167,7 +167,7 @@ module _ (limits : Limits) (w : World) (sound : IsSoundPart w) (old : IsLinked (
       let place : ℕ × ℕ = (3, first_covered 3 ipa) in
       let row : Row = unassigned (unmapped_ripas end.row.ripas) in
       Yields-Ok R _ (row_less w sound old rd d (record d { rows = put_row d.rows 3 ipa row }) at is refl refl pa place InData
-      (ap (λ o. row_target (option_map mapping_of_row o)) there ∙ assigned_target end.row.hipas end.row.granule pa used to)
+      (ap (λ o. row_target (option_map mapping_of_row o)) there ∙ assigned_target end.row.state end.row.granule pa used to)
       (λ q t h. elim (leaf_new d.rows place row q t h) [ inl same ↦ same | inr new ↦ absurd (true_false _ (ap is_some new.1) refl) ])
       (leaf_target d.rows place row)
       (λ q t h. leaf_old d.rows place row q t h))))))))

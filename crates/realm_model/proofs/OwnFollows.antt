@@ -97,7 +97,7 @@ module _ (r s : Rows) (same : LookSame r s) (ipa level : ℕ) (a b : Walk) (ra :
       ∙ ap (option_map mapping_of_row) (walk_at s ipa level b sb (eqb-true b.level level at_b)))
 
   granule_same : (g h : ℕ) → a.row.granule ≡ Some g → b.row.granule ≡ Some h → g ≡ h
-  granule_same g h is ish = same_Some _ _ (sym is ∙ (λ i. (end_same i).1) ∙ ish)
+  granule_same g h is ish = same_Some _ _ (sym is ∙ (λ i. (end_same i).granule) ∙ ish)
 
 -- ---- acts
 

@@ -10,7 +10,7 @@ use Rattle.granule_addr.specs.Page.{zero_page, page_of}
 use Rattle.realm_model.specs.declared.act.Act.TheVariants.{Take, Fill, Delegate, Realm, Activate, Rtt, Ripas, Data, Unknown, UnData, Rec, UnRec, Enter, Exit, Poke}
 use Rattle.realm_model.specs.declared.act.Event.{Event}
 use Rattle.realm_model.specs.declared.states.GranuleState.TheVariants.{Rec as InRec, RecAux, Data as InData}
-use Rattle.realm_model.specs.declared.states.Hipas.TheVariants.{Assigned}
+use Rattle.realm_model.specs.declared.states.EntryState.TheVariants.{Assigned}
 use Rattle.realm_model.specs.declared.states.RealmState.TheVariants.{Active}
 use Rattle.realm_model.specs.declared.states.RecState.{RecState}
 use Rattle.realm_model.specs.declared.states.RecState.TheVariants.{Ready, Running}
@@ -40,7 +40,7 @@ abbrev eight : Limits
 eight = record (machine_of 8) { aux = 1 }
 
 abbrev assigned : RipasOf → ℕ → Row
-assigned ripas granule = record { hipas = Assigned; ripas = ripas; granule = Some granule }
+assigned ripas granule = record { state = Assigned; ripas = ripas; granule = Some granule }
 
 -- ---- rows, one change after another
 
