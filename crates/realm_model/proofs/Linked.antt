@@ -95,7 +95,7 @@ module _ (limits : Limits) (w : World) (sound : IsSoundPart w) (old : IsLinked (
   unfolding outcome_of named fits with_ram
   linked (Take order first) realm at none fit = Yields-Ok R _ (subst R (sym (seen_takes w.machine (block order first))) (subst IsLinked (λ i k. sym (put_takes (block order first) k (now k)) i) old))
   linked (UnTake order first) realm at none fit = Yields-Ok R _ (subst R (sym (seen_frees w.machine (block order first)))
-      (subst IsLinked (λ i k. sym (put_frees (block order first) k (now k)) i) (freed w sound old (block order first) (and_parts _ _ fit).1)))
+      (subst IsLinked (λ i k. sym (put_frees (block order first) k (now k)) i) (freed w sound old (block order first) fit)))
   linked (Fill g v) realm at none fit = Yields-check R _ _ _ (λ host. Yields-Ok R _ (let h = undelegated_host w sound g host in host_put w sound old g _ h h (host_bare w sound g h)))
   linked (Peek g o v) realm at none fit = Yields-check R _ _ _ (λ _. Yields-Ok R _ old)
   linked (Delegate g) realm at none fit = Yields-check R _ _ _ (λ host. Yields-Ok R _ (host_put w sound old g left (undelegated_host w sound g host) refl refl))

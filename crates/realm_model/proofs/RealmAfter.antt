@@ -95,7 +95,7 @@ module _ (limits : Limits) (w : World) (sound : IsSoundPart w) (T : RealmRow →
       → Yields S (outcome_of limits (used_vmids w.machine) act realm (map (seen w.machine) (named act)))
   unfolding outcome_of named fits
   turns (Take order first) realm allows at none fit = Yields-Ok S _ (subst S (sym (seen_takes w.machine (block order first))) (taken (λ d. allows d d refl) (block order first)))
-  turns (UnTake order first) realm allows at none fit = Yields-Ok S _ (subst S (sym (seen_frees w.machine (block order first))) (freed (λ d. allows d d refl) (block order first) (and_parts _ _ fit).1))
+  turns (UnTake order first) realm allows at none fit = Yields-Ok S _ (subst S (sym (seen_frees w.machine (block order first))) (freed (λ d. allows d d refl) (block order first) fit))
   turns (Fill g v) realm allows at none fit = Yields-check S _ _ _ (λ host. Yields-Ok S _ (host_put (λ d. allows d d refl) g _ (undelegated_host w sound g host)))
   turns (Peek g o v) realm allows at none fit = Yields-check S _ _ _ (λ _. Yields-Ok S _ (as_it_was (λ d. allows d d refl) [] (λ k d there. there)))
   turns (Delegate g) realm allows at none fit = Yields-check S _ _ _ (λ host. Yields-Ok S _ (host_put (λ d. allows d d refl) g _ (undelegated_host w sound g host)))
