@@ -101,7 +101,7 @@ impl Bench {
         requires vmid { 1 ≤ vmid }
     {
         self.monitor
-            .realm_create(granule(rd), granule(root), Vmid::new(vmid).unwrap())
+            .realm_create(granule(rd), granule(root), Vmid::new(vmid).unwrap(), 39)
     }
 
     #[tactic(auto, using(crate::proofs::Kept::all_taken_after))]
