@@ -6,11 +6,11 @@ use Rattle.std.proofs.lemmas.Bool.{and_parts, eqb-true, eqb-false}
 use Rattle.std.proofs.lemmas.Option.{same_Some}
 use Rattle.granule_addr.specs.Ipa.{covered_count, first_covered}
 use Rattle.granule_addr.specs.Root.{start_count, space_of}
-use Rattle.realm_model.specs.declared.states.Hipas.TheVariants.{Unassigned}
+use Rattle.realm_model.specs.declared.states.EntryState.TheVariants.{Unassigned}
 use Rattle.realm_model.specs.declared.states.Ripas.{Ripas}
 use Rattle.realm_model.specs.declared.states.Ripas.TheVariants.{Empty, Destroyed}
 use Rattle.realm_model.specs.Rows.{Row, Rows, Walk, place_cmp, row_at, walk, put_rows, drop_rows, put_row, with_table, without_table, with_ram, root_rows, unassigned, table, is_table, is_unassigned, all_rows}
-use Rattle.realm_model.specs.Ownership.{mapping_of_row}
+use Rattle.realm_model.specs.Ownership.{mapping_of_row, mapping}
 use Rattle.realm_model.specs.Sound.{look, is_table_kind, IsFull}
 use Rattle.realm_model.proofs.Maps.{same_place}
 use Rattle.realm_model.proofs.Rows.{is_among, is_place, place_self, look-insert, put_kinds, put_there, get-drop_rows, same_rows}
@@ -174,7 +174,7 @@ module _ {width : ℕ} (rows : Rows) (level ipa : ℕ) (at : IsTablePlace ipa le
 
   -- a table then was one, and is not the one that is gone
   left_table : (q : ℕ × ℕ) → is_table_kind (look left_rows q) ≡ true → (is_place q up ≡ false) × (is_table_kind (look rows q) ≡ true)
-  left_table q h = elim (is_place q up) as (λ t. is_table_kind (cond t (Some (Unassigned, None)) (look dropped q)) ≡ true → (t ≡ false) × (is_table_kind (look rows q) ≡ true)) [
+  left_table q h = elim (is_place q up) as (λ t. is_table_kind (cond t (Some (mapping Unassigned None)) (look dropped q)) ≡ true → (t ≡ false) × (is_table_kind (look rows q) ≡ true)) [
     | true ↦ λ h. cc
     | false ↦ λ h. (refl, dropped_table q h)
   ] (ap is_table_kind (sym (look-insert dropped up q (unassigned Destroyed))) ∙ h)

@@ -99,13 +99,14 @@ module _ (limits : Limits) (p : Option ℕ → Bool) (free : p None ≡ false) (
       let c = e.build in
       let both = guarded (is_allowed limits w e) _ v s in
       let outer = and_parts _ _ both.0 in
-      let first = and_parts _ _ outer.0 in
+      let ranged = and_parts _ _ outer.0 in
+      let first = and_parts _ _ ranged.0 in
       let elsewhere : IsShown p (holder c e.act) = holder_shown p c e.act free other in
       let realm : realm_of c (masked p w) ≡ realm_of c w = realm_kept p c 0 other w.leases w.machine in
       let granules : map (seen (masked p w).machine) (named e.act) ≡ map (seen w.machine) (named e.act) =
       named_seen p (holder c e.act) elsewhere w.leases w.machine (named e.act) first.1 in
       let open_too : is_allowed limits (masked p w) e ≡ true =
-      and_from _ _ (and_from _ _ first.0 (named_leased p (holder c e.act) elsewhere w.leases (named e.act) first.1))
+      and_from _ _ (and_from _ _ (and_from _ _ first.0 (named_leased p (holder c e.act) elsewhere w.leases (named e.act) first.1)) ranged.1)
       ((λ i. fits e.act (realm i) (granules i)) ∙ outer.1) in
       let used : List ℕ = used_vmids w.machine in
       let fewer : List ℕ = used_vmids (masked p w).machine in

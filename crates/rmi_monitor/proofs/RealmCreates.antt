@@ -20,7 +20,7 @@ use Rattle.realm_model.specs.Sound.{is_host_state, is_rd_state}
 use Rattle.realm_model.specs.StepLaw.{set_each}
 use Rattle.realm_model.specs.Update.{Put, machine_after_all}
 use Rattle.realm_model.specs.Command.Realm.{new_realm}
-use Rattle.realm_model.proofs.Booleans.{or_parts, false_from, true_false}
+use Rattle.realm_model.proofs.Booleans.{or_parts, false_from}
 use Rattle.realm_model.proofs.Lists.{is_in}
 use Rattle.realm_objects.specs.Attributes.{RealmAttributes, realm_row}
 use Rattle.rtt.specs.Tables.{rows}

@@ -11,9 +11,9 @@ use Rattle.granule_table.specs.Granules.{IsIn}
 use Rattle.granule_table.specs.declared.granule.Granule.{Granule}
 use Rattle.realm_model.specs.declared.states.GranuleState.TheVariants.{Rtt as InRtt}
 use Rattle.realm_model.specs.declared.states.Ripas.TheVariants.{Empty}
-use Rattle.realm_model.specs.Rows.{Row, place_cmp, put_rows, unassigned, is_table, root_rows, has_root_table}
+use Rattle.realm_model.specs.Rows.{Row, place_cmp, put_rows, unassigned, is_table, root_rows, has_root_table, table_of, data_of}
 use Rattle.realm_model.proofs.Booleans.{not_true, not_false}
-use Rattle.rtt.specs.Tables.{Entries, table_of, data_of, table_at, entry_at, data_at, is_place, row_in, rows_in}
+use Rattle.rtt.specs.Tables.{Entries, table_at, entry_at, data_at, is_place, row_in, rows_in}
 use Rattle.rtt.specs.Realm.{IsInside, HasGranules, served_count}
 use Rattle.rtt.proofs.PlaceLaws.{index_below, place_facts, is_place_from}
 use Rattle.rtt.proofs.StartTables.{start_index_below}

@@ -7,8 +7,8 @@ use Rattle.granule_addr.specs.declared.root.Root.{Root}
 use Rattle.granule_table.specs.Granules.{IsIn}
 use Rattle.granule_table.specs.declared.granule.Granule.{Granule}
 use Rattle.realm_model.specs.declared.states.GranuleState.TheVariants.{Data as InData, Rtt as InRtt}
-use Rattle.realm_model.specs.Rows.{Row, Walk, walk}
-use Rattle.rtt.specs.Tables.{Entries, table_of, data_of, entries_of, table_at, rows}
+use Rattle.realm_model.specs.Rows.{Row, Walk, walk, table_of, data_of}
+use Rattle.rtt.specs.Tables.{Entries, entries_of, table_at, rows}
 use Rattle.rtt.specs.Realm.{IsInside, HasTables, served_count}
 use Rattle.rtt.proofs.StartTables.{first_served, starts_fit}
 use Rattle.rtt.proofs.TableAt.{table_at-root, table_at-next}
