@@ -22,7 +22,7 @@ use Rattle.realm_model.specs.Update.{Outcome}
 use Rattle.realm_model.specs.Command.Check.{put_realm}
 use Rattle.realm_model.specs.Act.{block, named, reverse_of, is_paired, is_reverse}
 use Rattle.realm_model.specs.Outcome.{outcome_of, fits}
-use Rattle.realm_model.specs.World.{World, is_lease, realm_from, realm_of}
+use Rattle.realm_model.specs.World.{World, same_lease, realm_from, realm_of}
 use Rattle.realm_model.specs.Step.{used_vmids}
 use Rattle.realm_model.specs.History.{replay}
 use Rattle.realm_model.specs.Ownership.{SameRealm, SameDescriptor, SameCell, OwnsSame, granules_of_rec, mapping_of_row}
@@ -64,10 +64,10 @@ realm_from_twins b n (l ∷ leases) [] [] long same = tt
 realm_from_twins b n (l ∷ leases) [] (d ∷ ns) long same = absurd (omega arith)
 realm_from_twins b n (l ∷ leases) (c ∷ ms) [] long same = absurd (omega arith)
 realm_from_twins b n (l ∷ leases) (c ∷ ms) (d ∷ ns) long same =
-    let here : Bool = is_lease l (Some b) && is_some c.descriptor in
+    let here : Bool = same_lease l (Some b) && is_some c.descriptor in
     let r : Option Seen = realm_from b (suc n) leases ms in
     let s : Option Seen = realm_from b (suc n) leases ns in
-    subst (λ t. AreTwins (cond here (Some (record { number = n; cell = c })) r) (cond (is_lease l (Some b) && t) (Some (record { number = n; cell = d })) s)) (rows_both c.descriptor d.descriptor (same 0).descriptor)
+    subst (λ t. AreTwins (cond here (Some (record { number = n; cell = c })) r) (cond (same_lease l (Some b) && t) (Some (record { number = n; cell = d })) s)) (rows_both c.descriptor d.descriptor (same 0).descriptor)
     (elim here as (λ t. AreTwins (cond t (Some (record { number = n; cell = c })) r) (cond t (Some (record { number = n; cell = d })) s)) [
       | true ↦ record { number = refl; cell = same 0 }
       | false ↦ realm_from_twins b (suc n) leases ms ns (ap pred long) (λ g. same (suc g))

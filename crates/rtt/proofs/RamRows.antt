@@ -4,7 +4,7 @@ use Rattle.std.specs.Prelude.{option_and_then}
 use Rattle.std.specs.FinMap.{get}
 use Rattle.std.proofs.lemmas.Bool.{cases_eq, cases_lt}
 use Rattle.std.proofs.lemmas.Option.{same_Some}
-use Rattle.granule_addr.specs.Ipa.{covered_count, first_covered, entry_index}
+use Rattle.granule_addr.specs.Ipa.{covered_count, first_covered, entry_index, served_count}
 use Rattle.granule_addr.specs.Root.{space_of}
 use Rattle.granule_addr.specs.declared.root.Root.{Root}
 use Rattle.granule_table.specs.Granules.{IsIn}
@@ -13,7 +13,7 @@ use Rattle.realm_model.specs.declared.states.GranuleState.TheVariants.{Rtt as In
 use Rattle.realm_model.specs.declared.states.EntryState.TheVariants.{Unassigned}
 use Rattle.realm_model.specs.Rows.{Row, Rows, is_unassigned, all_rows, put_rows, as_ram, with_ram, table_of, data_of}
 use Rattle.rtt.specs.Tables.{Entries, table_at, is_place, row_in, rows_in}
-use Rattle.rtt.specs.Realm.{IsInside, HasGranules, served_count}
+use Rattle.rtt.specs.Realm.{IsInside, HasGranules}
 use Rattle.rtt.proofs.EntryKinds.{unassigned_kind, table_of-unassigned, data_of-unassigned}
 use Rattle.rtt.proofs.PlaceLaws.{option_cases, index_below, place_facts, inside_place, is_place_from}
 use Rattle.rtt.proofs.TableAt.{table_at-same, entry_at-some}
