@@ -86,7 +86,8 @@ module _ (monitor : MonitorView) (books : BooksView) (old : HostView) (view_is :
       build = there monitor books old view_is whole build page granule there_ok some_old;
       granules = All-cons (λ g. slice_get world.leases g ≡ Some (Some build)) granule []
           (is_leased monitor books old view_is whole build page granule there_ok some_old) (All-nil (λ g. slice_get world.leases g ≡ Some (Some build)));
-      fields = lt-ltb value 256 is_byte;
+      in_range = lt-ltb value 256 is_byte;
+      fitting = refl;
       updates = Put granule cell ∷ [];
       outcome = ap (λ g. host_fill g value) (sym (seen_same monitor books old view_is whole build page granule there_ok some_old)) ∙ done;
       machine = ap (λ o. machine_after_command o monitor.machine) done ∙ ap (machine_after_all (Put granule cell ∷ [])) whole.machine;

@@ -148,12 +148,12 @@ module _ (monitor : MonitorView) (books : BooksView) (whole : IsWhole monitor bo
     untakes : IsStep host.limits world (event_by build (UnTake order first)) next
     untakes = step_is host.limits world next (event_by build (UnTake order first)) step_to
 
-    fit : (is_block_start order first && list_all is_undelegated (map (seen world.machine) (block order first))) ≡ true
+    fit : list_all is_undelegated (map (seen world.machine) (block order first)) ≡ true
     unfolding named fits
-    fit = untakes.fields
+    fit = untakes.fitting
 
     start : is_block_start order first ≡ true
-    start = (and_parts _ _ fit).0
+    start = untakes.in_range
 
     all_held : All is_held (block order first)
     unfolding named
@@ -166,7 +166,7 @@ module _ (monitor : MonitorView) (books : BooksView) (whole : IsWhole monitor bo
         All-cons is_blank_state g gs (undelegated_state (cell_at world.machine g).state parts.0) (all_states gs parts.1)
 
     states : All is_blank_state (block order first)
-    states = all_states (block order first) (and_parts _ _ fit).1
+    states = all_states (block order first) fit
 
     each_held : (g : ℕ) → first ≤ g → g < first + 2 ^ order → is_held g
     each_held g low high = All-in is_held (block order first) g all_held (in_range_from first (2 ^ order) g low high)
