@@ -30,12 +30,6 @@ taken_after outcome monitor after granule is taken =
     subst (λ (m : MonitorView). IsTaken m granule) (sym is)
     (record { inside = subst (λ n. granule < n) (sym (length_after outcome monitor.machine)) taken.inside; taken = taken.taken })
 
-pub taken_at : (monitor after : MonitorView) (order granule : ℕ) → granule < length monitor.machine → IsFreeBlock monitor.free order granule → 0 < 2 ^ order
-    → after ≡ with_block monitor order granule → IsTaken after granule
-taken_at monitor after order granule inside block some is =
-    subst (λ (m : MonitorView). IsTaken m granule) (sym is)
-    (record { inside = inside; taken = get_or-with_run_inside monitor.free granule (2 ^ order) false block.inside granule false (omega arith) (omega arith) })
-
 -- ---- blocks that are given back
 
 givable_at : (vmids aux pages : ℕ) (monitor after : MonitorView) (order first : ℕ) → monitor ≡ fresh vmids aux pages → IsFreeBlock monitor.free order first
