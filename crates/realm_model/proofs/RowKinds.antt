@@ -6,7 +6,7 @@ use Rattle.std.proofs.lemmas.Option.{same_Some}
 use Rattle.realm_model.specs.declared.states.GranuleState.TheVariants.{Data as InData, Rtt as InRtt}
 use Rattle.realm_model.specs.declared.states.EntryState.{EntryState}
 use Rattle.realm_model.specs.declared.states.EntryState.TheVariants.{Unassigned, Assigned, Table}
-use Rattle.realm_model.specs.Rows.{Row, Rows, is_unassigned, is_assigned, is_table, is_unassigned_state, is_assigned_state, is_table_state}
+use Rattle.realm_model.specs.Rows.{Row, Rows, is_unassigned, is_assigned, is_unassigned_state, is_assigned_state, is_table_state}
 use Rattle.realm_model.specs.Ownership.{mapping_of_row, Mapping, mapping}
 use Rattle.realm_model.specs.Sound.{look, IsKind, IsShaped, is_table_kind, IsSoundRows}
 use Rattle.realm_model.specs.Roles.{kind_target}
@@ -33,9 +33,6 @@ pub shape_of : {width : ℕ} (rows : Rows) (place : ℕ × ℕ) (row : Row) → 
 shape_of rows place row sound there = subst (IsShaped place.0) (ap (option_map mapping_of_row) there) (sound.shaped place)
 
 -- ---- tables
-
-pub kind_of_table : (row : Row) → is_table_kind (Some (mapping_of_row row)) ≡ is_table row
-kind_of_table row = refl
 
 pub plain_unassigned : (row : Row) → is_unassigned row ≡ true → is_table_kind (Some (mapping_of_row row)) ≡ false
 plain_unassigned row h = elim row.state as (λ x. is_unassigned_state x ≡ true → is_table_kind (Some (mapping x row.granule)) ≡ false) [ Unassigned ↦ λ h. refl | Assigned ↦ λ h. cc | Table ↦ λ h. cc ] h

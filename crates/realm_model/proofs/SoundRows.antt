@@ -17,7 +17,7 @@ use Rattle.realm_model.proofs.Maps.{same_place}
 use Rattle.realm_model.proofs.Rows.{is_among, put_there, get-drop_rows, look-insert, same_rows, put_kinds, place_self, Look, is_place, all_rows_at}
 use Rattle.realm_model.proofs.TablePlaces.{IsTablePlace}
 use Rattle.realm_model.proofs.Booleans.{true_false, not_false, not_true}
-use Rattle.realm_model.proofs.RowKinds.{kind_of_table, plain_unassigned, unassigned_target, above_target}
+use Rattle.realm_model.proofs.RowKinds.{plain_unassigned, unassigned_target, above_target}
 
 pub sound_same : {width : ℕ} (f g : Look) → IsSoundRows width f → ((q : ℕ × ℕ) → f q ≡ g q) → IsSoundRows width g
 sound_same {width} f g sound same = subst (IsSoundRows width) (λ i q. same q i) sound
@@ -113,7 +113,7 @@ module _ {width : ℕ} (old : Rows) (level ipa : ℕ) (above : Row) (sound : IsS
       (λ i. same i == 1 || is_table_kind (look old (same i - 1, first_covered (same i - 1) q.1)))
       ∙ ap (λ t. t || is_table_kind (look old (level - 1, first_covered (level - 1) q.1))) not_first
       ∙ ap (λ n. is_table_kind (look old (level - 1, n))) (under ∙ sym at.first) in
-      true_false _ (sym at_level ∙ parent) (ap is_table_kind up_is ∙ kind_of_table above ∙ plain))
+      true_false _ (sym at_level ∙ parent) (ap is_table_kind up_is ∙ plain))
 
   pub none_among : is_table above ≡ false → (q : ℕ × ℕ) → is_among level ipa (512 * covered_count level) q ≡ true → get old q ≡ None
   none_among plain q e =
@@ -378,7 +378,7 @@ module _ {width : ℕ} (rows : Rows) (sound : IsSoundRows width (look rows)) (pl
           let placed : IsPlace width (1, i) = sound.placed (1, i) (ap is_some e) in
           let k = row_of (start_count width) i placed.first placed.inside in
           let found = all_rows_at (λ row. not (is_table row)) rows 1 0 (512 * start_count width) k.0 no_root_table k.1 in
-          ap is_table_kind (sym e ∙ ap (λ n. look rows (1, n)) k.2 ∙ ap (option_map mapping_of_row) found.1) ∙ kind_of_table found.0 ∙ not_true _ found.2
+          ap is_table_kind (sym e ∙ ap (λ n. look rows (1, n)) k.2 ∙ ap (option_map mapping_of_row) found.1) ∙ not_true _ found.2
 
   -- a row below it would stand below a table
   no_second : (i : ℕ) → look rows (2, i) ≡ None

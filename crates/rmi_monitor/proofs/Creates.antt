@@ -24,7 +24,6 @@ use Rattle.realm_model.proofs.Booleans.{not_true}
 use Rattle.realm_model.proofs.Lists.{is_in, all_in}
 use Rattle.realm_objects.specs.Attributes.{RealmAttributes, realm_row}
 use Rattle.rtt.specs.Tables.{rows}
-use Rattle.rtt.specs.Realm.{IsBacked}
 use Rattle.rtt.specs.Calls.{with_state, with_states, Keeps}
 use Rattle.rmi_monitor.specs.View.{MonitorView, IsTaken, seen_in, after_command, make_realm}
 use Rattle.rmi_monitor.specs.Inside.{Fields, machine_of, seen_as, IsWhole}
@@ -35,7 +34,7 @@ use Rattle.rmi_monitor.proofs.Checks.{delegated_state, delegated_test}
 use Rattle.rmi_monitor.proofs.Comparisons.{test_held, test_failed}
 use Rattle.rmi_monitor.proofs.Outcomes.{check_false}
 use Rattle.rmi_monitor.proofs.UsedVmids.{any_used}
-use Rattle.rmi_monitor.proofs.RealmCreates.{CanStart, tables_delegated, backed_with_rd, whole_created, machine_created}
+use Rattle.rmi_monitor.proofs.RealmCreates.{CanStart, tables_delegated, whole_created, machine_created}
 
 first_fails : (a b c d e f g : Bool) → a ≡ false → (a && b && c && d && e && f && g) ≡ false
 first_fails a b c d e f g h = ap (λ t. t && b && c && d && e && f && g) h
@@ -162,9 +161,6 @@ module _ (monitor : MonitorView) (fields : Fields) (view_is : seen_as fields ≡
 
         -- after the RD is one
         module _ (shifted : List Granule) (shift : shifted ≡ with_state fields.granules rd InRd (Some rd)) where
-          pub create_backed : IsBacked fields.pages fields.free shifted
-          create_backed = subst (IsBacked fields.pages fields.free) (sym shift) (backed_with_rd fields whole rd root rd_inside rd_was starts)
-
           pub create_delegated : All (λ table. IsIn shifted table Delegated None) tables
           create_delegated = subst (λ gs. All (λ table. IsIn gs table Delegated None) tables) (sym shift) (tables_delegated fields whole rd root rd_inside rd_was starts)
 
