@@ -86,7 +86,6 @@ module _ (monitor : MonitorView) (books : BooksView) (old : HostView) (view_is :
       build = there monitor books old view_is whole build page granule there_ok some_old;
       granules = All-cons (λ g. slice_get world.leases g ≡ Some (Some build)) granule []
           (is_leased monitor books old view_is whole build page granule there_ok some_old) (All-nil (λ g. slice_get world.leases g ≡ Some (Some build)));
-      vmid = refl;
       fields = lt-ltb value 256 is_byte;
       updates = Put granule cell ∷ [];
       outcome = ap (λ g. host_fill g value) (sym (seen_same monitor books old view_is whole build page granule there_ok some_old)) ∙ done;

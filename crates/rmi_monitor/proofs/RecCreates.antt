@@ -27,7 +27,7 @@ use Rattle.realm_objects.specs.Attributes.{RealmAttributes, RecAttributes, realm
 use Rattle.rtt.specs.Tables.{rows}
 use Rattle.rmi_monitor.specs.View.{MonitorView, IsTaken, seen_in, after_command}
 use Rattle.rmi_monitor.specs.Inside.{Fields, realm_at, rec_count_at, recs_of, seen_as, IsWhole}
-use Rattle.rmi_monitor.specs.Places.{is_delegated_at, are_distinct, is_fit, IsInState}
+use Rattle.rmi_monitor.specs.Places.{is_delegated_at, are_distinct, are_fit_for_rec, IsInState}
 use Rattle.rmi_monitor.proofs.Checks.{delegated_state}
 use Rattle.rmi_monitor.proofs.Granules.{machine_is, cell_is, in_granules, seen_delegated, after_done}
 use Rattle.rmi_monitor.proofs.Listed.{once_from_distinct, holds_in, put_back}
@@ -72,7 +72,7 @@ module _ (monitor : MonitorView) (fields : Fields) (view_is : seen_as fields ≡
   outcome = rec_create monitor.aux (seen_in monitor rd) (seen_in monitor g) (map (seen_in monitor) others)
 
   abbrev fit : Bool
-  fit = is_fit fields.granules g others fields.aux
+  fit = are_fit_for_rec fields.granules g others fields.aux
 
   taken : (h : ℕ) → is_in h (g ∷ others) ≡ true → IsTaken monitor h
   taken h e = either (h == g) (is_in h others) e (λ same. subst (IsTaken monitor) (sym (eqb-true h g same)) g_taken) (holds_in (IsTaken monitor) others h others_taken)
@@ -84,8 +84,8 @@ module _ (monitor : MonitorView) (fields : Fields) (view_is : seen_as fields ≡
   inside_by list same = subst (λ l. All (λ h. h < length fields.granules) l) (sym same) others_inside
 
   -- what a call answers of them
-  pub fit_by : (list : List ℕ) (answer wanted : Bool) → list ≡ others → answer ≡ is_fit fields.granules g list fields.aux → answer ≡ wanted → fit ≡ wanted
-  fit_by list answer wanted same e is = ap (λ l. is_fit fields.granules g l fields.aux) (sym same) ∙ sym e ∙ is
+  pub fit_by : (list : List ℕ) (answer wanted : Bool) → list ≡ others → answer ≡ are_fit_for_rec fields.granules g list fields.aux → answer ≡ wanted → fit ≡ wanted
+  fit_by list answer wanted same e is = ap (λ l. are_fit_for_rec fields.granules g l fields.aux) (sym same) ∙ sym e ∙ is
 
   -- a refusal changes nothing
   pub refused_after : (n : ℕ) (x : Option RealmAttributes) (rmi : Rmi) → n ≡ rd → realm_at fields rd ≡ x → outcome ≡ Err rmi

@@ -1,23 +1,20 @@
 -- The REC that a granule is: its realm and its number, in the fields of a monitor and in its machine.
-use Rattle.std.proofs.Common.{◌≡◌, ◌≢◌, ℕ, ◌<◌, length, Some, None, Result, Err, refl, sym, ap, ◌∙◌, subst}
+use Rattle.std.proofs.Common.{◌≡◌, ℕ, ◌<◌, length, Some, None, Result, Err, refl, sym, ap, ◌∙◌, subst}
 use Rattle.std.specs.FinMap.{get}
 use Rattle.std.proofs.lemmas.Option.{same_Some, none-some}
 use Rattle.granule_table.specs.Granules.{granule_at}
 use Rattle.realm_model.specs.declared.rmi.Rmi.{Rmi}
-use Rattle.realm_model.specs.declared.states.GranuleState.TheVariants.{Rec as InRec}
-use Rattle.realm_model.specs.Machine.{Cell, RealmRow, RecRow, Seen, cell_at}
+use Rattle.realm_model.specs.Machine.{RealmRow, RecRow, Seen}
 use Rattle.realm_model.specs.Update.{Outcome}
 use Rattle.realm_model.specs.Command.Check.{error_input, with_realm, with_rec}
 use Rattle.realm_model.proofs.Outcomes.{rec_there}
 use Rattle.realm_objects.specs.Attributes.{RealmAttributes, RecAttributes, rec_row}
-use Rattle.rmi_monitor.specs.View.{MonitorView, IsTaken, IsRec, IsOnRec, Answers, seen_in, after_command}
+use Rattle.rmi_monitor.specs.View.{MonitorView, IsRec, IsOnRec, Answers, seen_in, after_command}
 use Rattle.rmi_monitor.specs.Inside.{Fields, realm_at, rec_at, rec_of, recs_of, seen_as, IsWhole}
 use Rattle.rmi_monitor.proofs.Gathered.{get-gathered, gathered-get}
-use Rattle.rmi_monitor.proofs.Granules.{cell_is}
-use Rattle.rmi_monitor.proofs.RealmFound.{row_of, somewhere, realm_found}
+use Rattle.rmi_monitor.proofs.RealmFound.{row_of, descriptor_there, somewhere, realm_found}
 use Rattle.rmi_monitor.proofs.Listed.{some_inside}
 use Rattle.rmi_monitor.proofs.RecEntries.{rec_of-some, IsEntry, entry_at, numbered_recs, of_realm}
-use Rattle.rmi_monitor.proofs.Frames.{in_rec}
 
 -- A granule is a REC, and belongs to a realm that is there.
 pub record IsKept (fields : Fields) (granule : ℕ) (rec : RecAttributes) (rd : ℕ) (realm : RealmAttributes) : Type 0 where

@@ -56,13 +56,7 @@ impl<S: PageStore> Monitor<S> {
     /// `root` is the first starting table; there are 2^(width - 39), one after another. RMM 1.0, RMI_REALM_CREATE.
     /// RMI_ERROR_INPUT comes where the width is not 39 to 43, where `root` is no multiple of their count, where one of the
     /// granules is not DELEGATED or the RD is a starting table, and where the VMID is above the machine's or a realm uses it.
-    pub fn realm_create(
-        &mut self,
-        rd: Gran,
-        root: Gran,
-        vmid: Vmid,
-        width: u8,
-    ) -> Result<(), Rmi>
+    pub fn realm_create(&mut self, rd: Gran, root: Gran, vmid: Vmid, width: u8) -> Result<(), Rmi>
         requires { IsTaken self.old rd }
         ensures answer { Answers result (make_realm self.old rd (record { first = root; width = width }) vmid) }
         ensures machine { self.new ≡ after_command (make_realm self.old rd (record { first = root; width = width }) vmid) self.old }

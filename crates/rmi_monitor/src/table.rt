@@ -27,19 +27,14 @@ impl<S: PageStore> Monitor<S> {
         let Some(realm) = &self.realms[rd.number() as usize] else {
             return Err(Rmi::INPUT);
         };
-        let (Some(level), Some(ipa)) = (table_level(ipa, level), protected(ipa, realm.root().width)) else {
+        let (Some(level), Some(ipa)) = (table_level(ipa, level), protected(ipa, realm.root().width))
+        else {
             return Err(Rmi::INPUT);
         };
         if !is_delegated(&self.granules, table) {
             return Err(Rmi::INPUT);
         }
-        tables_of(rd, realm).create_table(
-            &mut self.store,
-            &mut self.granules,
-            table,
-            ipa,
-            level,
-        )?;
+        tables_of(rd, realm).create_table(&mut self.store, &mut self.granules, table, ipa, level)?;
         Ok(())
     }
 
@@ -57,7 +52,8 @@ impl<S: PageStore> Monitor<S> {
         let Some(realm) = &self.realms[rd.number() as usize] else {
             return Err(Rmi::INPUT);
         };
-        let (Some(level), Some(ipa)) = (table_level(ipa, level), protected(ipa, realm.root().width)) else {
+        let (Some(level), Some(ipa)) = (table_level(ipa, level), protected(ipa, realm.root().width))
+        else {
             return Err(Rmi::INPUT);
         };
         tables_of(rd, realm).destroy_table(&mut self.store, &mut self.granules, ipa, level)?;

@@ -25,36 +25,36 @@ returns-in_default-clause-machine g c =
     refused_after c.args.self.now _ c.self.view_is c.self.invariant c.args.rd c.args.rec c.args.auxiliaries.items c.requires.rd_taken c.requires.rec_taken c.requires.auxiliaries_taken c.number.result c.index_mut.result.now error_input c.number.ensures.value read
     (refuses_no_realm c.args.self.now _ c.self.view_is c.self.invariant c.args.rd c.args.rec c.args.auxiliaries.items c.requires.rd_taken c.requires.rec_taken c.requires.auxiliaries_taken (read ∙ c.in_default.is))
 
-pub are_fit-requires-clause-first : goal.are_fit-requires-clause-first
-are_fit-requires-clause-first g c = in_granules c.args.self.now _ c.self.view_is c.self.invariant c.args.rec c.requires.rec_taken
+pub can_be_rec-requires-clause-first : goal.can_be_rec-requires-clause-first
+can_be_rec-requires-clause-first g c = in_granules c.args.self.now _ c.self.view_is c.self.invariant c.args.rec c.requires.rec_taken
 
-pub are_fit-requires-clause-others : goal.are_fit-requires-clause-others
-are_fit-requires-clause-others g c = inside_by c.args.self.now _ c.self.view_is c.self.invariant c.args.rd c.args.rec c.args.auxiliaries.items c.requires.rd_taken c.requires.rec_taken c.requires.auxiliaries_taken c.as_slice.result.now c.as_slice.ensures.value
+pub can_be_rec-requires-clause-others : goal.can_be_rec-requires-clause-others
+can_be_rec-requires-clause-others g c = inside_by c.args.self.now _ c.self.view_is c.self.invariant c.args.rd c.args.rec c.args.auxiliaries.items c.requires.rd_taken c.requires.rec_taken c.requires.auxiliaries_taken c.as_slice.result.now c.as_slice.ensures.value
 
-pub returns-then-not-are_fit-clause-answer : goal.returns-then-not-are_fit-clause-answer
-returns-then-not-are_fit-clause-answer g c =
+pub returns-then-not-can_be_rec-clause-answer : goal.returns-then-not-can_be_rec-clause-answer
+returns-then-not-can_be_rec-clause-answer g c =
     let there = realm_read c.args.self.now _ c.self.view_is c.self.invariant c.args.rd c.requires.rd_taken.inside c.number.result c.index_mut.result.now _ c.number.ensures.value c.index_mut.ensures.value c.in-Some.is in
-    let fit = fit_by c.args.self.now _ c.self.view_is c.self.invariant c.args.rd c.args.rec c.args.auxiliaries.items c.requires.rd_taken c.requires.rec_taken c.requires.auxiliaries_taken c.as_slice.result.now c.are_fit.result _ c.as_slice.ensures.value c.are_fit.ensures c.if-not-are_fit.true in
+    let fit = fit_by c.args.self.now _ c.self.view_is c.self.invariant c.args.rd c.args.rec c.args.auxiliaries.items c.requires.rd_taken c.requires.rec_taken c.requires.auxiliaries_taken c.as_slice.result.now c.can_be_rec.result _ c.as_slice.ensures.value c.can_be_rec.ensures c.if-not-can_be_rec.true in
     answers_err ℕ error_input _ (refuses_unfit c.args.self.now _ c.self.view_is c.self.invariant c.args.rd c.args.rec c.args.auxiliaries.items c.requires.rd_taken c.requires.rec_taken c.requires.auxiliaries_taken c.in-Some.realm there fit)
 
-pub returns-then-not-are_fit-clause-machine : goal.returns-then-not-are_fit-clause-machine
-returns-then-not-are_fit-clause-machine g c =
+pub returns-then-not-can_be_rec-clause-machine : goal.returns-then-not-can_be_rec-clause-machine
+returns-then-not-can_be_rec-clause-machine g c =
     let there = realm_read c.args.self.now _ c.self.view_is c.self.invariant c.args.rd c.requires.rd_taken.inside c.number.result c.index_mut.result.now _ c.number.ensures.value c.index_mut.ensures.value c.in-Some.is in
-    let fit = fit_by c.args.self.now _ c.self.view_is c.self.invariant c.args.rd c.args.rec c.args.auxiliaries.items c.requires.rd_taken c.requires.rec_taken c.requires.auxiliaries_taken c.as_slice.result.now c.are_fit.result _ c.as_slice.ensures.value c.are_fit.ensures c.if-not-are_fit.true in
+    let fit = fit_by c.args.self.now _ c.self.view_is c.self.invariant c.args.rd c.args.rec c.args.auxiliaries.items c.requires.rd_taken c.requires.rec_taken c.requires.auxiliaries_taken c.as_slice.result.now c.can_be_rec.result _ c.as_slice.ensures.value c.can_be_rec.ensures c.if-not-can_be_rec.true in
     refused_after c.args.self.now _ c.self.view_is c.self.invariant c.args.rd c.args.rec c.args.auxiliaries.items c.requires.rd_taken c.requires.rec_taken c.requires.auxiliaries_taken c.number.result (Some c.in-Some.realm) error_input c.number.ensures.value there
     (refuses_unfit c.args.self.now _ c.self.view_is c.self.invariant c.args.rd c.args.rec c.args.auxiliaries.items c.requires.rd_taken c.requires.rec_taken c.requires.auxiliaries_taken c.in-Some.realm there fit)
 
 pub returns-then-not-is_new-clause-answer : goal.returns-then-not-is_new-clause-answer
 returns-then-not-is_new-clause-answer g c =
     let there = realm_read c.args.self.now _ c.self.view_is c.self.invariant c.args.rd c.requires.rd_taken.inside c.number.result c.index_mut.result.now _ c.number.ensures.value c.index_mut.ensures.value c.in-Some.is in
-    let fit = fit_by c.args.self.now _ c.self.view_is c.self.invariant c.args.rd c.args.rec c.args.auxiliaries.items c.requires.rd_taken c.requires.rec_taken c.requires.auxiliaries_taken c.as_slice.result.now c.are_fit.result _ c.as_slice.ensures.value c.are_fit.ensures c.if-not-are_fit.false in
+    let fit = fit_by c.args.self.now _ c.self.view_is c.self.invariant c.args.rd c.args.rec c.args.auxiliaries.items c.requires.rd_taken c.requires.rec_taken c.requires.auxiliaries_taken c.as_slice.result.now c.can_be_rec.result _ c.as_slice.ensures.value c.can_be_rec.ensures c.if-not-can_be_rec.false in
     let new = new_by c.args.self.now _ c.self.view_is c.self.invariant c.args.rd c.args.rec c.args.auxiliaries.items c.requires.rd_taken c.requires.rec_taken c.requires.auxiliaries_taken c.in-Some.realm there c.is_new.result _ c.is_new.ensures c.if-not-is_new.true in
     answers_err ℕ error_realm _ (refuses_active c.args.self.now _ c.self.view_is c.self.invariant c.args.rd c.args.rec c.args.auxiliaries.items c.requires.rd_taken c.requires.rec_taken c.requires.auxiliaries_taken c.in-Some.realm there fit new)
 
 pub returns-then-not-is_new-clause-machine : goal.returns-then-not-is_new-clause-machine
 returns-then-not-is_new-clause-machine g c =
     let there = realm_read c.args.self.now _ c.self.view_is c.self.invariant c.args.rd c.requires.rd_taken.inside c.number.result c.index_mut.result.now _ c.number.ensures.value c.index_mut.ensures.value c.in-Some.is in
-    let fit = fit_by c.args.self.now _ c.self.view_is c.self.invariant c.args.rd c.args.rec c.args.auxiliaries.items c.requires.rd_taken c.requires.rec_taken c.requires.auxiliaries_taken c.as_slice.result.now c.are_fit.result _ c.as_slice.ensures.value c.are_fit.ensures c.if-not-are_fit.false in
+    let fit = fit_by c.args.self.now _ c.self.view_is c.self.invariant c.args.rd c.args.rec c.args.auxiliaries.items c.requires.rd_taken c.requires.rec_taken c.requires.auxiliaries_taken c.as_slice.result.now c.can_be_rec.result _ c.as_slice.ensures.value c.can_be_rec.ensures c.if-not-can_be_rec.false in
     let new = new_by c.args.self.now _ c.self.view_is c.self.invariant c.args.rd c.args.rec c.args.auxiliaries.items c.requires.rd_taken c.requires.rec_taken c.requires.auxiliaries_taken c.in-Some.realm there c.is_new.result _ c.is_new.ensures c.if-not-is_new.true in
     refused_after c.args.self.now _ c.self.view_is c.self.invariant c.args.rd c.args.rec c.args.auxiliaries.items c.requires.rd_taken c.requires.rec_taken c.requires.auxiliaries_taken c.number.result (Some c.in-Some.realm) error_realm c.number.ensures.value there
     (refuses_active c.args.self.now _ c.self.view_is c.self.invariant c.args.rd c.args.rec c.args.auxiliaries.items c.requires.rd_taken c.requires.rec_taken c.requires.auxiliaries_taken c.in-Some.realm there fit new)
@@ -62,7 +62,7 @@ returns-then-not-is_new-clause-machine g c =
 pub shift_all-requires-clause-stand : goal.shift_all-requires-clause-stand
 shift_all-requires-clause-stand g c =
     let there = realm_read c.args.self.now _ c.self.view_is c.self.invariant c.args.rd c.requires.rd_taken.inside c.number.result c.index_mut.result.now _ c.number.ensures.value c.index_mut.ensures.value c.in-Some.is in
-    let fit = fit_by c.args.self.now _ c.self.view_is c.self.invariant c.args.rd c.args.rec c.args.auxiliaries.items c.requires.rd_taken c.requires.rec_taken c.requires.auxiliaries_taken c.as_slice.result.now c.are_fit.result _ c.as_slice.ensures.value c.are_fit.ensures c.if-not-are_fit.false in
+    let fit = fit_by c.args.self.now _ c.self.view_is c.self.invariant c.args.rd c.args.rec c.args.auxiliaries.items c.requires.rd_taken c.requires.rec_taken c.requires.auxiliaries_taken c.as_slice.result.now c.can_be_rec.result _ c.as_slice.ensures.value c.can_be_rec.ensures c.if-not-can_be_rec.false in
     let shifted = shifted_by c.args.self.now _ c.self.view_is c.self.invariant c.args.rd c.args.rec c.args.auxiliaries.items c.requires.rd_taken c.requires.rec_taken c.requires.auxiliaries_taken c.in-Some.realm there fit c.shift.result c.shift.new.self _ c.shift.ensures.answer.1 c.shift.ensures.shifted in
     others_stand c.args.self.now _ c.self.view_is c.self.invariant c.args.rd c.args.rec c.args.auxiliaries.items c.requires.rd_taken c.requires.rec_taken c.requires.auxiliaries_taken c.in-Some.realm there fit _ c.shift.new.self c.as_slice-2.result.now c.as_slice-2.ensures.value shifted
 
@@ -88,7 +88,7 @@ overflow_add-index_mut g c =
 pub invariant_of-self-2 : goal.invariant_of-self-2
 invariant_of-self-2 g c =
     let there = realm_read c.args.self.now _ c.self.view_is c.self.invariant c.args.rd c.requires.rd_taken.inside c.number.result c.index_mut.result.now _ c.number.ensures.value c.index_mut.ensures.value c.in-Some.is in
-    let fit = fit_by c.args.self.now _ c.self.view_is c.self.invariant c.args.rd c.args.rec c.args.auxiliaries.items c.requires.rd_taken c.requires.rec_taken c.requires.auxiliaries_taken c.as_slice.result.now c.are_fit.result _ c.as_slice.ensures.value c.are_fit.ensures c.if-not-are_fit.false in
+    let fit = fit_by c.args.self.now _ c.self.view_is c.self.invariant c.args.rd c.args.rec c.args.auxiliaries.items c.requires.rd_taken c.requires.rec_taken c.requires.auxiliaries_taken c.as_slice.result.now c.can_be_rec.result _ c.as_slice.ensures.value c.can_be_rec.ensures c.if-not-can_be_rec.false in
     let shifted = shifted_by c.args.self.now _ c.self.view_is c.self.invariant c.args.rd c.args.rec c.args.auxiliaries.items c.requires.rd_taken c.requires.rec_taken c.requires.auxiliaries_taken c.in-Some.realm there fit c.shift.result c.shift.new.self _ c.shift.ensures.answer.1 c.shift.ensures.shifted in
     subst IsWhole (sym (made_by _ c.args.rd c.args.rec c.args.auxiliaries.items c.in-Some.realm c.shift.new.self c.shift_all.new.granules c.as_slice-2.result.now c.number.result c.number-2.result c.number-3.result c.index_mut-3.result.now c.measure.new.self c.new.result
     shifted c.shift_all.ensures c.as_slice-2.ensures.value c.number.ensures.value c.number-2.ensures.value
@@ -100,7 +100,7 @@ invariant_of-self-2 g c =
 pub returns-clause-answer : goal.returns-clause-answer
 returns-clause-answer g c =
     let there = realm_read c.args.self.now _ c.self.view_is c.self.invariant c.args.rd c.requires.rd_taken.inside c.number.result c.index_mut.result.now _ c.number.ensures.value c.index_mut.ensures.value c.in-Some.is in
-    let fit = fit_by c.args.self.now _ c.self.view_is c.self.invariant c.args.rd c.args.rec c.args.auxiliaries.items c.requires.rd_taken c.requires.rec_taken c.requires.auxiliaries_taken c.as_slice.result.now c.are_fit.result _ c.as_slice.ensures.value c.are_fit.ensures c.if-not-are_fit.false in
+    let fit = fit_by c.args.self.now _ c.self.view_is c.self.invariant c.args.rd c.args.rec c.args.auxiliaries.items c.requires.rd_taken c.requires.rec_taken c.requires.auxiliaries_taken c.as_slice.result.now c.can_be_rec.result _ c.as_slice.ensures.value c.can_be_rec.ensures c.if-not-can_be_rec.false in
     let new = new_by c.args.self.now _ c.self.view_is c.self.invariant c.args.rd c.args.rec c.args.auxiliaries.items c.requires.rd_taken c.requires.rec_taken c.requires.auxiliaries_taken c.in-Some.realm there c.is_new.result _ c.is_new.ensures c.if-not-is_new.false in
     answers_ok c.next_rec-number.result _ _ (creates c.args.self.now _ c.self.view_is c.self.invariant c.args.rd c.args.rec c.args.auxiliaries.items c.requires.rd_taken c.requires.rec_taken c.requires.auxiliaries_taken c.in-Some.realm there fit new)
 
@@ -112,7 +112,7 @@ returns-clause-number g c other is =
 pub returns-clause-machine : goal.returns-clause-machine
 returns-clause-machine g c =
     let there = realm_read c.args.self.now _ c.self.view_is c.self.invariant c.args.rd c.requires.rd_taken.inside c.number.result c.index_mut.result.now _ c.number.ensures.value c.index_mut.ensures.value c.in-Some.is in
-    let fit = fit_by c.args.self.now _ c.self.view_is c.self.invariant c.args.rd c.args.rec c.args.auxiliaries.items c.requires.rd_taken c.requires.rec_taken c.requires.auxiliaries_taken c.as_slice.result.now c.are_fit.result _ c.as_slice.ensures.value c.are_fit.ensures c.if-not-are_fit.false in
+    let fit = fit_by c.args.self.now _ c.self.view_is c.self.invariant c.args.rd c.args.rec c.args.auxiliaries.items c.requires.rd_taken c.requires.rec_taken c.requires.auxiliaries_taken c.as_slice.result.now c.can_be_rec.result _ c.as_slice.ensures.value c.can_be_rec.ensures c.if-not-can_be_rec.false in
     let new = new_by c.args.self.now _ c.self.view_is c.self.invariant c.args.rd c.args.rec c.args.auxiliaries.items c.requires.rd_taken c.requires.rec_taken c.requires.auxiliaries_taken c.in-Some.realm there c.is_new.result _ c.is_new.ensures c.if-not-is_new.false in
     let shifted = shifted_by c.args.self.now _ c.self.view_is c.self.invariant c.args.rd c.args.rec c.args.auxiliaries.items c.requires.rd_taken c.requires.rec_taken c.requires.auxiliaries_taken c.in-Some.realm there fit c.shift.result c.shift.new.self _ c.shift.ensures.answer.1 c.shift.ensures.shifted in
     ap seen_as (made_by _ c.args.rd c.args.rec c.args.auxiliaries.items c.in-Some.realm c.shift.new.self c.shift_all.new.granules c.as_slice-2.result.now c.number.result c.number-2.result c.number-3.result c.index_mut-3.result.now c.measure.new.self c.new.result

@@ -32,8 +32,8 @@ index-requires g c =
     let place = realm_place _ c.self.invariant c.args.rec c.in-Some.kept at c.in-Some-realm_of.rd (sym c.realm_of.ensures ∙ c.in-Some-realm_of.is) c.number-2.result c.number-2.ensures.value in
     omega arith
 
-pub unreachable-requires-2 : goal.unreachable-requires-2
-unreachable-requires-2 g c =
+pub unreachable-requires-in_default-index : goal.unreachable-requires-in_default-index
+unreachable-requires-in_default-index g c =
     let at = rec_read c.args.self.now _ c.self.view_is c.self.invariant c.args.rec c.requires c.number.result c.number.ensures.value _ (Some c.in-Some.kept) c.index_mut.ensures.value c.in-Some.is in
     let of = sym c.realm_of.ensures ∙ c.in-Some-realm_of.is in
     no_realm _ c.self.invariant c.args.rec c.in-Some.kept at c.in-Some-realm_of.rd of
