@@ -1,0 +1,2 @@
+pub mod OnRecs
+pub mod Pages
