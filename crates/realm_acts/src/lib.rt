@@ -6,6 +6,7 @@
 #![tactic(auto)]
 
 mod command;
+pub mod law;
 mod place;
 mod realm;
 mod rec;
