@@ -1,5 +1,5 @@
 -- An act on a REC, where it is there and where it is not.
-use Rattle.std.proofs.Common.{◌≡◌, ℕ, true, Option, Some, None, Err, refl, sym, ap, ◌∙◌, subst}
+use Rattle.std.proofs.Common.{◌≡◌, ℕ, true, Option, Some, None, Err, refl, sym, subst}
 use Rattle.std.specs.Prelude.{Result, is_some, option_map, option_and_then}
 use Rattle.std.specs.FinMap.{get}
 use Rattle.std.proofs.lemmas.Option.{same_Some}

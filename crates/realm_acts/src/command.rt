@@ -14,11 +14,7 @@ use rmi_monitor::Monitor;
 ///
 /// The answer and the machine after it are what comes of the act. A refusal changes nothing.
 #[tactic(auto, unfolding(realm_model::specs::Act::named, realm_model::specs::Outcome::outcome_of))]
-pub fn perform<S: PageStore>(
-    monitor: &mut Monitor<S>,
-    place: Place,
-    act: &Act,
-) -> Result<(), Rmi>
+pub fn perform<S: PageStore>(monitor: &mut Monitor<S>, place: Place, act: &Act) -> Result<(), Rmi>
     requires { IsReady monitor.old place act.now }
     ensures answer { Answers result (outcome_on monitor.old place.realm act.now) }
     ensures machine { monitor.new ≡ after_command (outcome_on monitor.old place.realm act.now) monitor.old }
