@@ -1,11 +1,15 @@
-//! What builds lease: of each build the stack of its pages.
+//! What builds lease: of each build the stack of its pages; and which VMIDs are in use.
 //!
 //! A block that is taken goes to the end of its build's stack, page by page in rising order, so the build's page
 //! numbers run from 0 in the order of taking. The reverse of the take removes it again. Memory is taken by `build`
 //! alone, and no later call fails. The caller sees to it that there is room for a block that is pushed.
+//!
+//! Of VMIDs the lowest free one is told, one is claimed, and it is given back.
 #![tactic(auto)]
 
 mod run;
 mod stacks;
+mod vmids;
 
 pub use stacks::Leases;
+pub use vmids::VmidPool;

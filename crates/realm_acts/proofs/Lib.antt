@@ -1,0 +1,8 @@
+-- acts that are performed
+pub mod OnRecs
+pub mod Pages
+-- beside a history
+pub mod Forward
+pub mod Ready
+pub mod Backward
+pub mod RecsNamed

@@ -1,0 +1,15 @@
+-- A page that is read.
+use Rattle.std.proofs.Common.{◌≡◌, ℕ, Bool, true, false, [], cond, Ok, Err, refl}
+use Rattle.realm_model.specs.Update.{machine_after_all}
+use Rattle.realm_model.specs.Command.Check.{check, error_input, is_undelegated}
+use Rattle.realm_model.specs.Command.Granule.{host_peek}
+use Rattle.rmi_monitor.specs.View.{MonitorView, seen_in, after_command}
+
+-- a page that is read changes nothing
+pub after_peek : (monitor : MonitorView) (granule : ℕ) → monitor ≡ after_command (host_peek (seen_in monitor granule)) monitor
+unfolding check machine_after_all
+after_peek monitor granule = by_test (is_undelegated (seen_in monitor granule))
+  where
+    by_test : (t : Bool) → monitor ≡ after_command (cond t (Ok []) (Err error_input)) monitor
+    by_test true = refl
+    by_test false = refl

@@ -1,0 +1,96 @@
+-- An act that is asked for can be performed.
+use Rattle.std.proofs.Common.{◌≡◌, ℕ, zero, suc, ◌<◌, Bool, false, List, [], ◌∷◌, length, map, Option, Some, None, refl, sym, ap, ◌∙◌, subst, arith}
+use Rattle.std.specs.Prelude.{is_none, option_map, slice_get}
+use Rattle.std.specs.List.{All}
+use Rattle.std.proofs.lemmas.Option.{slice_get_within}
+use Rattle.std.proofs.lemmas.List.Elements.{All-nil, All-cons, All-head, All-tail}
+use Rattle.page_arena.specs.Page.{is_free}
+use Rattle.realm_model.specs.declared.act.Act.{Act}
+use Rattle.realm_model.specs.declared.act.Event.{Event}
+use Rattle.realm_model.specs.declared.states.GranuleState.TheVariants.{Rec as InRec}
+use Rattle.realm_model.specs.Machine.{Limits, Machine, RecRow, Cell, Seen, cell_at}
+use Rattle.realm_model.specs.Act.{named}
+use Rattle.realm_model.specs.Ownership.{granules_of_rec}
+use Rattle.realm_model.specs.Roles.{AsRec, target}
+use Rattle.realm_model.specs.World.{World, realm_of}
+use Rattle.realm_model.specs.History.{acts_of}
+use Rattle.realm_model.proofs.Leases.{leased}
+use Rattle.realm_model.proofs.Reachable.{reachable_worlds}
+use Rattle.realm_model.proofs.RealmNumbers.{numbers_are_few}
+use Rattle.realm_model.proofs.RealmOf.{IsAt, IsAt-realm_of, IsHeld, IsHeld-realm_of}
+use Rattle.rmi_monitor.specs.View.{MonitorView, IsTaken, IsRec}
+use Rattle.realm_acts.specs.declared.place.Place.{Place}
+use Rattle.realm_acts.specs.Performing.{rec_named, rec_granule, realm_on, IsRealmReadyAt, IsRecReadyAt, IsTakenAt}
+use Rattle.realm_acts.specs.Mirror.{IsMirror, IsRecOf, AskedIsReady, rd_of}
+use Rattle.realm_acts.proofs.OnRecs.{is_rec}
+use Rattle.realm_acts.proofs.Forward.{realm_seen}
+
+taken_flag : (leases : List (Option ℕ)) (g b : ℕ) → slice_get leases g ≡ Some (Some b) → is_free (map is_none leases) g ≡ false
+taken_flag [] g b h = cc
+taken_flag (None ∷ leases) zero b h = cc
+taken_flag (Some c ∷ leases) zero b h = refl
+taken_flag (lease ∷ leases) (suc g) b h = taken_flag leases g b h
+
+module _ (limits : Limits) (history : List Event) (world : World) (monitor : MonitorView) (mirror : IsMirror limits history world monitor) (build : ℕ) where
+  -- what a build leases is taken
+  taken : (granule : ℕ) → slice_get world.leases granule ≡ Some (Some build) → IsTaken monitor granule
+  taken granule lease =
+      let sound = reachable_worlds limits history world mirror.world_is in
+      let within = slice_get_within world.leases granule (Some build) lease in
+      let long : length monitor.machine ≡ length world.machine = ap length mirror.machine in
+      record {
+        inside = omega (arith, sound.cells, sound.leases, long, within);
+        taken = ap (λ (flags : List Bool). is_free flags granule) mirror.free ∙ taken_flag world.leases granule build lease;
+      }
+
+  pub all_taken : (gs : List ℕ) → All (λ g. slice_get world.leases g ≡ Some (Some build)) gs → All (IsTaken monitor) gs
+  all_taken [] all = All-nil (IsTaken monitor)
+  all_taken (g ∷ gs) all =
+      All-cons (IsTaken monitor) g gs (taken g (All-head (λ g. slice_get world.leases g ≡ Some (Some build)) g gs all))
+      (all_taken gs (All-tail (λ g. slice_get world.leases g ≡ Some (Some build)) g gs all))
+
+  -- a REC of a realm is leased as its RD is
+  rec_lease : (rd number granule : ℕ) → IsRec monitor.machine rd number granule → slice_get world.leases granule ≡ slice_get world.leases rd
+  rec_lease rd number granule is =
+      let sound = reachable_worlds limits history world mirror.world_is in
+      let there : (cell_at world.machine rd).descriptor ≡ Some is.realm = ap (λ (m : Machine). (cell_at m rd).descriptor) (sym mirror.machine) ∙ is.there in
+      let named_so : target is.realm (AsRec number) ≡ Some (granule, InRec) =
+      ap (λ (o : Option RecRow). option_map (λ (rec : ℕ × List ℕ). (rec.0, InRec)) (option_map granules_of_rec o)) is.numbered ∙ (λ i. Some (is.is i, InRec)) in
+      (sound.names rd is.realm there (AsRec number) granule InRec named_so).2
+
+  -- so it is taken
+  rec_taken : (realm : Option Seen) → IsHeld build world.leases realm → (number : ℕ) (rec : Option ℕ)
+      → rec ≡ rec_granule (realm_on monitor (option_map (λ (rd : Seen). rd.number) realm)) number → IsTakenAt monitor rec
+  rec_taken realm held number None is = tt
+  rec_taken None held number (Some granule) is = cc
+  rec_taken (Some rd) held number (Some granule) is =
+      taken granule (rec_lease rd.number number granule (is_rec monitor rd.number number granule is) ∙ leased (Some build) world.leases rd.number held)
+
+  pub rec_ready : (number rec : Option ℕ) → IsRecOf (realm_of build world) number rec → IsRecReadyAt monitor (rd_of build world) number rec
+  rec_ready None rec is = tt
+  rec_ready (Some number) rec is =
+      let seen_so = is ∙ ap (λ o. rec_granule o number) (sym (realm_seen limits history world monitor mirror build)) in
+      record { is = seen_so; taken = rec_taken (realm_of build world) (IsHeld-realm_of build world) number rec seen_so }
+
+  realm_ready_at : length (acts_of build history) < 65535 → (realm : Option Seen) → realm_of build world ≡ realm → IsAt world.machine realm → IsHeld build world.leases realm
+      → IsRealmReadyAt monitor (option_map (λ (rd : Seen). rd.number) realm)
+  realm_ready_at few None is at held = tt
+  realm_ready_at few (Some rd) is at held = record {
+    taken = taken rd.number (leased (Some build) world.leases rd.number held);
+    numbers = λ realm there.
+        let row : rd.cell.descriptor ≡ Some realm = ap (λ (c : Cell). c.descriptor) (sym at) ∙ ap (λ (m : Machine). (cell_at m rd.number).descriptor) (sym mirror.machine) ∙ there in
+        let most = numbers_are_few limits history world build mirror.legal mirror.world_is rd realm is row in
+        omega arith;
+  }
+
+  pub realm_ready : length (acts_of build history) < 65535 → IsRealmReadyAt monitor (rd_of build world)
+  realm_ready few = realm_ready_at few (realm_of build world) refl (IsAt-realm_of build world) (IsHeld-realm_of build world)
+
+pub asked_is_ready : (limits : Limits) (history : List Event) (world : World) (monitor : MonitorView) (build : ℕ) (act : Act) (place : Place)
+    → AskedIsReady limits history world monitor build act place
+asked_is_ready limits history world monitor build act place mirror at asked few = record {
+  command = asked.command;
+  granules = all_taken limits history world monitor mirror build (named act) asked.granules;
+  realm = subst (IsRealmReadyAt monitor) (sym at.realm) (realm_ready limits history world monitor mirror build few);
+  rec = subst (λ o. IsRecReadyAt monitor o (rec_named act) place.rec) (sym at.realm) (rec_ready limits history world monitor mirror build (rec_named act) place.rec at.rec);
+}

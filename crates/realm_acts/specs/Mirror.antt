@@ -1,0 +1,106 @@
+-- A monitor beside the world of a history: what is asked of an act, and what an act that is performed makes of both.
+use Rattle.std.specs.Prelude.{◌≡◌, ◌<◌, ℕ, List, [], ◌∷◌, ◌++◌, map, true, false, Option, Some, None, option_map, is_none, slice_get, length, Result, Ok, Err}
+use Rattle.std.specs.List.{All, last_or}
+use Rattle.realm_model.specs.declared.act.Act.{Act}
+use Rattle.realm_model.specs.declared.act.Act.TheVariants.{UnRec}
+use Rattle.realm_model.specs.declared.act.Event.{Event}
+use Rattle.realm_model.specs.declared.rmi.Rmi.{Rmi}
+use Rattle.realm_model.specs.Machine.{Limits, Seen}
+use Rattle.realm_model.specs.Update.{Update}
+use Rattle.realm_model.specs.Act.{named, reverse_of}
+use Rattle.realm_model.specs.Outcome.{fits}
+use Rattle.realm_model.specs.World.{World, realm_of}
+use Rattle.realm_model.specs.Step.{step, named_cells, outcome_in}
+use Rattle.realm_model.specs.History.{acts_of, open_entries, replay, IsLegal, IsInTurn}
+use Rattle.realm_model.specs.Running.{is_running}
+use Rattle.realm_model.specs.Undoing.{by}
+use Rattle.rmi_monitor.specs.View.{MonitorView, Answers, after_command}
+use Rattle.realm_acts.specs.declared.place.Place.{Place}
+use Rattle.realm_acts.specs.Performing.{is_command, rec_named, rec_granule, outcome_on, IsReady}
+
+-- The history is legal and leads to the world, and the monitor has its machine; a granule is free exactly where nobody
+-- leases it.
+pub record IsMirror (limits : Limits) (history : List Event) (world : World) (monitor : MonitorView) : Type 0 where
+  pub legal : IsLegal limits history
+  pub world_is : replay limits history ≡ Some world
+  pub vmids : monitor.vmids ≡ limits.vmids
+  pub aux : monitor.aux ≡ limits.aux
+  pub machine : monitor.machine ≡ world.machine
+  pub free : monitor.free ≡ map is_none world.leases
+
+-- ---- where an act of a build is performed
+
+-- the RD of a build's realm
+abbrev pub rd_of : ℕ → World → Option ℕ
+rd_of build world = option_map (λ (rd : Seen). rd.number) (realm_of build world)
+
+-- that granule, or none, is the realm's REC of the number, where there is a number
+abbrev pub IsRecOf : Option Seen → Option ℕ → Option ℕ → Type 0
+IsRecOf realm None rec = Unit {0}
+IsRecOf realm (Some number) rec = rec ≡ rec_granule realm number
+
+-- the place of an act: the RD of its build's realm, and the REC there that the act names
+pub record IsPlaceOf (world : World) (build : ℕ) (act : Act) (place : Place) : Type 0 where
+  pub realm : place.realm ≡ rd_of build world
+  pub rec : IsRecOf (realm_of build world) (rec_named act) place.rec
+
+-- ---- what is asked
+
+-- What is asked of a command of a build before the monitor is: the build is there and leases the granules named, and the
+-- act's own fields fit what is there.
+pub record IsAsked (limits : Limits) (world : World) (build : ℕ) (act : Act) : Type 0 where
+  pub command : is_command act ≡ true
+  pub there : build < limits.builds
+  pub granules : All (λ granule. slice_get world.leases granule ≡ Some (Some build)) (named act)
+  pub fields : fits act (realm_of build world) (named_cells world act) ≡ true
+
+-- An act that is asked for can be performed, where its build has fewer events than RECs have numbers.
+abbrev pub AskedIsReady : Limits → List Event → World → MonitorView → ℕ → Act → Place → Type 0
+AskedIsReady limits history world monitor build act place =
+    IsMirror limits history world monitor → IsPlaceOf world build act place → IsAsked limits world build act → length (acts_of build history) < 65535
+    → IsReady monitor place act
+
+-- A REC that is taken away has the granule that its act names.
+abbrev pub UnRecNamesItsRec : Limits → World → ℕ → Act → Type 0
+UnRecNamesItsRec limits world build (UnRec granule auxiliaries number) =
+    IsAsked limits world build (UnRec granule auxiliaries number) → rec_granule (realm_of build world) number ≡ Some granule
+UnRecNamesItsRec limits world build _ = Unit {0}
+
+-- ---- what is performed
+
+-- A command that is done is a step: the history with its event is legal, and leads to the world that the monitor has then.
+-- No lease changes.
+pub record IsPerformed (limits : Limits) (history : List Event) (world : World) (build : ℕ) (act : Act) (new : MonitorView) : Type 0 where
+  pub next : World
+  pub stepped : step limits world (by build act) ≡ Some next
+  pub leases : next.leases ≡ world.leases
+  pub mirror : IsMirror limits (history ++ by build act ∷ []) next new
+
+-- What the monitor answers to an act that is asked for is what comes of it in the world. Where it is done, it is a step.
+abbrev pub IsStepOrRefusal : Limits → List Event → World → MonitorView → ℕ → Act → Result (Unit {0}) Rmi → MonitorView → Type 0
+IsStepOrRefusal limits history world old build act (Ok done) new = IsPerformed limits history world build act new
+IsStepOrRefusal limits history world old build act (Err rmi) new = (outcome_in limits world (by build act) ≡ Err rmi) × (new ≡ old)
+
+-- so of every answer and every monitor after it that `perform` promises, for an act in turn
+abbrev pub PerformedIsStep : Limits → List Event → World → MonitorView → ℕ → Act → Place → Type 0
+PerformedIsStep limits history world monitor build act place =
+    IsMirror limits history world monitor → IsPlaceOf world build act place → IsAsked limits world build act → IsInTurn history (by build act)
+    → (result : Result (Unit {0}) Rmi) (new : MonitorView) → Answers result (outcome_on monitor place.realm act)
+    → new ≡ after_command (outcome_on monitor place.realm act) monitor
+    → IsStepOrRefusal limits history world monitor build act result new
+
+-- ---- back
+
+-- The reverse of the newest open act is asked for and in turn, and the monitor does not refuse it.
+pub record IsAccepted (limits : Limits) (history : List Event) (world : World) (monitor : MonitorView) (build : ℕ) (back : Act) (place : Place) : Type 0 where
+  pub asked : IsAsked limits world build back
+  pub turn : IsInTurn history (by build back)
+  pub updates : List Update
+  pub accepted : outcome_on monitor place.realm back ≡ Ok updates
+
+-- so where it is a command, and the act made no REC that runs
+abbrev pub NewestIsAccepted : Limits → List Event → World → MonitorView → ℕ → Act → Act → Place → Type 0
+NewestIsAccepted limits history world monitor build act back place =
+    IsMirror limits history world monitor → IsPlaceOf world build back place → last_or None (open_entries build history) ≡ Some act
+    → reverse_of act ≡ Some back → is_command back ≡ true → is_running (realm_of build world) act ≡ false
+    → IsAccepted limits history world monitor build back place

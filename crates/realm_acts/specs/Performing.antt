@@ -1,0 +1,101 @@
+-- What comes of an act on a monitor, and when it can be performed.
+use Rattle.std.specs.Prelude.{◌≡◌, ◌<◌, ℕ, length, Bool, true, false, Option, Some, None, option_map, option_and_then, map}
+use Rattle.std.specs.List.{All}
+use Rattle.std.specs.FinMap.{get}
+use Rattle.realm_model.specs.declared.act.Act.{Act}
+use Rattle.realm_model.specs.declared.act.Act.TheVariants.{Take, UnTake, Activate, Rtt, UnRtt, Ripas, Data, Unknown, UnData, Rec, UnRec, Enter, Exit, Poke}
+use Rattle.realm_model.specs.Machine.{Limits, RealmRow, RecRow, Seen, cell_at}
+use Rattle.realm_model.specs.Update.{Outcome}
+use Rattle.realm_model.specs.Act.{named}
+use Rattle.realm_model.specs.Outcome.{outcome_of}
+use Rattle.realm_model.specs.Step.{used_vmids}
+use Rattle.rmi_monitor.specs.View.{MonitorView, IsTaken, seen_in}
+use Rattle.realm_acts.specs.declared.place.Place.{Place}
+
+-- ---- acts
+
+-- the act is a command of the monitor: it leases no block, and gives none back
+abbrev pub is_command : Act → Bool
+is_command (Take order first) = false
+is_command (UnTake order first) = false
+is_command _ = true
+
+-- the act is a command on the realm of its build
+abbrev pub is_in_realm : Act → Bool
+is_in_realm Activate = true
+is_in_realm (Rtt granule ipa level) = true
+is_in_realm (UnRtt granule ipa level) = true
+is_in_realm (Ripas ipa count) = true
+is_in_realm (Data granule ipa source) = true
+is_in_realm (Unknown granule ipa) = true
+is_in_realm (UnData granule ipa) = true
+is_in_realm (Rec granule auxiliaries number) = true
+is_in_realm (UnRec granule auxiliaries number) = true
+is_in_realm (Enter number) = true
+is_in_realm (Exit number) = true
+is_in_realm (Poke number ipa offset value) = true
+is_in_realm _ = false
+
+-- the number of the REC that an act is about, which has to be there already
+abbrev pub rec_named : Act → Option ℕ
+rec_named (UnRec granule auxiliaries number) = Some number
+rec_named (Enter number) = Some number
+rec_named (Exit number) = Some number
+rec_named (Poke number ipa offset value) = Some number
+rec_named _ = None
+
+-- ---- what comes of an act
+
+-- a command reads how many VMIDs and auxiliaries there are; a monitor knows no builds
+abbrev pub limits_of : MonitorView → Limits
+limits_of monitor = record { pages = length monitor.machine; vmids = monitor.vmids; aux = monitor.aux; builds = 0 }
+
+-- the realm of an RD as commands see it
+abbrev pub realm_on : MonitorView → Option ℕ → Option Seen
+realm_on monitor rd = option_map (seen_in monitor) rd
+
+-- What comes of an act of a build whose realm has that RD.
+abbrev pub outcome_on : MonitorView → Option ℕ → Act → Outcome
+outcome_on monitor rd act =
+    outcome_of (limits_of monitor) (used_vmids monitor.machine) act (realm_on monitor rd) (map (seen_in monitor) (named act))
+
+-- ---- when it can be performed
+
+-- the granule of a realm's REC of that number
+abbrev pub rec_granule : Option Seen → ℕ → Option ℕ
+rec_granule realm number =
+    option_map (λ (rec : RecRow). rec.granule)
+    (option_and_then (λ (row : RealmRow). get row.recs number) (option_and_then (λ (rd : Seen). rd.cell.descriptor) realm))
+
+-- the RD is taken, and there is a number for one more REC
+pub record IsRealmReady (monitor : MonitorView) (rd : ℕ) : Type 0 where
+  pub taken : IsTaken monitor rd
+  pub numbers : (realm : RealmRow) → (cell_at monitor.machine rd).descriptor ≡ Some realm → realm.next < 65535
+
+-- so for the realm of a build, where it has one
+abbrev pub IsRealmReadyAt : MonitorView → Option ℕ → Type 0
+IsRealmReadyAt monitor None = Unit {0}
+IsRealmReadyAt monitor (Some rd) = IsRealmReady monitor rd
+
+-- the granule is taken, where there is one
+abbrev pub IsTakenAt : MonitorView → Option ℕ → Type 0
+IsTakenAt monitor None = Unit {0}
+IsTakenAt monitor (Some granule) = IsTaken monitor granule
+
+-- that granule, or none, is the REC of that number in the realm, and it is taken
+pub record IsRecReady (monitor : MonitorView) (realm : Option ℕ) (number : ℕ) (rec : Option ℕ) : Type 0 where
+  pub is : rec ≡ rec_granule (realm_on monitor realm) number
+  pub taken : IsTakenAt monitor rec
+
+-- so for the REC that an act names, where it names one
+abbrev pub IsRecReadyAt : MonitorView → Option ℕ → Option ℕ → Option ℕ → Type 0
+IsRecReadyAt monitor realm None rec = Unit {0}
+IsRecReadyAt monitor realm (Some number) rec = IsRecReady monitor realm number rec
+
+-- The act can be performed: it is a command, the granules that it names are taken, its build's realm is ready, and so is
+-- the REC that it names.
+pub record IsReady (monitor : MonitorView) (place : Place) (act : Act) : Type 0 where
+  pub command : is_command act ≡ true
+  pub granules : All (IsTaken monitor) (named act)
+  pub realm : IsRealmReadyAt monitor place.realm
+  pub rec : IsRecReadyAt monitor place.realm (rec_named act) place.rec

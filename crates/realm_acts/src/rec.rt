@@ -1,0 +1,39 @@
+//! Acts on a REC of a realm.
+ghost use Rattle.std.specs.Prelude.{◌≡◌, Some, is_some, true};
+ghost use Rattle.rmi_monitor.specs.View.{Answers, after_command};
+ghost use Rattle.realm_acts.specs.Performing.{IsReady, rec_named, outcome_on};
+
+use granule_addr::Gran;
+use page_arena::PageStore;
+use realm_model::{Act, Rmi};
+use rmi_monitor::Monitor;
+
+// Performs an act on the realm's REC whose granule is `rec`.
+#[tactic(auto, unfolding(realm_model::specs::Act::named, realm_model::specs::Outcome::outcome_of))]
+pub fn on_rec<S: PageStore>(
+    monitor: &mut Monitor<S>,
+    rd: Gran,
+    rec: Option<Gran>,
+    act: &Act,
+) -> Result<(), Rmi>
+    requires ready { IsReady monitor.old (record { realm = Some rd; rec = rec }) act.now }
+    requires kind { is_some (rec_named act.now) ≡ true }
+    ensures answer { Answers result (outcome_on monitor.old (Some rd) act.now) }
+    ensures machine { monitor.new ≡ after_command (outcome_on monitor.old (Some rd) act.now) monitor.old }
+{
+    let Some(rec) = rec else {
+        return Err(Rmi::INPUT);
+    };
+    match act {
+        Act::UnRec { .. } => monitor.rec_destroy(rec),
+        Act::Enter { .. } => monitor.rec_enter(rec),
+        Act::Exit { .. } => monitor.rec_exit(rec),
+        Act::Poke {
+            ipa,
+            offset,
+            value,
+            ..
+        } => monitor.guest_write(rec, ipa.number(), *offset, *value),
+        _ => unreachable!(),
+    }
+}
