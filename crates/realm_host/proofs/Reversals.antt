@@ -23,12 +23,13 @@ use Rattle.realm_model.specs.Outcome.{outcome_of, fits, is_block_start}
 use Rattle.realm_model.specs.World.{World}
 use Rattle.realm_model.specs.Step.{step}
 use Rattle.realm_model.specs.StepLaw.{set_each, IsStep}
+use Rattle.realm_model.specs.Undoing.{by}
 use Rattle.realm_model.proofs.Blocks.{step-untake}
 use Rattle.realm_model.proofs.StepSays.{step_is}
 use Rattle.realm_model.proofs.Lists.{is_in, Contains-from_in}
 use Rattle.realm_model.proofs.Reached.{sized_reached}
 use Rattle.rmi_monitor.specs.View.{MonitorView, Answers, seen_in}
-use Rattle.realm_host.specs.View.{HostView, world_of, event_by}
+use Rattle.realm_host.specs.View.{HostView, world_of}
 use Rattle.realm_host.specs.Books.{BooksView}
 use Rattle.realm_host.specs.Whole.{host_of, IsWhole}
 use Rattle.realm_host.specs.Reversal.{CanReverse, reversed_monitor}
@@ -70,7 +71,7 @@ bare_run machine first count all =
 pub record IsReversed (monitor : MonitorView) (books : BooksView) (build : ℕ) (back : Act) : Type 0 where
   pub leases : List (Option ℕ)
   pub can : CanReverse monitor back
-  pub stepped : step (host_of monitor books).limits (world_of (host_of monitor books)) (event_by build back)
+  pub stepped : step (host_of monitor books).limits (world_of (host_of monitor books)) (by build back)
       ≡ Some (record { machine = (reversed_monitor monitor back).machine; leases = leases })
   pub free : (reversed_monitor monitor back).free ≡ map is_none leases
   pub long : length (reversed_monitor monitor back).machine ≡ length monitor.machine
@@ -85,9 +86,9 @@ module _ (monitor : MonitorView) (books : BooksView) (whole : IsWhole monitor bo
   abbrev world : World
   world = world_of host
 
-  module _ (granule : ℕ) (next : World) (step_to : step host.limits world (event_by build (Undelegate granule)) ≡ Some next) where
-    is : IsStep host.limits world (event_by build (Undelegate granule)) next
-    is = step_is host.limits world next (event_by build (Undelegate granule)) step_to
+  module _ (granule : ℕ) (next : World) (step_to : step host.limits world (by build (Undelegate granule)) ≡ Some next) where
+    is : IsStep host.limits world (by build (Undelegate granule)) next
+    is = step_is host.limits world next (by build (Undelegate granule)) step_to
 
     is_leased : slice_get world.leases granule ≡ Some (Some build)
     unfolding named
@@ -138,15 +139,15 @@ module _ (monitor : MonitorView) (books : BooksView) (whole : IsWhole monitor bo
       aux = refl;
     }
 
-  module _ (order first : ℕ) (next : World) (step_to : step host.limits world (event_by build (UnTake order first)) ≡ Some next) where
+  module _ (order first : ℕ) (next : World) (step_to : step host.limits world (by build (UnTake order first)) ≡ Some next) where
     abbrev is_held : ℕ → Type 0
     is_held g = slice_get world.leases g ≡ Some (Some build)
 
     abbrev is_blank_state : ℕ → Type 0
     is_blank_state g = (cell_at world.machine g).state ≡ Undelegated
 
-    untakes : IsStep host.limits world (event_by build (UnTake order first)) next
-    untakes = step_is host.limits world next (event_by build (UnTake order first)) step_to
+    untakes : IsStep host.limits world (by build (UnTake order first)) next
+    untakes = step_is host.limits world next (by build (UnTake order first)) step_to
 
     fit : list_all is_undelegated (map (seen world.machine) (block order first)) ≡ true
     unfolding named fits
