@@ -97,7 +97,7 @@ module _ (limits : Limits) (history : List Event) (world : World) (monitor : Mon
           record {
             next = next;
             stepped = stepped;
-            leases = refl;
+            leases = is.leases;
             mirror = record {
               legal = grown.legal;
               world_is = grown.world_is;

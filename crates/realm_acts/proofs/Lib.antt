@@ -2,7 +2,10 @@
 pub mod OnRecs
 pub mod Pages
 -- beside a history
+pub mod Flags
+pub mod Ranges
 pub mod Forward
 pub mod Ready
 pub mod Backward
 pub mod RecsNamed
+pub mod Blocks

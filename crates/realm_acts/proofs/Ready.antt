@@ -1,6 +1,6 @@
 -- An act that is asked for can be performed.
-use Rattle.std.proofs.Common.{◌≡◌, ℕ, zero, suc, ◌<◌, Bool, false, List, [], ◌∷◌, length, map, Option, Some, None, refl, sym, ap, ◌∙◌, subst, arith}
-use Rattle.std.specs.Prelude.{is_none, option_map, slice_get}
+use Rattle.std.proofs.Common.{◌≡◌, ℕ, ◌<◌, Bool, List, [], ◌∷◌, length, Option, Some, None, refl, sym, ap, ◌∙◌, subst, arith}
+use Rattle.std.specs.Prelude.{option_map, slice_get}
 use Rattle.std.specs.List.{All}
 use Rattle.std.proofs.lemmas.Option.{slice_get_within}
 use Rattle.std.proofs.lemmas.List.Elements.{All-nil, All-cons, All-head, All-tail}
@@ -22,14 +22,9 @@ use Rattle.rmi_monitor.specs.View.{MonitorView, IsTaken, IsRec}
 use Rattle.realm_acts.specs.declared.place.Place.{Place}
 use Rattle.realm_acts.specs.Performing.{rec_named, rec_granule, realm_on, IsRealmReadyAt, IsRecReadyAt, IsTakenAt}
 use Rattle.realm_acts.specs.Mirror.{IsMirror, IsRecOf, AskedIsReady, rd_of}
+use Rattle.realm_acts.proofs.Flags.{taken_flag}
 use Rattle.realm_acts.proofs.OnRecs.{is_rec}
 use Rattle.realm_acts.proofs.Forward.{realm_seen}
-
-taken_flag : (leases : List (Option ℕ)) (g b : ℕ) → slice_get leases g ≡ Some (Some b) → is_free (map is_none leases) g ≡ false
-taken_flag [] g b h = cc
-taken_flag (None ∷ leases) zero b h = cc
-taken_flag (Some c ∷ leases) zero b h = refl
-taken_flag (lease ∷ leases) (suc g) b h = taken_flag leases g b h
 
 module _ (limits : Limits) (history : List Event) (world : World) (monitor : MonitorView) (mirror : IsMirror limits history world monitor) (build : ℕ) where
   -- what a build leases is taken

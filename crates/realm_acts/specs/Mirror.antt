@@ -11,6 +11,7 @@ use Rattle.realm_model.specs.Act.{named, reverse_of}
 use Rattle.realm_model.specs.Outcome.{is_in_range, fits}
 use Rattle.realm_model.specs.World.{World, realm_of}
 use Rattle.realm_model.specs.Step.{step, named_cells, outcome_in}
+use Rattle.realm_model.specs.StepLaw.{leases_after}
 use Rattle.realm_model.specs.History.{acts_of, open_entries, replay, IsLegal, IsInTurn}
 use Rattle.realm_model.specs.Running.{is_running}
 use Rattle.realm_model.specs.Undoing.{by}
@@ -69,12 +70,12 @@ UnRecNamesItsRec limits world build _ = Unit {0}
 
 -- ---- what is performed
 
--- A command that is done is a step: the history with its event is legal, and leads to the world that the monitor has then.
--- No lease changes.
+-- An act that is done is a step: the history with its event is legal, and leads to the world that the monitor has then.
+-- The leases are changed as the act says.
 pub record IsPerformed (limits : Limits) (history : List Event) (world : World) (build : ℕ) (act : Act) (new : MonitorView) : Type 0 where
   pub next : World
   pub stepped : step limits world (by build act) ≡ Some next
-  pub leases : next.leases ≡ world.leases
+  pub leases : next.leases ≡ leases_after build act world.leases
   pub mirror : IsMirror limits (history ++ by build act ∷ []) next new
 
 -- What the monitor answers to an act that is asked for is what comes of it in the world. Where it is done, it is a step.

@@ -6,6 +6,7 @@ ghost use Rattle.realm_model.specs.Machine.{Limits};
 ghost use Rattle.realm_model.specs.World.{World};
 ghost use Rattle.rmi_monitor.specs.View.{MonitorView};
 ghost use Rattle.realm_acts.specs.declared.place.Place.{Place};
+ghost use Rattle.realm_acts.specs.Blocks.{TakenIsStep, GivenBackIsStep};
 ghost use Rattle.realm_acts.specs.Mirror.{AskedIsReady, PerformedIsStep, NewestIsAccepted, UnRecNamesItsRec};
 
 /// An act that is asked for can be performed.
@@ -26,4 +27,14 @@ pub fn newest_is_accepted()
 /// The REC that is taken away has the granule that its act names.
 pub fn rec_taken_away_is_the_one_named()
     ensures { (limits : Limits) (world : World) (build : ℕ) (act : Act) → UnRecNamesItsRec limits world build act }
+{}
+
+/// A free block that is taken from the store is a step of each build that there is.
+pub fn what_is_taken_is_a_step()
+    ensures { (limits : Limits) (history : List Event) (world : World) (monitor : MonitorView) (build order first : ℕ) → TakenIsStep limits history world monitor build order first }
+{}
+
+/// The block of a Take that is the newest act that a build has open can be given back, and that is a step in turn.
+pub fn what_is_given_back_is_a_step()
+    ensures { (limits : Limits) (history : List Event) (world : World) (monitor : MonitorView) (build order first : ℕ) → GivenBackIsStep limits history world monitor build order first }
 {}
