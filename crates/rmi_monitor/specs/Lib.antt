@@ -3,3 +3,4 @@ pub mod Codes
 pub mod Gathered
 pub mod Inside
 pub mod Places
+pub mod Named
