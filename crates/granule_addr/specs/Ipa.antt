@@ -1,9 +1,9 @@
 -- IPA granules and the table entries that cover them. RMM 1.0, RTT and address space.
-use Rattle.std.specs.Prelude.{ℕ, ◌-◌, ◌*◌, ◌/◌, ◌%◌, ◌^◌, ◌==◌, Bool, nat_lt, if◌then◌else◌}
+use Rattle.std.specs.Prelude.{ℕ, ◌-◌, ◌*◌, ◌/◌, ◌%◌, ◌^◌, ◌==◌, ◌&&◌, Bool, nat_le, nat_lt, if◌then◌else◌}
 
--- the IPA widths, in bits, that a realm may have
+-- the IPA widths, in bits, that a realm may have; that they are these is this profile's own
 abbrev pub is_width : ℕ → Bool
-is_width width = width == 39
+is_width width = nat_le 39 width && nat_le width 43
 
 -- an IPA granule lies in the realm's address space
 abbrev pub is_in_space : ℕ → ℕ → Bool
@@ -24,3 +24,11 @@ first_covered level ipa = ipa / covered_count level * covered_count level
 -- which of a table's 512 entries covers the IPA granule
 abbrev pub entry_index : ℕ → ℕ → ℕ
 entry_index level ipa = ipa / covered_count level % 512
+
+-- which of the starting tables covers the IPA granule: each has 512 entries of level 1, so it covers 2^27
+abbrev pub start_index : ℕ → ℕ
+start_index ipa = ipa / 2 ^ 27
+
+-- how many IPA granules the widest realm has
+abbrev pub widest_space : ℕ
+widest_space = 2 ^ 31

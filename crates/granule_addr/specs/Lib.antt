@@ -1,2 +1,3 @@
 pub mod Ipa
 pub mod Page
+pub mod Root

@@ -10,10 +10,14 @@ mod ids;
 mod ipa;
 mod level;
 mod page;
+mod root;
+mod width;
 
 pub use block::{Order, align_down, buddy_of};
 pub use granule::{Gran, MOST_PAGES};
 pub use ids::{BuildId, RecNo, Vmid};
-pub use ipa::{IPA_WIDTH, IpaGran, index_at, is_protected};
+pub use ipa::{IpaGran, index_at, is_protected, start_table};
 pub use level::Level;
 pub use page::PageOff;
+pub use root::Root;
+pub use width::IpaWidth;

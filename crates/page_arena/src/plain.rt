@@ -3,14 +3,14 @@ ghost use Rattle.std.specs.Prelude.{◌≡◌, ◌↔◌, ◌<◌, ◌⊎◌, tr
 ghost use Rattle.granule_addr.specs.Page.{zero_page};
 ghost use Rattle.page_arena.specs.Page.{IsSized};
 
-mod clear;
 mod flags;
+mod pages;
 mod words;
 
 use crate::{BuildError, PageStore};
-use clear::{clear_run, zero_pages};
 use flags::{find_block, is_run_free, set_run};
 use granule_addr::{Gran, MOST_PAGES, Order, PageOff};
+use pages::{clear_run, copy_page, fill_page, zero_pages};
 use std::alloc::Global;
 use words::{set_word_in, word_in};
 
@@ -86,7 +86,7 @@ impl PageStore for PlainStore {
     }
 
     fn fill(&mut self, granule: Gran, value: u8) {
-        self.pages[granule.number() as usize] = [value; 4096];
+        fill_page(&mut self.pages, granule.number() as usize, value);
     }
 
     fn set(&mut self, granule: Gran, offset: PageOff, value: u8) {
@@ -94,7 +94,11 @@ impl PageStore for PlainStore {
     }
 
     fn copy(&mut self, target: Gran, source: Gran) {
-        self.pages[target.number() as usize] = self.pages[source.number() as usize];
+        copy_page(
+            &mut self.pages,
+            target.number() as usize,
+            source.number() as usize,
+        );
     }
 
     fn word(&self, granule: Gran, index: u16) -> u64 {

@@ -6,7 +6,7 @@ use Rattle.std.proofs.lemmas.List.Elements.{All-head, All-tail}
 use Rattle.realm_model.specs.Machine.{Cell, Machine}
 use Rattle.realm_model.specs.World.{realm_from, realm_of, is_lease}
 use Rattle.realm_model.specs.History.{acts_of, open_entries}
-use Rattle.realm_model.specs.Room.{running_count}
+use Rattle.realm_model.specs.Running.{running_count}
 use Rattle.realm_host.specs.View.{HostView, world_of, used}
 
 abbrev no_rd : Cell → Type 0

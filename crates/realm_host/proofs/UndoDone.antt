@@ -12,7 +12,7 @@ use Rattle.realm_model.specs.Act.{is_paired, is_reverse, reverse_of}
 use Rattle.realm_model.specs.World.{World, realm_of}
 use Rattle.realm_model.specs.Step.{step}
 use Rattle.realm_model.specs.History.{open_entries, IsInTurn, IsLegal}
-use Rattle.realm_model.specs.Undoing.{is_running}
+use Rattle.realm_model.specs.Running.{is_running}
 use Rattle.realm_model.proofs.Progress.{undoable}
 use Rattle.rmi_monitor.specs.View.{MonitorView}
 use Rattle.realm_host.specs.declared.step.Step.TheVariants.{Undo}

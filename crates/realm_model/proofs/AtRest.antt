@@ -1,5 +1,5 @@
 -- A reverse act lets no REC run.
-use Rattle.std.proofs.Common.{◌≡◌, ℕ, Bool, true, false, cond, ◌||◌, inl, inr, List, [], ◌∷◌, Option, Some, None, refl, sym, ap, ◌∙◌, subst}
+use Rattle.std.proofs.Common.{◌≡◌, ℕ, true, false, cond, ◌||◌, inl, inr, List, [], ◌∷◌, Option, Some, None, refl, sym, ap, ◌∙◌, subst}
 use Rattle.std.specs.List.{list_any}
 use Rattle.std.specs.Ordering.{nat_cmp, eq_by_cmp}
 use Rattle.std.specs.Cmp.{nat_cmp_total}
@@ -9,11 +9,10 @@ use Rattle.realm_model.specs.declared.act.Act.{Act}
 use Rattle.realm_model.specs.declared.act.Act.TheVariants.{UnTake, Undelegate, Realm, UnRealm, UnRtt, UnData, Rec, UnRec}
 use Rattle.realm_model.specs.Machine.{Limits, RealmRow, Seen, cell_at}
 use Rattle.realm_model.specs.Act.{is_reverse}
-use Rattle.realm_model.specs.Outcome.{realm_is}
 use Rattle.realm_model.specs.World.{World, part_of, realm_of}
 use Rattle.realm_model.specs.Step.{step}
-use Rattle.realm_model.specs.Room.{is_rec_running}
-use Rattle.realm_model.specs.Undoing.{by, is_running, IsAtRest}
+use Rattle.realm_model.specs.Running.{is_rec_running, rec_runs, is_running}
+use Rattle.realm_model.specs.Undoing.{by}
 use Rattle.realm_model.proofs.Booleans.{or_parts}
 use Rattle.realm_model.proofs.HiddenSteps.{step-part_of}
 use Rattle.realm_model.proofs.RealmOf.{realm_of-part_of}
@@ -26,20 +25,16 @@ use Rattle.realm_model.proofs.RealmAfter.{Allows, turned_by, realm_gone_step, is
 use Rattle.realm_model.proofs.PartRealm.{part_realm, none_there, found}
 use Rattle.realm_model.proofs.Parts.{IsSoundPart}
 
--- whether the REC of a number runs
-abbrev pub rec_runs : Option Seen → ℕ → Bool
-rec_runs realm n = realm_is realm (λ d r. is_rec_running (get r.recs n))
-
 -- a REC that does not run does not run after
 abbrev Rests : RealmRow → RealmRow → Type 0
 Rests d e = (n : ℕ) → is_rec_running (get d.recs n) ≡ false → is_rec_running (get e.recs n) ≡ false
 
 allowed : (limits : Limits) (w : World) (sound : IsSoundPart w) (act : Act) → is_reverse act ≡ true → is_realm_destroy act ≡ false → Allows limits w sound Rests act
 unfolding is_reverse
-allowed limits w sound (UnTake order first) r k = λ d e vmid recs next n h. ap (λ rs. is_rec_running (get rs n)) recs ∙ h
-allowed limits w sound (Undelegate g) r k = λ d e vmid recs next n h. ap (λ rs. is_rec_running (get rs n)) recs ∙ h
-allowed limits w sound (UnRtt g ipa level) r k = λ d e vmid recs next n h. ap (λ rs. is_rec_running (get rs n)) recs ∙ h
-allowed limits w sound (UnData g ipa) r k = λ d e vmid recs next n h. ap (λ rs. is_rec_running (get rs n)) recs ∙ h
+allowed limits w sound (UnTake order first) r k = λ d e same n h. ap (λ (x : RealmRow). is_rec_running (get x.recs n)) same ∙ h
+allowed limits w sound (Undelegate g) r k = λ d e same n h. ap (λ (x : RealmRow). is_rec_running (get x.recs n)) same ∙ h
+allowed limits w sound (UnRtt g ipa level) r k = λ d e same n h. ap (λ (x : RealmRow). is_rec_running (get x.recs n)) same ∙ h
+allowed limits w sound (UnData g ipa) r k = λ d e same n h. ap (λ (x : RealmRow). is_rec_running (get x.recs n)) same ∙ h
 allowed limits w sound (UnRec g aux m) r k = λ d rec there ready n h.
     ap is_rec_running (get-remove nat_cmp_total d.recs m n)
     ∙ elim (eq_by_cmp nat_cmp n m) as (λ t. is_rec_running (cond t None (get d.recs n)) ≡ false) [ true ↦ refl | false ↦ h ]
@@ -53,7 +48,7 @@ module _ (limits : Limits) (b : ℕ) (w v : World) (kept : IsKept b w) (kept_v :
   square : IsSquare (part_of w b)
   square = IsSquare-part_of w b kept.sound.square
 
-  not_made : (act : Act) → is_reverse act ≡ true → (k : ℕ) (e : RealmRow) → IsMade limits act k e → ⊥
+  not_made : (act : Act) → is_reverse act ≡ true → (k : ℕ) (e : RealmRow) → IsMade limits (part_of w b) act k e → ⊥
   unfolding is_reverse
   not_made (Realm rd root vmid) r k e m = cc
   not_made _ r k e m = m
@@ -92,10 +87,10 @@ module _ (limits : Limits) (b : ℕ) (w v : World) (kept : IsKept b w) (kept_v :
       λ i. one_still a parts.0 i || none_run_still acts parts.1 i
 
 -- where no REC runs, none that an act made does
-pub none_run : (realm : Option Seen) (acts : List Act) → IsAtRest realm → list_any (is_running realm) acts ≡ false
+pub not_running : (realm : Option Seen) → ((n : ℕ) → rec_runs realm n ≡ false) → (act : Act) → is_running realm act ≡ false
+not_running realm rest (Rec g aux n) = rest n
+not_running realm rest _ = refl
+
+pub none_run : (realm : Option Seen) (acts : List Act) → ((n : ℕ) → rec_runs realm n ≡ false) → list_any (is_running realm) acts ≡ false
 none_run realm [] rest = refl
-none_run realm (a ∷ acts) rest = λ i. one a i || none_run realm acts rest i
-  where
-    one : (a : Act) → is_running realm a ≡ false
-    one (Rec g aux n) = rest n
-    one _ = refl
+none_run realm (a ∷ acts) rest = λ i. not_running realm rest a i || none_run realm acts rest i

@@ -37,7 +37,6 @@ module _ (limits : Limits) (w : World) (b order first : ℕ) (below : b < limits
   step-take free = (step_says limits w (by b (Take order first)) tt _).1 (record {
     build = below;
     granules = free;
-    vmid = refl;
     fields = start;
     updates = takes (block order first);
     outcome = ap Ok (seen_takes w.machine (block order first));
@@ -52,7 +51,6 @@ module _ (limits : Limits) (w : World) (b order first : ℕ) (below : b < limits
   step-untake held host = (step_says limits w (by b (UnTake order first)) tt _).1 (record {
     build = below;
     granules = held;
-    vmid = refl;
     fields = and_from _ _ start (all_undelegated (block order first) host);
     updates = frees (block order first);
     outcome = ap Ok (seen_frees w.machine (block order first));

@@ -1,5 +1,5 @@
 -- What a command changes is what its act names, and the realm of its build.
-use Rattle.std.proofs.Common.{◌≡◌, ℕ, ◌<◌, Bool, true, false, cond, ◌&&◌, List, [], ◌∷◌, ◌++◌, map, set, Option, Some, None, Ok, refl, sym, ap, ◌∙◌, ◌-◌}
+use Rattle.std.proofs.Common.{◌≡◌, ℕ, ◌<◌, Bool, true, false, cond, ◌&&◌, List, [], ◌∷◌, ◌++◌, map, set, Option, Some, None, Ok, refl, sym, ap, ◌∙◌, ◌-◌, subst}
 use Rattle.std.specs.Prelude.{◌==◌, nat_eq}
 use Rattle.std.specs.List.{list_all}
 use Rattle.std.specs.Option.{option_eq}
@@ -8,17 +8,22 @@ use Rattle.std.specs.Str.{bytes_eq}
 use Rattle.std.specs.Cmp.Lexicographic.{bytes_decides}
 use Rattle.std.proofs.lemmas.Bool.{eqb-true, and_parts, and_from, lt-ltb, ltb-true}
 use Rattle.std.proofs.lemmas.Option.{same_Some}
+use Rattle.std.proofs.lemmas.List.Folds.{list_all-append, list_all-map}
+use Rattle.granule_addr.specs.Root.{starting_tables}
+use Rattle.granule_addr.specs.declared.root.Root.{Root}
 use Rattle.realm_model.specs.declared.act.Act.{Act}
 use Rattle.realm_model.specs.declared.act.Act.TheVariants.{Take, UnTake, Fill, Peek, Delegate, Undelegate, Realm, UnRealm, Activate, Rtt, UnRtt, Ripas, Data, Unknown, UnData, Rec, UnRec, Enter, Exit, Poke}
-use Rattle.realm_model.specs.declared.states.GranuleState.TheVariants.{RecAux}
+use Rattle.realm_model.specs.declared.states.GranuleState.TheVariants.{RecAux, Rtt as InRtt}
 use Rattle.realm_model.specs.Machine.{Limits, Seen, seen, RecRow, RealmRow, Cell, cell_at, held as held_cell, left}
 use Rattle.realm_model.specs.Update.{Update, Put, PutByte, Lease, Free, granule_of, lease_before, lease_after, machine_after, machine_after_all}
 use Rattle.realm_model.specs.Act.{named, holder}
-use Rattle.realm_model.specs.Outcome.{outcome_of, fits, leads_to, realm_is}
+use Rattle.realm_model.specs.Outcome.{outcome_of, fits, leads_to, realm_is, is_root}
 use Rattle.realm_model.specs.World.{World, is_leased_to, realm_of, updated, updated_all}
-use Rattle.realm_model.specs.Step.{step, is_allowed, is_vmid_free, after_outcome}
+use Rattle.realm_model.specs.Step.{step, is_allowed, used_vmids, after_outcome}
 use Rattle.realm_model.specs.Rows.{Rows, Walk, walk, row_at, is_assigned}
 use Rattle.realm_model.proofs.Leases.{set_lease, leased}
+use Rattle.realm_model.proofs.Written.{each_put, put_seen, seen-each_put}
+use Rattle.realm_model.proofs.Roots.{same_root}
 use Rattle.realm_model.proofs.RealmOf.{IsAt, realm_test, IsHeld, IsAt-realm_of, IsHeld-realm_of}
 use Rattle.realm_model.proofs.Outcomes.{Yields, Yields-Ok, Yields-with_rec, Yields-with_realm, Yields-with_end, Yields-check, Yields-Err, Yields-with_granule}
 use Rattle.realm_model.proofs.Walks.{walk_at}
@@ -52,15 +57,15 @@ updated_all-changes build (u ∷ us) w h =
 
 -- the command of an act is not refused: then the step is made
 pub step-command : (limits : Limits) (w : World) (build : ℕ) (act : Act) (us : List Update) → build < limits.builds
-    → list_all (is_leased_to (holder build act) w.leases) (named act) ≡ true → is_vmid_free w.machine act ≡ true
+    → list_all (is_leased_to (holder build act) w.leases) (named act) ≡ true
     → fits act (realm_of build w) (map (seen w.machine) (named act)) ≡ true
-    → outcome_of limits act (realm_of build w) (map (seen w.machine) (named act)) ≡ Ok us
+    → outcome_of limits (used_vmids w.machine) act (realm_of build w) (map (seen w.machine) (named act)) ≡ Ok us
     → list_all (is_change build w.leases) us ≡ true
     → step limits w (record { build = build; act = act }) ≡ Some (record { machine = machine_after_all us w.machine; leases = w.leases })
 unfolding step
-step-command limits w build act us below leases vmid fit planned changes =
-    ap (λ t. cond t (after_outcome build (outcome_of limits act (realm_of build w) (map (seen w.machine) (named act))) w) None)
-    (and_from _ _ (and_from _ _ (and_from _ _ (lt-ltb build limits.builds below) leases) vmid) fit)
+step-command limits w build act us below leases fit planned changes =
+    ap (λ t. cond t (after_outcome build (outcome_of limits (used_vmids w.machine) act (realm_of build w) (map (seen w.machine) (named act))) w) None)
+    (and_from _ _ (and_from _ _ (lt-ltb build limits.builds below) leases) fit)
     ∙ ap (λ o. after_outcome build o w) planned
     ∙ updated_all-changes build us w changes
 
@@ -84,25 +89,35 @@ module _ (limits : Limits) (b : ℕ) (w : World) where
   one : (g : ℕ) → L g ≡ true → (L g && true) ≡ true
   one g p = and_from _ _ p refl
 
-  named_puts : (cell : Cell) (gs : List ℕ) (us : List Update) → list_all L gs ≡ true → C us → C (map (λ g. Put g cell) gs ++ us)
-  named_puts cell [] us h c = c
-  named_puts cell (g ∷ gs) us h c = let both = and_parts _ _ h in and_from _ _ both.0 (named_puts cell gs us both.1 c)
+  puts_alone : (cell : Cell) (gs : List ℕ) → list_all L gs ≡ true → C (each_put cell gs)
+  puts_alone cell gs h = list_all-map (is_change b w.leases) (λ g. Put g cell) gs ∙ h
 
-  seen_puts : (cell : Cell) (gs : List ℕ) (us : List Update) → list_all L gs ≡ true → C us → C (map (λ (a : Seen). Put a.number cell) (map (seen w.machine) gs) ++ us)
-  seen_puts cell [] us h c = c
-  seen_puts cell (g ∷ gs) us h c = let both = and_parts _ _ h in and_from _ _ both.0 (seen_puts cell gs us both.1 c)
+  puts_more : (cell : Cell) (gs : List ℕ) (us : List Update) → list_all L gs ≡ true → C us → C (each_put cell gs ++ us)
+  puts_more cell gs us h c = list_all-append (is_change b w.leases) (each_put cell gs) us ∙ (λ i. puts_alone cell gs h i && c i)
 
-  root_is : (own : Seen) (rd root v : ℕ) (d : RealmRow) → realm_is (Some own) (λ x r. x.number == rd && r.root == root && r.vmid == v) ≡ true
-      → cell_at w.machine own.number ≡ own.cell → (cell_at w.machine rd).descriptor ≡ Some d → d.root ≡ root
-  root_is own rd root v d fit at is =
-      elim own.cell.descriptor as (λ o. own.cell.descriptor ≡ o → elim o [ Some r ↦ own.number == rd && r.root == root && r.vmid == v | None ↦ false ] ≡ true → d.root ≡ root) [
+  seen_alone : (cell : Cell) (gs : List ℕ) → list_all L gs ≡ true → C (map (put_seen cell) (map (seen w.machine) gs))
+  seen_alone cell gs h = subst C (sym (seen-each_put w.machine cell gs)) (puts_alone cell gs h)
+
+  seen_more : (cell : Cell) (gs : List ℕ) (us : List Update) → list_all L gs ≡ true → C us → C (map (put_seen cell) (map (seen w.machine) gs) ++ us)
+  seen_more cell gs us h c = subst (λ xs. C (xs ++ us)) (sym (seen-each_put w.machine cell gs)) (puts_more cell gs us h c)
+
+  -- a build's realm is the one that stands at its RD
+  own_is : (own : Seen) (rd : ℕ) (d : RealmRow) (test : Seen → RealmRow → Bool) → ((r : RealmRow) → test own r ≡ true → own.number ≡ rd)
+      → realm_is (Some own) test ≡ true → cell_at w.machine own.number ≡ own.cell → (cell_at w.machine rd).descriptor ≡ Some d → test own d ≡ true
+  own_is own rd d test place fit at is =
+      elim own.cell.descriptor as (λ o. own.cell.descriptor ≡ o → elim o [ Some r ↦ test own r | None ↦ false ] ≡ true → test own d ≡ true) [
         | Some r ↦ λ e t.
-            let parts = and_parts _ _ (and_parts _ _ t).0 in
-            let number : own.number ≡ rd = eqb-true own.number rd parts.0 in
-            let same : d ≡ r = same_Some _ _ (sym is ∙ ap (λ n. (cell_at w.machine n).descriptor) (sym number) ∙ ap (λ (c : Cell). c.descriptor) at ∙ e) in
-            ap (λ (x : RealmRow). x.root) same ∙ eqb-true r.root root parts.1
+            let same : d ≡ r = same_Some _ _ (sym is ∙ ap (λ n. (cell_at w.machine n).descriptor) (sym (place r t)) ∙ ap (λ (c : Cell). c.descriptor) at ∙ e) in
+            ap (test own) same ∙ t
         | None ↦ λ e t. cc
       ] refl fit
+
+  -- its starting tables are those that a reverse names
+  root_is : (own : Seen) (rd : ℕ) (root : Root) (v : ℕ) (d : RealmRow) → realm_is (Some own) (λ x r. x.number == rd && is_root root r.root && r.vmid == v) ≡ true
+      → cell_at w.machine own.number ≡ own.cell → (cell_at w.machine rd).descriptor ≡ Some d → d.root ≡ root
+  root_is own rd root v d fit at is =
+      let number : (r : RealmRow) → (own.number == rd && is_root root r.root && r.vmid == v) ≡ true → own.number ≡ rd = λ r t. eqb-true own.number rd (and_parts _ _ (and_parts _ _ t).0).0 in
+      sym (same_root root d.root (and_parts _ _ (and_parts _ _ (own_is own rd d (λ x r. x.number == rd && is_root root r.root && r.vmid == v) number fit at is)).0).1)
 
   rec_test : (rd : Seen) (d : RealmRow) (n : ℕ) (rec : RecRow) (test : RecRow → Bool) → realm_is (Some rd) (λ x r. elim (get r.recs n) [ Some rec ↦ test rec | None ↦ false ]) ≡ true
       → rd.cell.descriptor ≡ Some d → get d.recs n ≡ Some rec → test rec ≡ true
@@ -115,16 +130,17 @@ module _ (limits : Limits) (b : ℕ) (w : World) where
   ReachesOwn _ realm = Unit {0}
 
   pub changes : (act : Act) (realm : Option Seen) → is_of_block act ≡ false → ReachesOwn act realm → list_all L (named act) ≡ true → IsAt w.machine realm → IsHeld b w.leases realm
-      → fits act realm (map (seen w.machine) (named act)) ≡ true → Yields C (outcome_of limits act realm (map (seen w.machine) (named act)))
+      → fits act realm (map (seen w.machine) (named act)) ≡ true → Yields C (outcome_of limits (used_vmids w.machine) act realm (map (seen w.machine) (named act)))
   unfolding outcome_of named fits
   changes (Fill g v) realm k reach h at held fit = Yields-check C _ _ _ (λ _. Yields-Ok C _ h)
   changes (Peek g o v) realm k reach h at held fit = Yields-check C _ _ _ (λ _. Yields-Ok C _ refl)
   changes (Delegate g) realm k reach h at held fit = Yields-check C _ _ _ (λ _. Yields-Ok C _ h)
   changes (Undelegate g) realm k reach h at held fit = Yields-check C _ _ _ (λ _. Yields-Ok C _ h)
-  changes (Realm rd root v) realm k reach h at held fit = Yields-check C _ _ _ (λ _. Yields-Ok C _ h)
+  changes (Realm rd root v) realm k reach h at held fit = Yields-check C _ _ _ (λ _. Yields-Ok C _
+      (let both = and_parts _ _ h in and_from _ _ both.0 (seen_alone (held_cell InRtt rd) (starting_tables root) both.1)))
   changes (UnRealm rd root v) None k reach h at held fit = cc
   changes (UnRealm rd root v) (Some own) k reach h at held fit = Yields-with_realm C _ _ (λ d is. Yields-check C _ _ _ (λ _. Yields-Ok C _
-      (two rd d.root (and_parts _ _ h).0 (ap L (root_is own rd root v d fit at is) ∙ (and_parts _ _ (and_parts _ _ h).1).0))))
+      (let both = and_parts _ _ h in and_from _ _ both.0 (puts_alone left (starting_tables d.root) (ap (λ r. list_all L (starting_tables r)) (root_is own rd root v d fit at is) ∙ both.1)))))
   changes Activate None k reach h at held fit = Yields-Err C _
   changes Activate (Some rd) k reach h at held fit = Yields-with_realm C _ _ (λ d is. Yields-check C _ _ _ (λ _. Yields-Ok C _ (one rd.number held)))
   changes (Rtt g ipa level) None k reach h at held fit = Yields-Err C _
@@ -149,13 +165,13 @@ module _ (limits : Limits) (b : ℕ) (w : World) where
       (ap L (pointed d.rows ipa 3 g pa end (realm_test rd d (λ x r. leads_to (row_at r.rows 3 ipa) g) fit is) e last there) ∙ (and_parts _ _ h).0) held)))))))
   changes (Rec g aux n) None k reach h at held fit = Yields-Err C _
   changes (Rec g aux n) (Some rd) k reach h at held fit = Yields-with_realm C _ _ (λ d is. Yields-check C _ _ _ (λ _. Yields-check C _ _ _ (λ _. Yields-Ok C _
-      (let both = and_parts _ _ h in and_from _ _ both.0 (seen_puts (held_cell RecAux rd.number) aux.items _ both.1 (one rd.number held))))))
+      (let both = and_parts _ _ h in and_from _ _ both.0 (seen_more (held_cell RecAux rd.number) aux.items _ both.1 (one rd.number held))))))
   changes (UnRec g aux n) None k reach h at held fit = Yields-Err C _
   changes (UnRec g aux n) (Some rd) k reach h at held fit = Yields-with_realm C _ _ (λ d is. Yields-with_rec C _ _ _ (λ rec there. Yields-check C _ _ _ (λ _. Yields-Ok C _
       (let both = and_parts _ _ h in
       let known = and_parts _ _ (rec_test rd d n rec (λ r. r.granule == g && bytes_eq r.auxiliaries aux.items) fit is there) in
       and_from _ _ (ap L (eqb-true rec.granule g known.0) ∙ both.0)
-      (named_puts left rec.auxiliaries _ (ap (list_all L) ((bytes_decides rec.auxiliaries aux.items).0 known.1) ∙ both.1) (one rd.number held))))))
+      (puts_more left rec.auxiliaries _ (ap (list_all L) ((bytes_decides rec.auxiliaries aux.items).0 known.1) ∙ both.1) (one rd.number held))))))
   changes (Enter n) None k reach h at held fit = Yields-Err C _
   changes (Enter n) (Some rd) k reach h at held fit = Yields-with_realm C _ _ (λ d is. Yields-with_rec C _ _ _ (λ rec there. Yields-check C _ _ _ (λ _. Yields-check C _ _ _ (λ _. Yields-Ok C _ (one rd.number held)))))
   changes (Exit n) None k reach h at held fit = Yields-Err C _
@@ -173,12 +189,11 @@ holder_is build _ k = refl
 -- where the granules named are the build's, the act fits, and its command is not refused, the step is made
 pub step_exact : (limits : Limits) (w : World) (build : ℕ) (act : Act) (us : List Update) → is_of_block act ≡ false → ReachesOwn limits build w act (realm_of build w)
     → is_allowed limits w (record { build = build; act = act }) ≡ true
-    → outcome_of limits act (realm_of build w) (map (seen w.machine) (named act)) ≡ Ok us
+    → outcome_of limits (used_vmids w.machine) act (realm_of build w) (map (seen w.machine) (named act)) ≡ Ok us
     → step limits w (record { build = build; act = act }) ≡ Some (record { machine = machine_after_all us w.machine; leases = w.leases })
 step_exact limits w build act us k reach opened planned =
     let outer = and_parts _ _ opened in
-    let inner = and_parts _ _ outer.0 in
-    let first = and_parts _ _ inner.0 in
+    let first = and_parts _ _ outer.0 in
     let mine : list_all (is_leased_to (Some build) w.leases) (named act) ≡ true = ap (λ l. list_all (is_leased_to l w.leases) (named act)) (sym (holder_is build act k)) ∙ first.1 in
-    step-command limits w build act us (ltb-true build limits.builds first.0) first.1 inner.1 outer.1 planned
+    step-command limits w build act us (ltb-true build limits.builds first.0) first.1 outer.1 planned
     ((changes limits build w act (realm_of build w) k reach mine (IsAt-realm_of build w) (IsHeld-realm_of build w) outer.1).where_ok us planned)

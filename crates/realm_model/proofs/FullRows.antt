@@ -1,10 +1,11 @@
--- The commands keep the rows of a realm full: none of the root or of a table is missing.
-use Rattle.std.proofs.Common.{◌/◌, ◌^◌, ◌≡◌, ◌≢◌, ℕ, zero, suc, ◌+◌, ◌-◌, ◌*◌, ◌<◌, ◌≤◌, Bool, true, false, cond, not, inl, inr, Some, None, refl, sym, ap, ◌∙◌, subst, arith}
+-- The commands keep the rows of a realm full: none of the starting tables or of a table is missing.
+use Rattle.std.proofs.Common.{◌/◌, ◌≡◌, ◌≢◌, ℕ, zero, suc, ◌+◌, ◌-◌, ◌*◌, ◌<◌, ◌≤◌, Bool, true, false, cond, not, inl, inr, Some, None, refl, sym, ap, ◌∙◌, subst, arith}
 use Rattle.std.specs.Prelude.{option_map, is_some, ◌==◌}
 use Rattle.std.specs.FinMap.{get, insert, empty, get-empty}
 use Rattle.std.proofs.lemmas.Bool.{and_parts, eqb-true, eqb-false}
 use Rattle.std.proofs.lemmas.Option.{same_Some}
 use Rattle.granule_addr.specs.Ipa.{covered_count, first_covered}
+use Rattle.granule_addr.specs.Root.{start_count, space_of}
 use Rattle.realm_model.specs.declared.states.Hipas.TheVariants.{Unassigned}
 use Rattle.realm_model.specs.declared.states.Ripas.{Ripas}
 use Rattle.realm_model.specs.declared.states.Ripas.TheVariants.{Empty, Destroyed}
@@ -18,21 +19,25 @@ use Rattle.realm_model.proofs.Walks.{walk_end}
 use Rattle.realm_model.proofs.Booleans.{true_false}
 use Rattle.realm_model.proofs.RowKinds.{kind_of_table}
 
-pub root_full : IsFull (look root_rows)
+pub root_full : (width : ℕ) → IsFull width (look (root_rows width))
 unfolding root_rows
-root_full = record {
-  root = λ ipa inside. ap is_some (ap (λ n. look (put_rows (λ _. unassigned Empty) empty 1 0 512) (1, n)) (whole ipa) ∙ put_there (unassigned Empty) empty 1 0 512 (ipa / 262144) (less ipa inside));
+root_full width = record {
+  root = λ ipa inside. ap is_some (ap (λ n. look (put_rows (λ _. unassigned Empty) empty 1 0 count) (1, n)) (whole ipa)
+      ∙ put_there (unassigned Empty) empty 1 0 count (ipa / 262144) (less (start_count width) ipa inside));
   tables = λ level ipa h. absurd (true_false _ h (no_table (level, first_covered level ipa)));
 }
   where
+    count : ℕ
+    count = 512 * start_count width
+
     whole : (ipa : ℕ) → ipa / 262144 * 262144 ≡ 0 + ipa / 262144 * 262144
     whole ipa = omega arith
 
-    less : (ipa : ℕ) → ipa < 134217728 → ipa / 262144 < 512
-    less ipa inside = omega arith
+    less : (tables ipa : ℕ) → ipa < tables * 134217728 → ipa / 262144 < 512 * tables
+    less tables ipa inside = omega arith
 
-    no_table : (q : ℕ × ℕ) → is_table_kind (look (put_rows (λ _. unassigned Empty) empty 1 0 512) q) ≡ false
-    no_table q = elim (put_kinds (unassigned Empty) empty 1 0 512 q) [
+    no_table : (q : ℕ × ℕ) → is_table_kind (look (put_rows (λ _. unassigned Empty) empty 1 0 count) q) ≡ false
+    no_table q = elim (put_kinds (unassigned Empty) empty 1 0 count q) [
       | inl none ↦ ap is_table_kind (none ∙ ap (option_map mapping_of_row) (get-empty place_cmp q))
       | inr new ↦ ap is_table_kind new.0
     ]
@@ -44,7 +49,7 @@ some_stays rows place row q some = ap is_some (look-insert rows place q row)
     ∙ elim (is_place q place) as (λ t. is_some (cond t (Some (mapping_of_row row)) (look rows q)) ≡ true) [ true ↦ refl | false ↦ some ]
 
 -- one that is no table, at any place
-pub put_full : (rows : Rows) (place : ℕ × ℕ) (row : Row) → IsFull (look rows) → is_table_kind (Some (mapping_of_row row)) ≡ false → IsFull (look (insert rows place row))
+pub put_full : {width : ℕ} (rows : Rows) (place : ℕ × ℕ) (row : Row) → IsFull width (look rows) → is_table_kind (Some (mapping_of_row row)) ≡ false → IsFull width (look (insert rows place row))
 put_full rows place row full plain = record {
   root = λ ipa inside. some_stays rows place row (1, first_covered 1 ipa) (full.root ipa inside);
   tables = λ level ipa h. some_stays rows place row (level + 1, first_covered (level + 1) ipa) (full.tables level ipa (was_table (level, first_covered level ipa) h));
@@ -57,14 +62,14 @@ put_full rows place row full plain = record {
     ] (ap is_table_kind (sym (look-insert rows place q row)) ∙ h)
 
 -- rows that become RAM
-pub with_ram_full : (rows : Rows) (ipa n : ℕ) → IsFull (look rows) → all_rows is_unassigned rows 3 ipa n ≡ true → IsFull (look (with_ram rows ipa n))
+pub with_ram_full : {width : ℕ} (rows : Rows) (ipa n : ℕ) → IsFull width (look rows) → all_rows is_unassigned rows 3 ipa n ≡ true → IsFull width (look (with_ram rows ipa n))
 unfolding with_ram
-with_ram_full rows ipa n full all = subst IsFull (λ i q. same_rows rows ipa n all q i) full
+with_ram_full {width} rows ipa n full all = subst (IsFull width) (λ i q. same_rows rows ipa n all q i) full
 
 -- ---- tables
 
 -- what covers the first granule of an entry covers all of it
-above_covers : (level i : ℕ) → 1 ≤ level - 1 → level - 1 ≤ 2 → first_covered (level - 1) (first_covered level i) ≡ first_covered (level - 1) i
+pub above_covers : (level i : ℕ) → 1 ≤ level - 1 → level - 1 ≤ 2 → first_covered (level - 1) (first_covered level i) ≡ first_covered (level - 1) i
 above_covers level i low high = elim (level == 2) as (λ t. (level == 2) ≡ t → first_covered (level - 1) (first_covered level i) ≡ first_covered (level - 1) i) [
   | true ↦ λ e. subst (λ l. first_covered (l - 1) (first_covered l i) ≡ first_covered (l - 1) i) (sym (eqb-true level 2 e)) (two i)
   | false ↦ λ e.
@@ -79,7 +84,7 @@ above_covers level i low high = elim (level == 2) as (λ t. (level == 2) ≡ t �
     three : (i : ℕ) → i / 1 * 1 / 512 * 512 ≡ i / 512 * 512
     three i = omega arith
 
-module _ (rows : Rows) (level ipa : ℕ) (at : IsTablePlace ipa level) (full : IsFull (look rows)) where
+module _ {width : ℕ} (rows : Rows) (level ipa : ℕ) (at : IsTablePlace ipa level) (full : IsFull width (look rows)) where
   abbrev up : ℕ × ℕ
   up = (level - 1, first_covered (level - 1) ipa)
 
@@ -128,7 +133,7 @@ module _ (rows : Rows) (level ipa : ℕ) (at : IsTablePlace ipa level) (full : I
         ap (λ n. is_some (look made (n, first_covered n i))) there.0 ∙ ap (λ n. is_some (look made (level, n))) k.2
         ∙ ap is_some (put_there (unassigned ripas) topped level ipa 512 k.0 k.1)
 
-  pub with_table_full : (granule : ℕ) (ripas : Ripas) → IsFull (look (with_table rows level ipa granule ripas))
+  pub with_table_full : (granule : ℕ) (ripas : Ripas) → IsFull width (look (with_table rows level ipa granule ripas))
   unfolding with_table
   with_table_full granule ripas = record {
     root = λ i inside. made_some granule ripas (1, first_covered 1 i) (full.root i inside);
@@ -174,7 +179,7 @@ module _ (rows : Rows) (level ipa : ℕ) (at : IsTablePlace ipa level) (full : I
     | false ↦ λ h. (refl, dropped_table q h)
   ] (ap is_table_kind (sym (look-insert dropped up q (unassigned Destroyed))) ∙ h)
 
-  pub without_table_full : IsFull (look (without_table rows level ipa))
+  pub without_table_full : IsFull width (look (without_table rows level ipa))
   unfolding without_table
   without_table_full = record {
     root = λ i inside. elim (under (1, first_covered 1 i)) as (λ t. under (1, first_covered 1 i) ≡ t → is_some (look left_rows (1, first_covered 1 i)) ≡ true) [
@@ -192,7 +197,7 @@ module _ (rows : Rows) (level ipa : ℕ) (at : IsTablePlace ipa level) (full : I
 -- ---- walks
 
 -- every one ends at a row
-pub walk_ends : (rows : Rows) → IsFull (look rows) → (ipa level : ℕ) → ipa < 2 ^ 27 → 1 ≤ level → is_some (walk rows ipa level) ≡ true
+pub walk_ends : {width : ℕ} (rows : Rows) → IsFull width (look rows) → (ipa level : ℕ) → ipa < space_of width → 1 ≤ level → is_some (walk rows ipa level) ≡ true
 unfolding walk
 walk_ends rows full ipa zero inside low = absurd (omega arith)
 walk_ends rows full ipa (suc zero) inside low =
@@ -207,7 +212,7 @@ walk_ends rows full ipa (suc (suc level)) inside low =
     ]
 
 -- one that ends above its level ends at a row that is no table
-pub walk_ends_above : (rows : Rows) → IsFull (look rows) → (ipa level : ℕ) (end : Walk) → walk rows ipa level ≡ Some end → end.level < level → is_table end.row ≡ false
+pub walk_ends_above : {width : ℕ} (rows : Rows) → IsFull width (look rows) → (ipa level : ℕ) (end : Walk) → walk rows ipa level ≡ Some end → end.level < level → is_table end.row ≡ false
 unfolding walk
 walk_ends_above rows full ipa zero end e above = absurd (omega arith)
 walk_ends_above rows full ipa (suc level) end e above =

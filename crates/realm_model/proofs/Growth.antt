@@ -43,23 +43,29 @@ grows limits history event w v legal at_w stepped turn =
     after_push limits history event (opening limits) ∙ ap (option_and_then (λ x. step limits x event)) at_w ∙ stepped in
     record { legal = record { steps = ap is_some at_v; in_turn = AllInTurn_push [] history event legal.in_turn turn }; world_is = at_v }
 
--- ---- what is open after it
+-- ---- the acts of a build after it, and what is open
+
+pub acts_of-own : (history : List Event) (event : Event) → acts_of event.build (history ++ event ∷ []) ≡ acts_of event.build history ++ event.act ∷ []
+acts_of-own history event =
+    ap (map (λ (x : Event). x.act)) (filter-append (λ x. x.build == event.build) history (event ∷ [])
+    ∙ ap (λ t. filter (λ x. x.build == event.build) history ++ cond t (event ∷ []) []) (eq-eqb event.build event.build refl))
+    ∙ map-append (λ (x : Event). x.act) (filter (λ x. x.build == event.build) history) (event ∷ [])
+
+pub acts_of-other : (build : ℕ) (history : List Event) (event : Event) → event.build ≢ build → acts_of build (history ++ event ∷ []) ≡ acts_of build history
+acts_of-other build history event apart =
+    ap (map (λ (x : Event). x.act)) (filter-append (λ x. x.build == build) history (event ∷ [])
+    ∙ ap (λ t. filter (λ x. x.build == build) history ++ cond t (event ∷ []) []) (ne_eqb event.build build apart)
+    ∙ append-nil (filter (λ x. x.build == build) history))
 
 -- what is open after one more event
 pub open_entries-own : (history : List Event) (event : Event) → open_entries event.build (history ++ event ∷ []) ≡ pushed (open_entries event.build history) event.act
 unfolding open_entries
 open_entries-own history event =
-    ap (λ es. unmatched (map (λ (x : Event). x.act) es)) (filter-append (λ x. x.build == event.build) history (event ∷ [])
-    ∙ ap (λ t. filter (λ x. x.build == event.build) history ++ cond t (event ∷ []) []) (eq-eqb event.build event.build refl))
-    ∙ ap unmatched (map-append (λ (x : Event). x.act) (filter (λ x. x.build == event.build) history) (event ∷ []))
-    ∙ unmatched_push (acts_of event.build history) event.act
+    ap unmatched (acts_of-own history event) ∙ unmatched_push (acts_of event.build history) event.act
 
 pub open_entries-other : (build : ℕ) (history : List Event) (event : Event) → event.build ≢ build → open_entries build (history ++ event ∷ []) ≡ open_entries build history
 unfolding open_entries
-open_entries-other build history event apart =
-    ap (λ es. unmatched (map (λ (x : Event). x.act) es)) (filter-append (λ x. x.build == build) history (event ∷ [])
-    ∙ ap (λ t. filter (λ x. x.build == build) history ++ cond t (event ∷ []) []) (ne_eqb event.build build apart)
-    ∙ append-nil (filter (λ x. x.build == build) history))
+open_entries-other build history event apart = ap unmatched (acts_of-other build history event apart)
 
 -- the newest open act, which a reverse act in turn takes away
 pub record TakesAway (b : ℕ) (history : List Event) (act : Act) : Type 0 where

@@ -1,21 +1,22 @@
 -- One event, and the world with some builds hidden: without one build, or with one build alone.
-use Rattle.std.proofs.Common.{◌≡◌, ◌≢◌, ℕ, suc, Bool, true, false, cond, ◌&&◌, ◌||◌, not, List, [], ◌∷◌, map, Option, Some, None, Ok, Err, refl, sym, ap, ◌∙◌}
+use Rattle.std.proofs.Common.{◌≡◌, ◌≢◌, ℕ, suc, Bool, true, false, cond, ◌&&◌, not, List, [], ◌∷◌, map, Option, Some, None, Ok, Err, refl, sym, ap, ◌∙◌}
 use Rattle.std.specs.Option.{option_eq}
 use Rattle.std.specs.Prelude.{◌==◌, slice_get, option_map, is_some}
-use Rattle.std.specs.List.{list_any, list_all}
+use Rattle.std.specs.List.{list_all}
 use Rattle.std.proofs.lemmas.Option.{slice_get-map}
 use Rattle.std.proofs.lemmas.Bool.{eq-eqb, ne_eqb, and_parts, and_from}
 use Rattle.realm_model.specs.declared.act.Act.{Act}
-use Rattle.realm_model.specs.declared.act.Act.TheVariants.{Take, Realm}
+use Rattle.realm_model.specs.declared.act.Act.TheVariants.{Take}
 use Rattle.realm_model.specs.declared.act.Event.{Event}
 use Rattle.realm_model.specs.Machine.{Cell, Machine, Limits, Seen, blank, cell_at, seen}
-use Rattle.realm_model.specs.Update.{Outcome}
+use Rattle.realm_model.specs.Update.{Update, Outcome}
 use Rattle.realm_model.specs.Act.{named, holder}
 use Rattle.realm_model.specs.Outcome.{outcome_of, fits}
 use Rattle.realm_model.specs.World.{World, is_lease, is_leased_to, each, masked, without, part_of, is_of, is_of_other, hidden, unleased, realm_from, realm_of}
-use Rattle.realm_model.specs.Step.{step, after_outcome, is_allowed, is_vmid_free, has_vmid}
-use Rattle.realm_model.proofs.Booleans.{guarded, false_from, or_parts, not_true, true_false}
+use Rattle.realm_model.specs.Step.{step, after_outcome, is_allowed, used_vmids}
+use Rattle.realm_model.proofs.Booleans.{guarded, false_from, true_false}
 use Rattle.realm_model.proofs.Leases.{leased-map, lease_is, leased, cell_at-each}
+use Rattle.realm_model.proofs.UsedVmids.{used-hidden, outcome_of-fewer}
 use Rattle.realm_model.proofs.HiddenUpdates.{updated_all-masked, hidden-blank, masked-own_updated_all}
 use Rattle.realm_model.proofs.Clean.{IsClean, IsClean-updated_all}
 
@@ -51,20 +52,6 @@ module _ (p : Option ℕ → Bool) (lease : Option ℕ) (apart : IsShown p lease
       let rest : map (seen (each (hidden p) leases machine)) gs ≡ map (seen machine) gs = named_seen leases machine gs both.1 in
       λ i. record { number = g; cell = cell i } ∷ rest i
 
--- a VMID that no realm has is had by none of fewer realms
-pub fewer_vmids : (p : Option ℕ → Bool) (v : ℕ) (leases : List (Option ℕ)) (machine : Machine) → list_any (has_vmid v) machine ≡ false → list_any (has_vmid v) (each (hidden p) leases machine) ≡ false
-fewer_vmids p v [] machine h = refl
-fewer_vmids p v (l ∷ leases) [] h = refl
-fewer_vmids p v (l ∷ leases) (cell ∷ machine) h =
-    let parts = or_parts (has_vmid v cell) _ h in
-    let hide : has_vmid v (hidden p l cell) ≡ false =
-    elim (p l) as (λ t. has_vmid v (cond t blank cell) ≡ false) [ true ↦ refl | false ↦ parts.0 ] in
-    ap (λ t. t || list_any (has_vmid v) (each (hidden p) leases machine)) hide ∙ fewer_vmids p v leases machine parts.1
-
-vmid_free : (p : Option ℕ → Bool) (w : World) (act : Act) → is_vmid_free w.machine act ≡ true → is_vmid_free (masked p w).machine act ≡ true
-vmid_free p w (Realm rd root v) h = ap not (fewer_vmids p v w.leases w.machine (not_true _ h))
-vmid_free p w _ h = refl
-
 -- the realm of a build that is not hidden is where it was
 abbrev realm_or : ℕ → ℕ → Option ℕ → Cell → Option Seen → Option Seen
 realm_or c n lease cell rest = cond (is_lease lease (Some c) && is_some cell.descriptor) (Some (record { number = n; cell = cell })) rest
@@ -87,9 +74,9 @@ realm_kept p c n other (l ∷ leases) (cell ∷ machine) =
 
 -- what a command answered, and did, it answers and does
 module _ (p : Option ℕ → Bool) (free : p None ≡ false) (c : ℕ) where
-  after_outcome-masked : p (Some c) ≡ false → (o : Outcome) (w v : World) → after_outcome c o w ≡ Some v → after_outcome c o (masked p w) ≡ Some (masked p v)
-  after_outcome-masked other (Ok us) w v e = updated_all-masked p free c other us w v e
-  after_outcome-masked other (Err rmi) w v e = cc
+  after_outcome-masked : p (Some c) ≡ false → (o fewer : Outcome) (w v : World) → ((us : List Update) → o ≡ Ok us → fewer ≡ Ok us) → after_outcome c o w ≡ Some v → after_outcome c fewer (masked p w) ≡ Some (masked p v)
+  after_outcome-masked other (Ok us) fewer w v same e = ap (λ o. after_outcome c o (masked p w)) (same us refl) ∙ updated_all-masked p free c other us w v e
+  after_outcome-masked other (Err rmi) fewer w v same e = cc
 
   masked-own_after_plan : p (Some c) ≡ true → (o : Outcome) (w v : World) → IsClean w → after_outcome c o w ≡ Some v → masked p v ≡ masked p w
   masked-own_after_plan own (Ok us) w v clean e = masked-own_updated_all p free c own us w v clean e
@@ -112,18 +99,20 @@ module _ (limits : Limits) (p : Option ℕ → Bool) (free : p None ≡ false) (
       let c = e.build in
       let both = guarded (is_allowed limits w e) _ v s in
       let outer = and_parts _ _ both.0 in
-      let inner = and_parts _ _ outer.0 in
-      let first = and_parts _ _ inner.0 in
+      let first = and_parts _ _ outer.0 in
       let elsewhere : IsShown p (holder c e.act) = holder_shown p c e.act free other in
       let realm : realm_of c (masked p w) ≡ realm_of c w = realm_kept p c 0 other w.leases w.machine in
       let granules : map (seen (masked p w).machine) (named e.act) ≡ map (seen w.machine) (named e.act) =
       named_seen p (holder c e.act) elsewhere w.leases w.machine (named e.act) first.1 in
       let open_too : is_allowed limits (masked p w) e ≡ true =
-      and_from _ _ (and_from _ _ (and_from _ _ first.0 (named_leased p (holder c e.act) elsewhere w.leases (named e.act) first.1)) (vmid_free p w e.act inner.1))
+      and_from _ _ (and_from _ _ first.0 (named_leased p (holder c e.act) elsewhere w.leases (named e.act) first.1))
       ((λ i. fits e.act (realm i) (granules i)) ∙ outer.1) in
-      ap (λ t. cond t (after_outcome c (outcome_of limits e.act (realm_of c (masked p w)) (map (seen (masked p w).machine) (named e.act))) (masked p w)) None) open_too
-      ∙ (λ i. after_outcome c (outcome_of limits e.act (realm i) (granules i)) (masked p w))
-      ∙ after_outcome-masked p free c other (outcome_of limits e.act (realm_of c w) (map (seen w.machine) (named e.act))) w v both.1
+      let used : List ℕ = used_vmids w.machine in
+      let fewer : List ℕ = used_vmids (masked p w).machine in
+      ap (λ t. cond t (after_outcome c (outcome_of limits fewer e.act (realm_of c (masked p w)) (map (seen (masked p w).machine) (named e.act))) (masked p w)) None) open_too
+      ∙ (λ i. after_outcome c (outcome_of limits fewer e.act (realm i) (granules i)) (masked p w))
+      ∙ after_outcome-masked p free c other (outcome_of limits used e.act (realm_of c w) (map (seen w.machine) (named e.act))) (outcome_of limits fewer e.act (realm_of c w) (map (seen w.machine) (named e.act))) w v
+      (outcome_of-fewer limits used fewer (used-hidden p w.leases w.machine) e.act (realm_of c w) (map (seen w.machine) (named e.act))) both.1
 
   -- an event of a hidden build is not seen
   pub masked-own_step : p (Some e.build) ≡ true → IsClean w → step limits w e ≡ Some v → masked p v ≡ masked p w

@@ -11,7 +11,7 @@ use Rattle.realm_model.specs.History.{erase, acts_of, open_entries, unmatched, A
 use Rattle.realm_model.proofs.LeftOut.{acts_of-erase}
 
 -- the world after both
-after_append : (limits : Limits) (xs ys : List Event) (w : World) → after limits (xs ++ ys) w ≡ option_and_then (after limits ys) (after limits xs w)
+pub after_append : (limits : Limits) (xs ys : List Event) (w : World) → after limits (xs ++ ys) w ≡ option_and_then (after limits ys) (after limits xs w)
 unfolding after
 after_append limits [] ys w = refl
 after_append limits (x ∷ xs) ys w =
@@ -47,7 +47,7 @@ split limits p s w legal at_w =
 -- ---- what is open, after one part and the events of others in the other
 
 -- the acts of both
-acts_of-append : (b : ℕ) (xs ys : List Event) → acts_of b (xs ++ ys) ≡ acts_of b xs ++ acts_of b ys
+pub acts_of-append : (b : ℕ) (xs ys : List Event) → acts_of b (xs ++ ys) ≡ acts_of b xs ++ acts_of b ys
 acts_of-append b xs ys = ap (map (λ (x : Event). x.act)) (filter-append (λ (x : Event). x.build == b) xs ys) ∙ map-append (λ (x : Event). x.act) (filter (λ (x : Event). x.build == b) xs) (filter (λ (x : Event). x.build == b) ys)
 
 -- another build's events leave open what was

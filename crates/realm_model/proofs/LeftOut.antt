@@ -65,6 +65,14 @@ acts_of-erase b c apart (e ∷ es) =
       | false ↦ λ other. map-act c e (erase b es) ∙ ap (acts_or (e.build == c) e) rest ∙ sym (map-act c e es)
     ] refl
 
+-- none of the build's own are left
+pub acts_of-erased : (b : ℕ) (es : List Event) → acts_of b (erase b es) ≡ []
+acts_of-erased b [] = refl
+acts_of-erased b (e ∷ es) = elim (e.build == b) as (λ t. (e.build == b) ≡ t → acts_of b (cond (not t) (e ∷ erase b es) (erase b es)) ≡ []) [
+  | true ↦ λ own. acts_of-erased b es
+  | false ↦ λ other. map-act b e (erase b es) ∙ ap (λ t. acts_or t e (acts_of b (erase b es))) other ∙ acts_of-erased b es
+] refl
+
 IsInTurn-erase : (b : ℕ) (before : List Event) (e : Event) → e.build ≢ b → IsInTurn before e → IsInTurn (erase b before) e
 unfolding open_entries
 IsInTurn-erase b before e apart turn = λ r. ap (λ acts. option_and_then reverse_of (last_or None (unmatched acts))) (acts_of-erase b e.build apart before) ∙ turn r

@@ -3,15 +3,18 @@ pub mod Booleans
 pub mod Lists
 pub mod SetEach
 pub mod Maps
+pub mod Roots
 -- what a command yields, and its updates do
 pub mod Outcomes
 pub mod Walks
 pub mod Leases
 pub mod RealmOf
 pub mod Written
+pub mod NewRealms
 pub mod Puts
 pub mod Changes
 -- a build left out
+pub mod UsedVmids
 pub mod Clean
 pub mod HiddenUpdates
 pub mod HiddenSteps
@@ -36,9 +39,11 @@ pub mod TablePlaces
 pub mod TableBack
 pub mod SoundRows
 pub mod FullRows
+pub mod EmptyRows
 pub mod SoundCells
 pub mod SoundParts
 pub mod Roles
+pub mod ListedRoles
 pub mod RoleChanges
 pub mod RowRoles
 pub mod RecRoles
@@ -53,6 +58,7 @@ pub mod RunningRecs
 pub mod RealmAfter
 pub mod PartRealm
 pub mod Room
+pub mod Accepted
 -- owning the same, and undoing
 pub mod OwnsSame
 pub mod Unpaired
@@ -63,8 +69,15 @@ pub mod OwnLaws
 pub mod Emptied
 pub mod Progress
 pub mod PairsLeadBack
+-- the realm of a build, by its history
+pub mod RealmNumbers
+pub mod OpenRealm
+pub mod OpenVmids
+-- all undone
+pub mod Rests
 pub mod AtRest
 pub mod UndoAll
+pub mod Aborting
 -- what becomes of ownership
 pub mod LookSame
 pub mod Alike

@@ -8,7 +8,7 @@ use Rattle.std.specs.FinMap.{get, insert, empty, get-empty, get-insert, get-remo
 use Rattle.std.proofs.lemmas.Bool.{and_parts, eqb-true, eqb-false}
 use Rattle.std.proofs.lemmas.Option.{same_Some, option_and_then_some}
 use Rattle.granule_addr.specs.Ipa.{first_covered}
-use Rattle.realm_model.specs.declared.states.GranuleState.TheVariants.{Rec as InRec, Data as InData, Rtt as InRtt}
+use Rattle.realm_model.specs.declared.states.GranuleState.TheVariants.{Rec as InRec, RecAux, Data as InData, Rtt as InRtt}
 use Rattle.realm_model.specs.declared.states.Ripas.{Ripas}
 use Rattle.realm_model.specs.declared.states.Ripas.TheVariants.{Ram}
 use Rattle.realm_model.specs.declared.states.RecState.TheVariants.{Ready, Running}
@@ -23,13 +23,14 @@ use Rattle.realm_model.specs.Measurement.{measurement_after, data_event, rec_eve
 use Rattle.realm_model.specs.Act.{named, block}
 use Rattle.realm_model.specs.Outcome.{outcome_of, fits}
 use Rattle.realm_model.specs.World.{World, part_of, realm_of, opening, hidden, is_of_other}
-use Rattle.realm_model.specs.Step.{step}
+use Rattle.realm_model.specs.Step.{step, used_vmids}
 use Rattle.realm_model.specs.History.{after, replay}
 use Rattle.realm_model.specs.Ownership.{mapping_of_row, granules_of_rec}
 use Rattle.realm_model.specs.Sound.{look}
-use Rattle.realm_model.specs.Roles.{AsRoot, row_target, is_role_state}
+use Rattle.realm_model.specs.Roles.{AsRec, row_target, is_role_state}
 use Rattle.realm_model.specs.Undoing.{by}
-use Rattle.realm_model.proofs.Written.{seen_frees, put_takes, seen_takes, put_at, cell_put, put_frees, IsSquare}
+use Rattle.realm_model.proofs.NewRealms.{seen-creation, can_be_made}
+use Rattle.realm_model.proofs.Written.{seen-each_put, seen_frees, put_takes, seen_takes, put_at, cell_put, put_frees, IsSquare}
 use Rattle.realm_model.proofs.SoundRows.{with_table_cases, without_table_cases, leads_nowhere, look-with_table}
 use Rattle.realm_model.proofs.Maps.{same_insert}
 use Rattle.realm_model.proofs.Outcomes.{Yields-Ok, Yields-with_realm, Yields-Err, Yields, Yields-check, Yields-with_end, Yields-with_granule, Yields-with_rec}
@@ -46,7 +47,7 @@ use Rattle.realm_model.proofs.StepBack.{done, asked}
 use Rattle.realm_model.proofs.Walks.{walk_at}
 use Rattle.realm_model.proofs.RoleChanges.{host_bare, delegated_host, undelegated_host, host_put, freed, poked, realm_same}
 use Rattle.realm_model.proofs.RowRoles.{row_more, row_less, leaf_target, leaf_new, leaf_old}
-use Rattle.realm_model.proofs.RecRoles.{rec_more, rec_less, seen_auxes}
+use Rattle.realm_model.proofs.RecRoles.{rec_more, rec_less}
 use Rattle.realm_model.proofs.RealmRoles.{realm_made, realm_gone}
 use Rattle.realm_model.proofs.RowKinds.{table_target, assigned_target, unassigned_target}
 use Rattle.realm_model.proofs.Leases.{cell_at-replicate}
@@ -98,7 +99,7 @@ module _ (limits : Limits) (w : World) (sound : IsSoundPart w) (old : IsLinked (
       ])
 
   linked : (act : Act) (realm : Option Seen) → IsAt w.machine realm → (realm ≡ None → (k : ℕ) → (now k).descriptor ≡ None) → fits act realm (map (seen w.machine) (named act)) ≡ true
-      → Yields R (outcome_of limits act realm (map (seen w.machine) (named act)))
+      → Yields R (outcome_of limits (used_vmids w.machine) act realm (map (seen w.machine) (named act)))
   unfolding outcome_of named fits with_ram
   linked (Take order first) realm at none fit = Yields-Ok R _ (subst R (sym (seen_takes w.machine (block order first))) (subst IsLinked (λ i k. sym (put_takes (block order first) k (now k)) i) old))
   linked (UnTake order first) realm at none fit = Yields-Ok R _ (subst R (sym (seen_frees w.machine (block order first)))
@@ -107,11 +108,13 @@ module _ (limits : Limits) (w : World) (sound : IsSoundPart w) (old : IsLinked (
   linked (Peek g o v) realm at none fit = Yields-check R _ _ _ (λ _. Yields-Ok R _ old)
   linked (Delegate g) realm at none fit = Yields-check R _ _ _ (λ host. Yields-Ok R _ (host_put w sound old g left (undelegated_host w sound g host) refl refl))
   linked (Undelegate g) realm at none fit = Yields-check R _ _ _ (λ free. Yields-Ok R _ (let h = delegated_host w sound g free in host_put w sound old g _ h refl (host_bare w sound g h)))
-  linked (Realm rd root v) realm at none fit = Yields-check R _ _ _ (λ all. Yields-Ok R _ (realm_made w sound old rd root v (none (none_is realm fit)) (not_true _ (and_parts _ _ (and_parts _ _ (and_parts _ _ all).0).0).1)))
+  linked (Realm rd root v) realm at none fit = Yields-check R _ _ _ (λ all.
+      let new = can_be_made limits.vmids (used_vmids w.machine) w.machine rd root v all in
+      Yields-Ok R _ (subst R (sym (seen-creation w.machine rd root v)) (realm_made w sound old rd root v (none (none_is realm fit)) new.different)))
   linked (UnRealm rd root v) realm at none fit = Yields-with_realm R _ _ (λ d is. Yields-check R _ _ _ (λ empty.
       let parts = and_parts _ _ empty in
       let rows = ((sound.cells rd).row d is).rows in
-      Yields-Ok R _ (realm_gone w sound old rd d.root d is refl (leads_nowhere d.rows rows (not_true _ parts.1)) (no_recs_in d.recs (eqb-true (len d.recs) 0 parts.0)))))
+      Yields-Ok R _ (realm_gone w sound old rd d is (leads_nowhere d.rows rows (not_true _ parts.1)) (no_recs_in d.recs (eqb-true (len d.recs) 0 parts.0)))))
   linked Activate None at none fit = Yields-Err R _
   linked Activate (Some rd) at none fit = Yields-with_realm R _ _ (λ d is. Yields-check R _ _ _ (λ _. Yields-Ok R _ (realm_same w sound old rd d _ at is refl (λ q. refl) (λ q. refl))))
   linked (Rtt g ipa level) None at none fit = Yields-Err R _
@@ -184,7 +187,7 @@ module _ (limits : Limits) (w : World) (sound : IsSoundPart w) (old : IsLinked (
         next = d.next + 1;
         measurement = measurement_after d.measurement (rec_event d.next);
       } in
-      Yields-Ok R _ (subst R (λ i. (Put g (held InRec rd.number) ∷ sym (seen_auxes w.machine rd.number aux.items) i) ++ Put rd.number (record rd.cell { descriptor = Some more }) ∷ [])
+      Yields-Ok R _ (subst R (λ i. (Put g (held InRec rd.number) ∷ sym (seen-each_put w.machine (held RecAux rd.number) aux.items) i) ++ Put rd.number (record rd.cell { descriptor = Some more }) ∷ [])
       (rec_more w sound old rd d _ at is refl refl g aux.items d.next parts.0 (apart_list (g ∷ aux.items) parts.1) (ap (option_map granules_of_rec) (unused_number d (realm_sound rd d at is))) (λ q.
       let rec1 : RecRow = record { granule = g; auxiliaries = map (λ (a : Seen). a.number) (map (seen w.machine) aux.items); state = Ready } in
       ap (option_map granules_of_rec) (get-insert nat_cmp_total d.recs d.next rec1 q)
@@ -237,7 +240,7 @@ linked_after limits b (e ∷ es) w v sound old h = option_and_then_some (after l
 pub linked_opening : (limits : Limits) (b : ℕ) → IsLinkedFor b (opening limits)
 linked_opening limits b = subst (λ m. IsLinked (λ k. cell_at m k)) (sym (each-replicate (hidden (is_of_other b)) refl limits.pages))
     (record {
-      roles = λ k. AsRoot;
+      roles = λ k. AsRec 0;
       names = λ k e h p to there. absurd (true_false _ (ap is_some h) (ap (λ (c : Cell). is_some c.descriptor) (cell_at-replicate limits.pages k)));
       named = λ g role. absurd (true_false _ role (ap (λ (c : Cell). is_role_state c.state) (cell_at-replicate limits.pages g)));
     })

@@ -1,57 +1,39 @@
 -- What others do after some point goes as well where a build did nothing since.
-use Rattle.std.proofs.Common.{◌≡◌, ◌≢◌, ℕ, suc, true, false, cond, ◌||◌, not, List, [], ◌∷◌, length, map, Option, Some, None, refl, sym, ap, ◌∙◌, arith, pred}
+use Rattle.std.proofs.Common.{◌≡◌, ◌≢◌, ℕ, zero, suc, true, false, cond, ◌⊎◌, inl, inr, not, List, [], ◌∷◌, length, map, Option, Some, None, refl, sym, ap, ◌∙◌, arith, pred}
 use Rattle.std.specs.Prelude.{◌==◌, slice_get, option_map}
-use Rattle.std.specs.List.{list_all, list_any}
+use Rattle.std.specs.List.{list_all}
 use Rattle.std.proofs.lemmas.Bool.{ne_eqb}
 use Rattle.std.proofs.lemmas.Option.{same_Some, slice_get-map}
 use Rattle.realm_model.specs.declared.act.Act.{Act}
-use Rattle.realm_model.specs.declared.act.Act.TheVariants.{Take, Realm}
+use Rattle.realm_model.specs.declared.act.Act.TheVariants.{Take}
 use Rattle.realm_model.specs.declared.act.Event.{Event}
 use Rattle.realm_model.specs.Machine.{Limits, RealmRow, Machine, blank, cell_at, seen}
 use Rattle.realm_model.specs.Update.{machine_after_all}
 use Rattle.realm_model.specs.Act.{named, holder}
 use Rattle.realm_model.specs.Outcome.{fits, outcome_of}
 use Rattle.realm_model.specs.World.{World, is_leased_to, realm_of, each, hidden, unleased, is_of, is_of_other, without, part_of}
-use Rattle.realm_model.specs.Step.{step, has_vmid, is_vmid_free}
+use Rattle.realm_model.specs.Step.{step, used_vmids}
 use Rattle.realm_model.specs.StepLaw.{leases_after, IsStep, StepIsWhatItSays}
-use Rattle.realm_model.proofs.Booleans.{or_parts, not_true, true_false}
-use Rattle.realm_model.proofs.Lists.{all_in, all_from_in}
+use Rattle.realm_model.proofs.Booleans.{true_false}
+use Rattle.realm_model.proofs.Lists.{is_in, all_in, all_from_in}
 use Rattle.realm_model.proofs.Leases.{lease_is, lease_same, leased, leased_from, leased_all, all_leased}
-use Rattle.realm_model.proofs.HiddenSteps.{named_seen, realm_kept, fewer_vmids, step-without, part_of-other_step, leased_in_part}
+use Rattle.realm_model.proofs.HiddenSteps.{named_seen, realm_kept, step-without, part_of-other_step, leased_in_part}
 use Rattle.realm_model.proofs.Written.{IsSquare}
 use Rattle.realm_model.proofs.SoundParts.{IsSound}
 use Rattle.realm_model.proofs.StepSays.{step_is}
-use Rattle.realm_model.proofs.Vmids.{none_has}
+use Rattle.realm_model.proofs.UsedVmids.{used_at, used_by, used-hidden, outcome_of-fewer}
 use Rattle.realm_model.proofs.StaysThere.{HasStill}
 
--- ---- VMIDs
-
--- a VMID that no realm has
-none_from : (v : ℕ) (machine : Machine) → ((k : ℕ) (d : RealmRow) → (cell_at machine k).descriptor ≡ Some d → d.vmid ≢ v) → list_any (has_vmid v) machine ≡ false
-none_from v [] h = refl
-none_from v (c ∷ machine) h = λ i. one c.descriptor (h 0) i || none_from v machine (λ k d is. h (suc k) d is) i
-  where
-    one : (o : Option RealmRow) → ((d : RealmRow) → o ≡ Some d → d.vmid ≢ v) → elim o [ Some realm ↦ realm.vmid == v | None ↦ false ] ≡ false
-    one None h = refl
-    one (Some d) h = ne_eqb d.vmid v (h d refl)
-
--- and none of a part and none of the rest
-none_of_both : (v b : ℕ) (leases : List (Option ℕ)) (machine : Machine) → length leases ≡ length machine → list_any (has_vmid v) (each (hidden (is_of_other b)) leases machine) ≡ false
-    → list_any (has_vmid v) (each (hidden (is_of b)) leases machine) ≡ false → list_any (has_vmid v) machine ≡ false
-none_of_both v b [] [] even part rest = refl
-none_of_both v b [] (c ∷ machine) even part rest = absurd (omega arith)
-none_of_both v b (l ∷ leases) [] even part rest = refl
-none_of_both v b (l ∷ leases) (c ∷ machine) even part rest =
-    let in_part = or_parts (has_vmid v (hidden (is_of_other b) l c)) _ part in
-    let in_rest = or_parts (has_vmid v (hidden (is_of b) l c)) _ rest in
-    λ i. one l in_part.0 in_rest.0 i || none_of_both v b leases machine (ap pred even) in_part.1 in_rest.1 i
-  where
-    one : (l : Option ℕ) → has_vmid v (hidden (is_of_other b) l c) ≡ false → has_vmid v (hidden (is_of b) l c) ≡ false → has_vmid v c ≡ false
-    one None p r = p
-    one (Some o) p r = elim (o == b) as (λ t. has_vmid v (cond (not t) blank c) ≡ false → has_vmid v (cond t blank c) ≡ false → has_vmid v c ≡ false) [
-      | true ↦ λ p r. p
-      | false ↦ λ p r. r
-    ] p r
+-- a realm is in the part of a build or in the rest
+in_either : (b : ℕ) (leases : List (Option ℕ)) (machine : Machine) → length leases ≡ length machine → (k : ℕ) (d : RealmRow) → (cell_at machine k).descriptor ≡ Some d
+    → ((cell_at (each (hidden (is_of_other b)) leases machine) k).descriptor ≡ Some d) ⊎ ((cell_at (each (hidden (is_of b)) leases machine) k).descriptor ≡ Some d)
+in_either b [] [] even k d is = cc
+in_either b [] (c ∷ machine) even k d is = absurd (omega arith)
+in_either b (l ∷ leases) [] even k d is = cc
+in_either b (None ∷ leases) (c ∷ machine) even zero d is = inl is
+in_either b (Some o ∷ leases) (c ∷ machine) even zero d is =
+    elim (o == b) as (λ t. ((cond (not t) blank c).descriptor ≡ Some d) ⊎ ((cond t blank c).descriptor ≡ Some d)) [ true ↦ inl is | false ↦ inr is ]
+in_either b (l ∷ leases) (c ∷ machine) even (suc k) d is = in_either b leases machine (ap pred even) k d is
 
 -- ---- one step
 
@@ -82,17 +64,20 @@ module _ (limits : Limits) (b : ℕ) (base y x : World) (back : IsBack b base y 
         | false ↦ λ other m. m
       ] refl m
 
-  vmid_there : IsSquare x → (act : Act) → is_vmid_free y.machine act ≡ true → is_vmid_free x.machine act ≡ true
-  vmid_there square (Realm rd root v) free =
-      let none : list_any (has_vmid v) y.machine ≡ false = not_true _ free in
-      let in_part : list_any (has_vmid v) (part_of y b).machine ≡ false = fewer_vmids (is_of_other b) v y.leases y.machine none in
-      let in_rest : list_any (has_vmid v) (without y b).machine ≡ false = fewer_vmids (is_of b) v y.leases y.machine none in
-      let in_base : list_any (has_vmid v) (part_of base b).machine ≡ false = none_from v (part_of base b).machine (λ k d is same.
-      let there = still.vmid k d is in none_has v (part_of y b).machine in_part k there.0 there.1 (there.2 ∙ same)) in
-      ap not (none_of_both v b x.leases x.machine square
-      (ap (λ (w : World). list_any (has_vmid v) w.machine) back.part ∙ in_base)
-      (ap (λ (w : World). list_any (has_vmid v) w.machine) back.rest ∙ in_rest))
-  vmid_there square _ free = refl
+  -- no VMID is in use that was not
+  used_there : IsSquare x → (v : ℕ) → is_in v (used_vmids x.machine) ≡ true → is_in v (used_vmids y.machine) ≡ true
+  used_there square v e =
+      let user = used_by v x.machine e in
+      elim (in_either b x.leases x.machine square user.at user.realm user.there) [
+        | inl part ↦
+            let there = still.vmid user.at user.realm (ap (λ (w : World). (cell_at w.machine user.at).descriptor) (sym back.part) ∙ part) in
+            used-hidden (is_of_other b) y.leases y.machine v
+            (ap (λ n. is_in n (used_vmids (part_of y b).machine)) (sym (there.2 ∙ user.same)) ∙ used_at (part_of y b).machine user.at there.0 there.1)
+        | inr rest ↦
+            let there : (cell_at (without y b).machine user.at).descriptor ≡ Some user.realm = ap (λ (w : World). (cell_at w.machine user.at).descriptor) (sym back.rest) ∙ rest in
+            used-hidden (is_of b) y.leases y.machine v
+            (ap (λ n. is_in n (used_vmids (without y b).machine)) (sym user.same) ∙ used_at (without y b).machine user.at user.realm there)
+      ]
 
   -- the realms of others
   realm_there : (c : ℕ) → c ≢ b → realm_of c x ≡ realm_of c y
@@ -119,10 +104,10 @@ module _ (limits : Limits) (b : ℕ) (base y x : World) (back : IsBack b base y 
       let is : IsStep limits x e x' = record {
         build = s.build;
         granules = all_leased lease x.leases gs held_x;
-        vmid = vmid_there sound_x.square e.act s.vmid;
         fields = (λ i. fits e.act (realm i) (cells i)) ∙ s.fields;
         updates = s.updates;
-        outcome = (λ i. outcome_of limits e.act (realm i) (cells i)) ∙ s.outcome;
+        outcome = outcome_of-fewer limits (used_vmids y.machine) (used_vmids x.machine) (used_there sound_x.square) e.act (realm_of e.build x) (map (seen x.machine) gs) s.updates
+            ((λ i. outcome_of limits (used_vmids y.machine) e.act (realm i) (cells i)) ∙ s.outcome);
         machine = refl;
         leases = refl;
       } in

@@ -6,6 +6,8 @@ use Rattle.std.specs.FinMap.{get, insert, remove}
 use Rattle.std.proofs.lemmas.Bool.{eqb-true}
 use Rattle.std.proofs.lemmas.Option.{same_Some}
 use Rattle.granule_addr.specs.Ipa.{first_covered}
+use Rattle.granule_addr.specs.Root.{starting_tables}
+use Rattle.granule_addr.specs.declared.root.Root.{Root}
 use Rattle.realm_model.specs.declared.states.GranuleState.{GranuleState}
 use Rattle.realm_model.specs.declared.states.GranuleState.TheVariants.{Rec as InRec, RecAux, Data as InData, Rtt as InRtt}
 use Rattle.realm_model.specs.declared.states.RecState.TheVariants.{Ready}
@@ -21,6 +23,7 @@ use Rattle.realm_model.specs.Command.Check.{put_realm}
 use Rattle.realm_model.specs.Act.{block, named, reverse_of, is_paired, is_reverse}
 use Rattle.realm_model.specs.Outcome.{outcome_of, fits}
 use Rattle.realm_model.specs.World.{World, is_lease, realm_from, realm_of}
+use Rattle.realm_model.specs.Step.{used_vmids}
 use Rattle.realm_model.specs.History.{replay}
 use Rattle.realm_model.specs.Ownership.{SameRealm, SameDescriptor, SameCell, OwnsSame, granules_of_rec, mapping_of_row}
 use Rattle.realm_model.specs.Undoing.{OwnershipFollows}
@@ -100,7 +103,7 @@ module _ (r s : Rows) (same : LookSame r s) (ipa level : ℕ) (a b : Walk) (ra :
 
 module _ (limits : Limits) (w v : World) (cells : (g : ℕ) → SameCell (cell_at w.machine g) (cell_at v.machine g)) where
   abbrev Follows : Act → Option Seen → Option Seen → Type 0
-  Follows act r s = Agree (outcome_of limits act r (map (seen w.machine) (named act))) (outcome_of limits act s (map (seen v.machine) (named act)))
+  Follows act r s = Agree (outcome_of limits (used_vmids w.machine) act r (map (seen w.machine) (named act))) (outcome_of limits (used_vmids v.machine) act s (map (seen v.machine) (named act)))
 
   module _ (rd sd : Seen) (twin : IsTwin rd sd) where
     at_realm : (d e : RealmRow) → rd.cell.descriptor ≡ Some d → sd.cell.descriptor ≡ Some e → SameRealm d e
@@ -204,11 +207,11 @@ module _ (limits : Limits) (w v : World) (cells : (g : ℕ) → SameCell (cell_a
   undelegate_follows g r s = Agree-check _ _ _ _ _ _ (λ _ _. let same = cells g in
       Agree-Ok _ _ (alike_put g g _ _ refl (record { state = refl; realm = same.realm; descriptor = same.descriptor }), tt))
 
-  unrealm_follows : (rd root vmid : ℕ) (r s : Option Seen) → Follows (UnRealm rd root vmid) r s
+  unrealm_follows : (rd : ℕ) (root : Root) (vmid : ℕ) (r s : Option Seen) → Follows (UnRealm rd root vmid) r s
   unfolding outcome_of named
   unrealm_follows rd root vmid r s = Agree-with_realm (seen w.machine rd) (seen v.machine rd) _ _ (λ d e is ise. Agree-check _ _ _ _ _ _ (λ _ _.
       let same = row_same _ _ d e (cells rd).descriptor is ise in
-      Agree-Ok _ _ (alike_put rd rd _ _ refl (cell_itself left), (alike_put d.root e.root _ _ same.root (cell_itself left), tt))))
+      Agree-Ok _ _ (alike_put rd rd _ _ refl (cell_itself left), alike_lefts (starting_tables d.root) (starting_tables e.root) (ap starting_tables same.root))))
 
   -- an act that pairs with another changes both worlds alike
   act_follows : (act : Act) (r s : Option Seen) → (is_paired act || is_reverse act) ≡ true → AreTwins r s
@@ -218,7 +221,7 @@ module _ (limits : Limits) (w v : World) (cells : (g : ℕ) → SameCell (cell_a
   act_follows (UnTake order first) r s p twins fit_w fit_v = Agree-Ok _ _ (alike_seen _ _ w.machine v.machine (λ k. alike_free k) (block order first))
   act_follows (Delegate g) r s p twins fit_w fit_v = Agree-check _ _ _ _ _ _ (λ _ _. Agree-Ok _ _ (alike_put g g _ _ refl (cell_itself left), tt))
   act_follows (Undelegate g) r s p twins fit_w fit_v = undelegate_follows g r s
-  act_follows (Realm rd root vmid) r s p twins fit_w fit_v = Agree-check _ _ _ _ _ _ (λ _ _. Agree-Ok _ _ (alike_put rd rd _ _ refl (cell_itself _), (alike_put root root _ _ refl (cell_itself _), tt)))
+  act_follows (Realm rd root vmid) r s p twins fit_w fit_v = Agree-check _ _ _ _ _ _ (λ _ _. Agree-Ok _ _ (alike_put rd rd _ _ refl (cell_itself _), alike_seen _ _ w.machine v.machine (λ k. alike_put k k _ _ refl (cell_itself _)) (starting_tables root)))
   act_follows (UnRealm rd root vmid) r s p twins fit_w fit_v = unrealm_follows rd root vmid r s
   act_follows (Rtt g ipa level) None s p twins fit_w fit_v = Agree-Err _ _
   act_follows (Rtt g ipa level) (Some rd) None p twins fit_w fit_v = absurd twins
@@ -253,8 +256,8 @@ module _ (limits : Limits) (w v : World) (cells : (g : ℕ) → SameCell (cell_a
 
 both_step : (limits : Limits) (b : ℕ) (act : Act) (w v next other : World) → IsSquare w → IsSquare v → (is_paired act || is_reverse act) ≡ true → OwnershipFollows limits b act w v next other
 both_step limits b act w v next other sw sv p same step_w step_v =
-    let o : Outcome = outcome_of limits act (realm_of b w) (map (seen w.machine) (named act)) in
-    let q : Outcome = outcome_of limits act (realm_of b v) (map (seen v.machine) (named act)) in
+    let o : Outcome = outcome_of limits (used_vmids w.machine) act (realm_of b w) (map (seen w.machine) (named act)) in
+    let q : Outcome = outcome_of limits (used_vmids v.machine) act (realm_of b v) (map (seen v.machine) (named act)) in
     let did_w = done limits b w next act (λ us. o ≡ Ok us) (record { where_ok = λ us e. e }) step_w in
     let did_v = done limits b v other act (λ us. q ≡ Ok us) (record { where_ok = λ us e. e }) step_v in
     let follows = act_follows limits w v same.cells act (realm_of b w) (realm_of b v) p (realms_twins b w v sw sv same) (asked limits b w next act step_w).fit (asked limits b v other act step_v).fit in

@@ -12,7 +12,7 @@ use Rattle.realm_model.specs.Command.Check.{check}
 use Rattle.realm_model.specs.Act.{named, reverse_of, is_paired}
 use Rattle.realm_model.specs.Outcome.{outcome_of}
 use Rattle.realm_model.specs.World.{World, is_leased_to, realm_of, updated_all, part_of}
-use Rattle.realm_model.specs.Step.{step}
+use Rattle.realm_model.specs.Step.{step, used_vmids}
 use Rattle.realm_model.specs.Ownership.{SameCell, OwnsSame}
 use Rattle.realm_model.specs.Undoing.{by}
 use Rattle.realm_model.specs.History.{replay}
@@ -35,7 +35,7 @@ module _ (limits : Limits) (b : ℕ) (u v w : World) (act : Act) (su : IsSoundPa
     (k : is_of_block act ≡ false) (p : is_paired act ≡ true) (stepped : step limits u (by b act) ≡ Some v) (same : OwnsSame v w) where
   pub same_leases : w.leases ≡ u.leases
   same_leases =
-      let did = done limits b u v act (λ us. list_all is_put us ≡ true) (puts limits u.machine act (realm_of b u) k) stepped in
+      let did = done limits b u v act (λ us. list_all is_put us ≡ true) (puts limits (used_vmids u.machine) u.machine act (realm_of b u) k) stepped in
       sym same.leases ∙ puts_leases b did.0 u v did.1 did.2
 
   pub reversed : Reversal limits b u w act (rev act)
@@ -72,7 +72,7 @@ module _ (limits : Limits) (b : ℕ) (u v w : World) (act : Act) (su : IsSoundPa
   led_back x square_w back =
       let r = reversed in
       let did = done limits b w x (rev act) (λ us. (list_all is_put us ≡ true) × (us ≡ r.updates))
-      (both_yield (puts limits w.machine (rev act) (realm_of b w) (back_of_block act k)) (planned_yields r.ready r.refusal r.updates r.planned)) back in
+      (both_yield (puts limits (used_vmids w.machine) w.machine (rev act) (realm_of b w) (back_of_block act k)) (planned_yields r.ready r.refusal r.updates (r.planned (used_vmids w.machine)))) back in
       let kept : x.leases ≡ w.leases = puts_leases b did.0 w x did.1.0 did.2 in
       record {
         leases = sym same_leases ∙ sym kept;

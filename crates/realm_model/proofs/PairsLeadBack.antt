@@ -14,8 +14,8 @@ use Rattle.realm_model.specs.Outcome.{fits, realm_is}
 use Rattle.realm_model.specs.World.{World, part_of, realm_of}
 use Rattle.realm_model.specs.Step.{step}
 use Rattle.realm_model.specs.History.{replay}
-use Rattle.realm_model.specs.Room.{is_rec_running}
-use Rattle.realm_model.specs.Undoing.{by, is_running, PairLeadsBack}
+use Rattle.realm_model.specs.Running.{is_rec_running, is_running}
+use Rattle.realm_model.specs.Undoing.{by, PairLeadsBack}
 use Rattle.realm_model.proofs.HiddenSteps.{step-part_of}
 use Rattle.realm_model.proofs.RealmOf.{realm_of-part_of, realm_test}
 use Rattle.realm_model.proofs.StepBack.{asked}

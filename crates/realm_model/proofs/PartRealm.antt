@@ -1,16 +1,19 @@
 -- The realm of a build in a reached world: whether it has one, and how many RECs of it run.
-use Rattle.std.proofs.Common.{◌≡◌, ℕ, suc, true, false, cond, ◌&&◌, ◌⊎◌, inl, inr, List, [], ◌∷◌, Option, Some, None, refl, sym, ap, ◌∙◌}
-use Rattle.std.specs.Prelude.{is_some}
+use Rattle.std.proofs.Common.{◌≡◌, ℕ, suc, true, false, cond, ◌&&◌, ◌⊎◌, inl, inr, List, [], ◌∷◌, length, Option, Some, None, refl, sym, ap, ◌∙◌}
+use Rattle.std.specs.Prelude.{is_some, filter}
+use Rattle.std.specs.FinMap.{get}
+use Rattle.std.specs.List.{range_with_len}
 use Rattle.std.proofs.lemmas.Bool.{and_parts}
 use Rattle.std.proofs.lemmas.Option.{same_Some}
 use Rattle.realm_model.specs.declared.states.GranuleState.{GranuleState}
 use Rattle.realm_model.specs.declared.states.GranuleState.TheVariants.{Rd}
-use Rattle.realm_model.specs.Machine.{RealmRow, Cell, Machine, Seen, cell_at, seen}
-use Rattle.realm_model.specs.World.{World, is_lease, realm_from, realm_of, part_of}
-use Rattle.realm_model.specs.Room.{running_count}
+use Rattle.realm_model.specs.Machine.{Limits, RealmRow, Cell, Machine, Seen, cell_at, seen}
+use Rattle.realm_model.specs.World.{World, opening, is_lease, realm_from, realm_of, hidden, is_of_other, part_of}
+use Rattle.realm_model.specs.Running.{is_rec_running, running_count}
 use Rattle.realm_model.specs.Sound.{is_host_state, is_rd_state}
 use Rattle.realm_model.proofs.Booleans.{some_is}
-use Rattle.realm_model.proofs.Leases.{leased_from}
+use Rattle.realm_model.proofs.Leases.{leased_from, cell_at-replicate}
+use Rattle.realm_model.proofs.LeftOut.{each-replicate}
 use Rattle.realm_model.proofs.RealmOf.{IsAt, IsAt-realm_of, no_row, realm_of-part_of, realm_of_there}
 use Rattle.realm_model.proofs.Reaching.{state_leased}
 use Rattle.realm_model.proofs.ZeroPages.{IsKept}
@@ -26,6 +29,11 @@ realm_from_some b n (l ∷ leases) (c ∷ machine) rd e =
       | true ↦ λ test e. ap (λ (s : Seen). is_some s.cell.descriptor) (sym (same_Some _ _ e)) ∙ (and_parts _ _ test).1
       | false ↦ λ test e. realm_from_some b (suc n) leases machine rd e
     ] refl e
+
+-- how many run, by the row
+abbrev pub counted : Option RealmRow → ℕ
+counted o =
+    length (filter (λ n. elim o [ Some realm ↦ is_rec_running (get realm.recs n) | None ↦ false ]) (range_with_len 0 (elim o [ Some realm ↦ realm.next | None ↦ 0 ])))
 
 module _ (b : ℕ) (w : World) (kept : IsKept b w) where
   abbrev W : World
@@ -56,7 +64,7 @@ module _ (b : ℕ) (w : World) (kept : IsKept b w) where
 
   pub count_some : (k : ℕ) (d : RealmRow) → (cell_at W.machine k).descriptor ≡ Some d → running_count (realm_of b w) ≡ running d.recs d.next
   unfolding running_count
-  count_some k d is = ap running_count (found k d is) ∙ ap (λ o. elim o [ Some realm ↦ running realm.recs realm.next | None ↦ 0 ]) is
+  count_some k d is = ap running_count (found k d is) ∙ ap counted is
 
   pub count_none : ((k : ℕ) → (cell_at W.machine k).descriptor ≡ None) → running_count (realm_of b w) ≡ 0
   unfolding running_count
@@ -64,4 +72,10 @@ module _ (b : ℕ) (w : World) (kept : IsKept b w) where
     where
       by_realm : (o : Option Seen) → IsAt W.machine o → running_count o ≡ 0
       by_realm None at = refl
-      by_realm (Some rd) at = ap (λ o. elim o [ Some realm ↦ running realm.recs realm.next | None ↦ 0 ]) (ap (λ (c : Cell). c.descriptor) (sym at) ∙ none rd.number)
+      by_realm (Some rd) at = ap counted (ap (λ (c : Cell). c.descriptor) (sym at) ∙ none rd.number)
+
+-- the opening world has none
+pub none_at_first : (limits : Limits) (b k : ℕ) → (cell_at (part_of (opening limits) b).machine k).descriptor ≡ None
+none_at_first limits b k =
+    ap (λ (m : Machine). (cell_at m k).descriptor) (each-replicate (hidden (is_of_other b)) refl limits.pages)
+    ∙ ap (λ (c : Cell). c.descriptor) (cell_at-replicate limits.pages k)

@@ -1,16 +1,21 @@
 -- What every reached world keeps of the part of a build.
-use Rattle.std.specs.Prelude.{◌≡◌, ℕ, ◌<◌, true, Some, None, is_some}
+use Rattle.std.specs.Prelude.{◌≡◌, ℕ, ◌%◌, ◌<◌, true, Some, None, is_some}
 use Rattle.std.specs.FinMap.{get}
+use Rattle.granule_addr.specs.Ipa.{is_width}
+use Rattle.granule_addr.specs.Root.{start_count}
 use Rattle.realm_model.specs.declared.states.GranuleState.{GranuleState}
 use Rattle.realm_model.specs.Machine.{RecRow, RealmRow, Cell, cell_at}
 use Rattle.realm_model.specs.World.{World, part_of}
-use Rattle.realm_model.specs.Sound.{look, is_host_state, is_rd_state, IsSoundRows, IsFull}
+use Rattle.realm_model.specs.Sound.{look, is_host_state, is_rd_state, IsSoundRows, IsFull, HasEmptyRows}
 use Rattle.realm_model.specs.Roles.{Role, target, is_role_state, HasRole}
 
 pub record IsSoundRealm (realm : RealmRow) : Type 0 where
-  pub rows : IsSoundRows (look realm.rows)
-  pub full : IsFull (look realm.rows)
+  pub width : is_width realm.root.width ≡ true
+  pub aligned : realm.root.first % start_count realm.root.width ≡ 0
+  pub rows : IsSoundRows realm.root.width (look realm.rows)
+  pub full : IsFull realm.root.width (look realm.rows)
   pub recs : (number : ℕ) (rec : RecRow) → get realm.recs number ≡ Some rec → number < realm.next
+  pub empty : HasEmptyRows realm.root.width realm.rows
 
 -- A cell of a build whose realm, if it has one, stands at rd
 pub record IsSoundCell (rd granule : ℕ) (cell : Cell) : Type 0 where

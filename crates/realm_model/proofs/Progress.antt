@@ -13,10 +13,11 @@ use Rattle.realm_model.specs.Command.Check.{is_undelegated}
 use Rattle.realm_model.specs.Act.{named, holder, reverse_of, is_reverse, is_paired}
 use Rattle.realm_model.specs.Outcome.{outcome_of, fits}
 use Rattle.realm_model.specs.World.{World, is_leased_to, realm_of, updated_all, part_of, is_of_other}
-use Rattle.realm_model.specs.Step.{step, is_allowed, is_vmid_free}
+use Rattle.realm_model.specs.Step.{step, is_allowed, used_vmids}
 use Rattle.realm_model.specs.History.{open_entries, IsInTurn, replay, IsLegal}
 use Rattle.realm_model.specs.Ownership.{OwnsSame}
-use Rattle.realm_model.specs.Undoing.{is_running, by}
+use Rattle.realm_model.specs.Running.{is_running}
+use Rattle.realm_model.specs.Undoing.{by}
 use Rattle.realm_model.proofs.Lists.{all_from_in, is_in}
 use Rattle.realm_model.proofs.Clean.{clean_at}
 use Rattle.realm_model.proofs.Written.{leases_taken, seen_frees}
@@ -71,19 +72,18 @@ named_back test (Poke n ipa o v) h = h
 -- what a reverse act asks besides
 pub record Reverses (limits : Limits) (b : ℕ) (w : World) (r : Act) : Type 0 where
   pub reach : ReachesOwn limits b w r (realm_of b w)
-  pub vmid : is_vmid_free w.machine r ≡ true
   pub holds : holder b r ≡ Some b
   pub backward : (is_paired r ≡ false) × (is_reverse r ≡ true)
 
 reverses : (limits : Limits) (b : ℕ) (w : World) (act : Act) → is_paired act ≡ true → Reverses limits b w (rev act)
 unfolding reverse_of is_reverse
-reverses limits b w (Take order first) p = record { reach = tt; vmid = refl; holds = refl; backward = (refl, refl) }
-reverses limits b w (Delegate g) p = record { reach = tt; vmid = refl; holds = refl; backward = (refl, refl) }
-reverses limits b w (Realm rd root v) p = record { reach = tt; vmid = refl; holds = refl; backward = (refl, refl) }
-reverses limits b w (Rtt g ipa level) p = record { reach = tt; vmid = refl; holds = refl; backward = (refl, refl) }
-reverses limits b w (Data g ipa source) p = record { reach = tt; vmid = refl; holds = refl; backward = (refl, refl) }
-reverses limits b w (Unknown g ipa) p = record { reach = tt; vmid = refl; holds = refl; backward = (refl, refl) }
-reverses limits b w (Rec g aux n) p = record { reach = tt; vmid = refl; holds = refl; backward = (refl, refl) }
+reverses limits b w (Take order first) p = record { reach = tt; holds = refl; backward = (refl, refl) }
+reverses limits b w (Delegate g) p = record { reach = tt; holds = refl; backward = (refl, refl) }
+reverses limits b w (Realm rd root v) p = record { reach = tt; holds = refl; backward = (refl, refl) }
+reverses limits b w (Rtt g ipa level) p = record { reach = tt; holds = refl; backward = (refl, refl) }
+reverses limits b w (Data g ipa source) p = record { reach = tt; holds = refl; backward = (refl, refl) }
+reverses limits b w (Unknown g ipa) p = record { reach = tt; holds = refl; backward = (refl, refl) }
+reverses limits b w (Rec g aux n) p = record { reach = tt; holds = refl; backward = (refl, refl) }
 reverses limits b w _ p = cc
 
 module _ (limits : Limits) (b : ℕ) (u v w : World) (act : Act) (su : IsSound b u) (sw : IsSound b w)
@@ -113,10 +113,11 @@ module _ (limits : Limits) (b : ℕ) (u v w : World) (act : Act) (su : IsSound b
       let granules : map (seen W.machine) (named r) ≡ map (seen w.machine) (named r) =
       named_seen (is_of_other b) (Some b) (ap not (eq-eqb b b refl)) w.leases w.machine (named r) named_here in
       let ready : back.ready ≡ true = back.ready_if (ap (λ o. is_running o act) realm ∙ rest) in
-      let planned : outcome_of limits r (realm_of b w) (map (seen w.machine) (named r)) ≡ Ok back.updates =
-      (λ i. outcome_of limits r (sym realm i) (sym granules i)) ∙ back.planned ∙ check_true back.ready back.refusal (Ok back.updates) ready in
+      let used : List ℕ = used_vmids w.machine in
+      let planned : outcome_of limits used r (realm_of b w) (map (seen w.machine) (named r)) ≡ Ok back.updates =
+      (λ i. outcome_of limits used r (sym realm i) (sym granules i)) ∙ back.planned used ∙ check_true back.ready back.refusal (Ok back.updates) ready in
       let opened : is_allowed limits w (by b r) ≡ true =
-      and_from _ _ (and_from _ _ (and_from _ _ a.below (ap (λ l. list_all (is_leased_to l w.leases) (named r)) info.holds ∙ named_here)) info.vmid)
+      and_from _ _ (and_from _ _ a.below (ap (λ l. list_all (is_leased_to l w.leases) (named r)) info.holds ∙ named_here))
       ((λ i. fits r (sym realm i) (sym granules i)) ∙ back.fitting) in
       (_, step_exact limits w b r back.updates (back_of_block limits b U (part_of v b) W act su.part sw.part (IsSquare-part_of u b su.square) k p part_stepped same act k) info.reach opened planned)
 
@@ -159,7 +160,7 @@ module _ (limits : Limits) (b : ℕ) (u v w : World) (order first : ℕ) (su : I
       let gone = row_goes b (Some b) None (λ g. Free g) (λ g. refl) (λ g. refl) (λ g. refl) first (2 ^ order) w block_held in (
         gone.0,
         ap (λ t. cond t (updated_all b (map (λ (g : Seen). Free g.number) (map (seen w.machine) block)) w) None)
-            (and_from _ _ (and_from _ _ (and_from _ _ a.below block_held) refl) (and_from _ _ a.fit (ap (list_all is_undelegated) (sym granules) ∙ block_blank)))
+            (and_from _ _ (and_from _ _ a.below block_held) (and_from _ _ a.fit (ap (list_all is_undelegated) (sym granules) ∙ block_blank)))
             ∙ ap (λ us. updated_all b us w) (seen_frees w.machine block) ∙ gone.1,
       )
 

@@ -9,7 +9,7 @@ use Rattle.granule_addr.specs.Page.{zero_page}
 use Rattle.realm_model.specs.Machine.{Limits, RealmRow, Cell, blank, cell_at}
 use Rattle.realm_model.specs.World.{World, part_of, hidden, is_of_other}
 use Rattle.realm_model.specs.History.{replay}
-use Rattle.realm_model.specs.Sound.{look, is_host_state, is_rd_state, is_zero_state, IsFull}
+use Rattle.realm_model.specs.Sound.{is_host_state, is_rd_state, is_zero_state}
 use Rattle.realm_model.specs.Roles.{is_role_state}
 use Rattle.realm_model.specs.Reachable.{IsRealmAt, IsReachable}
 use Rattle.realm_model.proofs.Booleans.{true_false}
@@ -24,6 +24,7 @@ use Rattle.realm_model.proofs.Roles.{target_state, role_no_host}
 use Rattle.realm_model.proofs.Reaching.{state_leased}
 use Rattle.realm_model.proofs.ZeroPages.{IsKept, kept_reached}
 use Rattle.realm_model.proofs.FullRows.{walk_ends}
+use Rattle.realm_model.proofs.Parts.{IsSoundRealm}
 use Rattle.realm_model.proofs.Vmids.{HasVmids, vmids_reached}
 
 module _ (limits : Limits) (w : World) (clean : IsClean w) (sized : IsSized limits w) (kept : (b : ℕ) → IsKept b w) (vmids : HasVmids limits w) where
@@ -71,7 +72,7 @@ module _ (limits : Limits) (w : World) (clean : IsClean w) (sized : IsSized limi
   ]
 
   -- the realm at a granule is that of its build
-  realm_in_part : (g : ℕ) (d : RealmRow) → IsRealmAt w g d → (b : ℕ) × (slice_get w.leases g ≡ Some (Some b)) × ((in_part b g).descriptor ≡ Some d)
+  pub realm_in_part : (g : ℕ) (d : RealmRow) → IsRealmAt w g d → (b : ℕ) × (slice_get w.leases g ≡ Some (Some b)) × ((in_part b g).descriptor ≡ Some d)
   realm_in_part g d is = elim (whose g) [
     | nobodys e ↦ absurd (true_false _ (ap is_some is) (ap (λ (c : Cell). is_some c.descriptor) e))
     | of_build b lease same ↦ (b, lease, ap (λ (c : Cell). c.descriptor) same ∙ is)
@@ -87,8 +88,8 @@ module _ (limits : Limits) (w : World) (clean : IsClean w) (sized : IsSized limi
       not_host Rd h = refl
       not_host _ h = cc
 
-  full_rows : (g : ℕ) (d : RealmRow) → IsRealmAt w g d → IsFull (look d.rows)
-  full_rows g d is = let p = realm_in_part g d is in (((kept p.0).sound.part.cells g).row d p.2).full
+  row_sound : (g : ℕ) (d : RealmRow) → IsRealmAt w g d → IsSoundRealm d
+  row_sound g d is = let p = realm_in_part g d is in ((kept p.0).sound.part.cells g).row d p.2
 
   reachable : IsReachable limits w
   reachable = record {
@@ -107,10 +108,13 @@ module _ (limits : Limits) (w : World) (clean : IsClean w) (sized : IsSized limi
         ((kept p.0).sound.part.cells g).alone (rd_state p.0 g d p.2) ∙ sym (((kept p.0).sound.part.cells h).alone (rd_state p.0 h e there));
     vmid = vmids.range;
     vmids = vmids.apart;
-    rows = λ g d is. let p = realm_in_part g d is in (((kept p.0).sound.part.cells g).row d p.2).rows;
-    full = full_rows;
-    walks = λ g d is. walk_ends d.rows (full_rows g d is);
-    recs = λ g d is. let p = realm_in_part g d is in (((kept p.0).sound.part.cells g).row d p.2).recs;
+    width = λ g d is. (row_sound g d is).width;
+    aligned = λ g d is. (row_sound g d is).aligned;
+    rows = λ g d is. (row_sound g d is).rows;
+    full = λ g d is. (row_sound g d is).full;
+    walks = λ g d is. walk_ends d.rows (row_sound g d is).full;
+    empty = λ g d is. (row_sound g d is).empty;
+    recs = λ g d is. (row_sound g d is).recs;
     names = λ g d is role to state there.
         let p = realm_in_part g d is in
         let found = (kept p.0).linked.names g d p.2 role (to, state) there in
@@ -133,6 +137,12 @@ module _ (limits : Limits) (w : World) (clean : IsClean w) (sized : IsSized limi
           }
     ];
   }
+
+-- a realm is that of a build
+pub realm_of_build : (limits : Limits) (history : List Event) (w : World) → replay limits history ≡ Some w → (g : ℕ) (d : RealmRow) → IsRealmAt w g d
+    → (b : ℕ) × (slice_get w.leases g ≡ Some (Some b)) × ((cell_at (part_of w b).machine g).descriptor ≡ Some d)
+realm_of_build limits history w at_w =
+    realm_in_part limits w (clean_reached limits history w at_w) (sized_reached limits history w at_w) (λ b. kept_reached limits b history w at_w) (vmids_reached limits history w at_w)
 
 pub reachable_worlds : (limits : Limits) (history : List Event) (w : World) → replay limits history ≡ Some w → IsReachable limits w
 reachable_worlds limits history w at_w =

@@ -4,22 +4,22 @@ use Rattle.std.specs.Prelude.{◌==◌}
 use Rattle.std.specs.FinMap.{get, insert, remove, len, empty_of_len, get-empty}
 use Rattle.std.specs.List.{list_all}
 use Rattle.std.specs.Ordering.{nat_cmp}
-use Rattle.std.proofs.lemmas.Bool.{and_parts, eqb-true, eqb-false}
+use Rattle.std.proofs.lemmas.Bool.{and_parts, eqb-true}
 use Rattle.std.proofs.lemmas.Option.{same_Some}
 use Rattle.realm_model.specs.declared.states.RecState.TheVariants.{Ready, Running}
 use Rattle.realm_model.specs.declared.act.Act.{Act}
 use Rattle.realm_model.specs.declared.act.Act.TheVariants.{Take, UnTake, Fill, Peek, Delegate, Undelegate, Realm, UnRealm, Activate, Rtt, UnRtt, Ripas, Data, Unknown, UnData, Rec, UnRec, Enter, Exit, Poke}
-use Rattle.realm_model.specs.declared.states.GranuleState.TheVariants.{Rd, Rtt as InRtt}
-use Rattle.granule_addr.specs.Page.{zero_page}
-use Rattle.realm_model.specs.Machine.{Limits, RecRow, RealmRow, Cell, Seen, blank, cell_at, seen, held, left}
+use Rattle.granule_addr.specs.Root.{starting_tables}
+use Rattle.granule_addr.specs.declared.root.Root.{Root}
+use Rattle.realm_model.specs.Machine.{Limits, RecRow, RealmRow, Cell, Seen, blank, cell_at, seen}
 use Rattle.realm_model.specs.Update.{Update, Put, PutByte, cell_after}
 use Rattle.realm_model.specs.Command.Check.{is_ready, is_undelegated}
 use Rattle.realm_model.specs.Act.{block, named}
 use Rattle.realm_model.specs.Outcome.{outcome_of, fits}
 use Rattle.realm_model.specs.World.{World, realm_of}
 use Rattle.realm_model.specs.Sound.{is_host_state}
-use Rattle.realm_model.specs.Room.{is_rec_running}
-use Rattle.realm_model.specs.Step.{step}
+use Rattle.realm_model.specs.Running.{is_rec_running}
+use Rattle.realm_model.specs.Step.{step, used_vmids}
 use Rattle.realm_model.specs.Undoing.{by}
 use Rattle.realm_model.specs.Command.Realm.{new_realm}
 use Rattle.realm_model.proofs.Booleans.{none_is, not_true}
@@ -30,6 +30,8 @@ use Rattle.realm_model.proofs.Written.{put_at, put_last, seen_takes, seen_frees,
 use Rattle.realm_model.proofs.RoleChanges.{no_descriptor, host_bare, one_place, delegated_host, undelegated_host, all_host}
 use Rattle.realm_model.proofs.RunningRecs.{running, running-start, running-stop, running-new, running-gone, running-none}
 use Rattle.realm_model.proofs.StepBack.{done, asked}
+use Rattle.realm_model.proofs.NewRealms.{seen-creation}
+use Rattle.realm_model.proofs.RealmRoles.{made_row, gone_row}
 use Rattle.realm_model.proofs.Parts.{IsSoundRealm, IsSoundCell, IsSoundPart}
 
 module _ (limits : Limits) (w : World) (sound : IsSoundPart w) (T : RealmRow → RealmRow → Type 0) where
@@ -40,7 +42,7 @@ module _ (limits : Limits) (w : World) (sound : IsSoundPart w) (T : RealmRow →
   abbrev S : List Update → Type 0
   S us = (k : ℕ) (d : RealmRow) → (now k).descriptor ≡ Some d → (e : RealmRow) × ((put_at us k (now k)).descriptor ≡ Some e) × T d e
 
-  -- how an act turns a realm
+  -- how an act turns a realm: those that are not named leave it as it is, but for its state, measurement and rows
   abbrev pub Allows : Act → Type 0
   Allows (Realm rd root v) = Unit {0}
   Allows (UnRealm rd root v) = ⊥
@@ -48,7 +50,7 @@ module _ (limits : Limits) (w : World) (sound : IsSoundPart w) (T : RealmRow →
   Allows (UnRec g aux n) = (d : RealmRow) (rec : RecRow) → get d.recs n ≡ Some rec → is_ready rec ≡ true → T d (record d { recs = remove d.recs n })
   Allows (Enter n) = (d : RealmRow) (rec : RecRow) → IsSoundRealm d → get d.recs n ≡ Some rec → is_ready rec ≡ true → T d (record d { recs = insert d.recs n (record rec { state = Running }) })
   Allows (Exit n) = (d : RealmRow) (rec : RecRow) → IsSoundRealm d → get d.recs n ≡ Some rec → is_ready rec ≡ false → T d (record d { recs = insert d.recs n (record rec { state = Ready }) })
-  Allows _ = (d e : RealmRow) → e.vmid ≡ d.vmid → e.recs ≡ d.recs → e.next ≡ d.next → T d e
+  Allows _ = (d e : RealmRow) → e ≡ record d { state = e.state; measurement = e.measurement; rows = e.rows } → T d e
 
   -- the last update is the realm's
   turned : (rd : Seen) (d e : RealmRow) (us : List Update) → now rd.number ≡ rd.cell → rd.cell.descriptor ≡ Some d → T d e → S (us ++ Put rd.number (record rd.cell { descriptor = Some e }) ∷ [])
@@ -90,36 +92,36 @@ module _ (limits : Limits) (w : World) (sound : IsSoundPart w) (T : RealmRow →
     poked g o v = as_it_was (PutByte g o v ∷ []) (λ k d there. elim (k == g) as (λ t. (cond t (cell_after (PutByte g o v) (now k)) (now k)).descriptor ≡ Some d) [ true ↦ there | false ↦ there ])
 
   pub turns : (act : Act) (realm : Option Seen) → Allows act → IsAt w.machine realm → (realm ≡ None → (k : ℕ) → (now k).descriptor ≡ None) → fits act realm (map (seen w.machine) (named act)) ≡ true
-      → Yields S (outcome_of limits act realm (map (seen w.machine) (named act)))
+      → Yields S (outcome_of limits (used_vmids w.machine) act realm (map (seen w.machine) (named act)))
   unfolding outcome_of named fits
-  turns (Take order first) realm allows at none fit = Yields-Ok S _ (subst S (sym (seen_takes w.machine (block order first))) (taken (λ d. allows d d refl refl refl) (block order first)))
-  turns (UnTake order first) realm allows at none fit = Yields-Ok S _ (subst S (sym (seen_frees w.machine (block order first))) (freed (λ d. allows d d refl refl refl) (block order first) (and_parts _ _ fit).1))
-  turns (Fill g v) realm allows at none fit = Yields-check S _ _ _ (λ host. Yields-Ok S _ (host_put (λ d. allows d d refl refl refl) g _ (undelegated_host w sound g host)))
-  turns (Peek g o v) realm allows at none fit = Yields-check S _ _ _ (λ _. Yields-Ok S _ (as_it_was (λ d. allows d d refl refl refl) [] (λ k d there. there)))
-  turns (Delegate g) realm allows at none fit = Yields-check S _ _ _ (λ host. Yields-Ok S _ (host_put (λ d. allows d d refl refl refl) g _ (undelegated_host w sound g host)))
-  turns (Undelegate g) realm allows at none fit = Yields-check S _ _ _ (λ host. Yields-Ok S _ (host_put (λ d. allows d d refl refl refl) g _ (delegated_host w sound g host)))
+  turns (Take order first) realm allows at none fit = Yields-Ok S _ (subst S (sym (seen_takes w.machine (block order first))) (taken (λ d. allows d d refl) (block order first)))
+  turns (UnTake order first) realm allows at none fit = Yields-Ok S _ (subst S (sym (seen_frees w.machine (block order first))) (freed (λ d. allows d d refl) (block order first) (and_parts _ _ fit).1))
+  turns (Fill g v) realm allows at none fit = Yields-check S _ _ _ (λ host. Yields-Ok S _ (host_put (λ d. allows d d refl) g _ (undelegated_host w sound g host)))
+  turns (Peek g o v) realm allows at none fit = Yields-check S _ _ _ (λ _. Yields-Ok S _ (as_it_was (λ d. allows d d refl) [] (λ k d there. there)))
+  turns (Delegate g) realm allows at none fit = Yields-check S _ _ _ (λ host. Yields-Ok S _ (host_put (λ d. allows d d refl) g _ (undelegated_host w sound g host)))
+  turns (Undelegate g) realm allows at none fit = Yields-check S _ _ _ (λ host. Yields-Ok S _ (host_put (λ d. allows d d refl) g _ (delegated_host w sound g host)))
   turns (Realm rd root v) realm allows at none fit = Yields-check S _ _ _ (λ _. Yields-Ok S _ (λ k d there. absurd (no_descriptor (now k) d (none (none_is realm fit) k) there)))
   turns (UnRealm rd root v) realm allows at none fit = absurd allows
   turns Activate None allows at none fit = Yields-Err S _
-  turns Activate (Some rd) allows at none fit = Yields-with_realm S _ _ (λ d is. Yields-check S _ _ _ (λ _. Yields-Ok S _ (turned rd d _ [] at is (allows d _ refl refl refl))))
+  turns Activate (Some rd) allows at none fit = Yields-with_realm S _ _ (λ d is. Yields-check S _ _ _ (λ _. Yields-Ok S _ (turned rd d _ [] at is (allows d _ refl))))
   turns (Rtt g ipa level) None allows at none fit = Yields-Err S _
   turns (Rtt g ipa level) (Some rd) allows at none fit = Yields-with_realm S _ _ (λ d is. Yields-check S _ _ _ (λ _. Yields-with_end S _ _ _ _ (λ end e. Yields-check S _ _ _ (λ _. Yields-check S _ _ _ (λ _.
-      Yields-Ok S _ (turned rd d _ (Put g _ ∷ []) at is (allows d _ refl refl refl)))))))
+      Yields-Ok S _ (turned rd d _ (Put g _ ∷ []) at is (allows d _ refl)))))))
   turns (UnRtt g ipa level) None allows at none fit = Yields-Err S _
   turns (UnRtt g ipa level) (Some rd) allows at none fit = Yields-with_realm S _ _ (λ d is. Yields-check S _ _ _ (λ _. Yields-with_end S _ _ _ _ (λ end e. Yields-check S _ _ _ (λ _. Yields-check S _ _ _ (λ _. Yields-check S _ _ _ (λ _. Yields-with_granule S _ _ (λ pa to.
-      Yields-Ok S _ (turned rd d _ (Put pa _ ∷ []) at is (allows d _ refl refl refl)))))))))
+      Yields-Ok S _ (turned rd d _ (Put pa _ ∷ []) at is (allows d _ refl)))))))))
   turns (Ripas ipa n) None allows at none fit = Yields-Err S _
   turns (Ripas ipa n) (Some rd) allows at none fit = Yields-with_realm S _ _ (λ d is. Yields-check S _ _ _ (λ _. Yields-check S _ _ _ (λ _. Yields-with_end S _ _ _ _ (λ end e. Yields-check S _ _ _ (λ _. Yields-check S _ _ _ (λ _.
-      Yields-Ok S _ (turned rd d _ [] at is (allows d _ refl refl refl))))))))
+      Yields-Ok S _ (turned rd d _ [] at is (allows d _ refl))))))))
   turns (Data g ipa source) None allows at none fit = Yields-Err S _
   turns (Data g ipa source) (Some rd) allows at none fit = Yields-with_realm S _ _ (λ d is. Yields-check S _ _ _ (λ _. Yields-check S _ _ _ (λ _. Yields-with_end S _ _ _ _ (λ end e. Yields-check S _ _ _ (λ _. Yields-check S _ _ _ (λ _.
-      Yields-Ok S _ (turned rd d _ (Put g _ ∷ []) at is (allows d _ refl refl refl))))))))
+      Yields-Ok S _ (turned rd d _ (Put g _ ∷ []) at is (allows d _ refl))))))))
   turns (Unknown g ipa) None allows at none fit = Yields-Err S _
   turns (Unknown g ipa) (Some rd) allows at none fit = Yields-with_realm S _ _ (λ d is. Yields-check S _ _ _ (λ _. Yields-with_end S _ _ _ _ (λ end e. Yields-check S _ _ _ (λ _. Yields-check S _ _ _ (λ _.
-      Yields-Ok S _ (turned rd d _ (Put g _ ∷ []) at is (allows d _ refl refl refl)))))))
+      Yields-Ok S _ (turned rd d _ (Put g _ ∷ []) at is (allows d _ refl)))))))
   turns (UnData g ipa) None allows at none fit = Yields-Err S _
   turns (UnData g ipa) (Some rd) allows at none fit = Yields-with_realm S _ _ (λ d is. Yields-check S _ _ _ (λ _. Yields-with_end S _ _ _ _ (λ end e. Yields-check S _ _ _ (λ _. Yields-check S _ _ _ (λ _. Yields-with_granule S _ _ (λ pa to.
-      Yields-Ok S _ (turned rd d _ (Put pa _ ∷ []) at is (allows d _ refl refl refl))))))))
+      Yields-Ok S _ (turned rd d _ (Put pa _ ∷ []) at is (allows d _ refl))))))))
   turns (Rec g aux m) None allows at none fit = Yields-Err S _
   turns (Rec g aux m) (Some rd) allows at none fit = Yields-with_realm S _ _ (λ d is. Yields-check S _ _ _ (λ _. Yields-check S _ _ _ (λ _.
       Yields-Ok S _ (turned rd d _ (Put g _ ∷ map _ (map (seen w.machine) aux.items)) at is (allows d _ _ refl)))))
@@ -134,7 +136,7 @@ module _ (limits : Limits) (w : World) (sound : IsSoundPart w) (T : RealmRow →
       Yields-Ok S _ (turned rd d _ [] at is (allows d rec (realm_sound rd d at is) there (not_true _ ready))))))
   turns (Poke m ipa o v) None allows at none fit = Yields-Err S _
   turns (Poke m ipa o v) (Some rd) allows at none fit = Yields-with_realm S _ _ (λ d is. Yields-with_rec S _ _ _ (λ rec there. Yields-check S _ _ _ (λ _. Yields-check S _ _ _ (λ _.
-      Yields-with_end S _ _ _ _ (λ end e. Yields-check S _ _ _ (λ _. Yields-with_granule S _ _ (λ pa to. Yields-Ok S _ (poked (λ d. allows d d refl refl refl) pa o v))))))))
+      Yields-with_end S _ _ _ _ (λ end e. Yields-check S _ _ _ (λ _. Yields-with_granule S _ _ (λ pa to. Yields-Ok S _ (poked (λ d. allows d d refl) pa o v))))))))
 
 -- ---- steps
 
@@ -158,7 +160,7 @@ allowed limits w sound (Rec g aux n) k = λ d rec m ready. (refl, running-new d.
 allowed limits w sound (UnRec g aux n) k = λ d rec there ready. (refl, running-gone d.recs d.next n (ap is_rec_running there ∙ ap not ready))
 allowed limits w sound (Enter n) k = λ d rec h there ready. (refl, running-start d.recs d.next n (record rec { state = Running }) (h.recs n rec there) (ap is_rec_running there ∙ ap not ready) refl)
 allowed limits w sound (Exit n) k = λ d rec h there ready. (refl, running-stop d.recs d.next n (record rec { state = Ready }) (h.recs n rec there) (ap is_rec_running there ∙ ap not ready) refl)
-allowed limits w sound act k = λ d e vmid recs next. (vmid, λ i. running (recs i) (next i))
+allowed limits w sound act k = λ d e same. (ap (λ (x : RealmRow). x.vmid) same, ap (λ (x : RealmRow). running x.recs x.next) same)
 
 -- the realm of a part is there after each act but its end, turned as the act allows
 pub turned_by : (limits : Limits) (b : ℕ) (w v : World) (act : Act) (T : RealmRow → RealmRow → Type 0) → IsSquare w → (sound : IsSoundPart w) → (realm_of b w ≡ None → (k : ℕ) → (cell_at w.machine k).descriptor ≡ None)
@@ -172,32 +174,24 @@ pub realm_turned : (limits : Limits) (b : ℕ) (w v : World) (act : Act) → IsS
     → step limits w (by b act) ≡ Some v → (k : ℕ) (d : RealmRow) → (cell_at w.machine k).descriptor ≡ Some d → (e : RealmRow) × ((cell_at v.machine k).descriptor ≡ Some e) × Turns act d e
 realm_turned limits b w v act square sound none plain = turned_by limits b w v act (Turns act) square sound none (allowed limits w sound act plain)
 
--- a realm that is made runs no REC
-made_empty : (limits : Limits) (w : World) (rd root v : ℕ) (realm : Option Seen) → ((k : ℕ) → (cell_at w.machine k).descriptor ≡ None)
-    → Yields (λ us. (k : ℕ) (e : RealmRow) → (put_at us k (cell_at w.machine k)).descriptor ≡ Some e → running e.recs e.next ≡ 0) (outcome_of limits (Realm rd root v) realm (map (seen w.machine) (named (Realm rd root v))))
-unfolding outcome_of named new_realm
-made_empty limits w rd root v realm none = Yields-check P _ _ _ (λ _. Yields-Ok P _ (λ k e h.
-    elim (k == root) as (λ t. (cond t (held InRtt rd) (cond (k == rd) z (cell_at w.machine k))).descriptor ≡ Some e → running e.recs e.next ≡ 0) [
-      | true ↦ λ h. cc
-      | false ↦ λ h. elim (k == rd) as (λ t. (cond t z (cell_at w.machine k)).descriptor ≡ Some e → running e.recs e.next ≡ 0) [
-        | true ↦ λ h. ap (λ (x : RealmRow). running x.recs x.next) (sym (same_Some _ _ h))
-        | false ↦ λ h. absurd (no_descriptor (cell_at w.machine k) e (none k) h)
-      ] h
-    ] h))
+-- a realm that is made is new
+made_new : (limits : Limits) (w : World) (rd : ℕ) (root : Root) (v : ℕ) (realm : Option Seen) → ((k : ℕ) → (cell_at w.machine k).descriptor ≡ None)
+    → Yields (λ us. (k : ℕ) (e : RealmRow) → (put_at us k (cell_at w.machine k)).descriptor ≡ Some e → e ≡ new_realm v root)
+    (outcome_of limits (used_vmids w.machine) (Realm rd root v) realm (map (seen w.machine) (named (Realm rd root v))))
+unfolding outcome_of named
+made_new limits w rd root v realm none =
+    Yields-check P _ _ _ (λ _. Yields-Ok P _ (subst P (sym (seen-creation w.machine rd root v)) (λ k e h. sym (made_row w rd root v none k e h).1)))
   where
     P : List Update → Type 0
-    P us = (k : ℕ) (e : RealmRow) → (put_at us k (cell_at w.machine k)).descriptor ≡ Some e → running e.recs e.next ≡ 0
-
-    z : Cell
-    z = record { state = Rd; realm = Some rd; bytes = zero_page; descriptor = Some (new_realm v root) }
+    P us = (k : ℕ) (e : RealmRow) → (put_at us k (cell_at w.machine k)).descriptor ≡ Some e → e ≡ new_realm v root
 
 -- a realm that ends ran no REC, and no realm is left
-destroyed : (limits : Limits) (w : World) (sound : IsSoundPart w) (rd root v : ℕ) (realm : Option Seen)
+destroyed : (limits : Limits) (w : World) (sound : IsSoundPart w) (rd : ℕ) (root : Root) (v : ℕ) (realm : Option Seen)
     → Yields (λ us. ((k : ℕ) (e : RealmRow) → (put_at us k (cell_at w.machine k)).descriptor ≡ Some e → ⊥) × ((k : ℕ) (d : RealmRow) → (cell_at w.machine k).descriptor ≡ Some d → running d.recs d.next ≡ 0))
-    (outcome_of limits (UnRealm rd root v) realm (map (seen w.machine) (named (UnRealm rd root v))))
+    (outcome_of limits (used_vmids w.machine) (UnRealm rd root v) realm (map (seen w.machine) (named (UnRealm rd root v))))
 unfolding outcome_of named
 destroyed limits w sound rd root v realm = Yields-with_realm P _ _ (λ d is. Yields-check P _ _ _ (λ empty. Yields-Ok P _ (
-  (λ k e h. gone d is k e h),
+  (λ k e h. gone_row w sound rd d is (starting_tables d.root) k e h),
   (λ k x there.
       let same : d ≡ x = same_Some _ _ (sym is ∙ ap (λ j. (cell_at w.machine j).descriptor) (one_place w sound rd k d x is there) ∙ there) in
       ap (λ (y : RealmRow). running y.recs y.next) (sym same)
@@ -207,24 +201,15 @@ destroyed limits w sound rd root v realm = Yields-with_realm P _ _ (λ d is. Yie
     P : List Update → Type 0
     P us = ((k : ℕ) (e : RealmRow) → (put_at us k (cell_at w.machine k)).descriptor ≡ Some e → ⊥) × ((k : ℕ) (d : RealmRow) → (cell_at w.machine k).descriptor ≡ Some d → running d.recs d.next ≡ 0)
 
-    gone : (d : RealmRow) → (cell_at w.machine rd).descriptor ≡ Some d → (k : ℕ) (e : RealmRow) → (put_at (Put rd left ∷ Put d.root left ∷ []) k (cell_at w.machine k)).descriptor ≡ Some e → ⊥
-    gone d is k e h = elim (k == d.root) as (λ t. (cond t left (cond (k == rd) left (cell_at w.machine k))).descriptor ≡ Some e → ⊥) [
-      | true ↦ λ h. cc
-      | false ↦ λ h. elim (k == rd) as (λ t. (k == rd) ≡ t → (cond t left (cell_at w.machine k)).descriptor ≡ Some e → ⊥) [
-        | true ↦ λ here h. cc
-        | false ↦ λ other h. eqb-false k rd other (one_place w sound k rd e d h is)
-      ] refl h
-    ] h
-
 -- the same of steps
-pub realm_made_step : (limits : Limits) (b : ℕ) (w v : World) (rd root vmid : ℕ) → IsSquare w → ((k : ℕ) → (cell_at w.machine k).descriptor ≡ None) → step limits w (by b (Realm rd root vmid)) ≡ Some v
-    → (k : ℕ) (e : RealmRow) → (cell_at v.machine k).descriptor ≡ Some e → running e.recs e.next ≡ 0
+pub realm_made_step : (limits : Limits) (b : ℕ) (w v : World) (rd : ℕ) (root : Root) (vmid : ℕ) → IsSquare w → ((k : ℕ) → (cell_at w.machine k).descriptor ≡ None) → step limits w (by b (Realm rd root vmid)) ≡ Some v
+    → (k : ℕ) (e : RealmRow) → (cell_at v.machine k).descriptor ≡ Some e → e ≡ new_realm vmid root
 realm_made_step limits b w v rd root vmid square none s k e is =
-    let did = done limits b w v (Realm rd root vmid) (λ us. (k : ℕ) (e : RealmRow) → (put_at us k (cell_at w.machine k)).descriptor ≡ Some e → running e.recs e.next ≡ 0)
-    (made_empty limits w rd root vmid (realm_of b w) none) s in
+    let did = done limits b w v (Realm rd root vmid) (λ us. (k : ℕ) (e : RealmRow) → (put_at us k (cell_at w.machine k)).descriptor ≡ Some e → e ≡ new_realm vmid root)
+    (made_new limits w rd root vmid (realm_of b w) none) s in
     did.1 k e (ap (λ (c : Cell). c.descriptor) (sym (cell_put b did.0 w v square did.2 k)) ∙ is)
 
-pub realm_gone_step : (limits : Limits) (b : ℕ) (w v : World) (rd root vmid : ℕ) → IsSquare w → IsSoundPart w → step limits w (by b (UnRealm rd root vmid)) ≡ Some v
+pub realm_gone_step : (limits : Limits) (b : ℕ) (w v : World) (rd : ℕ) (root : Root) (vmid : ℕ) → IsSquare w → IsSoundPart w → step limits w (by b (UnRealm rd root vmid)) ≡ Some v
     → ((k : ℕ) → (cell_at v.machine k).descriptor ≡ None) × ((k : ℕ) (d : RealmRow) → (cell_at w.machine k).descriptor ≡ Some d → running d.recs d.next ≡ 0)
 realm_gone_step limits b w v rd root vmid square sound s =
     let did = done limits b w v (UnRealm rd root vmid) (λ us. ((k : ℕ) (e : RealmRow) → (put_at us k (cell_at w.machine k)).descriptor ≡ Some e → ⊥) × ((k : ℕ) (d : RealmRow) → (cell_at w.machine k).descriptor ≡ Some d → running d.recs d.next ≡ 0))

@@ -1,17 +1,19 @@
 -- The realm of a build: where it stands.
-use Rattle.std.proofs.Common.{◌≡◌, ℕ, zero, suc, ◌+◌, Bool, true, false, cond, ◌&&◌, not, List, [], ◌∷◌, ◌++◌, length, Option, Some, None, refl, sym, ap, ◌∙◌, subst, arith, pred}
+use Rattle.std.proofs.Common.{◌≡◌, ◌≢◌, ℕ, zero, suc, ◌+◌, Bool, true, false, cond, ◌&&◌, not, List, [], ◌∷◌, ◌++◌, length, Option, Some, None, refl, sym, ap, ◌∙◌, subst, arith, pred}
 use Rattle.std.specs.Prelude.{is_some, slice_get, ◌==◌}
 use Rattle.std.proofs.lemmas.Bool.{and_parts, and_from, eq-eqb}
 use Rattle.std.proofs.lemmas.Option.{same_Some}
 use Rattle.std.proofs.lemmas.List.{get_or_at, length-append, append_assoc}
-use Rattle.realm_model.specs.Machine.{RealmRow, Cell, Machine, Seen, blank, cell_at, seen}
+use Rattle.realm_model.specs.declared.act.Event.{Event}
+use Rattle.realm_model.specs.Machine.{Limits, RealmRow, Cell, Machine, Seen, blank, cell_at, seen}
 use Rattle.realm_model.specs.World.{World, is_leased_to, is_lease, realm_from, realm_of, each, hidden, is_of_other, part_of}
 use Rattle.realm_model.specs.Outcome.{realm_is}
+use Rattle.realm_model.specs.Step.{step}
 use Rattle.realm_model.proofs.Leases.{lease_same, leased_from, lease_is, leased}
 use Rattle.realm_model.proofs.Booleans.{neither, none_from}
 use Rattle.realm_model.proofs.Lists.{head_or, tail}
-use Rattle.realm_model.proofs.HiddenSteps.{realm_kept}
-use Rattle.realm_model.proofs.Clean.{scrubbed}
+use Rattle.realm_model.proofs.HiddenSteps.{realm_kept, part_of-other_step}
+use Rattle.realm_model.proofs.Clean.{IsClean, scrubbed}
 use Rattle.realm_model.proofs.Parts.{IsSoundPart}
 
 abbrev pub IsAt : Machine → Option Seen → Type 0
@@ -83,6 +85,10 @@ no_row b n (l ∷ leases) (c ∷ machine) clean none (suc g) = no_row b (suc n) 
 -- the realm of a build is that of its part
 pub realm_of-part_of : (b : ℕ) (w : World) → realm_of b (part_of w b) ≡ realm_of b w
 realm_of-part_of b w = realm_kept (is_of_other b) b 0 (ap not (eq-eqb b b refl)) w.leases w.machine
+
+-- the step of another build leaves it as it is
+pub realm_of-other_step : (limits : Limits) (b : ℕ) (w v : World) (e : Event) → e.build ≢ b → IsClean w → step limits w e ≡ Some v → realm_of b v ≡ realm_of b w
+realm_of-other_step limits b w v e apart clean s = sym (realm_of-part_of b v) ∙ ap (realm_of b) (part_of-other_step limits b w v e apart clean s) ∙ realm_of-part_of b w
 
 -- ---- a realm that is known
 

@@ -1,5 +1,5 @@
 -- A REC and its auxiliaries come to a realm, or leave it.
-use Rattle.std.proofs.Common.{◌≡◌, ℕ, zero, suc, ◌+◌, true, false, cond, ◌||◌, ◌⊎◌, inl, inr, List, [], ◌∷◌, ◌++◌, map, Option, Some, None, refl, sym, ap, ◌∙◌, arith}
+use Rattle.std.proofs.Common.{◌≡◌, ℕ, true, false, cond, ◌||◌, ◌⊎◌, inl, inr, List, [], ◌∷◌, ◌++◌, map, Option, Some, None, refl, sym, ap, ◌∙◌}
 use Rattle.std.specs.Prelude.{is_some, ◌==◌, option_map, slice_get}
 use Rattle.std.specs.List.{list_all}
 use Rattle.std.specs.Ordering.{nat_cmp, eq_by_cmp}
@@ -8,75 +8,32 @@ use Rattle.std.specs.FinMap.{get}
 use Rattle.std.proofs.lemmas.Bool.{eqb-true, eq-eqb, ne_eqb}
 use Rattle.std.proofs.lemmas.Option.{same_Some}
 use Rattle.realm_model.specs.declared.states.GranuleState.{GranuleState}
-use Rattle.realm_model.specs.declared.states.GranuleState.TheVariants.{Rec as InRec, RecAux, Rtt as InRtt}
-use Rattle.realm_model.specs.Machine.{RecRow, RealmRow, Cell, Machine, Seen, left, held, cell_at, seen}
+use Rattle.realm_model.specs.declared.states.GranuleState.TheVariants.{Rec as InRec, RecAux}
+use Rattle.realm_model.specs.Machine.{RecRow, RealmRow, Cell, Seen, left, held, cell_at, seen}
 use Rattle.realm_model.specs.Update.{Update, Put, granule_of}
 use Rattle.realm_model.specs.Command.Check.{is_delegated}
 use Rattle.realm_model.specs.World.{World}
 use Rattle.realm_model.specs.Ownership.{granules_of_rec}
 use Rattle.realm_model.specs.Sound.{look, is_host_state}
-use Rattle.realm_model.specs.Roles.{Role, AsRoot, AtRow, AsRec, AsAux, row_target, aux_target, target, is_role_state}
-use Rattle.realm_model.proofs.Booleans.{true_false, cond_or}
-use Rattle.realm_model.proofs.Lists.{is_in, is_in_at, index_of, AllDistinct}
+use Rattle.realm_model.specs.Roles.{Role, AsStart, AtRow, AsRec, AsAux, row_target, start_target, aux_target, target, is_role_state}
+use Rattle.realm_model.proofs.Booleans.{true_false}
+use Rattle.realm_model.proofs.Lists.{is_in, is_in_at, is_in_more, index_of, AllDistinct}
 use Rattle.realm_model.proofs.Maps.{nat_place}
-use Rattle.realm_model.proofs.Written.{put_at, put_lefts, lefts}
+use Rattle.realm_model.proofs.Written.{put_at, put_at-each_put, granules-each_put, each_put, lefts}
 use Rattle.realm_model.proofs.Roles.{rec_target}
+use Rattle.realm_model.proofs.ListedRoles.{listed_role, listed_in, listed_out, listed_at, listed_target}
 use Rattle.realm_model.proofs.RoleChanges.{all_host, delegated_host, changed}
 use Rattle.realm_model.proofs.Parts.{IsSoundPart, IsLinked}
 
--- ---- auxiliaries
-
 abbrev pub auxes : ℕ → List ℕ → List Update
-auxes n gs = map (λ g. Put g (held RecAux n)) gs
+auxes n gs = each_put (held RecAux n) gs
 
-put_auxes : (n : ℕ) (gs : List ℕ) (k : ℕ) (c : Cell) → put_at (auxes n gs) k c ≡ cond (is_in k gs) (held RecAux n) c
-put_auxes n [] k c = refl
-put_auxes n (g ∷ gs) k c = put_auxes n gs k (cond (k == g) (held RecAux n) c) ∙ cond_or (k == g) (is_in k gs) (held RecAux n) c
-
-auxes_granules : (n : ℕ) (gs : List ℕ) → map granule_of (auxes n gs) ≡ gs
-auxes_granules n [] = refl
-auxes_granules n (g ∷ gs) = ap (λ r. g ∷ r) (auxes_granules n gs)
-
-pub seen_auxes : (machine : Machine) (n : ℕ) (gs : List ℕ) → map (λ (a : Seen). Put a.number (held RecAux n)) (map (seen machine) gs) ≡ auxes n gs
-seen_auxes machine n [] = refl
-seen_auxes machine n (g ∷ gs) = ap (λ r. Put g (held RecAux n) ∷ r) (seen_auxes machine n gs)
-
--- ---- the roles of the granules of a REC
-
-abbrev aux_role : ℕ → ℕ → List ℕ → ℕ → Option Role
-aux_role m i [] k = None
-aux_role m i (x ∷ xs) k = cond (k == x) (Some (AsAux m i)) (aux_role m (suc i) xs k)
-
+-- the roles of the granules of a REC
 abbrev rec_role : ℕ → ℕ → List ℕ → ℕ → Option Role
-rec_role m g gs k = cond (k == g) (Some (AsRec m)) (aux_role m 0 gs k)
-
-aux_role_in : (m i : ℕ) (gs : List ℕ) (k : ℕ) (q : Role) → aux_role m i gs k ≡ Some q → is_in k gs ≡ true
-aux_role_in m i [] k q h = cc
-aux_role_in m i (g ∷ gs) k q h = elim (k == g) as (λ t. cond t (Some (AsAux m i)) (aux_role m (suc i) gs k) ≡ Some q → (t || is_in k gs) ≡ true) [ true ↦ λ h. refl | false ↦ λ h. aux_role_in m (suc i) gs k q h ] h
-
-aux_role_out : (m i : ℕ) (gs : List ℕ) (k : ℕ) → aux_role m i gs k ≡ None → is_in k gs ≡ false
-aux_role_out m i [] k h = refl
-aux_role_out m i (g ∷ gs) k h = elim (k == g) as (λ t. cond t (Some (AsAux m i)) (aux_role m (suc i) gs k) ≡ None → (t || is_in k gs) ≡ false) [ true ↦ λ h. cc | false ↦ λ h. aux_role_out m (suc i) gs k h ] h
-
-aux_role_at : (m j : ℕ) (gs : List ℕ) (i k : ℕ) → AllDistinct gs → slice_get gs i ≡ Some k → aux_role m j gs k ≡ Some (AsAux m (j + i))
-aux_role_at m j [] i k different h = cc
-aux_role_at m j (g ∷ gs) zero k different h = ap (λ t. cond t (Some (AsAux m j)) (aux_role m (suc j) gs k)) (eq-eqb k g (sym (same_Some _ _ h))) ∙ ap (λ x. Some (AsAux m x)) (plus_zero j)
-  where
-    plus_zero : (j : ℕ) → j ≡ j + 0
-    plus_zero j = omega arith
-aux_role_at m j (g ∷ gs) (suc i) k different h =
-    let other : (k == g) ≡ false = ne_eqb k g (λ e. true_false _ (is_in_at gs i g (h ∙ ap Some e)) different.0) in
-    ap (λ t. cond t (Some (AsAux m j)) (aux_role m (suc j) gs k)) other ∙ aux_role_at m (suc j) gs i k different.1 h ∙ ap (λ x. Some (AsAux m x)) (plus_suc j i)
-  where
-    plus_suc : (j i : ℕ) → suc j + i ≡ j + suc i
-    plus_suc j i = omega arith
-
-lefts_granules : (gs : List ℕ) → map granule_of (lefts gs) ≡ gs
-lefts_granules [] = refl
-lefts_granules (g ∷ gs) = ap (λ r. g ∷ r) (lefts_granules gs)
+rec_role m g gs k = cond (k == g) (Some (AsRec m)) (listed_role (AsAux m) gs k)
 
 bare_lefts : (gs : List ℕ) (k : ℕ) (x : Cell) (e : RealmRow) → (put_at (lefts gs) k x).descriptor ≡ Some e → x.descriptor ≡ Some e
-bare_lefts gs k x e h = elim (is_in k gs) as (λ t. (cond t left x).descriptor ≡ Some e → x.descriptor ≡ Some e) [ true ↦ λ h. cc | false ↦ λ h. h ] (sym (ap (λ (y : Cell). y.descriptor) (put_lefts gs k x)) ∙ h)
+bare_lefts gs k x e h = elim (is_in k gs) as (λ t. (cond t left x).descriptor ≡ Some e → x.descriptor ≡ Some e) [ true ↦ λ h. cc | false ↦ λ h. h ] (sym (ap (λ (y : Cell). y.descriptor) (put_at-each_put left gs k x)) ∙ h)
 
 module _ (w : World) (sound : IsSoundPart w) (old : IsLinked (λ k. cell_at w.machine k)) (rd : Seen) (d e1 : RealmRow)
     (at : cell_at w.machine rd.number ≡ rd.cell) (is : rd.cell.descriptor ≡ Some d) (root : e1.root ≡ d.root) (rows : e1.rows ≡ d.rows) where
@@ -106,7 +63,7 @@ module _ (w : World) (sound : IsSoundPart w) (old : IsLinked (λ k. cell_at w.ma
       us = Put g (held InRec n) ∷ auxes n gs
 
       written : (k : ℕ) (x : Cell) → put_at us k x ≡ cond (is_in k gs) (held RecAux n) (cond (k == g) c x)
-      written k x = put_auxes n gs k (cond (k == g) c x)
+      written k x = put_at-each_put (held RecAux n) gs k (cond (k == g) c x)
 
       bare : (k : ℕ) (x : Cell) (e : RealmRow) → (put_at us k x).descriptor ≡ Some e → x.descriptor ≡ Some e
       bare k x e h = elim (is_in k gs) as (λ t. (cond t (held RecAux n) (cond (k == g) c x)).descriptor ≡ Some e → x.descriptor ≡ Some e) [
@@ -116,14 +73,14 @@ module _ (w : World) (sound : IsSoundPart w) (old : IsLinked (λ k. cell_at w.ma
 
       host : (k : ℕ) (q : Role) → rec_role m g gs k ≡ Some q → is_host_state (now k).state ≡ true
       host k q f = all_host w sound is_delegated (delegated_host w sound) (g ∷ gs) free k
-          (elim (k == g) as (λ t. cond t (Some (AsRec m)) (aux_role m 0 gs k) ≡ Some q → (t || is_in k gs) ≡ true) [ true ↦ λ f. refl | false ↦ λ f. aux_role_in m 0 gs k q f ] f)
+          (elim (k == g) as (λ t. cond t (Some (AsRec m)) (listed_role (AsAux m) gs k) ≡ Some q → (t || is_in k gs) ≡ true) [ true ↦ λ f. refl | false ↦ λ f. listed_in (AsAux m) gs k q f ] f)
 
       granules : (k : ℕ) → is_in k (map granule_of us) ≡ is_in k (g ∷ gs)
-      granules k = ap (λ l. is_in k (g ∷ l)) (auxes_granules n gs)
+      granules k = ap (λ l. is_in k (g ∷ l)) (granules-each_put (held RecAux n) gs)
 
       out : (k : ℕ) → rec_role m g gs k ≡ None → is_in k (map granule_of us) ≡ false
       out k f = granules k
-          ∙ elim (k == g) as (λ t. cond t (Some (AsRec m)) (aux_role m 0 gs k) ≡ None → (t || is_in k gs) ≡ false) [ true ↦ λ f. cc | false ↦ λ f. aux_role_out m 0 gs k f ] f
+          ∙ elim (k == g) as (λ t. cond t (Some (AsRec m)) (listed_role (AsAux m) gs k) ≡ None → (t || is_in k gs) ≡ false) [ true ↦ λ f. cc | false ↦ λ f. listed_out (AsAux m) gs k f ] f
 
       -- the cell of the REC, and of an auxiliary
       at_rec : (k : ℕ) → k ≡ g → put_at us k (now k) ≡ c
@@ -138,34 +95,25 @@ module _ (w : World) (sound : IsSoundPart w) (old : IsLinked (λ k. cell_at w.ma
       fresh_rec q to qs ts =
           let here : to.0 ≡ g = ap (λ (t : ℕ × GranuleState). t.0) (sym ts) in
           let cell = at_rec to.0 here in (
-            ap (λ t. cond t (Some (AsRec m)) (aux_role m 0 gs to.0)) (eq-eqb to.0 g here) ∙ ap (λ x. Some (AsRec x)) (sym qs),
+            ap (λ t. cond t (Some (AsRec m)) (listed_role (AsAux m) gs to.0)) (eq-eqb to.0 g here) ∙ ap (λ x. Some (AsRec x)) (sym qs),
             ap (λ (y : Cell). y.state) cell ∙ ap (λ (t : ℕ × GranuleState). t.1) ts,
             ap (λ (y : Cell). y.realm) cell,
           )
 
       fresh_aux : (q i : ℕ) (to : ℕ × GranuleState) → q ≡ m → option_map (λ a. (a, RecAux)) (slice_get gs i) ≡ Some to
           → (rec_role m g gs to.0 ≡ Some (AsAux q i)) × ((put_at us to.0 (now to.0)).state ≡ to.1) × ((put_at us to.0 (now to.0)).realm ≡ Some n)
-      fresh_aux q i to qs h = of_aux (slice_get gs i) refl h
-        where
-          zero_plus : (i : ℕ) → 0 + i ≡ i
-          zero_plus i = omega arith
-
-          of_aux : (o : Option ℕ) → slice_get gs i ≡ o → option_map (λ a. (a, RecAux)) o ≡ Some to
-              → (rec_role m g gs to.0 ≡ Some (AsAux q i)) × ((put_at us to.0 (now to.0)).state ≡ to.1) × ((put_at us to.0 (now to.0)).realm ≡ Some n)
-          of_aux None e h = cc
-          of_aux (Some a) e h =
-              let here : a ≡ to.0 = ap (λ (t : ℕ × GranuleState). t.0) (same_Some _ _ h) in
-              let there : slice_get gs i ≡ Some to.0 = e ∙ ap Some here in
-              let other : (to.0 == g) ≡ false = ne_eqb to.0 g (λ x. true_false _ (is_in_at gs i g (there ∙ ap Some x)) different.0) in
-              let cell = at_aux to.0 (is_in_at gs i to.0 there) in (
-                ap (λ t. cond t (Some (AsRec m)) (aux_role m 0 gs to.0)) other ∙ aux_role_at m 0 gs i to.0 different.1 there ∙ (λ j. Some (AsAux (sym qs j) (zero_plus i j))),
-                ap (λ (y : Cell). y.state) cell ∙ ap (λ (t : ℕ × GranuleState). t.1) (same_Some _ _ h),
-                ap (λ (y : Cell). y.realm) cell,
-              )
+      fresh_aux q i to qs h =
+          let there = listed_target RecAux gs i to h in
+          let other : (to.0 == g) ≡ false = ne_eqb to.0 g (λ x. true_false _ (is_in_at gs i g (there.0 ∙ ap Some x)) different.0) in
+          let cell = at_aux to.0 (is_in_at gs i to.0 there.0) in (
+            ap (λ t. cond t (Some (AsRec m)) (listed_role (AsAux m) gs to.0)) other ∙ listed_at (AsAux m) gs i to.0 different.1 there.0 ∙ ap (λ x. Some (AsAux x i)) (sym qs),
+            ap (λ (y : Cell). y.state) cell ∙ there.1,
+            ap (λ (y : Cell). y.realm) cell,
+          )
 
       names : (p : Role) (to : ℕ × GranuleState) → target e1 p ≡ Some to → ((target d p ≡ Some to) × (rec_role m g gs to.0 ≡ None → old.roles to.0 ≡ p → is_in to.0 (map granule_of us) ≡ false))
           ⊎ ((rec_role m g gs to.0 ≡ Some p) × ((put_at us to.0 (now to.0)).state ≡ to.1) × ((put_at us to.0 (now to.0)).realm ≡ Some n))
-      names AsRoot to h = inl (ap (λ r. Some (r, InRtt)) (sym root) ∙ h, λ f role. out to.0 f)
+      names (AsStart i) to h = inl (ap (λ r. start_target r i) (sym root) ∙ h, λ f role. out to.0 f)
       names (AtRow q) to h = inl (sym (same_row q) ∙ h, λ f role. out to.0 f)
       names (AsRec q) to h = elim (eq_by_cmp nat_cmp q m) as (λ t. eq_by_cmp nat_cmp q m ≡ t → rec_target (cond t (Some (g, gs)) (recs_of d q)) ≡ Some to
           → ((target d (AsRec q) ≡ Some to) × (rec_role m g gs to.0 ≡ None → old.roles to.0 ≡ AsRec q → is_in to.0 (map granule_of us) ≡ false))
@@ -188,7 +136,7 @@ module _ (w : World) (sound : IsSoundPart w) (old : IsLinked (λ k. cell_at w.ma
       ] refl (recs q)
 
       named : (p : Role) (to : ℕ × GranuleState) → target d p ≡ Some to → is_in to.0 (map granule_of us) ≡ false → target e1 p ≡ Some to
-      named AsRoot to h out = ap (λ r. Some (r, InRtt)) root ∙ h
+      named (AsStart i) to h out = ap (λ r. start_target r i) root ∙ h
       named (AtRow q) to h out = same_row q ∙ h
       named (AsRec q) to h out = elim (recs_stay q) [ inl same ↦ ap rec_target same ∙ h | inr none ↦ absurd (true_false _ (ap is_some h) (ap (λ o. is_some (rec_target o)) none)) ]
       named (AsAux q i) to h out = elim (recs_stay q) [ inl same ↦ ap (λ o. aux_target o i) same ∙ h | inr none ↦ absurd (true_false _ (ap is_some h) (ap (λ o. is_some (aux_target o i)) none)) ]
@@ -221,10 +169,10 @@ module _ (w : World) (sound : IsSoundPart w) (old : IsLinked (λ k. cell_at w.ma
       no_role q f = cc
 
       no_left : (k : ℕ) → is_in k (map granule_of (lefts all)) ≡ true → is_role_state (put_at (lefts all) k (now k)).state ≡ true → ⊥
-      no_left k i role = true_false _ role (ap (λ (y : Cell). is_role_state y.state) (put_lefts all k (now k) ∙ ap (λ t. cond t left (now k)) (sym (ap (is_in k) (lefts_granules all)) ∙ i)))
+      no_left k i role = true_false _ role (ap (λ (y : Cell). is_role_state y.state) (put_at-each_put left all k (now k) ∙ ap (λ t. cond t left (now k)) (sym (ap (is_in k) (granules-each_put left all)) ∙ i)))
 
       fewer : (p : Role) (to : ℕ × GranuleState) → target e1 p ≡ Some to → target d p ≡ Some to
-      fewer AsRoot to h = ap (λ r. Some (r, InRtt)) (sym root) ∙ h
+      fewer (AsStart i) to h = ap (λ r. start_target r i) (sym root) ∙ h
       fewer (AtRow q) to h = sym (same_row q) ∙ h
       fewer (AsRec q) to h = elim (eq_by_cmp nat_cmp q m) as (λ t. rec_target (cond t None (recs_of d q)) ≡ Some to → target d (AsRec q) ≡ Some to) [
         | true ↦ λ h. cc
@@ -251,7 +199,7 @@ module _ (w : World) (sound : IsSoundPart w) (old : IsLinked (λ k. cell_at w.ma
       role_aux i k h = (old.names n d row (AsAux m i) (k, RecAux) (ap (λ o. aux_target o i) was ∙ ap (λ o. option_map (λ g. (g, RecAux)) o) h)).2
 
       out : (p : Role) (to : ℕ × GranuleState) → target e1 p ≡ Some to → old.roles to.0 ≡ p → is_in to.0 (map granule_of (lefts all)) ≡ false
-      out p to h role = ap (is_in to.0) (lefts_granules all)
+      out p to h role = ap (is_in to.0) (granules-each_put left all)
           ∙ elim (to.0 == rec.granule) as (λ t. (to.0 == rec.granule) ≡ t → (t || is_in to.0 rec.auxiliaries) ≡ false) [
             | true ↦ λ e. let same : p ≡ AsRec m = sym role ∙ ap old.roles (eqb-true to.0 rec.granule e) ∙ role_rec in
                 absurd (true_false _ (ap is_some (sym (ap (target e1) same) ∙ h)) (ap (λ o. is_some (rec_target o)) gone))
@@ -271,16 +219,13 @@ module _ (w : World) (sound : IsSoundPart w) (old : IsLinked (λ k. cell_at w.ma
       ] refl (recs q)
 
       among : (k : ℕ) → is_in k all ≡ true → is_in k (map granule_of (lefts all)) ≡ false → ⊥
-      among k i out = true_false _ (ap (is_in k) (lefts_granules all) ∙ i) out
+      among k i out = true_false _ (ap (is_in k) (granules-each_put left all) ∙ i) out
 
-      aux_among : (i : ℕ) (o : Option ℕ) (to : ℕ × GranuleState) → slice_get rec.auxiliaries i ≡ o → option_map (λ a. (a, RecAux)) o ≡ Some to → is_in to.0 all ≡ true
-      aux_among i None to e h = cc
-      aux_among i (Some a) to e h =
-          let here : a ≡ to.0 = ap (λ (t : ℕ × GranuleState). t.0) (same_Some _ _ h) in
-          elim (to.0 == rec.granule) as (λ t. (t || is_in to.0 rec.auxiliaries) ≡ true) [ true ↦ refl | false ↦ is_in_at rec.auxiliaries i to.0 (e ∙ ap Some here) ]
+      aux_among : (i : ℕ) (to : ℕ × GranuleState) → option_map (λ a. (a, RecAux)) (slice_get rec.auxiliaries i) ≡ Some to → is_in to.0 all ≡ true
+      aux_among i to h = is_in_more to.0 rec.granule rec.auxiliaries (is_in_at rec.auxiliaries i to.0 (listed_target RecAux rec.auxiliaries i to h).0)
 
       named : (p : Role) (to : ℕ × GranuleState) → target d p ≡ Some to → is_in to.0 (map granule_of (lefts all)) ≡ false → target e1 p ≡ Some to
-      named AsRoot to h out = ap (λ r. Some (r, InRtt)) root ∙ h
+      named (AsStart i) to h out = ap (λ r. start_target r i) root ∙ h
       named (AtRow q) to h out = same_row q ∙ h
       named (AsRec q) to h out = elim (recs_stay q) [
         | inl same ↦ ap rec_target same ∙ h
@@ -290,5 +235,5 @@ module _ (w : World) (sound : IsSoundPart w) (old : IsLinked (λ k. cell_at w.ma
       ]
       named (AsAux q i) to h out = elim (recs_stay q) [
         | inl same ↦ ap (λ o. aux_target o i) same ∙ h
-        | inr mine ↦ absurd (among to.0 (aux_among i (slice_get rec.auxiliaries i) to refl (sym (ap (λ o. aux_target o i) mine) ∙ h)) out)
+        | inr mine ↦ absurd (among to.0 (aux_among i to (sym (ap (λ o. aux_target o i) mine) ∙ h)) out)
       ]

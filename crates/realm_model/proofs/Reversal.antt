@@ -10,11 +10,14 @@ use Rattle.std.specs.Str.{bytes_eq}
 use Rattle.std.specs.Cmp.Lexicographic.{bytes_decides}
 use Rattle.std.proofs.lemmas.Bool.{and_parts, and_from, eqb-true, eq-eqb}
 use Rattle.std.proofs.lemmas.Option.{same_Some}
+use Rattle.std.proofs.lemmas.List.{append-nil}
 use Rattle.std.proofs.lemmas.List.Folds.{list_any-append}
 use Rattle.arrayvec.specs.declared.array_vec.ArrayVec.{ArrayVec}
-use Rattle.granule_addr.specs.Ipa.{covered_count, first_covered}
+use Rattle.granule_addr.specs.Ipa.{covered_count, first_covered, is_protected_at}
+use Rattle.granule_addr.specs.Root.{start_count, starting_tables}
+use Rattle.granule_addr.specs.declared.root.Root.{Root}
 use Rattle.realm_model.specs.declared.states.GranuleState.{GranuleState}
-use Rattle.realm_model.specs.declared.states.GranuleState.TheVariants.{Undelegated, Delegated, Rd, Rec as InRec, RecAux, Data as InData, Rtt as InRtt}
+use Rattle.realm_model.specs.declared.states.GranuleState.TheVariants.{Undelegated, Delegated, Rec as InRec, RecAux, Data as InData, Rtt as InRtt}
 use Rattle.realm_model.specs.declared.states.RecState.TheVariants.{Ready}
 use Rattle.realm_model.specs.declared.states.Hipas.{Hipas}
 use Rattle.realm_model.specs.declared.states.Hipas.TheVariants.{Assigned, Table}
@@ -24,19 +27,21 @@ use Rattle.realm_model.specs.declared.rmi.Rmi.{Rmi}
 use Rattle.realm_model.specs.declared.act.Act.{Act}
 use Rattle.realm_model.specs.declared.act.Act.TheVariants.{Take, UnTake, Fill, Peek, Delegate, Undelegate, Realm, UnRealm, Activate, Rtt, UnRtt, Ripas as ToRam, Data, Unknown, UnData, Rec, UnRec, Enter, Exit, Poke}
 use Rattle.realm_model.specs.Rows.{Row, row_at, put_row, assigned, unassigned, unmapped_ripas, with_table, without_table, root_rows, is_unassigned, is_assigned, is_table, is_table_unused, place_cmp, is_table_place, has_root_table}
-use Rattle.granule_addr.specs.Page.{zero_page}
 use Rattle.realm_model.specs.Machine.{Limits, RecRow, RealmRow, Cell, Machine, Seen, left, held, held as held_cell, cell_at, seen}
 use Rattle.realm_model.specs.Update.{Update, Put, granule_of}
 use Rattle.realm_model.specs.Command.Check.{error_input, check, is_undelegated, is_delegated, is_ready, is_protected, error_rec}
 use Rattle.realm_model.specs.Measurement.{measurement_after, data_event, rec_event}
 use Rattle.realm_model.specs.Command.Realm.{new_realm}
 use Rattle.realm_model.specs.Act.{named, reverse_of, is_paired}
-use Rattle.realm_model.specs.Outcome.{outcome_of, fits, leads_to, realm_is}
+use Rattle.realm_model.specs.Outcome.{outcome_of, fits, leads_to, realm_is, is_root}
 use Rattle.realm_model.specs.World.{World, is_leased_to, realm_of}
+use Rattle.realm_model.specs.Step.{used_vmids}
 use Rattle.realm_model.specs.Ownership.{mapping_of_row, granules_of_rec, SameRealm, SameDescriptor, SameCell}
 use Rattle.realm_model.specs.Sound.{look, is_host_state, is_rd_state}
-use Rattle.realm_model.specs.Undoing.{is_running}
-use Rattle.realm_model.proofs.Written.{lefts, put_more, put_at, put_lefts, put_other, put_last}
+use Rattle.realm_model.specs.Running.{is_running}
+use Rattle.realm_model.proofs.Written.{lefts, put_more, put_at, put_at-each_put, granules-each_put, put_other, put_last}
+use Rattle.realm_model.proofs.NewRealms.{new_rd, creation, seen-creation, put_at-creation_rd, can_be_made}
+use Rattle.realm_model.proofs.Roots.{root_same}
 use Rattle.realm_model.proofs.Outcomes.{granule_there, realm_there, rec_there, Yields-Ok, check_true, Yields-with_realm, Yields-Err, Yields, Yields-check, end_there, Yields-with_end}
 use Rattle.realm_model.proofs.Maps.{same_place, nat_place}
 use Rattle.realm_model.proofs.SoundRows.{none_among, look-with_table, look-with_table_below}
@@ -45,7 +50,7 @@ use Rattle.realm_model.proofs.Rows.{place_self, put_there, look-insert, all_rows
 use Rattle.realm_model.proofs.OwnsSame.{descriptor_some, same_bare, descriptor_none}
 use Rattle.realm_model.proofs.Booleans.{none_from, not_true, none_map, not_false}
 use Rattle.realm_model.proofs.SoundCells.{undelegated_state, delegated_state}
-use Rattle.realm_model.proofs.Lists.{is_in}
+use Rattle.realm_model.proofs.Lists.{is_in, AllDistinct}
 use Rattle.realm_model.proofs.TableBack.{table_back}
 use Rattle.realm_model.proofs.TablePlaces.{IsTablePlace, table_place}
 use Rattle.realm_model.proofs.Puts.{is_of_block}
@@ -57,7 +62,7 @@ pub record Reversal (limits : Limits) (b : ℕ) (u w : World) (act r : Act) : Ty
   pub ready : Bool
   pub refusal : Rmi
   pub updates : List Update
-  pub planned : outcome_of limits r (realm_of b w) (map (seen w.machine) (named r)) ≡ check ready refusal (Ok updates)
+  pub planned : (used : List ℕ) → outcome_of limits used r (realm_of b w) (map (seen w.machine) (named r)) ≡ check ready refusal (Ok updates)
   pub fitting : fits r (realm_of b w) (map (seen w.machine) (named r)) ≡ true
   pub back : (k : ℕ) → SameCell (cell_at u.machine k) (put_at updates k (cell_at w.machine k))
   pub ready_if : is_running (realm_of b w) act ≡ false → ready ≡ true
@@ -74,7 +79,7 @@ pub back_left : (u w : World) (us tail : List Update) (gs : List ℕ) → map gr
     → ((k : ℕ) → SameCell (put_at us k (cell_at u.machine k)) (cell_at w.machine k))
     → (k : ℕ) → SameCell (cell_at u.machine k) (put_at (lefts gs ++ tail) k (cell_at w.machine k))
 back_left u w us tail gs granules leave tailed same k =
-    subst (SameCell (cell_at u.machine k)) (sym (put_more (lefts gs) tail k (cell_at w.machine k) ∙ ap (put_at tail k) (put_lefts gs k (cell_at w.machine k))))
+    subst (SameCell (cell_at u.machine k)) (sym (put_more (lefts gs) tail k (cell_at w.machine k) ∙ ap (put_at tail k) (put_at-each_put left gs k (cell_at w.machine k))))
     (elim (is_in k (map granule_of tail)) as (λ t. is_in k (map granule_of tail) ≡ t → SameCell (cell_at u.machine k) (put_at tail k (cond (is_in k gs) left (cell_at w.machine k)))) [
       | true ↦ λ e. tailed k (cond (is_in k gs) left (cell_at w.machine k)) e
       | false ↦ λ e. subst (SameCell (cell_at u.machine k)) (sym (put_other tail k (cond (is_in k gs) left (cell_at w.machine k)) e))
@@ -107,7 +112,7 @@ delegated_leaves o u g sound e =
 
 -- ---- lists and maps
 
-no_recs : (m : FinMap nat_cmp RecRow) → ((n : ℕ) → get m n ≡ None) → len m ≡ 0
+pub no_recs : (m : FinMap nat_cmp RecRow) → ((n : ℕ) → get m n ≡ None) → len m ≡ 0
 no_recs m h = ap len (same_map nat_cmp_total nat_cmp-IsAntisymmetric m empty (λ n. h n ∙ sym (get-empty nat_cmp n))) ∙ len-empty nat_cmp RecRow
 
 pub seen_numbers : (m : Machine) (gs : List ℕ) → map (λ (a : Seen). a.number) (map (seen m) gs) ≡ gs
@@ -156,7 +161,7 @@ module _ (limits : Limits) (b : ℕ) (u w : World) (su : IsSoundPart u) (sw : Is
         ready = is_delegated (seen w.machine g);
         refusal = error_input;
         updates = Put g (record (cell_at w.machine g) { state = Undelegated }) ∷ [];
-        planned = refl;
+        planned = λ used. refl;
         fitting = refl;
         back = back_left u w (Put g left ∷ []) (Put g (record (cell_at w.machine g) { state = Undelegated }) ∷ []) [] refl (λ k e. cc)
             (tail_one u g _ (same_bare (cell_at u.machine g) (record (cell_at w.machine g) { state = Undelegated }) was clear.0 (sym at_g.realm) clear.1 (descriptor_none _ at_g.descriptor))) leads;
@@ -176,6 +181,10 @@ module _ (limits : Limits) (b : ℕ) (u w : World) (su : IsSoundPart u) (sw : Is
       let found = descriptor_some d1 (cell_at w.machine n).descriptor (subst (λ o. SameDescriptor o (cell_at w.machine n).descriptor) is same.descriptor) in
       record { realm = found.0; there = found.1; same = found.2; found = realm_of_there b w sw n found.0 (leased_too n held) found.1 }
 
+  -- it has the same width there
+  protected_too : {n : ℕ} {d1 : RealmRow} (both : InBoth n d1) (ipa : ℕ) → is_protected d1 ipa ≡ true → is_protected both.realm ipa ≡ true
+  protected_too both ipa protected = ap (λ (r : Root). is_protected_at ipa r.width) (sym both.same.root) ∙ protected
+
   realm_tail : (rd : Seen) (d d1 d3 : RealmRow) → cell_at u.machine rd.number ≡ rd.cell → rd.cell.descriptor ≡ Some d
       → SameCell (record rd.cell { descriptor = Some d1 }) (cell_at w.machine rd.number) → SameRealm d d3
       → SameCell (cell_at u.machine rd.number) (record (cell_at w.machine rd.number) { descriptor = Some d3 })
@@ -187,6 +196,15 @@ module _ (limits : Limits) (b : ℕ) (u w : World) (su : IsSoundPart u) (sw : Is
 
   -- ---- Realm
 
+  in_all : (gs : List ℕ) → list_all is_delegated (map (seen u.machine) gs) ≡ true → (k : ℕ) → is_in k gs ≡ true → Leaves u k
+  in_all [] h k e = cc
+  in_all (g ∷ gs) h k e =
+      let parts = and_parts _ _ h in
+      elim (k == g) as (λ t. (k == g) ≡ t → (t || is_in k gs) ≡ true → Leaves u k) [
+        | true ↦ λ same e. subst (Leaves u) (sym (eqb-true k g same)) (delegated_leaves su.rd u g (su.cells g) parts.0)
+        | false ↦ λ same e. in_all gs parts.1 k e
+      ] refl e
+
   in_one : (g : ℕ) → Leaves u g → (k : ℕ) → is_in k (g ∷ []) ≡ true → Leaves u k
   in_one g h k e = elim (k == g) as (λ t. (k == g) ≡ t → (t || false) ≡ true → Leaves u k) [
     | true ↦ λ same e. subst (Leaves u) (sym (eqb-true k g same)) h
@@ -196,61 +214,56 @@ module _ (limits : Limits) (b : ℕ) (u w : World) (su : IsSoundPart u) (sw : Is
   no_table_free : (row : Row) → mapping_of_row row ≡ Vacant → not (is_table row) ≡ true
   no_table_free row e = ap (λ p. not (kind_table p)) e
 
-  new_rows_free : (v root : ℕ) (d2 : RealmRow) → SameRealm (new_realm v root) d2 → not (has_root_table d2.rows) ≡ true
+  new_rows_free : (v : ℕ) (root : Root) (d2 : RealmRow) → SameRealm (new_realm v root) d2 → not (has_root_table d2.root.width d2.rows) ≡ true
   unfolding new_realm root_rows
   new_rows_free v root d2 same =
-      ap (λ t. not (not t)) (all_rows_from (λ row. not (is_table row)) no_table_free d2.rows 1 0 512
-      (λ k less. sym (same.rows (1, 0 + k * covered_count 1)) ∙ put_there (unassigned Empty) empty 1 0 512 k less))
+      let count : ℕ = 512 * start_count root.width in
+      ap (λ (r : Root). not (has_root_table r.width d2.rows)) (sym same.root)
+      ∙ ap (λ t. not (not t)) (all_rows_from (λ row. not (is_table row)) no_table_free d2.rows 1 0 count
+      (λ k less. sym (same.rows (1, 0 + k * covered_count 1)) ∙ put_there (unassigned Empty) empty 1 0 count k less))
 
-  new_recs_none : (v root : ℕ) (d2 : RealmRow) → SameRealm (new_realm v root) d2 → len d2.recs ≡ 0
+  new_recs_none : (v : ℕ) (root : Root) (d2 : RealmRow) → SameRealm (new_realm v root) d2 → len d2.recs ≡ 0
   unfolding new_realm
   new_recs_none v root d2 same = no_recs d2.recs (λ n. none_map granules_of_rec (get d2.recs n) (sym (same.recs n) ∙ ap (option_map granules_of_rec) (get-empty {X = RecRow} nat_cmp n)))
 
-  new_root : (v root : ℕ) (d2 : RealmRow) → SameRealm (new_realm v root) d2 → (d2.root ≡ root) × (d2.vmid ≡ v)
+  new_root : (v : ℕ) (root : Root) (d2 : RealmRow) → SameRealm (new_realm v root) d2 → (root ≡ d2.root) × (d2.vmid ≡ v)
   unfolding new_realm
-  new_root v root d2 same = (sym same.root, sym same.vmid)
+  new_root v root d2 same = (same.root, sym same.vmid)
 
-  undone_realm : (rd root v : ℕ) → is_delegated (seen u.machine rd) ≡ true → is_delegated (seen u.machine root) ≡ true → not (rd == root) ≡ true → is_leased_to (Some b) u.leases rd ≡ true
-      → Leads (Put rd (record { state = Rd; realm = Some rd; bytes = zero_page; descriptor = Some (new_realm v root) }) ∷ Put root (held InRtt rd) ∷ [])
-      → (act : Act) → Reversal limits b u w act (UnRealm rd root v)
+  undone_realm : (rd : ℕ) (root : Root) (v : ℕ) → list_all is_delegated (map (seen u.machine) (rd ∷ starting_tables root)) ≡ true → AllDistinct (rd ∷ starting_tables root) → is_leased_to (Some b) u.leases rd ≡ true
+      → Leads (creation rd root v) → (act : Act) → Reversal limits b u w act (UnRealm rd root v)
   unfolding outcome_of named fits
-  undone_realm rd root v free_rd free_root differ held_rd leads act =
-      let z : Cell = record { state = Rd; realm = Some rd; bytes = zero_page; descriptor = Some (new_realm v root) } in
-      let us : List Update = Put rd z ∷ Put root (held InRtt rd) ∷ [] in
-      let written : put_at us rd (cell_at u.machine rd) ≡ z =
-      ap (λ t. cond t (held InRtt rd) (cond (rd == rd) z (cell_at u.machine rd))) (not_true _ differ) ∙ ap (λ t. cond t z (cell_at u.machine rd)) (eq-eqb rd rd refl) in
-      let both = in_both rd z (new_realm v root) refl held_rd (subst (λ c. SameCell c (cell_at w.machine rd)) written (leads rd)) in
+  undone_realm rd root v delegated different held_rd leads act =
+      let gs : List ℕ = starting_tables root in
+      let at_rd = subst (λ c. SameCell c (cell_at w.machine rd)) (put_at-creation_rd rd root v (cell_at u.machine rd) different) (leads rd) in
+      let both = in_both rd (new_rd rd root v) (new_realm v root) refl held_rd at_rd in
       let d2 : RealmRow = both.realm in
-      let roots = new_root v root d2 both.same in
+      let known = new_root v root d2 both.same in
       record {
         ready = true;
         refusal = error_input;
-        updates = lefts (rd ∷ root ∷ []) ++ [];
-        planned = realm_there (seen w.machine rd) _ d2 both.there
+        updates = lefts (rd ∷ gs);
+        planned = λ used. realm_there (seen w.machine rd) _ d2 both.there
             ∙ check_true _ _ _ (and_from _ _ (eq-eqb (len d2.recs) 0 (new_recs_none v root d2 both.same)) (new_rows_free v root d2 both.same))
-            ∙ (λ i. Ok (Put rd left ∷ Put (roots.0 i) left ∷ []))
+            ∙ (λ i. Ok (lefts (rd ∷ starting_tables (sym known.0 i))))
             ∙ sym (check_true true error_input _ refl);
-        fitting = ap (λ o. realm_is o (λ x y. x.number == rd && y.root == root && y.vmid == v)) both.found
-            ∙ ap (λ o. elim o [ Some y ↦ rd == rd && y.root == root && y.vmid == v | None ↦ false ]) both.there
-            ∙ and_from _ _ (and_from _ _ (eq-eqb rd rd refl) (eq-eqb d2.root root roots.0)) (eq-eqb d2.vmid v roots.1);
-        back = back_left u w us [] (rd ∷ root ∷ []) refl
-            (λ k e. elim (k == rd) as (λ t. (k == rd) ≡ t → (t || is_in k (root ∷ [])) ≡ true → Leaves u k) [
-              | true ↦ λ same e. subst (Leaves u) (sym (eqb-true k rd same)) (delegated_leaves su.rd u rd (su.cells rd) free_rd)
-              | false ↦ λ same e. in_one root (delegated_leaves su.rd u root (su.cells root) free_root) k e
-            ] refl e)
-            (λ k c e. cc) leads;
+        fitting = ap (λ o. realm_is o (λ x y. x.number == rd && is_root root y.root && y.vmid == v)) both.found
+            ∙ ap (λ o. elim o [ Some y ↦ rd == rd && is_root root y.root && y.vmid == v | None ↦ false ]) both.there
+            ∙ and_from _ _ (and_from _ _ (eq-eqb rd rd refl) (root_same root d2.root known.0)) (eq-eqb d2.vmid v known.1);
+        back = λ k. subst (λ us. SameCell (cell_at u.machine k) (put_at us k (cell_at w.machine k))) (append-nil (lefts (rd ∷ gs)))
+            (back_left u w (creation rd root v) [] (rd ∷ gs) (ap (λ r. rd ∷ r) (granules-each_put (held InRtt rd) gs ∙ sym (append-nil gs))) (in_all (rd ∷ gs) delegated) (λ k c e. cc) leads k);
         ready_if = λ r. refl;
       }
 
   -- ---- Rtt
 
-  planned_rtt : (d2 : RealmRow) (n ipa g level : ℕ) (row : Row) → (cell_at w.machine n).descriptor ≡ Some d2 → get d2.rows (level - 1, first_covered (level - 1) ipa) ≡ Some row → is_table row ≡ true → row.granule ≡ Some g
-      → is_table_place ipa level ≡ true → is_protected ipa ≡ true → 1 ≤ level - 1 → is_table_unused d2.rows level ipa ≡ true → realm_of b w ≡ Some (seen w.machine n)
-      → outcome_of limits (UnRtt g ipa level) (realm_of b w) (map (seen w.machine) (named (UnRtt g ipa level)))
+  planned_rtt : (used : List ℕ) (d2 : RealmRow) (n ipa g level : ℕ) (row : Row) → (cell_at w.machine n).descriptor ≡ Some d2 → get d2.rows (level - 1, first_covered (level - 1) ipa) ≡ Some row → is_table row ≡ true → row.granule ≡ Some g
+      → is_table_place ipa level ≡ true → is_protected d2 ipa ≡ true → 1 ≤ level - 1 → is_table_unused d2.rows level ipa ≡ true → realm_of b w ≡ Some (seen w.machine n)
+      → outcome_of limits used (UnRtt g ipa level) (realm_of b w) (map (seen w.machine) (named (UnRtt g ipa level)))
       ≡ check true error_input (Ok (Put g left ∷ Put n (record (cell_at w.machine n) { descriptor = Some (record d2 { rows = without_table d2.rows level ipa }) }) ∷ []))
   unfolding outcome_of named
-  planned_rtt d2 n ipa g level row there at table granule place protected low unused found =
-      ap (λ o. outcome_of limits (UnRtt g ipa level) o (map (seen w.machine) (named (UnRtt g ipa level)))) found
+  planned_rtt used d2 n ipa g level row there at table granule place protected low unused found =
+      ap (λ o. outcome_of limits used (UnRtt g ipa level) o (map (seen w.machine) (named (UnRtt g ipa level)))) found
       ∙ realm_there (seen w.machine n) _ d2 there
       ∙ check_true _ _ _ (and_from _ _ place protected)
       ∙ end_there d2.rows ipa (level - 1) _ (record { level = level - 1; row = row }) (walk_there d2.rows ipa (level - 1) row low at)
@@ -262,7 +275,7 @@ module _ (limits : Limits) (b : ℕ) (u w : World) (su : IsSoundPart u) (sw : Is
 
   undone_rtt : (act : Act) (rd : Seen) (d : RealmRow) (g ipa level : ℕ) (c : Cell) (above : Row)
       → cell_at u.machine rd.number ≡ rd.cell → rd.cell.descriptor ≡ Some d → is_leased_to (Some b) u.leases rd.number ≡ true
-      → is_delegated (seen u.machine g) ≡ true → is_table_place ipa level ≡ true → is_protected ipa ≡ true → row_at d.rows (level - 1) ipa ≡ Some above → is_table above ≡ false
+      → is_delegated (seen u.machine g) ≡ true → is_table_place ipa level ≡ true → is_protected d ipa ≡ true → row_at d.rows (level - 1) ipa ≡ Some above → is_table above ≡ false
       → Leads (Put g c ∷ Put rd.number (record rd.cell { descriptor = Some (record d { rows = with_table d.rows level ipa g above.ripas }) }) ∷ [])
       → Reversal limits b u w act (UnRtt g ipa level)
   unfolding outcome_of named fits is_table_unused
@@ -288,7 +301,7 @@ module _ (limits : Limits) (b : ℕ) (u w : World) (su : IsSoundPart u) (sw : Is
         ready = true;
         refusal = error_input;
         updates = lefts (g ∷ []) ++ tail;
-        planned = planned_rtt d2 n ipa g level row.0 both.there row.1 (ap kind_table row.2) granule place protected spot.low.0 unused both.found;
+        planned = λ used. planned_rtt used d2 n ipa g level row.0 both.there row.1 (ap kind_table row.2) granule place (protected_too both ipa protected) spot.low.0 unused both.found;
         fitting = ap (λ o. realm_is o (λ x y. leads_to (row_at y.rows (level - 1) ipa) g)) both.found
             ∙ ap (λ o. elim o [ Some y ↦ leads_to (row_at y.rows (level - 1) ipa) g | None ↦ false ]) both.there
             ∙ ap (λ o. leads_to o g) row.1 ∙ ap (λ o. option_eq nat_eq o (Some g)) granule ∙ eq-eqb g g refl;
@@ -299,13 +312,13 @@ module _ (limits : Limits) (b : ℕ) (u w : World) (su : IsSoundPart u) (sw : Is
 
   -- ---- Data
 
-  planned_data : (d2 : RealmRow) (c : Cell) (n ipa g : ℕ) (row : Row) → (cell_at w.machine n).descriptor ≡ Some d2 → get d2.rows (3, first_covered 3 ipa) ≡ Some row → is_assigned row ≡ true → row.granule ≡ Some g
-      → is_protected ipa ≡ true → realm_of b w ≡ Some (seen w.machine n)
-      → outcome_of limits (UnData g ipa) (realm_of b w) (map (seen w.machine) (named (UnData g ipa)))
+  planned_data : (used : List ℕ) (d2 : RealmRow) (c : Cell) (n ipa g : ℕ) (row : Row) → (cell_at w.machine n).descriptor ≡ Some d2 → get d2.rows (3, first_covered 3 ipa) ≡ Some row → is_assigned row ≡ true → row.granule ≡ Some g
+      → is_protected d2 ipa ≡ true → realm_of b w ≡ Some (seen w.machine n)
+      → outcome_of limits used (UnData g ipa) (realm_of b w) (map (seen w.machine) (named (UnData g ipa)))
       ≡ check true error_input (Ok (Put g left ∷ Put n (record (cell_at w.machine n) { descriptor = Some (record d2 { rows = put_row d2.rows 3 ipa (unassigned (unmapped_ripas row.ripas)) }) }) ∷ []))
   unfolding outcome_of named
-  planned_data d2 c n ipa g row there at assigned granule protected found =
-      ap (λ o. outcome_of limits (UnData g ipa) o (map (seen w.machine) (named (UnData g ipa)))) found
+  planned_data used d2 c n ipa g row there at assigned granule protected found =
+      ap (λ o. outcome_of limits used (UnData g ipa) o (map (seen w.machine) (named (UnData g ipa)))) found
       ∙ realm_there (seen w.machine n) _ d2 there
       ∙ check_true _ _ _ protected
       ∙ end_there d2.rows ipa 3 _ (record { level = 3; row = row }) (walk_there d2.rows ipa 3 row (lit≤ tt) at)
@@ -316,7 +329,7 @@ module _ (limits : Limits) (b : ℕ) (u w : World) (su : IsSoundPart u) (sw : Is
 
   undone_data : (act : Act) (rd : Seen) (d : RealmRow) (m : List ℕ) (g ipa : ℕ) (ripas : Ripas) (old : Row) (c : Cell) → (r : is_running (realm_of b w) act ≡ false)
       → cell_at u.machine rd.number ≡ rd.cell → rd.cell.descriptor ≡ Some d → is_leased_to (Some b) u.leases rd.number ≡ true
-      → is_delegated (seen u.machine g) ≡ true → is_protected ipa ≡ true → row_at d.rows 3 ipa ≡ Some old → is_unassigned old ≡ true
+      → is_delegated (seen u.machine g) ≡ true → is_protected d ipa ≡ true → row_at d.rows 3 ipa ≡ Some old → is_unassigned old ≡ true
       → Leads (Put g c ∷ Put rd.number (record rd.cell { descriptor = Some (record d { rows = put_row d.rows 3 ipa (assigned ripas g); measurement = m }) }) ∷ [])
       → Reversal limits b u w act (UnData g ipa)
   unfolding outcome_of named fits
@@ -344,7 +357,7 @@ module _ (limits : Limits) (b : ℕ) (u w : World) (su : IsSoundPart u) (sw : Is
         ready = true;
         refusal = error_input;
         updates = lefts (g ∷ []) ++ tail;
-        planned = planned_data d2 (cell_at w.machine n) n ipa g row.0 both.there row.1 (ap kind_assigned row.2) granule protected both.found;
+        planned = λ used. planned_data used d2 (cell_at w.machine n) n ipa g row.0 both.there row.1 (ap kind_assigned row.2) granule (protected_too both ipa protected) both.found;
         fitting = ap (λ o. realm_is o (λ x y. leads_to (row_at y.rows 3 ipa) g)) both.found
             ∙ ap (λ o. elim o [ Some y ↦ leads_to (row_at y.rows 3 ipa) g | None ↦ false ]) both.there
             ∙ ap (λ o. leads_to o g) row.1 ∙ ap (λ o. option_eq nat_eq o (Some g)) granule ∙ eq-eqb g g refl;
@@ -365,25 +378,16 @@ module _ (limits : Limits) (b : ℕ) (u w : World) (su : IsSoundPart u) (sw : Is
       rest [] = refl
       rest (x ∷ gs) = ap (λ r. x ∷ r) (rest gs)
 
-  in_all : (gs : List ℕ) → list_all is_delegated (map (seen u.machine) gs) ≡ true → (k : ℕ) → is_in k gs ≡ true → Leaves u k
-  in_all [] h k e = cc
-  in_all (g ∷ gs) h k e =
-      let parts = and_parts _ _ h in
-      elim (k == g) as (λ t. (k == g) ≡ t → (t || is_in k gs) ≡ true → Leaves u k) [
-        | true ↦ λ same e. subst (Leaves u) (sym (eqb-true k g same)) (delegated_leaves su.rd u g (su.cells g) parts.0)
-        | false ↦ λ same e. in_all gs parts.1 k e
-      ] refl e
-
   look_rec : (o : Option RecRow) (p : ℕ × List ℕ) → option_map granules_of_rec o ≡ Some p → (rec : RecRow) × (o ≡ Some rec) × (granules_of_rec rec ≡ p)
   look_rec None p e = cc
   look_rec (Some rec) p e = (rec, refl, same_Some _ _ e)
 
-  planned_rec : (d2 : RealmRow) (k g : ℕ) (aux : ArrayVec ℕ 16 (Unit {0})) (n : ℕ) (rec : RecRow) → (cell_at w.machine k).descriptor ≡ Some d2 → get d2.recs n ≡ Some rec → granules_of_rec rec ≡ (g, aux.items) → realm_of b w ≡ Some (seen w.machine k)
-      → outcome_of limits (UnRec g aux n) (realm_of b w) (map (seen w.machine) (named (UnRec g aux n)))
+  planned_rec : (used : List ℕ) (d2 : RealmRow) (k g : ℕ) (aux : ArrayVec ℕ 16 (Unit {0})) (n : ℕ) (rec : RecRow) → (cell_at w.machine k).descriptor ≡ Some d2 → get d2.recs n ≡ Some rec → granules_of_rec rec ≡ (g, aux.items) → realm_of b w ≡ Some (seen w.machine k)
+      → outcome_of limits used (UnRec g aux n) (realm_of b w) (map (seen w.machine) (named (UnRec g aux n)))
       ≡ check (is_ready rec) error_rec (Ok (lefts (g ∷ aux.items) ++ Put k (record (cell_at w.machine k) { descriptor = Some (record d2 { recs = remove d2.recs n }) }) ∷ []))
   unfolding outcome_of named
-  planned_rec d2 k g aux n rec there at own found =
-      ap (λ o. outcome_of limits (UnRec g aux n) o (map (seen w.machine) (named (UnRec g aux n)))) found
+  planned_rec used d2 k g aux n rec there at own found =
+      ap (λ o. outcome_of limits used (UnRec g aux n) o (map (seen w.machine) (named (UnRec g aux n)))) found
       ∙ realm_there (seen w.machine k) _ d2 there
       ∙ rec_there d2 n _ rec at
       ∙ ap (λ (p : ℕ × List ℕ). check (is_ready rec) error_rec (Ok (lefts (p.0 ∷ p.1) ++ Put k (record (cell_at w.machine k) { descriptor = Some (record d2 { recs = remove d2.recs n }) }) ∷ []))) own
@@ -433,7 +437,7 @@ module _ (limits : Limits) (b : ℕ) (u w : World) (su : IsSoundPart u) (sw : Is
         ready = is_ready rec.0;
         refusal = error_rec;
         updates = lefts (g ∷ aux.items) ++ tail;
-        planned = planned_rec d2 k g aux n rec.0 both.there there rec.2 both.found;
+        planned = λ used. planned_rec used d2 k g aux n rec.0 both.there there rec.2 both.found;
         fitting = ap (λ o. realm_is o (λ x y. fits_rec g aux.items (get y.recs n))) both.found
             ∙ ap (λ o. elim o [ Some y ↦ fits_rec g aux.items (get y.recs n) | None ↦ false ]) both.there
             ∙ ap (fits_rec g aux.items) there
@@ -457,15 +461,14 @@ module _ (limits : Limits) (b : ℕ) (u w : World) (su : IsSoundPart u) (sw : Is
 
   pub undone : (act : Act) (realm : Option Seen) → is_of_block act ≡ false → is_paired act ≡ true → list_all (is_leased_to (Some b) u.leases) (named act) ≡ true
       → IsAt u.machine realm → IsHeld b u.leases realm → fits act realm (map (seen u.machine) (named act)) ≡ true
-      → Yields (Y act) (outcome_of limits act realm (map (seen u.machine) (named act)))
+      → Yields (Y act) (outcome_of limits (used_vmids u.machine) act realm (map (seen u.machine) (named act)))
   unfolding outcome_of named fits reverse_of
   undone (Delegate g) realm k p h at held fit = Yields-check (Y (Delegate g)) _ _ _ (λ host. Yields-Ok (Y (Delegate g)) _ (undone_delegate g host))
   undone (Realm rd root v) realm k p h at held fit =
       let P = Y (Realm rd root v) in
       Yields-check P _ _ _ (λ all.
-      let three = and_parts _ _ (and_parts _ _ (and_parts _ _ all).0).0 in
-      let two = and_parts _ _ three.0 in
-      Yields-Ok P _ (λ leads. undone_realm rd root v two.0 two.1 three.1 (and_parts _ _ h).0 leads (Realm rd root v)))
+      let new = can_be_made limits.vmids (used_vmids u.machine) u.machine rd root v all in
+      Yields-Ok P _ (λ leads. undone_realm rd root v new.delegated new.different (and_parts _ _ h).0 (subst Leads (seen-creation u.machine rd root v) leads) (Realm rd root v)))
   undone (Rtt g ipa level) None k p h at held fit = Yields-Err (Y (Rtt g ipa level)) _
   undone (Rtt g ipa level) (Some rd) k p h at held fit =
       let P = Y (Rtt g ipa level) in

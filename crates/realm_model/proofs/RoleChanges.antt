@@ -6,14 +6,14 @@ use Rattle.std.specs.FinMap.{get}
 use Rattle.std.proofs.lemmas.Bool.{and_parts, eqb-true, eqb-false}
 use Rattle.std.proofs.lemmas.Option.{same_Some}
 use Rattle.realm_model.specs.declared.states.GranuleState.{GranuleState}
-use Rattle.realm_model.specs.declared.states.GranuleState.TheVariants.{Rd, Rtt as InRtt}
+use Rattle.realm_model.specs.declared.states.GranuleState.TheVariants.{Rd}
 use Rattle.realm_model.specs.Machine.{RealmRow, Cell, Seen, blank, cell_at, seen}
 use Rattle.realm_model.specs.Update.{Update, Put, PutByte, granule_of, cell_after}
 use Rattle.realm_model.specs.Command.Check.{is_delegated, is_undelegated}
 use Rattle.realm_model.specs.World.{World}
 use Rattle.realm_model.specs.Ownership.{granules_of_rec}
 use Rattle.realm_model.specs.Sound.{look, is_host_state, is_rd_state}
-use Rattle.realm_model.specs.Roles.{Role, AsRoot, AtRow, AsRec, AsAux, row_target, aux_target, target, is_role_state, HasRole}
+use Rattle.realm_model.specs.Roles.{Role, AsStart, AtRow, AsRec, AsAux, row_target, start_target, aux_target, target, is_role_state, HasRole}
 use Rattle.realm_model.proofs.Booleans.{true_false, none_from}
 use Rattle.realm_model.proofs.Lists.{is_in}
 use Rattle.realm_model.proofs.Written.{put_at, put_more, put_last, put_other}
@@ -227,7 +227,7 @@ module _ (w : World) (sound : IsSoundPart w) where
         no_role q f = cc
 
         same : (p : Role) → target e1 p ≡ target d p
-        same AsRoot = ap (λ r. Some (r, InRtt)) root
+        same (AsStart i) = ap (λ r. start_target r i) root
         same (AtRow q) = ap row_target (sym (rows q))
         same (AsRec q) = ap rec_target (sym (recs q))
         same (AsAux q i) = ap (λ o. aux_target o i) (sym (recs q))

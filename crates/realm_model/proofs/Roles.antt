@@ -3,6 +3,7 @@ use Rattle.std.proofs.Common.{◌≡◌, ℕ, true, false, ◌⊎◌, inl, inr, 
 use Rattle.std.specs.Prelude.{option_map, slice_get}
 use Rattle.std.specs.FinMap.{get}
 use Rattle.std.proofs.lemmas.Option.{same_Some}
+use Rattle.granule_addr.specs.Root.{starting_tables}
 use Rattle.realm_model.specs.declared.states.GranuleState.{GranuleState}
 use Rattle.realm_model.specs.declared.states.GranuleState.TheVariants.{Undelegated, Delegated, Rd, Rec as InRec, RecAux, Data as InData, Rtt as InRtt}
 use Rattle.realm_model.specs.declared.states.Hipas.{Hipas}
@@ -10,7 +11,7 @@ use Rattle.realm_model.specs.declared.states.Hipas.TheVariants.{Unassigned, Assi
 use Rattle.realm_model.specs.Machine.{RealmRow, Cell}
 use Rattle.realm_model.specs.Ownership.{granules_of_rec}
 use Rattle.realm_model.specs.Sound.{look, is_host_state, is_rd_state}
-use Rattle.realm_model.specs.Roles.{Role, AsRoot, AtRow, AsRec, AsAux, kind_target, row_target, aux_target, target, is_role_state, HasRole}
+use Rattle.realm_model.specs.Roles.{Role, AsStart, AtRow, AsRec, AsAux, kind_target, row_target, aux_target, target, is_role_state, HasRole}
 use Rattle.realm_model.proofs.Booleans.{true_false}
 use Rattle.realm_model.proofs.Parts.{IsLinked}
 
@@ -48,12 +49,14 @@ rec_target o = option_map (λ rec. (rec.0, InRec)) o
 state_of : (g : ℕ) (s : GranuleState) (to : ℕ × GranuleState) → ◌≡◌ {A = Option (ℕ × GranuleState)} (Some (g, s)) (Some to) → is_role_state s ≡ true → is_role_state to.1 ≡ true
 state_of g s to e h = ap (λ (t : ℕ × GranuleState). is_role_state t.1) (sym (same_Some _ _ e)) ∙ h
 
+one_state : (s : GranuleState) → is_role_state s ≡ true → (o : Option ℕ) (to : ℕ × GranuleState) → option_map (λ g. (g, s)) o ≡ Some to → is_role_state to.1 ≡ true
+one_state s h None to e = cc
+one_state s h (Some g) to e = state_of g s to e h
+
 kind_state : (h : Hipas) (g : Option ℕ) (to : ℕ × GranuleState) → kind_target h g ≡ Some to → is_role_state to.1 ≡ true
 kind_state Unassigned g to e = cc
-kind_state Assigned None to e = cc
-kind_state Assigned (Some g) to e = state_of g InData to e refl
-kind_state Table None to e = cc
-kind_state Table (Some g) to e = state_of g InRtt to e refl
+kind_state Assigned g to e = one_state InData refl g to e
+kind_state Table g to e = one_state InRtt refl g to e
 
 row_state : (o : Option (Hipas × Option ℕ)) (to : ℕ × GranuleState) → row_target o ≡ Some to → is_role_state to.1 ≡ true
 row_state None to e = cc
@@ -63,16 +66,12 @@ rec_state : (o : Option (ℕ × List ℕ)) (to : ℕ × GranuleState) → rec_ta
 rec_state None to e = cc
 rec_state (Some rec) to e = state_of rec.0 InRec to e refl
 
-one_aux_state : (o : Option ℕ) (to : ℕ × GranuleState) → option_map (λ g. (g, RecAux)) o ≡ Some to → is_role_state to.1 ≡ true
-one_aux_state None to e = cc
-one_aux_state (Some g) to e = state_of g RecAux to e refl
-
 aux_state : (o : Option (ℕ × List ℕ)) (i : ℕ) (to : ℕ × GranuleState) → aux_target o i ≡ Some to → is_role_state to.1 ≡ true
 aux_state None i to e = cc
-aux_state (Some rec) i to e = one_aux_state (slice_get rec.1 i) to e
+aux_state (Some rec) i to e = one_state RecAux refl (slice_get rec.1 i) to e
 
 pub target_state : (d : RealmRow) (p : Role) (to : ℕ × GranuleState) → target d p ≡ Some to → is_role_state to.1 ≡ true
-target_state d AsRoot to e = state_of d.root InRtt to e refl
+target_state d (AsStart i) to e = one_state InRtt refl (slice_get (starting_tables d.root) i) to e
 target_state d (AtRow place) to e = row_state (look d.rows place) to e
 target_state d (AsRec n) to e = rec_state (option_map granules_of_rec (get d.recs n)) to e
 target_state d (AsAux n i) to e = aux_state (option_map granules_of_rec (get d.recs n)) i to e

@@ -13,7 +13,8 @@ use Rattle.realm_model.specs.Act.{reverse_of}
 use Rattle.realm_model.specs.World.{World, realm_of, part_of, without}
 use Rattle.realm_model.specs.Step.{step}
 use Rattle.realm_model.specs.History.{erase, open_entries, IsInTurn, AllInTurn, after, replay, IsLegal}
-use Rattle.realm_model.specs.Undoing.{is_running, reverses, by}
+use Rattle.realm_model.specs.Running.{is_running}
+use Rattle.realm_model.specs.Undoing.{reverses, by}
 use Rattle.realm_model.specs.Marks.{Mark, Stands, above, rolling_back, erase_after, IsRolledBack}
 use Rattle.realm_model.specs.Ownership.{OwnsSame}
 use Rattle.realm_model.proofs.Chain.{Kept, kept_step}

@@ -1,9 +1,10 @@
 -- What an accepted event takes of the room of builds.
-use Rattle.std.proofs.Common.{◌≡◌, ◌≢◌, ℕ, ◌+◌, Bool, true, false, cond, inl, inr, List, [], ◌∷◌, ◌++◌, length, map, Option, Some, None, Ok, Err, refl, sym, ap, ◌∙◌, subst, arith}
-use Rattle.std.specs.Prelude.{◌==◌, filter}
-use Rattle.std.proofs.lemmas.Bool.{eq-eqb, ne_eqb}
-use Rattle.std.proofs.lemmas.List.{length-append, append-nil, map-append}
-use Rattle.std.proofs.lemmas.List.Elements.{filter-append}
+use Rattle.std.proofs.Common.{◌≡◌, ℕ, ◌+◌, Bool, true, false, cond, inl, inr, ⊎_elim, List, [], ◌∷◌, ◌++◌, length, Some, None, Ok, Err, refl, sym, ap, ◌∙◌, subst, arith}
+use Rattle.std.specs.List.{sum_by}
+use Rattle.std.proofs.lemmas.Bool.{cases_eq}
+use Rattle.std.proofs.lemmas.List.{length-append}
+use Rattle.std.proofs.lemmas.List.Sums.{sum_by_push}
+use Rattle.granule_addr.specs.declared.root.Root.{Root}
 use Rattle.realm_model.specs.declared.act.Act.{Act}
 use Rattle.realm_model.specs.declared.act.Act.TheVariants.{Realm, UnRealm, Enter, Exit}
 use Rattle.realm_model.specs.declared.act.Event.{Event}
@@ -12,28 +13,31 @@ use Rattle.realm_model.specs.Update.{Update, Outcome}
 use Rattle.realm_model.specs.Command.Check.{error_input}
 use Rattle.realm_model.specs.Act.{reverse_of, is_paired, is_reverse}
 use Rattle.realm_model.specs.Outcome.{outcome_of, fits, on_realm}
-use Rattle.realm_model.specs.World.{World, realm_of, part_of}
+use Rattle.realm_model.specs.World.{World, opening, realm_of, part_of}
 use Rattle.realm_model.specs.Step.{step}
-use Rattle.realm_model.specs.History.{acts_of, open_entries, IsInTurn, replay, IsLegal}
-use Rattle.realm_model.specs.Room.{running_count, used_room, room_taken, TakesRoom, RoomIsTaken}
+use Rattle.realm_model.specs.History.{acts_of, open_entries, IsInTurn, after, replay, IsLegal}
+use Rattle.realm_model.specs.Running.{running_count}
+use Rattle.realm_model.specs.Room.{used_room, room_taken, TakesRoom, RoomIsTaken, RoomIsSum}
+use Rattle.realm_model.specs.OpenRealm.{makes_realm}
 use Rattle.realm_model.specs.Undoing.{by}
 use Rattle.realm_model.specs.StepLaw.{IsStep}
+use Rattle.realm_model.specs.Command.Realm.{new_realm}
 use Rattle.realm_model.specs.Command.Rec.{rec_enter, rec_exit}
 use Rattle.realm_model.proofs.Booleans.{none_is}
+use Rattle.realm_model.proofs.Reached.{of_legal}
 use Rattle.realm_model.proofs.Stack.{pushed_paired, pushed_other, kind, paired, back, other}
-use Rattle.realm_model.proofs.Growth.{open_entries-own, open_entries-other, takes_away, Grows, grows}
-use Rattle.realm_model.proofs.HiddenSteps.{step-part_of, part_of-other_step}
-use Rattle.realm_model.proofs.RealmOf.{realm_of-part_of}
+use Rattle.realm_model.proofs.Growth.{acts_of-own, acts_of-other, open_entries-own, open_entries-other, takes_away, Grows, grows}
+use Rattle.realm_model.proofs.HiddenSteps.{step-part_of}
+use Rattle.realm_model.proofs.RealmOf.{realm_of-part_of, realm_of-other_step}
 use Rattle.realm_model.proofs.Written.{IsSquare}
 use Rattle.realm_model.proofs.StepBack.{asked}
 use Rattle.realm_model.proofs.SoundParts.{IsSquare-part_of}
-use Rattle.realm_model.proofs.RoleChanges.{no_descriptor}
 use Rattle.realm_model.proofs.ZeroPages.{IsKept, kept_reached}
 use Rattle.realm_model.proofs.RunningRecs.{running}
 use Rattle.realm_model.proofs.RealmAfter.{RunsAfter, is_realm_destroy, realm_turned, realm_made_step, realm_gone_step}
 use Rattle.realm_model.proofs.StepSays.{step_is}
-use Rattle.realm_model.proofs.Vmids.{IsMade, realm_before}
-use Rattle.realm_model.proofs.PartRealm.{part_realm, none_there, count_some, count_none}
+use Rattle.realm_model.proofs.Vmids.{still_none}
+use Rattle.realm_model.proofs.PartRealm.{part_realm, none_there, none_at_first, count_some, count_none}
 
 -- ---- how many run after an act
 
@@ -73,50 +77,30 @@ module _ (limits : Limits) (b : ℕ) (w v : World) (kept : IsKept b w) (kept_v :
     | inr there ↦ count_some b w kept there.0 there.1 there.2 ∙ none_run there.0 there.1 there.2
   ]
 
-  count_made : (rd root vmid : ℕ) → step limits (part_of w b) (by b (Realm rd root vmid)) ≡ Some V → running_count (realm_of b v) ≡ running_count (realm_of b w)
-  unfolding fits
+  count_made : (rd : ℕ) (root : Root) (vmid : ℕ) → step limits (part_of w b) (by b (Realm rd root vmid)) ≡ Some V → running_count (realm_of b v) ≡ running_count (realm_of b w)
+  unfolding fits new_realm
   count_made rd root vmid s =
       let none : realm_of b (part_of w b) ≡ None = none_is _ (asked limits b (part_of w b) V (Realm rd root vmid) s).fit in
-      zero_of v kept_v (realm_made_step limits b (part_of w b) V rd root vmid square (no_rows none) s)
+      zero_of v kept_v (λ k e is. ap (λ (x : RealmRow). running x.recs x.next) (realm_made_step limits b (part_of w b) V rd root vmid square (no_rows none) s k e is))
       ∙ sym (count_none b w kept (no_rows none))
 
-  count_gone : (rd root vmid : ℕ) → step limits (part_of w b) (by b (UnRealm rd root vmid)) ≡ Some V → running_count (realm_of b v) ≡ running_count (realm_of b w)
+  count_gone : (rd : ℕ) (root : Root) (vmid : ℕ) → step limits (part_of w b) (by b (UnRealm rd root vmid)) ≡ Some V → running_count (realm_of b v) ≡ running_count (realm_of b w)
   count_gone rd root vmid s =
       let gone = realm_gone_step limits b (part_of w b) V rd root vmid square kept.sound.part s in
       count_none b v kept_v gone.0 ∙ sym (zero_of w kept gone.1)
 
-  abbrev is_of_realm : Act → Bool
-  is_of_realm (Realm rd root vmid) = true
-  is_of_realm (UnRealm rd root vmid) = true
-  is_of_realm _ = false
-
-  not_made : (act : Act) (k : ℕ) (e : RealmRow) → is_of_realm act ≡ false → IsMade limits act k e → ⊥
-  not_made (Realm rd root vmid) k e plain m = cc
-  not_made _ k e plain m = m
-
-  plain_destroy : (act : Act) → is_of_realm act ≡ false → is_realm_destroy act ≡ false
-  plain_destroy (UnRealm rd root vmid) plain = cc
-  plain_destroy _ plain = refl
-
-  count_turned : (act : Act) → is_of_realm act ≡ false → step limits (part_of w b) (by b act) ≡ Some V → RunsAfter act (running_count (realm_of b w)) (running_count (realm_of b v))
-  count_turned act plain s = elim (part_realm b w kept) [
+  count_turned : (act : Act) → makes_realm act ≡ false → is_realm_destroy act ≡ false → step limits (part_of w b) (by b act) ≡ Some V → RunsAfter act (running_count (realm_of b w)) (running_count (realm_of b v))
+  count_turned act plain stays s = elim (part_realm b w kept) [
     | inl none ↦
-        let none_v : (k : ℕ) → (cell_at V.machine k).descriptor ≡ None = λ k. none_left k (cell_at V.machine k).descriptor refl none in
+        let none_v = still_none limits (part_of w b) V b act square plain s (none_there b w kept none) in
         elim (is_of_rec_run act) as (λ t. is_of_rec_run act ≡ t → RunsAfter act (running_count (realm_of b w)) (running_count (realm_of b v))) [
           | true ↦ λ e. absurd (no_realm_refuses limits b (part_of w b) V act e (realm_of-part_of b w ∙ none) (step_is limits (part_of w b) V (by b act) s))
           | false ↦ λ e. subst (λ x. RunsAfter act x (running_count (realm_of b v))) (sym (count_none b w kept (none_there b w kept none))) (subst (λ y. RunsAfter act 0 y) (sym (count_none b v kept_v none_v)) (none_runs act e))
         ] refl
     | inr there ↦
-        let then = realm_turned limits b (part_of w b) V act square kept.sound.part no_rows (plain_destroy act plain) s there.0 there.1 there.2 in
+        let then = realm_turned limits b (part_of w b) V act square kept.sound.part no_rows stays s there.0 there.1 there.2 in
         subst (λ x. RunsAfter act x (running_count (realm_of b v))) (sym (count_some b w kept there.0 there.1 there.2)) (subst (λ y. RunsAfter act (running there.1.recs there.1.next) y) (sym (count_some b v kept_v there.0 then.0 then.1)) then.2.1)
   ]
-    where
-      none_left : (k : ℕ) (o : Option RealmRow) → (cell_at V.machine k).descriptor ≡ o → realm_of b w ≡ None → o ≡ None
-      none_left k None e none = refl
-      none_left k (Some d) e none = elim (realm_before limits (part_of w b) V b act square s k d e) [
-        | inl was ↦ absurd (no_descriptor (cell_at (part_of w b).machine k) was.0 (none_there b w kept none k) was.1)
-        | inr made ↦ absurd (not_made act k d plain made)
-      ]
 
   count_step : (act : Act) → step limits w (by b act) ≡ Some v → RunsAfter act (running_count (realm_of b w)) (running_count (realm_of b v))
   count_step act s = by_act act (step-part_of limits b w v (by b act) refl s)
@@ -124,21 +108,9 @@ module _ (limits : Limits) (b : ℕ) (w v : World) (kept : IsKept b w) (kept_v :
       by_act : (act : Act) → step limits (part_of w b) (by b act) ≡ Some V → RunsAfter act (running_count (realm_of b w)) (running_count (realm_of b v))
       by_act (Realm rd root vmid) s = count_made rd root vmid s
       by_act (UnRealm rd root vmid) s = count_gone rd root vmid s
-      by_act act s = count_turned act refl s
+      by_act act s = count_turned act refl refl s
 
 -- ---- the room
-
-acts_of-own : (history : List Event) (event : Event) → acts_of event.build (history ++ event ∷ []) ≡ acts_of event.build history ++ event.act ∷ []
-acts_of-own history event =
-    ap (map (λ (x : Event). x.act)) (filter-append (λ x. x.build == event.build) history (event ∷ [])
-    ∙ ap (λ t. filter (λ x. x.build == event.build) history ++ cond t (event ∷ []) []) (eq-eqb event.build event.build refl))
-    ∙ map-append (λ (x : Event). x.act) (filter (λ x. x.build == event.build) history) (event ∷ [])
-
-acts_of-other : (build : ℕ) (history : List Event) (event : Event) → event.build ≢ build → acts_of build (history ++ event ∷ []) ≡ acts_of build history
-acts_of-other build history event apart =
-    ap (map (λ (x : Event). x.act)) (filter-append (λ x. x.build == build) history (event ∷ [])
-    ∙ ap (λ t. filter (λ x. x.build == build) history ++ cond t (event ∷ []) []) (ne_eqb event.build build apart)
-    ∙ append-nil (filter (λ x. x.build == build) history))
 
 -- the room of each kind of act, and what it does to the count of running RECs
 room_of_paired : (act : Act) (x y : ℕ) → is_paired act ≡ true → RunsAfter act x y → (room_taken act ≡ 2) × (y ≡ x)
@@ -197,8 +169,7 @@ module _ (limits : Limits) (history : List Event) (w v : World) where
   room_is_taken event kept kept_v turn s = record {
     own = own_room event.build event.act (kept event.build) (kept_v event.build) turn s;
     others = λ b apart.
-        let part : part_of v b ≡ part_of w b = part_of-other_step limits b w v event apart (kept b).sound.clean s in
-        let realm : realm_of b v ≡ realm_of b w = sym (realm_of-part_of b v) ∙ ap (realm_of b) part ∙ realm_of-part_of b w in
+        let realm : realm_of b v ≡ realm_of b w = realm_of-other_step limits b w v event apart (kept b).sound.clean s in
         λ i. length (acts_of-other b history event apart i) + length (open_entries-other b history event apart i) + running_count (realm i);
   }
 
@@ -206,3 +177,24 @@ pub room_taken_legal : (limits : Limits) (history : List Event) (w : World) (eve
 room_taken_legal limits history w event v legal at_w turn s =
     let grown : Grows limits history event v = grows limits history event w v legal at_w s turn in
     room_is_taken limits history w v event (λ b. kept_reached limits b history w at_w) (λ b. kept_reached limits b (history ++ event ∷ []) v grown.world_is) turn s
+
+-- ---- all of it
+
+room_step : (limits : Limits) (b : ℕ) (before : List Event) (w v : World) (e : Event) → IsLegal limits before → replay limits before ≡ Some w → RoomIsSum before w b
+    → IsInTurn before e → step limits w e ≡ Some v → RoomIsSum (before ++ e ∷ []) v b
+room_step limits b before w v e legal at_w was turn s =
+    let takes = room_taken_legal limits before w e v legal at_w turn s in
+    ⊎_elim
+    (λ same. subst (RoomIsSum (before ++ e ∷ []) v) same
+    (takes.own ∙ ap (λ n. n + room_taken e.act) (subst (RoomIsSum before w) (sym same) was)
+    ∙ sym (ap (sum_by room_taken) (acts_of-own before e) ∙ sum_by_push room_taken (acts_of e.build before) e.act)))
+    (λ apart. takes.others b apart ∙ was ∙ ap (sum_by room_taken) (sym (acts_of-other b before e apart)))
+    (cases_eq e.build b)
+
+room_at_first : (limits : Limits) (b : ℕ) → RoomIsSum [] (opening limits) b
+unfolding open_entries after
+room_at_first limits b = ap (λ n. 0 + n) (count_none b (opening limits) (kept_reached limits b [] (opening limits) refl) (none_at_first limits b))
+
+pub room_is_sum : (limits : Limits) (history : List Event) (w : World) (b : ℕ) → IsLegal limits history → replay limits history ≡ Some w → RoomIsSum history w b
+room_is_sum limits history w b legal at_w =
+    of_legal limits (λ es x. RoomIsSum es x b) (λ before w v e legal at_w was turn s. room_step limits b before w v e legal at_w was turn s) (room_at_first limits b) history w legal at_w

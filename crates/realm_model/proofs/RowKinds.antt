@@ -38,7 +38,7 @@ free_above level Assigned g low k e = let three : level ≡ 3 = k.0 in absurd (o
 free_above level Table g low k e = cc
 
 -- the row at a place of sound rows
-pub shape_of : (rows : Rows) (place : ℕ × ℕ) (row : Row) → IsSoundRows (look rows) → get rows place ≡ Some row → IsKind place.0 row.hipas row.granule
+pub shape_of : {width : ℕ} (rows : Rows) (place : ℕ × ℕ) (row : Row) → IsSoundRows width (look rows) → get rows place ≡ Some row → IsKind place.0 row.hipas row.granule
 shape_of rows place row sound there = subst (IsShaped place.0) (ap (option_map mapping_of_row) there) (sound.shaped place)
 
 -- ---- tables

@@ -6,7 +6,6 @@ use Rattle.std.specs.Ordering.{eq_by_cmp}
 use Rattle.std.proofs.lemmas.Bool.{eqb-true, eq-eqb}
 use Rattle.std.proofs.lemmas.Option.{same_Some}
 use Rattle.realm_model.specs.declared.states.GranuleState.{GranuleState}
-use Rattle.realm_model.specs.declared.states.GranuleState.TheVariants.{Rtt as InRtt}
 use Rattle.realm_model.specs.Rows.{Row, Rows, place_cmp}
 use Rattle.realm_model.specs.Machine.{RealmRow, Cell, Seen, left, cell_at, seen}
 use Rattle.realm_model.specs.Update.{Put}
@@ -14,7 +13,7 @@ use Rattle.realm_model.specs.Command.Check.{is_delegated}
 use Rattle.realm_model.specs.World.{World}
 use Rattle.realm_model.specs.Ownership.{mapping_of_row, granules_of_rec}
 use Rattle.realm_model.specs.Sound.{look, is_host_state}
-use Rattle.realm_model.specs.Roles.{Role, AsRoot, AtRow, AsRec, AsAux, kind_target, row_target, aux_target, target, is_role_state}
+use Rattle.realm_model.specs.Roles.{Role, AsStart, AtRow, AsRec, AsAux, kind_target, row_target, start_target, aux_target, target, is_role_state}
 use Rattle.realm_model.proofs.Booleans.{true_false}
 use Rattle.realm_model.proofs.Lists.{is_in}
 use Rattle.realm_model.proofs.Maps.{same_place}
@@ -98,7 +97,7 @@ module _ (w : World) (sound : IsSoundPart w) (old : IsLinked (λ k. cell_at w.ma
 
       names : (p : Role) (to : ℕ × GranuleState) → target e1 p ≡ Some to → ((target d p ≡ Some to) × (at_g g (AtRow place) to.0 ≡ None → old.roles to.0 ≡ p → is_in to.0 (g ∷ []) ≡ false))
           ⊎ ((at_g g (AtRow place) to.0 ≡ Some p) × ((put_at (Put g c ∷ []) to.0 (now to.0)).state ≡ to.1) × ((put_at (Put g c ∷ []) to.0 (now to.0)).realm ≡ Some n))
-      names AsRoot to h = inl (ap (λ r. Some (r, InRtt)) (sym root) ∙ h, λ f role. at_g_out g (AtRow place) to.0 f)
+      names (AsStart i) to h = inl (ap (λ r. start_target r i) (sym root) ∙ h, λ f role. at_g_out g (AtRow place) to.0 f)
       names (AsRec m) to h = inl (sym (same_rec m) ∙ h, λ f role. at_g_out g (AtRow place) to.0 f)
       names (AsAux m i) to h = inl (sym (same_aux m i) ∙ h, λ f role. at_g_out g (AtRow place) to.0 f)
       names (AtRow q) to h = elim (new q to h) [
@@ -109,7 +108,7 @@ module _ (w : World) (sound : IsSoundPart w) (old : IsLinked (λ k. cell_at w.ma
       ]
 
       named : (p : Role) (to : ℕ × GranuleState) → target d p ≡ Some to → is_in to.0 (g ∷ []) ≡ false → target e1 p ≡ Some to
-      named AsRoot to h out = ap (λ r. Some (r, InRtt)) root ∙ h
+      named (AsStart i) to h out = ap (λ r. start_target r i) root ∙ h
       named (AsRec m) to h out = same_rec m ∙ h
       named (AsAux m i) to h out = same_aux m i ∙ h
       named (AtRow q) to h out = stays q to h
@@ -131,7 +130,7 @@ module _ (w : World) (sound : IsSoundPart w) (old : IsLinked (λ k. cell_at w.ma
       no_left k i role = true_false _ role (ap (λ t. is_role_state (cond t left (now k)).state) (eq-eqb k g (in_one g k i)))
 
       fewer : (p : Role) (to : ℕ × GranuleState) → target e1 p ≡ Some to → target d p ≡ Some to
-      fewer AsRoot to h = ap (λ r. Some (r, InRtt)) (sym root) ∙ h
+      fewer (AsStart i) to h = ap (λ r. start_target r i) (sym root) ∙ h
       fewer (AsRec m) to h = sym (same_rec m) ∙ h
       fewer (AsAux m i) to h = sym (same_aux m i) ∙ h
       fewer (AtRow q) to h = rows q to h
@@ -147,7 +146,7 @@ module _ (w : World) (sound : IsSoundPart w) (old : IsLinked (λ k. cell_at w.ma
       ] refl
 
       named : (p : Role) (to : ℕ × GranuleState) → target d p ≡ Some to → is_in to.0 (g ∷ []) ≡ false → target e1 p ≡ Some to
-      named AsRoot to h out = ap (λ r. Some (r, InRtt)) root ∙ h
+      named (AsStart i) to h out = ap (λ r. start_target r i) root ∙ h
       named (AsRec m) to h out = same_rec m ∙ h
       named (AsAux m i) to h out = same_aux m i ∙ h
       named (AtRow q) to h out = elim (stays q to h) [

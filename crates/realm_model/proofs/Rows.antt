@@ -15,6 +15,12 @@ use Rattle.realm_model.proofs.Maps.{place_total, same_place, same_insert, place_
 use Rattle.realm_model.proofs.Booleans.{true_false}
 use Rattle.realm_model.proofs.RowKinds.{look_get, Vacant}
 
+abbrev pub is_place : ℕ × ℕ → ℕ × ℕ → Bool
+is_place q k = eq_by_cmp place_cmp q k
+
+pub place_self : (p : ℕ × ℕ) → is_place p p ≡ true
+place_self p = (eq_by_cmp_equiv place_total).refl p
+
 abbrev pub differs : ℕ × ℕ → ℕ × ℕ → Type 0
 differs q k = eq_by_cmp place_cmp q k ≡ false
 
@@ -29,6 +35,41 @@ get-put_rows_other change rows level first zero q apart = refl
 get-put_rows_other change rows level first (suc n) q apart =
     get-put_row_other (put_rows change rows level first n) (level, first + n * covered_count level) q _ (apart n (omega arith))
     ∙ get-put_rows_other change rows level first n q (λ k h. apart k (omega arith))
+
+-- what is at a place is what was, or it is put there
+pub put_cases : (change : Option Row → Row) (rows : Rows) (level first n : ℕ) (q : ℕ × ℕ) → (get (put_rows change rows level first n) q ≡ get rows q)
+    ⊎ ((get (put_rows change rows level first n) q ≡ Some (change (get rows q))) × (k : ℕ) × (k < n) × (q ≡ (level, first + k * covered_count level)))
+unfolding put_rows
+put_cases change rows level first zero q = inl refl
+put_cases change rows level first (suc n) q =
+    let place : ℕ × ℕ = (level, first + n * covered_count level) in
+    let less = put_rows change rows level first n in
+    let more = insert less place (change (get rows place)) in
+    let now : get more q ≡ cond (is_place q place) (Some (change (get rows place))) (get less q) = get-insert place_total less place (change (get rows place)) q in
+    elim (is_place q place) as (λ t. is_place q place ≡ t → get more q ≡ cond t (Some (change (get rows place))) (get less q)
+    → (get more q ≡ get rows q) ⊎ ((get more q ≡ Some (change (get rows q))) × (k : ℕ) × (k < suc n) × (q ≡ (level, first + k * covered_count level)))) [
+      | true ↦ λ e now. let same = same_place q place e in inr (now ∙ ap (λ p. Some (change (get rows p))) (sym same), n, omega arith, same)
+      | false ↦ λ e now. elim (put_cases change rows level first n q) [
+        | inl same ↦ inl (now ∙ same)
+        | inr new ↦ inr (now ∙ new.0, new.1, omega (arith, new.2), new.3)
+      ]
+    ] refl now
+
+-- one that is
+pub get-put_rows : (change : Option Row → Row) (rows : Rows) (level first n k : ℕ) → k < n
+    → get (put_rows change rows level first n) (level, first + k * covered_count level) ≡ Some (change (get rows (level, first + k * covered_count level)))
+unfolding put_rows
+get-put_rows change rows level first zero k less = absurd (omega arith)
+get-put_rows change rows level first (suc n) k less =
+    let place : ℕ × ℕ = (level, first + n * covered_count level) in
+    let q : ℕ × ℕ = (level, first + k * covered_count level) in
+    let rest = put_rows change rows level first n in
+    get-insert place_total rest place (change (get rows place)) q
+    ∙ elim (is_place q place) as (λ t. is_place q place ≡ t → cond t (Some (change (get rows place))) (get rest q) ≡ Some (change (get rows q))) [
+      | true ↦ λ e. ap (λ (p : ℕ × ℕ). Some (change (get rows p))) (sym (same_place q place e))
+      | false ↦ λ e. get-put_rows change rows level first n k
+          (let other : k ≢ n = λ same. true_false _ (place_self place) (ap (λ j. is_place (level, first + j * covered_count level) place) (sym same) ∙ e) in omega (arith, other))
+    ] refl
 
 -- the places of the rows dropped
 abbrev pub is_among : ℕ → ℕ → ℕ → ℕ × ℕ → Bool
@@ -60,46 +101,19 @@ among_put level first n k h =
 abbrev pub Look : Type 0
 Look = ℕ × ℕ → Option (Hipas × Option ℕ)
 
-abbrev pub is_place : ℕ × ℕ → ℕ × ℕ → Bool
-is_place q k = eq_by_cmp place_cmp q k
-
 pub look-insert : (rows : Rows) (k q : ℕ × ℕ) (row : Row) → look (insert rows k row) q ≡ cond (is_place q k) (Some (mapping_of_row row)) (look rows q)
 look-insert rows k q row = ap (option_map mapping_of_row) (get-insert place_total rows k row q)
     ∙ elim (is_place q k) as (λ t. option_map mapping_of_row (cond t (Some row) (get rows q)) ≡ cond t (Some (mapping_of_row row)) (look rows q)) [ true ↦ refl | false ↦ refl ]
 
-pub place_self : (p : ℕ × ℕ) → is_place p p ≡ true
-place_self p = (eq_by_cmp_equiv place_total).refl p
-
--- rows put at places of a level
 pub put_kinds : (r : Row) (rows : Rows) (level first n : ℕ) (q : ℕ × ℕ) → (look (put_rows (λ _. r) rows level first n) q ≡ look rows q)
     ⊎ ((look (put_rows (λ _. r) rows level first n) q ≡ Some (mapping_of_row r)) × (k : ℕ) × (k < n) × (q ≡ (level, first + k * covered_count level)))
-unfolding put_rows
-put_kinds r rows level first zero q = inl refl
-put_kinds r rows level first (suc n) q =
-    let place : ℕ × ℕ = (level, first + n * covered_count level) in
-    let less = put_rows (λ _. r) rows level first n in
-    let now : look (insert less place r) q ≡ cond (is_place q place) (Some (mapping_of_row r)) (look less q) = look-insert less place q r in
-    elim (is_place q place) as (λ t. is_place q place ≡ t → look (insert less place r) q ≡ cond t (Some (mapping_of_row r)) (look less q)
-    → (look (insert less place r) q ≡ look rows q) ⊎ ((look (insert less place r) q ≡ Some (mapping_of_row r)) × (k : ℕ) × (k < suc n) × (q ≡ (level, first + k * covered_count level)))) [
-      | true ↦ λ e now. inr (now, n, omega arith, same_place q place e)
-      | false ↦ λ e now. elim (put_kinds r rows level first n q) [
-        | inl same ↦ inl (now ∙ same)
-        | inr new ↦ inr (now ∙ new.0, new.1, omega (arith, new.2), new.3)
-      ]
-    ] refl now
+put_kinds r rows level first n q = elim (put_cases (λ _. r) rows level first n q) [
+  | inl same ↦ inl (ap (option_map mapping_of_row) same)
+  | inr new ↦ inr (ap (option_map mapping_of_row) new.0, new.1, new.2, new.3)
+]
 
 pub put_there : (r : Row) (rows : Rows) (level first n k : ℕ) → k < n → look (put_rows (λ _. r) rows level first n) (level, first + k * covered_count level) ≡ Some (mapping_of_row r)
-unfolding put_rows
-put_there r rows level first zero k less = absurd (omega arith)
-put_there r rows level first (suc n) k less =
-    let place : ℕ × ℕ = (level, first + n * covered_count level) in
-    let q : ℕ × ℕ = (level, first + k * covered_count level) in
-    let rest = put_rows (λ _. r) rows level first n in
-    look-insert rest place q r
-    ∙ elim (is_place q place) as (λ t. is_place q place ≡ t → cond t (Some (mapping_of_row r)) (look rest q) ≡ Some (mapping_of_row r)) [
-      | true ↦ λ e. refl
-      | false ↦ λ e. put_there r rows level first n k (let other : k ≢ n = λ same. true_false _ (place_self place) (ap (λ j. is_place (level, first + j * covered_count level) place) (sym same) ∙ e) in omega (arith, other))
-    ] refl
+put_there r rows level first n k less = ap (option_map mapping_of_row) (get-put_rows (λ _. r) rows level first n k less)
 
 pub all_rows_from : (test : Row → Bool) → ((row : Row) → mapping_of_row row ≡ Vacant → test row ≡ true) → (rows : Rows) (level first n : ℕ)
     → ((k : ℕ) → k < n → look rows (level, first + k * covered_count level) ≡ Some Vacant) → all_rows test rows level first n ≡ true

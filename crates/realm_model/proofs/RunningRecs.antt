@@ -1,15 +1,15 @@
 -- How many RECs of a realm run, when one of them changes.
-use Rattle.std.proofs.Common.{◌≡◌, ◌≢◌, ℕ, zero, suc, ◌+◌, ◌<◌, ◌≤◌, Bool, true, false, cond, [], ◌∷◌, ◌++◌, length, Some, None, refl, sym, ap, ◌∙◌, arith}
+use Rattle.std.proofs.Common.{◌≡◌, ◌≢◌, ℕ, zero, suc, ◌+◌, ◌<◌, ◌≤◌, Bool, true, false, cond, ⊎_elim, List, [], ◌∷◌, ◌++◌, length, Some, None, refl, sym, ap, ◌∙◌, arith}
 use Rattle.std.specs.Prelude.{filter, ◌==◌}
 use Rattle.std.specs.List.{range_with_len}
 use Rattle.std.specs.Ordering.{nat_cmp, eq_by_cmp}
 use Rattle.std.specs.Cmp.{nat_cmp_total, eq_by_cmp_equiv}
 use Rattle.std.specs.FinMap.{FinMap, get, insert, remove, get-insert, get-remove}
-use Rattle.std.proofs.lemmas.Bool.{eqb-true, eqb-false}
+use Rattle.std.proofs.lemmas.Bool.{eqb-true, eqb-false, cases_eq}
 use Rattle.std.proofs.lemmas.List.{append-nil}
 use Rattle.std.proofs.lemmas.List.Elements.{filter-append, filter_agree}
 use Rattle.realm_model.specs.Machine.{RecRow}
-use Rattle.realm_model.specs.Room.{is_rec_running}
+use Rattle.realm_model.specs.Running.{is_rec_running}
 use Rattle.realm_model.proofs.Booleans.{false_from}
 use Rattle.realm_model.proofs.Maps.{nat_place}
 
@@ -78,6 +78,29 @@ module _ (p q : ℕ → Bool) (n : ℕ) (same : (k : ℕ) → k ≢ n → q k �
           both true e = omega arith
           both false e = e
 
+-- where none passes
+pub none_pass : (test : ℕ → Bool) (xs : List ℕ) → ((n : ℕ) → test n ≡ false) → length (filter test xs) ≡ 0
+none_pass test [] none = refl
+none_pass test (x ∷ xs) none = ap (λ t. length (cond t (x ∷ filter test xs) (filter test xs))) (none x) ∙ none_pass test xs none
+
+-- and where none of them does, each fails
+pub none_passed : (test : ℕ → Bool) (first count n : ℕ) → first ≤ n → n < first + count → length (filter test (range_with_len first count)) ≡ 0 → test n ≡ false
+none_passed test first zero n low high none = absurd (omega arith)
+none_passed test first (suc count) n low high none =
+    let rest = range_with_len (first + 1) count in
+    let parts = parted (test first) (filter test rest) first none in
+    ⊎_elim
+    (λ same. ap test same ∙ parts.0)
+    (λ other. none_passed test (first + 1) count n (above n first other low) (omega arith) parts.1)
+    (cases_eq n first)
+  where
+    parted : (t : Bool) (ys : List ℕ) (x : ℕ) → length (cond t (x ∷ ys) ys) ≡ 0 → (t ≡ false) × (length ys ≡ 0)
+    parted true ys x e = cc
+    parted false ys x e = (refl, e)
+
+    above : (n first : ℕ) → n ≢ first → first ≤ n → first + 1 ≤ n
+    above n first other low = omega arith
+
 -- ---- RECs
 
 abbrev pub runs : FinMap nat_cmp RecRow → ℕ → Bool
@@ -141,8 +164,4 @@ running-gone recs next n off = ap length (filter_agree (runs (remove recs n)) (r
 
 -- where there is none
 pub running-none : (recs : FinMap nat_cmp RecRow) (next : ℕ) → ((n : ℕ) → get recs n ≡ None) → running recs next ≡ 0
-running-none recs next none = ap length (none_pass 0 next)
-  where
-    none_pass : (a m : ℕ) → filter (runs recs) (range_with_len a m) ≡ []
-    none_pass a zero = refl
-    none_pass a (suc m) = λ i. cond (ap is_rec_running (none a) i) (a ∷ none_pass (a + 1) m i) (none_pass (a + 1) m i)
+running-none recs next none = none_pass (runs recs) (range_with_len 0 next) (λ n. ap is_rec_running (none n))

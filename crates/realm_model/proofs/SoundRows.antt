@@ -1,9 +1,10 @@
 -- The commands keep the rows of a realm in shape.
-use Rattle.std.proofs.Common.{lit≤, ◌/◌, ◌^◌, ◌≡◌, ◌≢◌, ℕ, ◌+◌, ◌-◌, ◌*◌, ◌<◌, ◌≤◌, Bool, true, false, cond, ◌&&◌, ◌||◌, not, ◌⊎◌, inl, inr, Option, Some, None, refl, sym, ap, ◌∙◌, subst, arith}
+use Rattle.std.proofs.Common.{lit≤, ◌/◌, ◌≡◌, ◌≢◌, ℕ, ◌+◌, ◌-◌, ◌*◌, ◌<◌, ◌≤◌, Bool, true, false, cond, ◌&&◌, ◌||◌, not, ◌⊎◌, inl, inr, Option, Some, None, refl, sym, ap, ◌∙◌, subst, arith}
 use Rattle.std.specs.Prelude.{option_map, is_some, ◌==◌, nat_le, nat_lt}
 use Rattle.std.specs.FinMap.{get, insert, empty, get-empty}
 use Rattle.std.proofs.lemmas.Bool.{and_parts, eqb-true, ne_eqb, eqb-false}
 use Rattle.granule_addr.specs.Ipa.{covered_count, first_covered}
+use Rattle.granule_addr.specs.Root.{start_count, space_of}
 use Rattle.realm_model.specs.declared.states.Hipas.TheVariants.{Unassigned, Assigned, Table}
 use Rattle.realm_model.specs.declared.states.Ripas.{Ripas}
 use Rattle.realm_model.specs.declared.states.Ripas.TheVariants.{Empty, Destroyed}
@@ -18,43 +19,43 @@ use Rattle.realm_model.proofs.TablePlaces.{IsTablePlace}
 use Rattle.realm_model.proofs.Booleans.{true_false, not_false, not_true}
 use Rattle.realm_model.proofs.RowKinds.{kind_of_table, plain_unassigned, unassigned_target, above_target, kind_table}
 
-pub sound_same : (f g : Look) → IsSoundRows f → ((q : ℕ × ℕ) → f q ≡ g q) → IsSoundRows g
-sound_same f g sound same = subst IsSoundRows (λ i q. same q i) sound
+pub sound_same : {width : ℕ} (f g : Look) → IsSoundRows width f → ((q : ℕ × ℕ) → f q ≡ g q) → IsSoundRows width g
+sound_same {width} f g sound same = subst (IsSoundRows width) (λ i q. same q i) sound
 
 pub absent : {A : Type 0} (o : Option A) → (is_some o ≡ true → ⊥) → o ≡ None
 absent None h = refl
 absent (Some x) h = absurd (h refl)
 
-pub root_sound : IsSoundRows (look root_rows)
+pub root_sound : (width : ℕ) → IsSoundRows width (look (root_rows width))
 unfolding root_rows
-root_sound = record {
-  placed = λ q some. elim (put_kinds (unassigned Empty) empty 1 0 512 q) [
+root_sound width = record {
+  placed = λ q some. elim (put_kinds (unassigned Empty) empty 1 0 (512 * start_count width) q) [
     | inl none ↦ absurd (true_false _ some (ap is_some (none ∙ ap (option_map mapping_of_row) (get-empty place_cmp q))))
-    | inr new ↦ subst IsPlace (sym new.3) (record { least = lit≤ tt; most = lit≤ tt; first = root_first new.1; inside = root_inside new.1 new.2 })
+    | inr new ↦ subst (IsPlace width) (sym new.3) (record { least = lit≤ tt; most = lit≤ tt; first = root_first new.1; inside = root_inside (start_count width) new.1 new.2 })
   ];
-  shaped = λ q. elim (put_kinds (unassigned Empty) empty 1 0 512 q) [
+  shaped = λ q. elim (put_kinds (unassigned Empty) empty 1 0 (512 * start_count width) q) [
     | inl none ↦ subst (IsShaped q.0) (sym (none ∙ ap (option_map mapping_of_row) (get-empty place_cmp q))) tt
     | inr new ↦ subst (IsShaped q.0) (sym new.0) refl
   ];
-  below = λ q some. elim (put_kinds (unassigned Empty) empty 1 0 512 q) [
+  below = λ q some. elim (put_kinds (unassigned Empty) empty 1 0 (512 * start_count width) q) [
     | inl none ↦ absurd (true_false _ some (ap is_some (none ∙ ap (option_map mapping_of_row) (get-empty place_cmp q))))
-    | inr new ↦ ap (λ (p : ℕ × ℕ). has_table (look (put_rows (λ _. unassigned Empty) empty 1 0 512)) p) new.3
+    | inr new ↦ ap (λ (p : ℕ × ℕ). has_table (look (put_rows (λ _. unassigned Empty) empty 1 0 (512 * start_count width))) p) new.3
   ];
 }
   where
     root_first : (k : ℕ) → (0 + k * 262144) / 262144 * 262144 ≡ 0 + k * 262144
     root_first k = omega arith
 
-    root_inside : (k : ℕ) → k < 512 → 0 + k * 262144 < 134217728
-    root_inside k h = omega arith
+    root_inside : (tables k : ℕ) → k < 512 * tables → 0 + k * 262144 < tables * 134217728
+    root_inside tables k h = omega arith
 
 -- ---- a row that is no table, put anew
 
-pub put_sound : (rows : Rows) (place : ℕ × ℕ) (row : Row) → IsSoundRows (look rows) → is_some (look rows place) ≡ true → is_table_kind (look rows place) ≡ false
-    → IsShaped place.0 (Some (mapping_of_row row)) → IsSoundRows (look (insert rows place row))
-put_sound rows place row sound there no_table shaped = record {
-  placed = λ q some. elim (is_place q place) as (λ t. is_place q place ≡ t → IsPlace q) [
-    | true ↦ λ e. subst IsPlace (sym (same_place q place e)) (sound.placed place there)
+pub put_sound : {width : ℕ} (rows : Rows) (place : ℕ × ℕ) (row : Row) → IsSoundRows width (look rows) → is_some (look rows place) ≡ true → is_table_kind (look rows place) ≡ false
+    → IsShaped place.0 (Some (mapping_of_row row)) → IsSoundRows width (look (insert rows place row))
+put_sound {width} rows place row sound there no_table shaped = record {
+  placed = λ q some. elim (is_place q place) as (λ t. is_place q place ≡ t → IsPlace width q) [
+    | true ↦ λ e. subst (IsPlace width) (sym (same_place q place e)) (sound.placed place there)
     | false ↦ λ e. sound.placed q (ap is_some (sym (old q e)) ∙ some)
   ] refl;
   shaped = λ q. elim (is_place q place) as (λ t. is_place q place ≡ t → IsShaped q.0 (look (insert rows place row) q)) [
@@ -87,7 +88,7 @@ put_sound rows place row sound there no_table shaped = record {
 
 -- ---- tables
 
-module _ (old : Rows) (level ipa : ℕ) (above : Row) (sound : IsSoundRows (look old)) (at : IsTablePlace ipa level)
+module _ {width : ℕ} (old : Rows) (level ipa : ℕ) (above : Row) (sound : IsSoundRows width (look old)) (at : IsTablePlace ipa level)
     (was : get old (level - 1, first_covered (level - 1) ipa) ≡ Some above) where
   abbrev up : ℕ × ℕ
   up = (level - 1, first_covered (level - 1) ipa)
@@ -95,11 +96,11 @@ module _ (old : Rows) (level ipa : ℕ) (above : Row) (sound : IsSoundRows (look
   up_is : look old up ≡ Some (mapping_of_row above)
   up_is = ap (option_map mapping_of_row) was
 
-  up_placed : IsPlace up
+  up_placed : IsPlace width up
   up_placed = sound.placed up (ap is_some up_is)
 
-  inside : ipa < 2 ^ 27
-  inside = subst (λ n. n < 2 ^ 27) at.first up_placed.inside
+  inside : ipa < space_of width
+  inside = subst (λ n. n < space_of width) at.first up_placed.inside
 
   not_first : (level == 1) ≡ false
   not_first = ne_eqb level 1 (λ e. let l = at.low in omega (arith, l, e))
@@ -166,14 +167,14 @@ module _ (old : Rows) (level ipa : ℕ) (above : Row) (sound : IsSoundRows (look
       | false ↦ λ h. table_stays (q.0 - 1, first_covered (q.0 - 1) q.1) h
     ] h
 
-    made_sound : IsSoundRows (look made)
+    made_sound : IsSoundRows width (look made)
     made_sound = record {
       placed = λ q some. elim (put_kinds (unassigned ripas) topped level ipa 512 q) [
-        | inl same ↦ elim (is_place q up) as (λ t. is_place q up ≡ t → IsPlace q) [
-          | true ↦ λ e. subst IsPlace (sym (same_place q up e)) up_placed
+        | inl same ↦ elim (is_place q up) as (λ t. is_place q up ≡ t → IsPlace width q) [
+          | true ↦ λ e. subst (IsPlace width) (sym (same_place q up e)) up_placed
           | false ↦ λ e. sound.placed q (ap is_some (sym (same ∙ not_up q e)) ∙ some)
         ] refl
-        | inr new ↦ subst IsPlace (sym new.3) (at.places inside new.1 new.2)
+        | inr new ↦ subst (IsPlace width) (sym new.3) (at.places width inside new.1 new.2)
       ];
       shaped = λ q. elim (put_kinds (unassigned ripas) topped level ipa 512 q) [
         | inl same ↦ elim (is_place q up) as (λ t. is_place q up ≡ t → IsShaped q.0 (look made q)) [
@@ -195,7 +196,7 @@ module _ (old : Rows) (level ipa : ℕ) (above : Row) (sound : IsSoundRows (look
       ];
     }
 
-  pub with_table_sound : (granule : ℕ) (ripas : Ripas) → is_table above ≡ false → IsSoundRows (look (with_table old level ipa granule ripas))
+  pub with_table_sound : (granule : ℕ) (ripas : Ripas) → is_table above ≡ false → IsSoundRows width (look (with_table old level ipa granule ripas))
   unfolding with_table
   with_table_sound granule ripas plain = made_sound granule ripas plain
 
@@ -274,7 +275,7 @@ module _ (old : Rows) (level ipa : ℕ) (above : Row) (sound : IsSoundRows (look
         of_look : (o : Option (Hipas × Option ℕ)) → look old q ≡ o → row_target o ≡ None
         of_look None e = refl
         of_look (Some row) e =
-            let placed : IsPlace q = sound.placed q (ap is_some e) in
+            let placed : IsPlace width q = sound.placed q (ap is_some e) in
             let whole : first_covered level q.1 ≡ q.1 = ap (λ l. first_covered l q.1) (sym (under_level q u)) ∙ placed.first in
             let k = at.aligned q.1 (ap (first_covered (level - 1)) whole ∙ under_up q u) in
             let found = unused_row k.0 k.1 in
@@ -314,11 +315,11 @@ module _ (old : Rows) (level ipa : ℕ) (above : Row) (sound : IsSoundRows (look
     up_out : under up ≡ false
     up_out = ap (λ t. t && nat_le ipa up.1 && nat_lt up.1 (ipa + 512 * covered_count level)) (ne_eqb (level - 1) level (λ e. let l = at.low in omega (arith, l, e)))
 
-    left_sound : IsSoundRows (look left_rows)
+    left_sound : IsSoundRows width (look left_rows)
     left_sound = record {
-      placed = λ q some. elim (is_place q up) as (λ t. is_place q up ≡ t → IsPlace q) [
-        | true ↦ λ e. subst IsPlace (sym (same_place q up e)) up_placed
-        | false ↦ λ e. elim (under q) as (λ t. under q ≡ t → IsPlace q) [
+      placed = λ q some. elim (is_place q up) as (λ t. is_place q up ≡ t → IsPlace width q) [
+        | true ↦ λ e. subst (IsPlace width) (sym (same_place q up e)) up_placed
+        | false ↦ λ e. elim (under q) as (λ t. under q ≡ t → IsPlace width q) [
           | true ↦ λ u. absurd (true_false _ some (ap is_some (left_under q e u)))
           | false ↦ λ u. sound.placed q (ap is_some (sym (left_other q e u)) ∙ some)
         ] refl
@@ -339,7 +340,7 @@ module _ (old : Rows) (level ipa : ℕ) (above : Row) (sound : IsSoundRows (look
       ] refl;
     }
 
-  pub without_table_sound : is_table_unused old level ipa ≡ true → IsSoundRows (look (without_table old level ipa))
+  pub without_table_sound : is_table_unused old level ipa ≡ true → IsSoundRows width (look (without_table old level ipa))
   unfolding without_table
   without_table_sound unused = left_sound unused
 
@@ -360,23 +361,23 @@ module _ (old : Rows) (level ipa : ℕ) (above : Row) (sound : IsSoundRows (look
 -- ---- a realm with no table below its root
 
 -- it has rows of the root alone, and they lead nowhere
-module _ (rows : Rows) (sound : IsSoundRows (look rows)) (plain : has_root_table rows ≡ false) where
-  no_root_table : all_rows (λ row. not (is_table row)) rows 1 0 512 ≡ true
+module _ {width : ℕ} (rows : Rows) (sound : IsSoundRows width (look rows)) (plain : has_root_table width rows ≡ false) where
+  no_root_table : all_rows (λ row. not (is_table row)) rows 1 0 (512 * start_count width) ≡ true
   no_root_table = not_false _ plain
 
   -- none is a table
   first_plain : (i : ℕ) → is_table_kind (look rows (1, i)) ≡ false
   first_plain i = of_look (look rows (1, i)) refl
     where
-      row_of : (i : ℕ) → i / 262144 * 262144 ≡ i → i < 134217728 → (k : ℕ) × (k < 512) × (i ≡ 0 + k * 262144)
-      row_of i first inside = (i / 262144, omega arith, omega arith)
+      row_of : (tables i : ℕ) → i / 262144 * 262144 ≡ i → i < tables * 134217728 → (k : ℕ) × (k < 512 * tables) × (i ≡ 0 + k * 262144)
+      row_of tables i first inside = (i / 262144, omega arith, omega arith)
 
       of_look : (o : Option (Hipas × Option ℕ)) → look rows (1, i) ≡ o → is_table_kind o ≡ false
       of_look None e = refl
       of_look (Some row) e =
-          let placed : IsPlace (1, i) = sound.placed (1, i) (ap is_some e) in
-          let k = row_of i placed.first placed.inside in
-          let found = all_rows_at (λ row. not (is_table row)) rows 1 0 512 k.0 no_root_table k.1 in
+          let placed : IsPlace width (1, i) = sound.placed (1, i) (ap is_some e) in
+          let k = row_of (start_count width) i placed.first placed.inside in
+          let found = all_rows_at (λ row. not (is_table row)) rows 1 0 (512 * start_count width) k.0 no_root_table k.1 in
           ap is_table_kind (sym e ∙ ap (λ n. look rows (1, n)) k.2 ∙ ap (option_map mapping_of_row) found.1) ∙ kind_of_table found.0 ∙ not_true _ found.2
 
   -- a row below it would stand below a table
@@ -402,7 +403,7 @@ module _ (rows : Rows) (sound : IsSoundRows (look rows)) (plain : has_root_table
       of_look : (o : Option (Hipas × Option ℕ)) → look rows q ≡ o → row_target o ≡ None
       of_look None e = refl
       of_look (Some row) e =
-          let placed : IsPlace q = sound.placed q (ap is_some e) in
+          let placed : IsPlace width q = sound.placed q (ap is_some e) in
           let least : 1 ≤ q.0 = placed.least in
           let most : q.0 ≤ 3 = placed.most in
           elim (q.0 == 1) as (λ t. (q.0 == 1) ≡ t → row_target (Some row) ≡ None) [
@@ -418,6 +419,6 @@ module _ (rows : Rows) (sound : IsSoundRows (look rows)) (plain : has_root_table
           ] refl
 
 -- rows that become RAM
-pub with_ram_sound : (rows : Rows) (ipa n : ℕ) → IsSoundRows (look rows) → all_rows is_unassigned rows 3 ipa n ≡ true → IsSoundRows (look (with_ram rows ipa n))
+pub with_ram_sound : {width : ℕ} (rows : Rows) (ipa n : ℕ) → IsSoundRows width (look rows) → all_rows is_unassigned rows 3 ipa n ≡ true → IsSoundRows width (look (with_ram rows ipa n))
 unfolding with_ram
 with_ram_sound rows ipa n sound all = sound_same _ _ sound (same_rows rows ipa n all)

@@ -12,7 +12,7 @@ use Rattle.realm_model.specs.Update.{Update, Outcome, Lease, Free, granule_of, l
 use Rattle.realm_model.specs.Act.{block, named, holder}
 use Rattle.realm_model.specs.Outcome.{outcome_of, fits}
 use Rattle.realm_model.specs.World.{World, is_leased_to, realm_of, updated, updated_all}
-use Rattle.realm_model.specs.Step.{step, is_allowed, is_vmid_free, after_outcome, named_cells, outcome_in}
+use Rattle.realm_model.specs.Step.{step, is_allowed, used_vmids, after_outcome, named_cells, outcome_in}
 use Rattle.realm_model.specs.StepLaw.{set_each, leases_after, IsStep, StepIsWhatItSays}
 use Rattle.realm_model.specs.Undoing.{by}
 use Rattle.realm_model.proofs.Booleans.{guarded}
@@ -47,41 +47,39 @@ same_Ok : (us vs : List Update) → ◌≡◌ {A = Outcome} (Ok us) (Ok vs) → 
 same_Ok us vs e = cc
 
 -- the leases after the updates of an act
-leases_of : (limits : Limits) (b : ℕ) (w v : World) (act : Act) (realm : Option Seen) (us : List Update) → outcome_of limits act realm (map (seen w.machine) (named act)) ≡ Ok us → updated_all b us w ≡ Some v
+leases_of : (limits : Limits) (used : List ℕ) (b : ℕ) (w v : World) (act : Act) (realm : Option Seen) (us : List Update) → outcome_of limits used act realm (map (seen w.machine) (named act)) ≡ Ok us → updated_all b us w ≡ Some v
     → v.leases ≡ leases_after b act w.leases
 unfolding outcome_of named
-leases_of limits b w v (Take order first) realm us e done =
+leases_of limits used b w v (Take order first) realm us e done =
     let same : us ≡ takes (block order first) = sym (same_Ok _ _ e) ∙ seen_takes w.machine (block order first) in
     (updated_all_is b us w v done).1 ∙ ap (λ us. leases_after_all b us w.leases) same ∙ taken_leases b (block order first) w.leases
-leases_of limits b w v (UnTake order first) realm us e done =
+leases_of limits used b w v (UnTake order first) realm us e done =
     let same : us ≡ frees (block order first) = sym (same_Ok _ _ e) ∙ seen_frees w.machine (block order first) in
     (updated_all_is b us w v done).1 ∙ ap (λ us. leases_after_all b us w.leases) same ∙ freed_leases b (block order first) w.leases
-leases_of limits b w v act realm us e done = puts_leases b us w v ((puts limits w.machine act realm refl).where_ok us e) done
+leases_of limits used b w v act realm us e done = puts_leases b us w v ((puts limits used w.machine act realm refl).where_ok us e) done
 
 pub step_is : (limits : Limits) (w v : World) (event : Event) → step limits w event ≡ Some v → IsStep limits w event v
 unfolding step
 step_is limits w v event s =
     let both = guarded (is_allowed limits w event) _ v s in
     let outer = and_parts _ _ both.0 in
-    let inner = and_parts _ _ outer.0 in
-    let first = and_parts _ _ inner.0 in
+    let first = and_parts _ _ outer.0 in
     of_outcome (outcome_in limits w event) refl both.1 (ltb-true event.build limits.builds first.0)
-    (all_leased (holder event.build event.act) w.leases (named event.act) first.1) inner.1 outer.1
+    (all_leased (holder event.build event.act) w.leases (named event.act) first.1) outer.1
   where
     of_outcome : (o : Outcome) → outcome_in limits w event ≡ o → after_outcome event.build o w ≡ Some v → event.build < limits.builds
         → All (λ granule. slice_get w.leases granule ≡ Some (holder event.build event.act)) (named event.act)
-        → is_vmid_free w.machine event.act ≡ true → fits event.act (realm_of event.build w) (named_cells w event.act) ≡ true → IsStep limits w event v
-    of_outcome (Ok us) is done below granules vmid fit = record {
+        → fits event.act (realm_of event.build w) (named_cells w event.act) ≡ true → IsStep limits w event v
+    of_outcome (Ok us) is done below granules fit = record {
       build = below;
       granules = granules;
-      vmid = vmid;
       fields = fit;
       updates = us;
       outcome = is;
       machine = (updated_all_is event.build us w v done).0;
-      leases = leases_of limits event.build w v event.act (realm_of event.build w) us is done;
+      leases = leases_of limits (used_vmids w.machine) event.build w v event.act (realm_of event.build w) us is done;
     }
-    of_outcome (Err rmi) is done below granules vmid fit = cc
+    of_outcome (Err rmi) is done below granules fit = cc
 
 -- ---- a block is taken, or given back
 
@@ -110,7 +108,7 @@ module _ (b : ℕ) (lease next : Option ℕ) (change : ℕ → Update) (granule 
 
 allowed : (limits : Limits) (w v : World) (event : Event) → IsStep limits w event v → is_allowed limits w event ≡ true
 allowed limits w v event h =
-    and_from _ _ (and_from _ _ (and_from _ _ (lt-ltb event.build limits.builds h.build) (leased_all (holder event.build event.act) w.leases (named event.act) h.granules)) h.vmid) h.fields
+    and_from _ _ (and_from _ _ (lt-ltb event.build limits.builds h.build) (leased_all (holder event.build event.act) w.leases (named event.act) h.granules)) h.fields
 
 step_goes : (limits : Limits) (w v : World) (b : ℕ) (act : Act) → ReachesOwn limits b w act (realm_of b w) → IsStep limits w (by b act) v → (x : World) × (step limits w (by b act) ≡ Some x)
 unfolding step outcome_of named

@@ -1,8 +1,9 @@
 -- Where tables stand: the places below the row that covers an IPA.
-use Rattle.std.proofs.Common.{◌≡◌, ℕ, ◌+◌, ◌-◌, ◌*◌, ◌/◌, ◌%◌, ◌^◌, ◌<◌, ◌≤◌, true, false, ◌||◌, refl, sym, subst, arith, lit≤}
+use Rattle.std.proofs.Common.{◌≡◌, ℕ, ◌+◌, ◌-◌, ◌*◌, ◌/◌, ◌%◌, ◌<◌, ◌≤◌, true, false, ◌||◌, refl, sym, subst, arith, lit≤}
 use Rattle.std.specs.Prelude.{◌==◌}
 use Rattle.std.proofs.lemmas.Bool.{and_parts, and_from, eqb-true, eq-eqb, lt-ltb, le-leb, ltb-true, leb-true}
 use Rattle.granule_addr.specs.Ipa.{covered_count, first_covered}
+use Rattle.granule_addr.specs.Root.{start_count, space_of}
 use Rattle.realm_model.specs.Rows.{is_table_place}
 use Rattle.realm_model.specs.Sound.{IsPlace}
 use Rattle.realm_model.proofs.Rows.{is_among}
@@ -21,7 +22,7 @@ pub record IsTablePlace (ipa level : ℕ) : Type 0 where
   pub from_among : (i : ℕ) → is_among level ipa (512 * covered_count level) (level, i) ≡ true → first_covered (level - 1) i ≡ ipa
   pub below : (k : ℕ) → k < 512 → first_covered (level - 1) (ipa + k * covered_count level) ≡ ipa
   pub aligned : (i : ℕ) → first_covered (level - 1) (first_covered level i) ≡ ipa → (k : ℕ) × (k < 512) × (first_covered level i ≡ ipa + k * covered_count level)
-  pub places : ipa < 2 ^ 27 → (k : ℕ) → k < 512 → IsPlace (level, ipa + k * covered_count level)
+  pub places : (width : ℕ) → ipa < space_of width → (k : ℕ) → k < 512 → IsPlace width (level, ipa + k * covered_count level)
 
 among_from : (level ipa n i : ℕ) → ipa ≤ i → i < ipa + n → is_among level ipa n (level, i) ≡ true
 among_from level ipa n i h k = and_from _ _ (and_from _ _ (eq-eqb level level refl) (le-leb ipa i h)) (lt-ltb i (ipa + n) k)
@@ -39,7 +40,7 @@ place_two ipa e =
       from_among = λ i h. let both = among_to 2 ipa 262144 i h in outside ipa i whole both.0 both.1;
       below = λ k h. outside ipa (ipa + k * 512) whole (omega arith) (omega arith);
       aligned = λ i h. index ipa i whole h;
-      places = λ inside k h. record { least = lit≤ tt; most = lit≤ tt; first = row ipa k whole; inside = below ipa k whole inside h };
+      places = λ width inside k h. record { least = lit≤ tt; most = lit≤ tt; first = row ipa k whole; inside = below (start_count width) ipa k whole inside h };
     }
   where
     first : (ipa : ℕ) → ipa % 262144 ≡ 0 → ipa / 262144 * 262144 ≡ ipa
@@ -57,8 +58,8 @@ place_two ipa e =
     row : (ipa k : ℕ) → ipa % 262144 ≡ 0 → (ipa + k * 512) / 512 * 512 ≡ ipa + k * 512
     row ipa k whole = omega arith
 
-    below : (ipa k : ℕ) → ipa % 262144 ≡ 0 → ipa < 134217728 → k < 512 → ipa + k * 512 < 134217728
-    below ipa k whole inside h = omega arith
+    below : (tables ipa k : ℕ) → ipa % 262144 ≡ 0 → ipa < tables * 134217728 → k < 512 → ipa + k * 512 < tables * 134217728
+    below tables ipa k whole inside h = omega arith
 
 place_three : (ipa : ℕ) → (ipa % 512 == 0) ≡ true → IsTablePlace ipa 3
 place_three ipa e =
@@ -70,7 +71,7 @@ place_three ipa e =
       from_among = λ i h. let both = among_to 3 ipa 512 i h in outside ipa i whole both.0 both.1;
       below = λ k h. outside ipa (ipa + k * 1) whole (omega arith) (omega arith);
       aligned = λ i h. index ipa i whole h;
-      places = λ inside k h. record { least = lit≤ tt; most = lit≤ tt; first = row ipa k whole; inside = below ipa k whole inside h };
+      places = λ width inside k h. record { least = lit≤ tt; most = lit≤ tt; first = row ipa k whole; inside = below (start_count width) ipa k whole inside h };
     }
   where
     first : (ipa : ℕ) → ipa % 512 ≡ 0 → ipa / 512 * 512 ≡ ipa
@@ -88,8 +89,8 @@ place_three ipa e =
     row : (ipa k : ℕ) → ipa % 512 ≡ 0 → (ipa + k * 1) / 1 * 1 ≡ ipa + k * 1
     row ipa k whole = omega arith
 
-    below : (ipa k : ℕ) → ipa % 512 ≡ 0 → ipa < 134217728 → k < 512 → ipa + k * 1 < 134217728
-    below ipa k whole inside h = omega arith
+    below : (tables ipa k : ℕ) → ipa % 512 ≡ 0 → ipa < tables * 134217728 → k < 512 → ipa + k * 1 < tables * 134217728
+    below tables ipa k whole inside h = omega arith
 
 pub table_place : (ipa level : ℕ) → is_table_place ipa level ≡ true → IsTablePlace ipa level
 table_place ipa level h =

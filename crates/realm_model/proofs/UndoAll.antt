@@ -13,10 +13,12 @@ use Rattle.realm_model.specs.Machine.{Limits}
 use Rattle.realm_model.specs.Act.{reverse_of, is_reverse, is_paired}
 use Rattle.realm_model.specs.World.{World, realm_of, without, opening}
 use Rattle.realm_model.specs.History.{erase, open_entries, replay, IsLegal}
-use Rattle.realm_model.specs.Undoing.{is_running, IsAtRest, reverses, undoing, IsUndone, IsUndoneNext, by}
+use Rattle.realm_model.specs.Running.{is_running, IsAtRest}
+use Rattle.realm_model.specs.Undoing.{reverses, undoing, IsUndone, IsUndoneNext, by}
 use Rattle.realm_model.proofs.SoundParts.{IsSound}
 use Rattle.realm_model.proofs.Booleans.{some_is, or_parts}
 use Rattle.realm_model.proofs.Lists.{front, front_last, last_push}
+use Rattle.realm_model.proofs.Rests.{rest_is_of_all}
 use Rattle.realm_model.proofs.AtRest.{none_run, none_run_still}
 use Rattle.realm_model.proofs.OwnLaws.{laws, SameFor}
 use Rattle.realm_model.proofs.Emptied.{emptied}
@@ -101,7 +103,7 @@ undone limits history b w legal at_w rest =
     let k = kept limits b (SameFor b) (IsSound b) (laws limits b) history w legal at_w in
     let stack : k.0 ≡ reverse (open_entries b history) = sym (reverse-reverse k.0) ∙ ap reverse (sym k.1.open_is) in
     let ended : Ended limits b (opening limits) [] (history ++ undoing b history) =
-    subst (λ st. Ended limits b (opening limits) [] (history ++ events b st)) stack (undo_all limits b (opening limits) [] k.0 history w legal at_w k.1 (none_run (realm_of b w) k.0 rest)) in
+    subst (λ st. Ended limits b (opening limits) [] (history ++ events b st)) stack (undo_all limits b (opening limits) [] k.0 history w legal at_w k.1 (none_run (realm_of b w) k.0 ((rest_is_of_all limits history b w at_w).0 rest))) in
     let others : erase b (history ++ undoing b history) ≡ erase b history = erase_events b history (reverse (open_entries b history)) in
     let world_is : replay limits (history ++ undoing b history) ≡ replay limits (erase b history) =
     ended.world_is ∙ sym (emptied limits b (history ++ undoing b history) ended.world ended.legal ended.world_is ended.kept.open_is) ∙ ap (replay limits) others in

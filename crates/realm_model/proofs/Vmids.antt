@@ -1,35 +1,39 @@
 -- Every reached world keeps the VMIDs of realms in range, and each of one realm alone.
-use Rattle.std.proofs.Common.{◌≡◌, ◌≢◌, ℕ, zero, suc, ◌≤◌, true, false, cond, ◌⊎◌, inl, inr, List, [], ◌∷◌, ◌++◌, map, replicate, Option, Some, None, refl, sym, ap, ◌∙◌, subst}
+use Rattle.std.proofs.Common.{◌≡◌, ◌≢◌, ℕ, ◌≤◌, true, false, cond, ◌⊎◌, inl, inr, List, [], ◌∷◌, map, replicate, Option, Some, None, refl, sym, ap, ◌∙◌, subst}
 use Rattle.std.specs.Prelude.{◌==◌, is_some}
-use Rattle.std.specs.List.{list_any}
-use Rattle.std.proofs.lemmas.Bool.{and_parts, leb-true, eqb-true, eq-eqb}
+use Rattle.std.proofs.lemmas.Bool.{eqb-true}
 use Rattle.std.proofs.lemmas.Option.{same_Some}
-use Rattle.realm_model.specs.declared.states.GranuleState.TheVariants.{RecAux}
+use Rattle.granule_addr.specs.Root.{starting_tables}
+use Rattle.granule_addr.specs.declared.root.Root.{Root}
+use Rattle.realm_model.specs.declared.states.GranuleState.TheVariants.{RecAux, Rtt as InRtt}
 use Rattle.realm_model.specs.declared.act.Act.{Act}
 use Rattle.realm_model.specs.declared.act.Act.TheVariants.{Take, UnTake, Fill, Peek, Delegate, Undelegate, Realm, UnRealm, Activate, Rtt, UnRtt, Ripas, Data, Unknown, UnData, Rec, UnRec, Enter, Exit, Poke}
 use Rattle.realm_model.specs.declared.act.Event.{Event}
-use Rattle.realm_model.specs.Machine.{Limits, RealmRow, Cell, Machine, Seen, blank, left, held, cell_at, seen}
+use Rattle.realm_model.specs.Machine.{Limits, RealmRow, Cell, Seen, blank, left, held, cell_at, seen}
 use Rattle.realm_model.specs.Update.{Update, Put, PutByte, Lease, Free, granule_of, cell_after}
 use Rattle.realm_model.specs.Command.Realm.{new_realm}
 use Rattle.realm_model.specs.Act.{named}
 use Rattle.realm_model.specs.Outcome.{outcome_of}
 use Rattle.realm_model.specs.World.{World, realm_of}
-use Rattle.realm_model.specs.Step.{step, has_vmid, is_vmid_free}
+use Rattle.realm_model.specs.Step.{step, used_vmids}
 use Rattle.realm_model.specs.History.{replay}
+use Rattle.realm_model.specs.OpenRealm.{makes_realm}
 use Rattle.realm_model.specs.Undoing.{by}
-use Rattle.realm_model.proofs.Booleans.{true_false, not_true, or_parts}
+use Rattle.realm_model.proofs.Booleans.{true_false}
+use Rattle.realm_model.proofs.Lists.{is_in}
+use Rattle.realm_model.proofs.NewRealms.{CanBeMade, can_be_made}
+use Rattle.realm_model.proofs.UsedVmids.{used_at}
 use Rattle.realm_model.proofs.Outcomes.{Yields, Yields-Ok, Yields-Err, Yields-check, Yields-with_realm, Yields-with_rec, Yields-with_end, Yields-with_granule}
 use Rattle.realm_model.proofs.Leases.{cell_at-replicate}
 use Rattle.realm_model.proofs.RealmOf.{IsAt, IsAt-realm_of}
-use Rattle.realm_model.proofs.Written.{put_at, cell_put, IsSquare}
+use Rattle.realm_model.proofs.Written.{put_at, cell_put, put_seen, each_in_front, each_alone, IsSquare}
 use Rattle.realm_model.proofs.StepBack.{done}
-use Rattle.realm_model.proofs.StepSays.{step_is}
 use Rattle.realm_model.proofs.Reached.{of_reached, IsSized, sized_step, sized_opening}
 
 same_vmid : (r x : RealmRow) → ◌≡◌ {A = Option RealmRow} (Some r) (Some x) → r.vmid ≡ x.vmid
 same_vmid r x h = ap (λ (y : RealmRow). y.vmid) (same_Some _ _ h)
 
-new_vmid : (v root : ℕ) → (new_realm v root).vmid ≡ v
+new_vmid : (v : ℕ) (root : Root) → (new_realm v root).vmid ≡ v
 unfolding new_realm
 new_vmid v root = refl
 
@@ -70,14 +74,6 @@ module _ (limits : Limits) (w : World) (Made : ℕ → RealmRow → Type 0) wher
         | false ↦ λ e. h
       ] refl)
 
-  vmid_lefts : (gs : List ℕ) (us : List Update) → V us → V (map (λ a. Put a left) gs ++ us)
-  vmid_lefts [] us h = h
-  vmid_lefts (g ∷ gs) us h = (λ e is. cc, vmid_lefts gs us h)
-
-  vmid_auxes : (n : ℕ) (gs : List Seen) (us : List Update) → V us → V (map (λ (a : Seen). Put a.number (held RecAux n)) gs ++ us)
-  vmid_auxes n [] us h = h
-  vmid_auxes n (g ∷ gs) us h = (λ e is. cc, vmid_auxes n gs us h)
-
   vmid_takes : (gs : List Seen) → V (map (λ (g : Seen). Lease g.number) gs)
   vmid_takes [] = tt
   vmid_takes (g ∷ gs) = (tt, vmid_takes gs)
@@ -92,10 +88,10 @@ module _ (limits : Limits) (w : World) (Made : ℕ → RealmRow → Type 0) wher
 
   -- what an act that makes a realm makes
   abbrev Makes : Act → Type 0
-  Makes (Realm rd root v) = (e : RealmRow) → e.vmid ≡ v → 1 ≤ v → v ≤ limits.vmids → Made rd e
+  Makes (Realm rd root v) = (e : RealmRow) → e.vmid ≡ v → CanBeMade limits.vmids (used_vmids w.machine) w.machine rd root v → Made rd e
   Makes _ = Unit {0}
 
-  vmids : (act : Act) (realm : Option Seen) → Makes act → IsAt w.machine realm → Yields V (outcome_of limits act realm (map (seen w.machine) (named act)))
+  vmids : (act : Act) (realm : Option Seen) → Makes act → IsAt w.machine realm → Yields V (outcome_of limits (used_vmids w.machine) act realm (map (seen w.machine) (named act)))
   unfolding outcome_of named
   vmids (Take order first) realm makes at = Yields-Ok V _ (vmid_takes _)
   vmids (UnTake order first) realm makes at = Yields-Ok V _ (vmid_frees _)
@@ -104,10 +100,13 @@ module _ (limits : Limits) (w : World) (Made : ℕ → RealmRow → Type 0) wher
   vmids (Delegate g) realm makes at = Yields-check V _ _ _ (λ _. Yields-Ok V _ (λ e h. cc, tt))
   vmids (Undelegate g) realm makes at = Yields-check V _ _ _ (λ _. Yields-Ok V _ (from_now g, tt))
   vmids (Realm rd root v) realm makes at = Yields-check V _ _ _ (λ all.
-      let most = and_parts _ _ all in
-      let least = and_parts _ _ most.0 in
-      Yields-Ok V _ (λ e h. inr (makes e (ap (λ (x : RealmRow). x.vmid) (sym (same_Some _ _ h)) ∙ new_vmid v root) (leb-true 1 v least.1) (leb-true v limits.vmids most.1)), (λ e h. cc, tt)))
-  vmids (UnRealm rd root v) realm makes at = Yields-with_realm V _ _ (λ d is. Yields-check V _ _ _ (λ _. Yields-Ok V _ (λ e h. cc, (λ e h. cc, tt))))
+      let new = can_be_made limits.vmids (used_vmids w.machine) w.machine rd root v all in
+      Yields-Ok V _ (
+        λ e h. inr (makes e (ap (λ (x : RealmRow). x.vmid) (sym (same_Some _ _ h)) ∙ new_vmid v root) new),
+        each_alone V (put_seen (held InRtt rd)) (λ a us h. (λ e h. cc, h)) (map (seen w.machine) (starting_tables root)) tt,
+      ))
+  vmids (UnRealm rd root v) realm makes at = Yields-with_realm V _ _ (λ d is. Yields-check V _ _ _ (λ _. Yields-Ok V _
+      (λ e h. cc, each_alone V (λ g. Put g left) (λ g us h. (λ e h. cc, h)) (starting_tables d.root) tt)))
   vmids Activate None makes at = Yields-Err V _
   vmids Activate (Some rd) makes at = Yields-with_realm V _ _ (λ d is. Yields-check V _ _ _ (λ _. Yields-Ok V _ (λ x h. realm_vmid rd d at is x (same_vmid _ x h), tt)))
   vmids (Rtt g ipa level) None makes at = Yields-Err V _
@@ -130,10 +129,10 @@ module _ (limits : Limits) (w : World) (Made : ℕ → RealmRow → Type 0) wher
       Yields-Ok V _ (λ e h. cc, (λ x h. realm_vmid rd d at is x (same_vmid _ x h), tt))))))))
   vmids (Rec g aux m) None makes at = Yields-Err V _
   vmids (Rec g aux m) (Some rd) makes at = Yields-with_realm V _ _ (λ d is. Yields-check V _ _ _ (λ _. Yields-check V _ _ _ (λ _.
-      Yields-Ok V _ (λ e h. cc, vmid_auxes rd.number (map (seen w.machine) aux.items) _ (λ x h. realm_vmid rd d at is x (same_vmid _ x h), tt)))))
+      Yields-Ok V _ (λ e h. cc, each_in_front V (put_seen (held RecAux rd.number)) (λ a us h. (λ e h. cc, h)) (map (seen w.machine) aux.items) _ (λ x h. realm_vmid rd d at is x (same_vmid _ x h), tt)))))
   vmids (UnRec g aux m) None makes at = Yields-Err V _
   vmids (UnRec g aux m) (Some rd) makes at = Yields-with_realm V _ _ (λ d is. Yields-with_rec V _ _ _ (λ rec there. Yields-check V _ _ _ (λ _.
-      Yields-Ok V _ (λ e h. cc, vmid_lefts rec.auxiliaries _ (λ x h. realm_vmid rd d at is x (same_vmid _ x h), tt)))))
+      Yields-Ok V _ (λ e h. cc, each_in_front V (λ g. Put g left) (λ g us h. (λ e h. cc, h)) rec.auxiliaries _ (λ x h. realm_vmid rd d at is x (same_vmid _ x h), tt)))))
   vmids (Enter m) None makes at = Yields-Err V _
   vmids (Enter m) (Some rd) makes at = Yields-with_realm V _ _ (λ d is. Yields-with_rec V _ _ _ (λ rec there. Yields-check V _ _ _ (λ _. Yields-check V _ _ _ (λ _. Yields-Ok V _ (λ x h. realm_vmid rd d at is x (same_vmid _ x h), tt)))))
   vmids (Exit m) None makes at = Yields-Err V _
@@ -148,59 +147,67 @@ pub record HasVmids (limits : Limits) (w : World) : Type 0 where
   pub range : (k : ℕ) (d : RealmRow) → (cell_at w.machine k).descriptor ≡ Some d → (1 ≤ d.vmid) × (d.vmid ≤ limits.vmids)
   pub apart : (k h : ℕ) (d e : RealmRow) → (cell_at w.machine k).descriptor ≡ Some d → (cell_at w.machine h).descriptor ≡ Some e → d.vmid ≡ e.vmid → k ≡ h
 
--- no realm has the VMID
-pub none_has : (v : ℕ) (machine : Machine) → list_any (has_vmid v) machine ≡ false → (k : ℕ) (d : RealmRow) → (cell_at machine k).descriptor ≡ Some d → d.vmid ≢ v
-none_has v [] h k d is = λ e. cc
-none_has v (c ∷ machine) h zero d is = λ e.
-    true_false (has_vmid v c) (ap (λ o. elim o [ Some realm ↦ realm.vmid == v | None ↦ false ]) is ∙ eq-eqb d.vmid v e) (or_parts (has_vmid v c) _ h).0
-none_has v (c ∷ machine) h (suc k) d is = none_has v machine (or_parts (has_vmid v c) _ h).1 k d is
-
 -- the realm that an act makes
-abbrev pub IsMade : Limits → Act → ℕ → RealmRow → Type 0
-IsMade limits (Realm rd root v) k e = (k ≡ rd) × (e.vmid ≡ v) × (1 ≤ v) × (v ≤ limits.vmids)
-IsMade limits _ k e = ⊥
+abbrev pub IsMade : Limits → World → Act → ℕ → RealmRow → Type 0
+IsMade limits w (Realm rd root v) k e = (k ≡ rd) × (e.vmid ≡ v) × CanBeMade limits.vmids (used_vmids w.machine) w.machine rd root v
+IsMade limits w _ k e = ⊥
 
-makes : (limits : Limits) (w : World) (act : Act) → Makes limits w (IsMade limits act) act
-makes limits w (Realm rd root v) = λ e same least most. (refl, same, least, most)
+makes : (limits : Limits) (w : World) (act : Act) → Makes limits w (IsMade limits w act) act
+makes limits w (Realm rd root v) = λ e same new. (refl, same, new)
 makes limits w _ = tt
 
-made_range : (limits : Limits) (act : Act) (k : ℕ) (e : RealmRow) → IsMade limits act k e → (1 ≤ e.vmid) × (e.vmid ≤ limits.vmids)
-made_range limits (Realm rd root v) k e m = (subst (λ n. 1 ≤ n) (sym m.1) m.2, subst (λ n. n ≤ limits.vmids) (sym m.1) m.3)
-made_range limits _ k e m = absurd m
+made_range : (limits : Limits) (w : World) (act : Act) (k : ℕ) (e : RealmRow) → IsMade limits w act k e → (1 ≤ e.vmid) × (e.vmid ≤ limits.vmids)
+made_range limits w (Realm rd root v) k e m = let new = m.2 in (subst (λ n. 1 ≤ n) (sym m.1) new.least, subst (λ n. n ≤ limits.vmids) (sym m.1) new.most)
+made_range limits w _ k e m = absurd m
 
-made_once : (limits : Limits) (act : Act) (k h : ℕ) (d e : RealmRow) → IsMade limits act k d → IsMade limits act h e → k ≡ h
-made_once limits (Realm rd root v) k h d e m n = m.0 ∙ sym n.0
-made_once limits _ k h d e m n = absurd m
+made_once : (limits : Limits) (w : World) (act : Act) (k h : ℕ) (d e : RealmRow) → IsMade limits w act k d → IsMade limits w act h e → k ≡ h
+made_once limits w (Realm rd root v) k h d e m n = m.0 ∙ sym n.0
+made_once limits w _ k h d e m n = absurd m
 
-made_apart : (limits : Limits) (act : Act) (w : World) (k h : ℕ) (d e : RealmRow) → is_vmid_free w.machine act ≡ true → (cell_at w.machine k).descriptor ≡ Some d → IsMade limits act h e → d.vmid ≢ e.vmid
-made_apart limits (Realm rd root v) w k h d e free is m = λ same. none_has v w.machine (not_true _ free) k d is (same ∙ m.1)
-made_apart limits _ w k h d e free is m = absurd m
+made_apart : (limits : Limits) (w : World) (act : Act) (k h : ℕ) (d e : RealmRow) → (cell_at w.machine k).descriptor ≡ Some d → IsMade limits w act h e → d.vmid ≢ e.vmid
+made_apart limits w (Realm rd root v) k h d e is m = λ same. let new = m.2 in true_false _ (used_at w.machine k d is) (ap (λ n. is_in n (used_vmids w.machine)) (same ∙ m.1) ∙ new.free)
+made_apart limits w _ k h d e is m = absurd m
 
 -- a realm after a step was there before with its VMID, or is made
 pub realm_before : (limits : Limits) (w v : World) (b : ℕ) (act : Act) → IsSquare w → step limits w (by b act) ≡ Some v
-    → (k : ℕ) (e : RealmRow) → (cell_at v.machine k).descriptor ≡ Some e → From limits w (IsMade limits act) k e
+    → (k : ℕ) (e : RealmRow) → (cell_at v.machine k).descriptor ≡ Some e → From limits w (IsMade limits w act) k e
 realm_before limits w v b act square s k e is =
-    let did = done limits b w v act (V limits w (IsMade limits act)) (vmids limits w (IsMade limits act) act (realm_of b w) (makes limits w act) (IsAt-realm_of b w)) s in
-    from_put limits w (IsMade limits act) did.0 k (cell_at w.machine k) did.1 (from_now limits w (IsMade limits act) k) e (ap (λ (c : Cell). c.descriptor) (sym (cell_put b did.0 w v square did.2 k)) ∙ is)
+    let did = done limits b w v act (V limits w (IsMade limits w act)) (vmids limits w (IsMade limits w act) act (realm_of b w) (makes limits w act) (IsAt-realm_of b w)) s in
+    from_put limits w (IsMade limits w act) did.0 k (cell_at w.machine k) did.1 (from_now limits w (IsMade limits w act) k) e (ap (λ (c : Cell). c.descriptor) (sym (cell_put b did.0 w v square did.2 k)) ∙ is)
+
+-- an act that makes no realm leaves none where none was
+none_made : (limits : Limits) (w : World) (act : Act) (k : ℕ) (e : RealmRow) → makes_realm act ≡ false → IsMade limits w act k e → ⊥
+none_made limits w (Realm rd root v) k e plain made = cc
+none_made limits w _ k e plain made = made
+
+pub still_none : (limits : Limits) (w v : World) (b : ℕ) (act : Act) → IsSquare w → makes_realm act ≡ false → step limits w (by b act) ≡ Some v
+    → ((k : ℕ) → (cell_at w.machine k).descriptor ≡ None) → (k : ℕ) → (cell_at v.machine k).descriptor ≡ None
+still_none limits w v b act square plain s none k = by_row (cell_at v.machine k).descriptor refl
+  where
+    by_row : (o : Option RealmRow) → (cell_at v.machine k).descriptor ≡ o → o ≡ None
+    by_row None is = refl
+    by_row (Some e) is = elim (realm_before limits w v b act square s k e is) [
+      | inl was ↦ absurd (true_false _ (ap is_some was.1) (ap is_some (none k)))
+      | inr made ↦ absurd (none_made limits w act k e plain made)
+    ]
 
 vmids_step : (limits : Limits) (w v : World) (b : ℕ) (act : Act) → IsSized limits w → HasVmids limits w → step limits w (by b act) ≡ Some v → HasVmids limits v
 vmids_step limits w v b act sized old s =
-    let free : is_vmid_free w.machine act ≡ true = (step_is limits w v (by b act) s).vmid in
     let square : IsSquare w = sized.leases ∙ sym sized.machine in
     let from = realm_before limits w v b act square s in
     record {
       range = λ k e is. elim (from k e is) [
         | inl was ↦ let r = old.range k was.0 was.1 in (subst (λ n. 1 ≤ n) was.2 r.0, subst (λ n. n ≤ limits.vmids) was.2 r.1)
-        | inr made ↦ made_range limits act k e made
+        | inr made ↦ made_range limits w act k e made
       ];
       apart = λ k h d e is it same. elim (from k d is) [
         | inl was ↦ elim (from h e it) [
           | inl too ↦ old.apart k h was.0 too.0 was.1 too.1 (was.2 ∙ same ∙ sym too.2)
-          | inr made ↦ absurd (made_apart limits act w k h was.0 e free was.1 made (was.2 ∙ same))
+          | inr made ↦ absurd (made_apart limits w act k h was.0 e was.1 made (was.2 ∙ same))
         ]
         | inr made ↦ elim (from h e it) [
-          | inl too ↦ absurd (made_apart limits act w h k too.0 d free too.1 made (too.2 ∙ sym same))
-          | inr both ↦ made_once limits act k h d e made both
+          | inl too ↦ absurd (made_apart limits w act h k too.0 d too.1 made (too.2 ∙ sym same))
+          | inr both ↦ made_once limits w act k h d e made both
         ]
       ];
     }

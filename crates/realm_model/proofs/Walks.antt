@@ -29,6 +29,11 @@ walk_end rows ipa (suc level) end e = elim (row_at rows (suc level) ipa) as (λ 
   | None ↦ λ there e. walk_end rows ipa level end e
 ] refl e
 
+-- one ends above a level that has no row there
+pub walk_above : (rows : Rows) (ipa level : ℕ) → row_at rows (suc level) ipa ≡ None → walk rows ipa (suc level) ≡ walk rows ipa level
+unfolding walk
+walk_above rows ipa level none = ap (λ o. elim o [ Some row ↦ Some (record { level = suc level; row = row }) | None ↦ walk rows ipa level ]) none
+
 pub walk_there : (rows : Rows) (ipa level : ℕ) (row : Row) → 1 ≤ level → row_at rows level ipa ≡ Some row → walk rows ipa level ≡ Some (record { level = level; row = row })
 unfolding walk
 walk_there rows ipa zero row low h = absurd (omega arith)

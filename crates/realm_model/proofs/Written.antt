@@ -68,18 +68,38 @@ put_more (u ∷ us) vs k c = put_more us vs k (cond (k == granule_of u) (cell_af
 pub put_last : (us : List Update) (n : ℕ) (x c : Cell) → put_at (us ++ Put n x ∷ []) n c ≡ x
 put_last us n x c = put_more us (Put n x ∷ []) n c ∙ ap (λ t. cond t x (put_at us n c)) (eq-eqb n n refl)
 
-abbrev pub lefts : List ℕ → List Update
-lefts gs = map (λ g. Put g left) gs
+-- ---- one cell at each of some granules
 
-pub put_lefts : (gs : List ℕ) (k : ℕ) (c : Cell) → put_at (lefts gs) k c ≡ cond (is_in k gs) left c
-put_lefts [] k c = refl
-put_lefts (g ∷ gs) k c = put_lefts gs k (cond (k == g) left c) ∙ either (k == g) (is_in k gs)
-  where
-    either : (s t : Bool) → cond t left (cond s left c) ≡ cond (s || t) left c
-    either true true = refl
-    either true false = refl
-    either false true = refl
-    either false false = refl
+abbrev pub each_put : Cell → List ℕ → List Update
+each_put x gs = map (λ g. Put g x) gs
+
+abbrev pub lefts : List ℕ → List Update
+lefts gs = each_put left gs
+
+pub put_at-each_put : (x : Cell) (gs : List ℕ) (k : ℕ) (c : Cell) → put_at (each_put x gs) k c ≡ cond (is_in k gs) x c
+put_at-each_put x [] k c = refl
+put_at-each_put x (g ∷ gs) k c = put_at-each_put x gs k (cond (k == g) x c) ∙ cond_or (k == g) (is_in k gs) x c
+
+pub granules-each_put : (x : Cell) (gs : List ℕ) → map granule_of (each_put x gs) ≡ gs
+granules-each_put x [] = refl
+granules-each_put x (g ∷ gs) = ap (λ r. g ∷ r) (granules-each_put x gs)
+
+abbrev pub put_seen : Cell → Seen → Update
+put_seen x g = Put g.number x
+
+pub seen-each_put : (m : Machine) (x : Cell) (gs : List ℕ) → map (put_seen x) (map (seen m) gs) ≡ each_put x gs
+seen-each_put m x [] = refl
+seen-each_put m x (g ∷ gs) = ap (λ r. Put g x ∷ r) (seen-each_put m x gs)
+
+-- what one more update in front keeps, one for each of a list in front keeps
+module _ {X : Type 0} (P : List Update → Type 0) (f : X → Update) (more : (x : X) (us : List Update) → P us → P (f x ∷ us)) where
+  pub each_in_front : (xs : List X) (us : List Update) → P us → P (map f xs ++ us)
+  each_in_front [] us h = h
+  each_in_front (x ∷ xs) us h = more x (map f xs ++ us) (each_in_front xs us h)
+
+  pub each_alone : (xs : List X) → P [] → P (map f xs)
+  each_alone [] h = h
+  each_alone (x ∷ xs) h = more x (map f xs) (each_alone xs h)
 
 -- a cell after a write
 pub set_cases : (m : Machine) (g : ℕ) (x : Cell) (k : ℕ) → (cell_at (set m g x) k ≡ cell_at m k) ⊎ ((k ≡ g) × (cell_at (set m g x) k ≡ x))

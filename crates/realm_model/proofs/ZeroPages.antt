@@ -1,9 +1,10 @@
 -- Every reached world keeps the pages of tables, RDs, RECs and DELEGATED granules zero.
-use Rattle.std.proofs.Common.{◌≡◌, ℕ, Bool, true, false, cond, List, [], ◌∷◌, ◌++◌, map, Option, Some, None, refl, sym, ap, ◌∙◌, subst}
+use Rattle.std.proofs.Common.{◌≡◌, ℕ, Bool, true, false, cond, List, [], ◌∷◌, map, Option, Some, None, refl, sym, ap, ◌∙◌, subst}
 use Rattle.std.specs.Prelude.{◌==◌, option_map}
 use Rattle.std.proofs.lemmas.Bool.{eqb-true, eqb-false}
 use Rattle.granule_addr.specs.Ipa.{first_covered}
-use Rattle.realm_model.specs.declared.states.GranuleState.TheVariants.{RecAux, Data as InData}
+use Rattle.granule_addr.specs.Root.{starting_tables}
+use Rattle.realm_model.specs.declared.states.GranuleState.TheVariants.{RecAux, Data as InData, Rtt as InRtt}
 use Rattle.realm_model.specs.declared.act.Act.{Act}
 use Rattle.realm_model.specs.declared.act.Act.TheVariants.{Take, UnTake, Fill, Peek, Delegate, Undelegate, Realm, UnRealm, Activate, Rtt, UnRtt, Ripas, Data, Unknown, UnData, Rec, UnRec, Enter, Exit, Poke}
 use Rattle.realm_model.specs.declared.act.Event.{Event}
@@ -13,7 +14,7 @@ use Rattle.realm_model.specs.Update.{Update, Put, PutByte, Lease, Free, granule_
 use Rattle.realm_model.specs.Act.{named}
 use Rattle.realm_model.specs.Outcome.{outcome_of}
 use Rattle.realm_model.specs.World.{World, part_of, realm_of, hidden, is_of_other}
-use Rattle.realm_model.specs.Step.{step}
+use Rattle.realm_model.specs.Step.{step, used_vmids}
 use Rattle.realm_model.specs.Undoing.{by}
 use Rattle.realm_model.specs.History.{replay}
 use Rattle.realm_model.specs.Ownership.{mapping_of_row}
@@ -24,7 +25,7 @@ use Rattle.realm_model.proofs.Walks.{walk_end}
 use Rattle.realm_model.proofs.LeftOut.{each-replicate}
 use Rattle.realm_model.proofs.HiddenSteps.{part_of-other_step, step-part_of}
 use Rattle.realm_model.proofs.RealmOf.{IsAt, IsAt-realm_of}
-use Rattle.realm_model.proofs.Written.{put_at, cell_put, IsSquare}
+use Rattle.realm_model.proofs.Written.{put_at, cell_put, put_seen, each_in_front, each_alone, IsSquare}
 use Rattle.realm_model.proofs.StepBack.{done}
 use Rattle.realm_model.proofs.RowKinds.{assigned_target}
 use Rattle.realm_model.proofs.SoundCells.{undelegated_state}
@@ -60,14 +61,6 @@ zero_put : (us : List Update) (k : ℕ) (c : Cell) → AllKeepZero us → IsZero
 zero_put [] k c keeps h = h
 zero_put (u ∷ us) k c keeps h = zero_put us k (cond (k == granule_of u) (cell_after u c) c) keeps.1
     (elim (k == granule_of u) as (λ t. IsZeroCell (cond t (cell_after u c) c)) [ true ↦ zero_cell u c keeps.0 h | false ↦ h ])
-
-zero_lefts : (gs : List ℕ) (us : List Update) → AllKeepZero us → AllKeepZero (map (λ a. Put a left) gs ++ us)
-zero_lefts [] us h = h
-zero_lefts (g ∷ gs) us h = (λ s. refl, zero_lefts gs us h)
-
-zero_auxes : (n : ℕ) (gs : List Seen) (us : List Update) → AllKeepZero us → AllKeepZero (map (λ (a : Seen). Put a.number (held RecAux n)) gs ++ us)
-zero_auxes n [] us h = h
-zero_auxes n (g ∷ gs) us h = (λ s. refl, zero_auxes n gs us h)
 
 zero_takes : (gs : List Seen) → AllKeepZero (map (λ (g : Seen). Lease g.number) gs)
 zero_takes [] = tt
@@ -107,7 +100,7 @@ module _ (limits : Limits) (w : World) (linked : IsLinked (λ k. cell_at w.machi
   abbrev K : List Update → Type 0
   K = AllKeepZero
 
-  keeps : (act : Act) (realm : Option Seen) → is_guest_write act ≡ false → IsAt w.machine realm → Yields K (outcome_of limits act realm (map (seen w.machine) (named act)))
+  keeps : (act : Act) (realm : Option Seen) → is_guest_write act ≡ false → IsAt w.machine realm → Yields K (outcome_of limits (used_vmids w.machine) act realm (map (seen w.machine) (named act)))
   unfolding outcome_of named
   keeps (Take order first) realm plain at = Yields-Ok K _ (zero_takes _)
   keeps (UnTake order first) realm plain at = Yields-Ok K _ (zero_frees _)
@@ -115,8 +108,8 @@ module _ (limits : Limits) (w : World) (linked : IsLinked (λ k. cell_at w.machi
   keeps (Peek g o v) realm plain at = Yields-check K _ _ _ (λ _. Yields-Ok K _ tt)
   keeps (Delegate g) realm plain at = Yields-check K _ _ _ (λ _. Yields-Ok K _ (λ s. refl, tt))
   keeps (Undelegate g) realm plain at = Yields-check K _ _ _ (λ _. Yields-Ok K _ (λ s. cc, tt))
-  keeps (Realm rd root v) realm plain at = Yields-check K _ _ _ (λ _. Yields-Ok K _ (λ s. refl, (λ s. refl, tt)))
-  keeps (UnRealm rd root v) realm plain at = Yields-with_realm K _ _ (λ d is. Yields-check K _ _ _ (λ _. Yields-Ok K _ (λ s. refl, (λ s. refl, tt))))
+  keeps (Realm rd root v) realm plain at = Yields-check K _ _ _ (λ _. Yields-Ok K _ (λ s. refl, each_alone K (put_seen (held InRtt rd)) (λ a us h. (λ s. refl, h)) (map (seen w.machine) (starting_tables root)) tt))
+  keeps (UnRealm rd root v) realm plain at = Yields-with_realm K _ _ (λ d is. Yields-check K _ _ _ (λ _. Yields-Ok K _ (λ s. refl, each_alone K (λ g. Put g left) (λ g us h. (λ s. refl, h)) (starting_tables d.root) tt)))
   keeps Activate None plain at = Yields-Err K _
   keeps Activate (Some rd) plain at = Yields-with_realm K _ _ (λ d is. Yields-check K _ _ _ (λ _. Yields-Ok K _ (realm_zero rd at, tt)))
   keeps (Rtt g ipa level) None plain at = Yields-Err K _
@@ -139,17 +132,17 @@ module _ (limits : Limits) (w : World) (linked : IsLinked (λ k. cell_at w.machi
       Yields-Ok K _ (λ s. refl, (realm_zero rd at, tt))))))))
   keeps (Rec g aux m) None plain at = Yields-Err K _
   keeps (Rec g aux m) (Some rd) plain at = Yields-with_realm K _ _ (λ d is. Yields-check K _ _ _ (λ _. Yields-check K _ _ _ (λ _.
-      Yields-Ok K _ (λ s. refl, zero_auxes rd.number (map (seen w.machine) aux.items) _ (realm_zero rd at, tt)))))
+      Yields-Ok K _ (λ s. refl, each_in_front K (put_seen (held RecAux rd.number)) (λ a us h. (λ s. refl, h)) (map (seen w.machine) aux.items) _ (realm_zero rd at, tt)))))
   keeps (UnRec g aux m) None plain at = Yields-Err K _
   keeps (UnRec g aux m) (Some rd) plain at = Yields-with_realm K _ _ (λ d is. Yields-with_rec K _ _ _ (λ rec there. Yields-check K _ _ _ (λ _.
-      Yields-Ok K _ (λ s. refl, zero_lefts rec.auxiliaries _ (realm_zero rd at, tt)))))
+      Yields-Ok K _ (λ s. refl, each_in_front K (λ g. Put g left) (λ g us h. (λ s. refl, h)) rec.auxiliaries _ (realm_zero rd at, tt)))))
   keeps (Enter m) None plain at = Yields-Err K _
   keeps (Enter m) (Some rd) plain at = Yields-with_realm K _ _ (λ d is. Yields-with_rec K _ _ _ (λ rec there. Yields-check K _ _ _ (λ _. Yields-check K _ _ _ (λ _. Yields-Ok K _ (realm_zero rd at, tt)))))
   keeps (Exit m) None plain at = Yields-Err K _
   keeps (Exit m) (Some rd) plain at = Yields-with_realm K _ _ (λ d is. Yields-with_rec K _ _ _ (λ rec there. Yields-check K _ _ _ (λ _. Yields-Ok K _ (realm_zero rd at, tt))))
   keeps (Poke m ipa o v) realm plain at = cc
 
-  keeps_zero : (act : Act) (realm : Option Seen) → IsAt w.machine realm → Yields Z (outcome_of limits act realm (map (seen w.machine) (named act)))
+  keeps_zero : (act : Act) (realm : Option Seen) → IsAt w.machine realm → Yields Z (outcome_of limits (used_vmids w.machine) act realm (map (seen w.machine) (named act)))
   unfolding outcome_of named
   keeps_zero (Poke m ipa o v) None at = Yields-Err Z _
   keeps_zero (Poke m ipa o v) (Some rd) at = Yields-with_realm Z _ _ (λ d is. Yields-with_rec Z _ _ _ (λ rec there. Yields-check Z _ _ _ (λ _. Yields-check Z _ _ _ (λ _.

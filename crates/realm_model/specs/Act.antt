@@ -1,6 +1,7 @@
 -- Acts: the granules that they name, and pairs of an act and its reverse.
 use Rattle.std.specs.Prelude.{ℕ, ◌^◌, List, [], ◌∷◌, Bool, true, false, Option, Some, None, is_some}
 use Rattle.std.specs.List.{range_with_len}
+use Rattle.granule_addr.specs.Root.{starting_tables}
 use Rattle.realm_model.specs.declared.act.Act.{Act}
 use Rattle.realm_model.specs.declared.act.Act.TheVariants.{Take, UnTake, Fill, Peek, Delegate, Undelegate, Realm, UnRealm, Activate, Rtt, UnRtt, Ripas, Data, Unknown, UnData, Rec, UnRec, Enter, Exit, Poke}
 
@@ -16,8 +17,8 @@ named (Fill granule value) = granule ∷ []
 named (Peek granule offset byte) = granule ∷ []
 named (Delegate granule) = granule ∷ []
 named (Undelegate granule) = granule ∷ []
-named (Realm rd root vmid) = rd ∷ root ∷ []
-named (UnRealm rd root vmid) = rd ∷ root ∷ []
+named (Realm rd root vmid) = rd ∷ starting_tables root
+named (UnRealm rd root vmid) = rd ∷ starting_tables root
 named Activate = []
 named (Rtt granule ipa level) = granule ∷ []
 named (UnRtt granule ipa level) = granule ∷ []

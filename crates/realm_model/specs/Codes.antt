@@ -1,8 +1,9 @@
--- Codes of cells, by which a proof tells machines apart: a struct can have a machine or a world as what contracts see of it.
+-- Codes of cells, by which a proof tells machines apart: a struct can have a machine as what contracts see of it.
 use Rattle.std.specs.Prelude.{ℕ, List, Option, refl}
 use Rattle.std.specs.Coded.{Coded, code_by, coded×, coded_ℕ, coded_list, coded_option}
 use Rattle.std.specs.FinMap as map
 use Rattle.std.specs.Ordering.{nat_cmp}
+use Rattle.granule_addr.specs.declared.root.Root.{Root}
 use Rattle.realm_model.specs.declared.states.GranuleState.{GranuleState}
 use Rattle.realm_model.specs.declared.states.RealmState.{RealmState}
 use Rattle.realm_model.specs.declared.states.RecState.{RecState}
@@ -15,7 +16,6 @@ use Rattle.realm_model.specs.contracts.states.Hipas as hipas
 use Rattle.realm_model.specs.contracts.states.Ripas as ripas
 use Rattle.realm_model.specs.Rows.{Row, Rows}
 use Rattle.realm_model.specs.Machine.{RecRow, RealmRow, Cell, Machine}
-use Rattle.realm_model.specs.World.{World}
 
 abbrev pub row_code : Coded Row
 row_code = code_by (Hipas × (Ripas × Option ℕ)) (coded× hipas.the_row.coded (coded× ripas.the_row.coded (coded_option coded_ℕ)))
@@ -28,9 +28,12 @@ abbrev pub rec_row_code : Coded RecRow
 rec_row_code = code_by (ℕ × (List ℕ × RecState)) (coded× coded_ℕ (coded× (coded_list coded_ℕ) rec_state.the_row.coded))
     (λ r. (r.granule, (r.auxiliaries, r.state))) (λ p. record { granule = p.0; auxiliaries = p.1.0; state = p.1.1 }) (λ _. refl)
 
+abbrev pub root_code : Coded Root
+root_code = code_by (ℕ × ℕ) (coded× coded_ℕ coded_ℕ) (λ r. (r.first, r.width)) (λ p. record { first = p.0; width = p.1 }) (λ _. refl)
+
 abbrev pub realm_row_code : Coded RealmRow
-realm_row_code = code_by (RealmState × (ℕ × (ℕ × (ℕ × (List ℕ × (map.FinMap nat_cmp RecRow × Rows))))))
-    (coded× realm_state.the_row.coded (coded× coded_ℕ (coded× coded_ℕ (coded× coded_ℕ (coded× (coded_list coded_ℕ) (coded× (map.code coded_ℕ rec_row_code) rows_code))))))
+realm_row_code = code_by (RealmState × (ℕ × (Root × (ℕ × (List ℕ × (map.FinMap nat_cmp RecRow × Rows))))))
+    (coded× realm_state.the_row.coded (coded× coded_ℕ (coded× root_code (coded× coded_ℕ (coded× (coded_list coded_ℕ) (coded× (map.code coded_ℕ rec_row_code) rows_code))))))
     (λ r. (r.state, (r.vmid, (r.root, (r.next, (r.measurement, (r.recs, r.rows)))))))
     (λ p. record { state = p.0; vmid = p.1.0; root = p.1.1.0; next = p.1.1.1.0; measurement = p.1.1.1.1.0; recs = p.1.1.1.1.1.0; rows = p.1.1.1.1.1.1 }) (λ _. refl)
 
@@ -41,7 +44,3 @@ cell_code = code_by (GranuleState × (Option ℕ × (List ℕ × Option RealmRow
 
 abbrev pub machine_code : Coded Machine
 machine_code = coded_list cell_code
-
-abbrev pub world_code : Coded World
-world_code = code_by (Machine × List (Option ℕ)) (coded× machine_code (coded_list (coded_option coded_ℕ)))
-    (λ w. (w.machine, w.leases)) (λ p. record { machine = p.0; leases = p.1 }) (λ _. refl)

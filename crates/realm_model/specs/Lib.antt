@@ -12,11 +12,15 @@ pub mod StepLaw
 pub mod History
 pub mod Stack
 pub mod Pages
+pub mod Running
 pub mod Room
+pub mod LeftOut
 pub mod Ownership
 pub mod Sound
 pub mod Roles
 pub mod Reachable
+pub mod OpenRealm
 pub mod Undoing
+pub mod Aborting
 pub mod Marks
 pub mod Codes

@@ -3,6 +3,7 @@ use Rattle.std.specs.Prelude.{ℕ, List, Option, Some, None, slice_index_or}
 use Rattle.std.specs.FinMap.{FinMap}
 use Rattle.std.specs.Ordering.{nat_cmp}
 use Rattle.granule_addr.specs.Page.{zero_page}
+use Rattle.granule_addr.specs.declared.root.Root.{Root}
 use Rattle.realm_model.specs.declared.states.GranuleState.{GranuleState}
 use Rattle.realm_model.specs.declared.states.GranuleState.TheVariants.{Undelegated, Delegated}
 use Rattle.realm_model.specs.declared.states.RealmState.{RealmState}
@@ -22,12 +23,12 @@ pub record RecRow : Type 0 where
   pub auxiliaries : List ℕ
   pub state : RecState
 
--- A realm: state, VMID, root table, the number of its next REC, measurement, RECs by number, translation.
+-- A realm: state, VMID, starting tables and IPA width, the number of its next REC, measurement, RECs by number, translation.
 -- RMM 1.0, Realm attributes.
 pub record RealmRow : Type 0 where
   pub state : RealmState
   pub vmid : ℕ
-  pub root : ℕ
+  pub root : Root
   pub next : ℕ
   pub measurement : List ℕ
   pub recs : FinMap nat_cmp RecRow

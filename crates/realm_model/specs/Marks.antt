@@ -7,7 +7,8 @@ use Rattle.realm_model.specs.Machine.{Limits}
 use Rattle.realm_model.specs.World.{World, realm_of, without}
 use Rattle.realm_model.specs.History.{erase, open_entries, replay, IsLegal}
 use Rattle.realm_model.specs.Ownership.{OwnsSame}
-use Rattle.realm_model.specs.Undoing.{by, is_running, reverses}
+use Rattle.realm_model.specs.Running.{is_running}
+use Rattle.realm_model.specs.Undoing.{by, reverses}
 
 -- a point of a build: how much it had open, and the place in the history
 pub record Mark : Type 0 where

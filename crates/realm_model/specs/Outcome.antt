@@ -4,6 +4,7 @@ use Rattle.std.specs.List.{list_all}
 use Rattle.std.specs.Option.{option_eq}
 use Rattle.std.specs.FinMap.{get}
 use Rattle.std.specs.Str.{bytes_eq}
+use Rattle.granule_addr.specs.declared.root.Root.{Root}
 use Rattle.realm_model.specs.declared.act.Act.{Act}
 use Rattle.realm_model.specs.declared.act.Act.TheVariants.{Take, UnTake, Fill, Peek, Delegate, Undelegate, Realm, UnRealm, Activate, Rtt, UnRtt, Ripas, Data, Unknown, UnData, Rec, UnRec, Enter, Exit, Poke}
 use Rattle.realm_model.specs.Rows.{Row, row_at}
@@ -33,29 +34,29 @@ abbrev pub on_realm : Option Seen → (Seen → Outcome) → Outcome
 on_realm None f = Err error_input
 on_realm (Some rd) f = f rd
 
--- What comes of an act, by the realm of its build and the granules that it names.
+-- What comes of an act, by the VMIDs in use, the realm of its build and the granules that it names.
 -- Take and UnTake are no commands of the monitor: a block is leased, or it is given back.
-unfoldable pub outcome_of : Limits → Act → Option Seen → List Seen → Outcome
-outcome_of limits (Take order first) realm gs = Ok (map (λ g. Lease g.number) gs)
-outcome_of limits (UnTake order first) realm gs = Ok (map (λ g. Free g.number) gs)
-outcome_of limits (Fill granule value) realm gs = on_one gs (λ g. host_fill g value)
-outcome_of limits (Peek granule offset byte) realm gs = on_one gs host_peek
-outcome_of limits (Delegate granule) realm gs = on_one gs granule_delegate
-outcome_of limits (Undelegate granule) realm gs = on_one gs granule_undelegate
-outcome_of limits (Realm rd root vmid) realm gs = on_two gs (λ d r. realm_create limits d r vmid)
-outcome_of limits (UnRealm rd root vmid) realm gs = on_one gs realm_destroy
-outcome_of limits Activate realm gs = on_realm realm realm_activate
-outcome_of limits (Rtt granule ipa level) realm gs = on_realm realm (λ rd. on_one gs (λ g. rtt_create rd g ipa level))
-outcome_of limits (UnRtt granule ipa level) realm gs = on_realm realm (λ rd. rtt_destroy rd ipa level)
-outcome_of limits (Ripas ipa count) realm gs = on_realm realm (λ rd. rtt_init_ripas rd ipa count)
-outcome_of limits (Data granule ipa source) realm gs = on_realm realm (λ rd. on_two gs (λ g s. data_create rd g ipa s))
-outcome_of limits (Unknown granule ipa) realm gs = on_realm realm (λ rd. on_one gs (λ g. data_create_unknown rd g ipa))
-outcome_of limits (UnData granule ipa) realm gs = on_realm realm (λ rd. data_destroy rd ipa)
-outcome_of limits (Rec granule auxiliaries number) realm gs = on_realm realm (λ rd. on_more gs (λ g aux. rec_create limits rd g aux))
-outcome_of limits (UnRec granule auxiliaries number) realm gs = on_realm realm (λ rd. rec_destroy rd number)
-outcome_of limits (Enter number) realm gs = on_realm realm (λ rd. rec_enter rd number)
-outcome_of limits (Exit number) realm gs = on_realm realm (λ rd. rec_exit rd number)
-outcome_of limits (Poke number ipa offset value) realm gs = on_realm realm (λ rd. guest_write rd number ipa offset value)
+unfoldable pub outcome_of : Limits → List ℕ → Act → Option Seen → List Seen → Outcome
+outcome_of limits used (Take order first) realm gs = Ok (map (λ g. Lease g.number) gs)
+outcome_of limits used (UnTake order first) realm gs = Ok (map (λ g. Free g.number) gs)
+outcome_of limits used (Fill granule value) realm gs = on_one gs (λ g. host_fill g value)
+outcome_of limits used (Peek granule offset byte) realm gs = on_one gs host_peek
+outcome_of limits used (Delegate granule) realm gs = on_one gs granule_delegate
+outcome_of limits used (Undelegate granule) realm gs = on_one gs granule_undelegate
+outcome_of limits used (Realm rd root vmid) realm gs = on_more gs (λ d tables. realm_create limits.vmids used d tables root vmid)
+outcome_of limits used (UnRealm rd root vmid) realm gs = on_one gs realm_destroy
+outcome_of limits used Activate realm gs = on_realm realm realm_activate
+outcome_of limits used (Rtt granule ipa level) realm gs = on_realm realm (λ rd. on_one gs (λ g. rtt_create rd g ipa level))
+outcome_of limits used (UnRtt granule ipa level) realm gs = on_realm realm (λ rd. rtt_destroy rd ipa level)
+outcome_of limits used (Ripas ipa count) realm gs = on_realm realm (λ rd. rtt_init_ripas rd ipa count)
+outcome_of limits used (Data granule ipa source) realm gs = on_realm realm (λ rd. on_two gs (λ g s. data_create rd g ipa s))
+outcome_of limits used (Unknown granule ipa) realm gs = on_realm realm (λ rd. on_one gs (λ g. data_create_unknown rd g ipa))
+outcome_of limits used (UnData granule ipa) realm gs = on_realm realm (λ rd. data_destroy rd ipa)
+outcome_of limits used (Rec granule auxiliaries number) realm gs = on_realm realm (λ rd. on_more gs (λ g aux. rec_create limits.aux rd g aux))
+outcome_of limits used (UnRec granule auxiliaries number) realm gs = on_realm realm (λ rd. rec_destroy rd number)
+outcome_of limits used (Enter number) realm gs = on_realm realm (λ rd. rec_enter rd number)
+outcome_of limits used (Exit number) realm gs = on_realm realm (λ rd. rec_exit rd number)
+outcome_of limits used (Poke number ipa offset value) realm gs = on_realm realm (λ rd. guest_write rd number ipa offset value)
 
 -- ---- what an act's own fields say of what is there
 
@@ -67,6 +68,10 @@ realm_is (Some rd) test = elim rd.cell.descriptor [ Some realm ↦ test rd realm
 -- a block of order 0 to 9 begins there
 abbrev pub is_block_start : ℕ → ℕ → Bool
 is_block_start order first = nat_le order 9 && first % 2 ^ order == 0
+
+-- the same starting tables
+abbrev pub is_root : Root → Root → Bool
+is_root a b = a.first == b.first && a.width == b.width
 
 abbrev pub leads_to : Option Row → ℕ → Bool
 leads_to row granule = elim row [ Some r ↦ option_eq nat_eq r.granule (Some granule) | None ↦ false ]
@@ -81,7 +86,7 @@ fits (Fill granule value) realm gs = nat_lt value 256
 fits (Peek granule offset byte) realm gs = nat_lt offset 4096 && list_all (λ g. slice_index g.cell.bytes offset == byte) gs
 fits (Poke number ipa offset value) realm gs = nat_lt offset 4096 && nat_lt value 256
 fits (Realm rd root vmid) realm gs = is_none realm
-fits (UnRealm rd root vmid) realm gs = realm_is realm (λ d r. d.number == rd && r.root == root && r.vmid == vmid)
+fits (UnRealm rd root vmid) realm gs = realm_is realm (λ d r. d.number == rd && is_root root r.root && r.vmid == vmid)
 fits (UnRtt granule ipa level) realm gs = realm_is realm (λ d r. leads_to (row_at r.rows (level - 1) ipa) granule)
 fits (UnData granule ipa) realm gs = realm_is realm (λ d r. leads_to (row_at r.rows 3 ipa) granule)
 fits (Rec granule auxiliaries number) realm gs = realm_is realm (λ d r. number == r.next)

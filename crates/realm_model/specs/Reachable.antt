@@ -1,11 +1,13 @@
 -- What holds of every world that a history leads to.
-use Rattle.std.specs.Prelude.{◌≡◌, ◌^◌, ◌<◌, ◌≤◌, ℕ, true, Some, None, is_some, length, slice_get}
+use Rattle.std.specs.Prelude.{◌≡◌, ◌%◌, ◌<◌, ◌≤◌, ℕ, true, Some, None, is_some, length, slice_get}
 use Rattle.std.specs.FinMap.{get}
+use Rattle.granule_addr.specs.Ipa.{is_width}
+use Rattle.granule_addr.specs.Root.{start_count, space_of}
 use Rattle.realm_model.specs.declared.states.GranuleState.{GranuleState}
 use Rattle.realm_model.specs.Rows.{walk}
 use Rattle.realm_model.specs.Machine.{Limits, RecRow, RealmRow, blank, cell_at}
 use Rattle.realm_model.specs.World.{World}
-use Rattle.realm_model.specs.Sound.{look, is_host_state, is_rd_state, IsSoundRows, IsFull, IsZeroed}
+use Rattle.realm_model.specs.Sound.{look, is_host_state, is_rd_state, IsSoundRows, IsFull, HasEmptyRows, IsZeroed}
 use Rattle.realm_model.specs.Roles.{Role, target, is_role_state, HasRole}
 
 -- a realm stands at an RD granule
@@ -29,11 +31,17 @@ pub record IsReachable (limits : Limits) (world : World) : Type 0 where
   -- A VMID is in range, and of one realm alone.
   pub vmid : (rd : ℕ) (realm : RealmRow) → IsRealmAt world rd realm → (1 ≤ realm.vmid) × (realm.vmid ≤ limits.vmids)
   pub vmids : (g h : ℕ) (realm other : RealmRow) → IsRealmAt world g realm → IsRealmAt world h other → realm.vmid ≡ other.vmid → g ≡ h
-  -- Rows have their shape, and a TABLE row above them. None of the root or of a table is missing, so every walk ends at a row.
+  -- A realm has a width that it may have, and its starting tables begin at a multiple of their count.
+  pub width : (rd : ℕ) (realm : RealmRow) → IsRealmAt world rd realm → is_width realm.root.width ≡ true
+  pub aligned : (rd : ℕ) (realm : RealmRow) → IsRealmAt world rd realm → realm.root.first % start_count realm.root.width ≡ 0
+  -- Rows have their shape, and a TABLE row above them. None of the starting tables or of a table is missing, so every walk
+  -- ends at a row.
+  -- Rows of unprotected IPAs are UNASSIGNED and EMPTY, and TABLE rows count as EMPTY.
   -- The numbers of RECs are below the next.
-  pub rows : (rd : ℕ) (realm : RealmRow) → IsRealmAt world rd realm → IsSoundRows (look realm.rows)
-  pub full : (rd : ℕ) (realm : RealmRow) → IsRealmAt world rd realm → IsFull (look realm.rows)
-  pub walks : (rd : ℕ) (realm : RealmRow) → IsRealmAt world rd realm → (ipa level : ℕ) → ipa < 2 ^ 27 → 1 ≤ level → is_some (walk realm.rows ipa level) ≡ true
+  pub rows : (rd : ℕ) (realm : RealmRow) → IsRealmAt world rd realm → IsSoundRows realm.root.width (look realm.rows)
+  pub full : (rd : ℕ) (realm : RealmRow) → IsRealmAt world rd realm → IsFull realm.root.width (look realm.rows)
+  pub walks : (rd : ℕ) (realm : RealmRow) → IsRealmAt world rd realm → (ipa level : ℕ) → ipa < space_of realm.root.width → 1 ≤ level → is_some (walk realm.rows ipa level) ≡ true
+  pub empty : (rd : ℕ) (realm : RealmRow) → IsRealmAt world rd realm → HasEmptyRows realm.root.width realm.rows
   pub recs : (rd : ℕ) (realm : RealmRow) → IsRealmAt world rd realm → (number : ℕ) (rec : RecRow) → get realm.recs number ≡ Some rec → number < realm.next
   -- Each granule that a realm names is in the state that goes with its role, belongs to the realm, and is leased by its
   -- build. None is named in two roles. Each granule in such a state is named so.

@@ -1,6 +1,8 @@
 -- How a realm names its granules, and the state that goes with each.
 use Rattle.std.specs.Prelude.{◌≡◌, ℕ, List, Bool, true, false, Option, Some, None, option_map, slice_get}
 use Rattle.std.specs.FinMap.{get}
+use Rattle.granule_addr.specs.Root.{starting_tables}
+use Rattle.granule_addr.specs.declared.root.Root.{Root}
 use Rattle.realm_model.specs.declared.states.GranuleState.{GranuleState}
 use Rattle.realm_model.specs.declared.states.GranuleState.TheVariants.{Undelegated, Delegated, Rd, Rec as InRec, RecAux, Data as InData, Rtt as InRtt}
 use Rattle.realm_model.specs.declared.states.Hipas.{Hipas}
@@ -9,9 +11,9 @@ use Rattle.realm_model.specs.Machine.{RealmRow, Cell}
 use Rattle.realm_model.specs.Ownership.{granules_of_rec}
 use Rattle.realm_model.specs.Sound.{look}
 
--- A role that a granule can have in a realm: its root table, what a row leads to, a REC, or an auxiliary of a REC.
+-- A role that a granule can have in a realm: a starting table, what a row leads to, a REC, or an auxiliary of a REC.
 pub data Role : Type 0 where
-  AsRoot : Role
+  AsStart : (index : ℕ) → Role
   AtRow : (place : ℕ × ℕ) → Role
   AsRec : (number : ℕ) → Role
   AsAux : (number : ℕ) (index : ℕ) → Role
@@ -25,13 +27,16 @@ abbrev pub row_target : Option (Hipas × Option ℕ) → Option (ℕ × GranuleS
 row_target None = None
 row_target (Some row) = kind_target row.0 row.1
 
+abbrev pub start_target : Root → ℕ → Option (ℕ × GranuleState)
+start_target root index = option_map (λ g. (g, InRtt)) (slice_get (starting_tables root) index)
+
 abbrev pub aux_target : Option (ℕ × List ℕ) → ℕ → Option (ℕ × GranuleState)
 aux_target None index = None
 aux_target (Some rec) index = option_map (λ g. (g, RecAux)) (slice_get rec.1 index)
 
 -- the granule that a realm has in a role, and the state that goes with the role
 abbrev pub target : RealmRow → Role → Option (ℕ × GranuleState)
-target realm AsRoot = Some (realm.root, InRtt)
+target realm (AsStart index) = start_target realm.root index
 target realm (AtRow place) = row_target (look realm.rows place)
 target realm (AsRec number) = option_map (λ rec. (rec.0, InRec)) (option_map granules_of_rec (get realm.recs number))
 target realm (AsAux number index) = aux_target (option_map granules_of_rec (get realm.recs number)) index

@@ -1,29 +1,15 @@
 -- The room that a build has in a history, and how much of it is used.
-use Rattle.std.specs.Prelude.{◌≡◌, ◌≢◌, ℕ, ◌+◌, List, [], ◌∷◌, ◌++◌, filter, length, Bool, false, cond, not, Option, Some, None}
-use Rattle.std.specs.List.{range_with_len}
-use Rattle.std.specs.FinMap.{get}
+use Rattle.std.specs.Prelude.{◌≡◌, ◌≢◌, ℕ, ◌+◌, List, [], ◌∷◌, ◌++◌, length, cond, Some}
+use Rattle.std.specs.List.{sum_by}
 use Rattle.realm_model.specs.declared.act.Act.{Act}
 use Rattle.realm_model.specs.declared.act.Act.TheVariants.{Enter, Exit}
 use Rattle.realm_model.specs.declared.act.Event.{Event}
-use Rattle.realm_model.specs.Machine.{Limits, Seen, RecRow, RealmRow}
-use Rattle.realm_model.specs.Command.Check.{is_ready}
+use Rattle.realm_model.specs.Machine.{Limits}
 use Rattle.realm_model.specs.Act.{is_paired, is_reverse}
 use Rattle.realm_model.specs.World.{World, realm_of}
 use Rattle.realm_model.specs.Step.{step}
 use Rattle.realm_model.specs.History.{acts_of, open_entries, IsInTurn}
-
-abbrev pub is_rec_running : Option RecRow → Bool
-is_rec_running None = false
-is_rec_running (Some rec) = not (is_ready rec)
-
--- the numbers of the RECs of a realm that run
-abbrev pub running_in : RealmRow → List ℕ
-running_in realm = filter (λ number. is_rec_running (get realm.recs number)) (range_with_len 0 realm.next)
-
--- how many RECs of a build's realm run
-unfoldable pub running_count : Option Seen → ℕ
-running_count None = 0
-running_count (Some rd) = elim rd.cell.descriptor [ Some realm ↦ length (running_in realm) | None ↦ 0 ]
+use Rattle.realm_model.specs.Running.{running_count}
 
 -- What a build has used of its room: an entry for each of its events, one for each act that it has open, so that its
 -- reverse has room, and one for each REC that runs, so that its exit has.
@@ -46,3 +32,7 @@ pub record TakesRoom (history : List Event) (world : World) (event : Event) (nex
 -- in turn, and a step
 abbrev pub RoomIsTaken : Limits → List Event → World → Event → World → Type 0
 RoomIsTaken limits history world event next = IsInTurn history event → step limits world event ≡ Some next → TakesRoom history world event next
+
+-- So what a build has used is the sum of what its acts took.
+abbrev pub RoomIsSum : List Event → World → ℕ → Type 0
+RoomIsSum history world build = used_room build history world ≡ sum_by room_taken (acts_of build history)

@@ -4,6 +4,7 @@ use Rattle.std.specs.Ordering.{nat_cmp, on, then_cmp}
 use Rattle.std.specs.declared.cmp.Ordering.{Ordering}
 use Rattle.std.specs.FinMap.{FinMap, empty, get, insert, retain_keys}
 use Rattle.granule_addr.specs.Ipa.{covered_count, first_covered}
+use Rattle.granule_addr.specs.Root.{start_count}
 use Rattle.realm_model.specs.declared.states.Hipas.{Hipas}
 use Rattle.realm_model.specs.declared.states.Hipas.TheVariants.{Unassigned, Assigned, Table}
 use Rattle.realm_model.specs.declared.states.Ripas.{Ripas}
@@ -95,10 +96,10 @@ put_row rows level ipa row = insert rows (level, first_covered level ipa) row
 
 -- ---- what commands make of the rows
 
--- The rows of a realm that has just been made: those of its root. RMM 1.0, RMI_REALM_CREATE.
+-- The rows of a realm of a width that has just been made: 512 for each of its starting tables. RMM 1.0, RMI_REALM_CREATE.
 -- Rows of unprotected IPAs are like the others, which is this profile's own.
-unfoldable pub root_rows : Rows
-root_rows = put_rows (λ _. unassigned Empty) empty 1 0 512
+unfoldable pub root_rows : ℕ → Rows
+root_rows width = put_rows (λ _. unassigned Empty) empty 1 0 (512 * start_count width)
 
 -- With a table of a level, at an IPA granule: the row above leads to it, and its rows have the RIPAS that was above.
 -- RMM 1.0, RMI_RTT_CREATE.
@@ -124,9 +125,9 @@ as_ram (Some row) = record row { ripas = Ram }
 unfoldable pub with_ram : Rows → ℕ → ℕ → Rows
 with_ram rows ipa count = put_rows as_ram rows 3 ipa count
 
--- a row of the root leads to a table
-abbrev pub has_root_table : Rows → Bool
-has_root_table rows = not (all_rows (λ row. not (is_table row)) rows 1 0 512)
+-- a row of the starting tables leads to a table
+abbrev pub has_root_table : ℕ → Rows → Bool
+has_root_table width rows = not (all_rows (λ row. not (is_table row)) rows 1 0 (512 * start_count width))
 
 -- ---- where tables may stand. RMM 1.0, RMI_RTT_CREATE, input conditions
 

@@ -1,12 +1,14 @@
 -- Sound rows, and states of granules.
-use Rattle.std.specs.Prelude.{◌≡◌, ℕ, ◌+◌, ◌-◌, ◌^◌, ◌<◌, ◌≤◌, ◌==◌, ◌||◌, Bool, true, false, Option, Some, None, is_some, option_map}
+use Rattle.std.specs.Prelude.{◌≡◌, ℕ, ◌+◌, ◌-◌, ◌<◌, ◌≤◌, ◌==◌, ◌||◌, Bool, true, false, Option, Some, None, is_some, option_map}
 use Rattle.std.specs.FinMap.{get}
-use Rattle.granule_addr.specs.Ipa.{first_covered}
+use Rattle.granule_addr.specs.Ipa.{first_covered, is_protected_at}
+use Rattle.granule_addr.specs.Root.{space_of}
 use Rattle.realm_model.specs.declared.states.GranuleState.{GranuleState}
 use Rattle.realm_model.specs.declared.states.GranuleState.TheVariants.{Undelegated, Delegated, Rd, Data}
 use Rattle.realm_model.specs.declared.states.Hipas.{Hipas}
 use Rattle.realm_model.specs.declared.states.Hipas.TheVariants.{Unassigned, Assigned, Table}
-use Rattle.realm_model.specs.Rows.{Rows}
+use Rattle.realm_model.specs.declared.states.Ripas.TheVariants.{Empty}
+use Rattle.realm_model.specs.Rows.{Row, Rows, row_at, unassigned, is_table}
 use Rattle.granule_addr.specs.Page.{zero_page}
 use Rattle.realm_model.specs.Machine.{Cell}
 use Rattle.realm_model.specs.Ownership.{mapping_of_row}
@@ -32,23 +34,29 @@ is_table_kind (Some row) = elim row.0 [ Unassigned ↦ false | Assigned ↦ fals
 abbrev pub has_table : (ℕ × ℕ → Option (Hipas × Option ℕ)) → ℕ × ℕ → Bool
 has_table rows place = place.0 == 1 || is_table_kind (rows (place.0 - 1, first_covered (place.0 - 1) place.1))
 
--- the place of a row: of level 1 to 3, at the first IPA granule that it covers, inside an address space of 39 bits
-pub record IsPlace (place : ℕ × ℕ) : Type 0 where
+-- the place of a row: of level 1 to 3, at the first IPA granule that it covers, inside an address space of that width
+pub record IsPlace (width : ℕ) (place : ℕ × ℕ) : Type 0 where
   pub least : 1 ≤ place.0
   pub most : place.0 ≤ 3
   pub first : first_covered place.0 place.1 ≡ place.1
-  pub inside : place.1 < 2 ^ 27
+  pub inside : place.1 < space_of width
 
--- an UNASSIGNED row has no granule, an ASSIGNED one is of level 3, and above each row but the root's is a table
-pub record IsSoundRows (rows : ℕ × ℕ → Option (Hipas × Option ℕ)) : Type 0 where
-  pub placed : (place : ℕ × ℕ) → is_some (rows place) ≡ true → IsPlace place
+-- an UNASSIGNED row has no granule, an ASSIGNED one is of level 3, and above each row but those of level 1 is a table
+pub record IsSoundRows (width : ℕ) (rows : ℕ × ℕ → Option (Hipas × Option ℕ)) : Type 0 where
+  pub placed : (place : ℕ × ℕ) → is_some (rows place) ≡ true → IsPlace width place
   pub shaped : (place : ℕ × ℕ) → IsShaped place.0 (rows place)
   pub below : (place : ℕ × ℕ) → is_some (rows place) ≡ true → has_table rows place ≡ true
 
--- the root has a row for each of its places, and so has each table: at every place below a TABLE row there is a row
-pub record IsFull (rows : ℕ × ℕ → Option (Hipas × Option ℕ)) : Type 0 where
-  pub root : (ipa : ℕ) → ipa < 2 ^ 27 → is_some (rows (1, first_covered 1 ipa)) ≡ true
+-- the starting tables have a row for each of their places, and so has each table: at every place below a TABLE row there
+-- is a row
+pub record IsFull (width : ℕ) (rows : ℕ × ℕ → Option (Hipas × Option ℕ)) : Type 0 where
+  pub root : (ipa : ℕ) → ipa < space_of width → is_some (rows (1, first_covered 1 ipa)) ≡ true
   pub tables : (level ipa : ℕ) → is_table_kind (rows (level, first_covered level ipa)) ≡ true → is_some (rows (level + 1, first_covered (level + 1) ipa)) ≡ true
+
+-- in a realm of that width the rows that cover an unprotected IPA granule are UNASSIGNED and EMPTY, and a TABLE row counts as EMPTY
+pub record HasEmptyRows (width : ℕ) (rows : Rows) : Type 0 where
+  pub unprotected : (level ipa : ℕ) (row : Row) → is_protected_at ipa width ≡ false → row_at rows level ipa ≡ Some row → row ≡ unassigned Empty
+  pub tables : (place : ℕ × ℕ) (row : Row) → get rows place ≡ Some row → is_table row ≡ true → row.ripas ≡ Empty
 
 abbrev pub is_host_state : GranuleState → Bool
 is_host_state Undelegated = true

@@ -1,23 +1,17 @@
 -- One event.
-use Rattle.std.specs.Prelude.{ℕ, List, Bool, true, false, cond, ◌&&◌, ◌==◌, not, nat_lt, map, Option, Some, None, Ok, Err}
-use Rattle.std.specs.List.{list_all, list_any}
+use Rattle.std.specs.Prelude.{ℕ, List, Bool, cond, ◌&&◌, nat_lt, map, Option, None, Ok, Err, option_map}
+use Rattle.std.specs.List.{list_all, filter_map}
 use Rattle.realm_model.specs.declared.act.Act.{Act}
-use Rattle.realm_model.specs.declared.act.Act.TheVariants.{Realm}
 use Rattle.realm_model.specs.declared.act.Event.{Event}
-use Rattle.realm_model.specs.Machine.{Cell, Machine, Limits, Seen, seen}
+use Rattle.realm_model.specs.Machine.{Cell, Machine, Limits, RealmRow, Seen, seen}
 use Rattle.realm_model.specs.Update.{Outcome}
 use Rattle.realm_model.specs.Act.{named, holder}
 use Rattle.realm_model.specs.Outcome.{outcome_of, fits}
 use Rattle.realm_model.specs.World.{World, is_leased_to, realm_of, updated_all}
 
--- the cell is the RD of a realm with this VMID
-abbrev pub has_vmid : ℕ → Cell → Bool
-has_vmid vmid cell = elim cell.descriptor [ Some realm ↦ realm.vmid == vmid | None ↦ false ]
-
--- The VMID of a realm that is made is used by no realm. RMM 1.0, RMI_REALM_CREATE, VMID in use.
-abbrev pub is_vmid_free : Machine → Act → Bool
-is_vmid_free machine (Realm rd root vmid) = not (list_any (has_vmid vmid) machine)
-is_vmid_free machine _ = true
+-- The VMIDs that realms of a machine use. RMM 1.0, RMI_REALM_CREATE, VMID in use.
+abbrev pub used_vmids : Machine → List ℕ
+used_vmids machine = filter_map (λ (cell : Cell). option_map (λ (realm : RealmRow). realm.vmid) cell.descriptor) machine
 
 -- the granules that an act names, as its command sees them
 abbrev pub named_cells : World → Act → List Seen
@@ -26,15 +20,14 @@ named_cells world act = map (seen world.machine) (named act)
 -- what comes of an event's command in a world
 abbrev pub outcome_in : Limits → World → Event → Outcome
 outcome_in limits world event =
-    outcome_of limits event.act (realm_of event.build world) (named_cells world event.act)
+    outcome_of limits (used_vmids world.machine) event.act (realm_of event.build world) (named_cells world event.act)
 
--- The build is there, the granules named are leased by it (for a Take by nobody), the VMID is free, and the act's own
--- fields fit what is there.
+-- The build is there, the granules named are leased by it (for a Take by nobody), and the act's own fields fit what is
+-- there.
 abbrev pub is_allowed : Limits → World → Event → Bool
 is_allowed limits world event =
     nat_lt event.build limits.builds
     && list_all (is_leased_to (holder event.build event.act) world.leases) (named event.act)
-    && is_vmid_free world.machine event.act
     && fits event.act (realm_of event.build world) (named_cells world event.act)
 
 abbrev pub after_outcome : ℕ → Outcome → World → Option World

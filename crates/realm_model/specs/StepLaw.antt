@@ -9,7 +9,7 @@ use Rattle.realm_model.specs.Update.{Update, machine_after_all}
 use Rattle.realm_model.specs.Act.{block, named, holder}
 use Rattle.realm_model.specs.Outcome.{fits}
 use Rattle.realm_model.specs.World.{World, realm_of}
-use Rattle.realm_model.specs.Step.{step, is_vmid_free, named_cells, outcome_in}
+use Rattle.realm_model.specs.Step.{step, named_cells, outcome_in}
 
 -- the list with one element at each of some places
 unfoldable pub set_each : {X : Type 0} → X → List ℕ → List X → List X
@@ -23,12 +23,11 @@ leases_after build (UnTake order first) leases = set_each None (block order firs
 leases_after build _ leases = leases
 
 -- An event leads from one world to another: the build is there; each granule named is inside the machine and leased by
--- the build, for a Take by nobody; the VMID is free; the act's own fields fit; its command is not refused. The machine
--- is changed as the command says, and the leases as the act says.
+-- the build, for a Take by nobody; the act's own fields fit; its command is not refused. The machine is changed as the
+-- command says, and the leases as the act says.
 pub record IsStep (limits : Limits) (world : World) (event : Event) (next : World) : Type 0 where
   pub build : event.build < limits.builds
   pub granules : All (λ granule. slice_get world.leases granule ≡ Some (holder event.build event.act)) (named event.act)
-  pub vmid : IsTrue (is_vmid_free world.machine event.act)
   pub fields : IsTrue (fits event.act (realm_of event.build world) (named_cells world event.act))
   pub updates : List Update
   pub outcome : outcome_in limits world event ≡ Ok updates

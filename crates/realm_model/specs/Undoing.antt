@@ -1,27 +1,15 @@
 -- What can be undone, and all of it undone.
-use Rattle.std.specs.Prelude.{◌≡◌, ◌≢◌, ◌↔◌, ◌⊎◌, ℕ, List, [], ◌∷◌, ◌++◌, length, map, reverse, Bool, false, Option, Some, None}
+use Rattle.std.specs.Prelude.{◌≡◌, ◌≢◌, ◌↔◌, ◌⊎◌, ℕ, List, [], ◌∷◌, ◌++◌, length, map, reverse, false, Some, None}
 use Rattle.std.specs.List.{last_or, Contains}
-use Rattle.std.specs.FinMap.{get}
 use Rattle.realm_model.specs.declared.act.Act.{Act}
-use Rattle.realm_model.specs.declared.act.Act.TheVariants.{Rec}
 use Rattle.realm_model.specs.declared.act.Event.{Event}
-use Rattle.realm_model.specs.Machine.{Limits, Seen}
-use Rattle.realm_model.specs.Outcome.{realm_is}
+use Rattle.realm_model.specs.Machine.{Limits}
 use Rattle.realm_model.specs.Act.{reverse_of, is_paired, is_reverse}
 use Rattle.realm_model.specs.World.{World, realm_of, free_set, part_of, without}
 use Rattle.realm_model.specs.Step.{step}
-use Rattle.realm_model.specs.Room.{is_rec_running}
+use Rattle.realm_model.specs.Running.{is_running, IsAtRest}
 use Rattle.realm_model.specs.Ownership.{OwnsSame}
 use Rattle.realm_model.specs.History.{erase, open_entries, pages_of, replay, IsLegal}
-
--- the REC that the act made is running
-abbrev pub is_running : Option Seen → Act → Bool
-is_running realm (Rec granule auxiliaries number) = realm_is realm (λ d r. is_rec_running (get r.recs number))
-is_running realm _ = false
-
--- no REC of the realm is running
-abbrev pub IsAtRest : Option Seen → Type 0
-IsAtRest realm = (number : ℕ) → realm_is realm (λ d r. is_rec_running (get r.recs number)) ≡ false
 
 abbrev pub by : ℕ → Act → Event
 by build act = record { build = build; act = act }

@@ -2,7 +2,7 @@
 ghost use Rattle.std.specs.Prelude.{◌≡◌};
 
 use arrayvec::ArrayVec;
-use granule_addr::{BuildId, Gran, IpaGran, Level, Order, PageOff, RecNo, Vmid};
+use granule_addr::{BuildId, Gran, IpaGran, Level, Order, PageOff, RecNo, Root, Vmid};
 
 /// What one accepted command did, with the granules that it named and the answer that it got.
 ///
@@ -42,13 +42,13 @@ pub enum Act {
     /// RMI_REALM_CREATE
     Realm {
         rd: Gran,
-        root: Gran,
+        root: Root,
         vmid: Vmid,
     },
     /// RMI_REALM_DESTROY
     UnRealm {
         rd: Gran,
-        root: Gran,
+        root: Root,
         vmid: Vmid,
     },
     /// RMI_REALM_ACTIVATE

@@ -1,5 +1,5 @@
 //! Laws over every history.
-ghost use Rattle.std.specs.Prelude.{◌≡◌, ℕ, List, Some};
+ghost use Rattle.std.specs.Prelude.{◌≡◌, ℕ, List, ◌++◌, Some};
 ghost use Rattle.realm_model.specs.declared.act.Act.{Act};
 ghost use Rattle.realm_model.specs.declared.act.Event.{Event};
 ghost use Rattle.realm_model.specs.Machine.{Limits};
@@ -9,7 +9,11 @@ ghost use Rattle.realm_model.specs.History.{replay, IsLegal, LeavesNoTrace};
 ghost use Rattle.realm_model.specs.Stack.{MatchingIsAStack};
 ghost use Rattle.realm_model.specs.Pages.{PagesAreLeased};
 ghost use Rattle.realm_model.specs.Reachable.{IsReachable};
-ghost use Rattle.realm_model.specs.Room.{RoomIsTaken};
+ghost use Rattle.realm_model.specs.Running.{RestIsOfAll};
+ghost use Rattle.realm_model.specs.Room.{RoomIsTaken, RoomIsSum};
+ghost use Rattle.realm_model.specs.LeftOut.{OthersKeepTheirRoom, WhatIsLeftIsAccepted};
+ghost use Rattle.realm_model.specs.Aborting.{StaysAtRest, AbortGoesOn};
+ghost use Rattle.realm_model.specs.OpenRealm.{RealmIsOpen, VmidIsOpen, NumbersAreFew};
 ghost use Rattle.realm_model.specs.Marks.{Mark, mark_at, Stands, StandsOn, CanRollBack};
 ghost use Rattle.realm_model.specs.Undoing.{NewestCanBeUndone, AllCanBeUndone, NothingOpenIsNoTrace, PairLeadsBack, OtherActOwnsSame, OwnershipFollows};
 
@@ -38,9 +42,44 @@ pub fn reached_worlds_are_sound()
     ensures { (limits : Limits) (history : List Event) (world : World) → replay limits history ≡ Some world → IsReachable limits world }
 {}
 
+/// No REC of a build runs exactly where none is counted.
+pub fn at_rest_is_none_running()
+    ensures { (limits : Limits) (history : List Event) (world : World) (build : ℕ) → replay limits history ≡ Some world → RestIsOfAll world build }
+{}
+
 /// What an accepted event takes of the room of builds.
 pub fn room_is_taken()
     ensures { (limits : Limits) (history : List Event) (world : World) (event : Event) (next : World) → IsLegal limits history → replay limits history ≡ Some world → RoomIsTaken limits history world event next }
+{}
+
+/// The room that a build has used is the sum of what its acts took.
+pub fn room_is_a_sum()
+    ensures { (limits : Limits) (history : List Event) (world : World) (build : ℕ) → IsLegal limits history → replay limits history ≡ Some world → RoomIsSum history world build }
+{}
+
+/// Without a build, another one has open what it had, and has used as much of its room.
+pub fn others_keep_their_room()
+    ensures { (limits : Limits) (history : List Event) (world : World) (build other : ℕ) → IsLegal limits history → replay limits history ≡ Some world → OthersKeepTheirRoom history world build other }
+{}
+
+/// Each event of a history without a build is accepted in turn, from nothing on, by a machine with the same limits and room.
+pub fn what_is_left_is_accepted()
+    ensures { (limits : Limits) (capacity : ℕ) (history : List Event) (world : World) (build : ℕ) → IsLegal limits history → replay limits history ≡ Some world → WhatIsLeftIsAccepted limits capacity history world build }
+{}
+
+/// The realm of a build is that of its open Realm act.
+pub fn realms_are_open_acts()
+    ensures { (limits : Limits) (history : List Event) (world : World) (build : ℕ) → IsLegal limits history → replay limits history ≡ Some world → RealmIsOpen history world build }
+{}
+
+/// The VMIDs in use are those of the Realm acts that builds have open.
+pub fn vmids_are_of_open_acts()
+    ensures { (limits : Limits) (history : List Event) (world : World) (vmid : ℕ) → IsLegal limits history → replay limits history ≡ Some world → VmidIsOpen history world vmid }
+{}
+
+/// The number of the next REC of a build's realm is at most that of the build's events.
+pub fn numbers_are_few()
+    ensures { (limits : Limits) (history : List Event) (world : World) (build : ℕ) → IsLegal limits history → replay limits history ≡ Some world → NumbersAreFew history world build }
 {}
 
 /// A paired act can be taken back right after it, and that leads back to a world that owns the same.
@@ -71,6 +110,16 @@ pub fn nothing_open_is_no_trace()
 /// Where no REC of a build runs, all that it has open can be undone, newest first, and then it leaves no trace.
 pub fn all_can_be_undone()
     ensures { (limits : Limits) (history : List Event) (world : World) (build : ℕ) → IsLegal limits history → replay limits history ≡ Some world → AllCanBeUndone limits history build world }
+{}
+
+/// Where no REC of a build runs, none does after an event of another build or a reverse.
+pub fn builds_stay_at_rest()
+    ensures { (limits : Limits) (history : List Event) (world : World) (build : ℕ) (event : Event) (next : World) → replay limits history ≡ Some world → StaysAtRest limits world build event next }
+{}
+
+/// From the begin of an abort to its end each undo is accepted, whatever others do, and then the build leaves no trace.
+pub fn aborts_go_on()
+    ensures { (limits : Limits) (history later : List Event) (build : ℕ) (begun world : World) → IsLegal limits (history ++ later) → replay limits history ≡ Some begun → replay limits (history ++ later) ≡ Some world → AbortGoesOn limits history later build begun world }
 {}
 
 /// A mark stands when it is made.

@@ -2,16 +2,17 @@
 use Rattle.std.specs.Prelude.{ℕ, List}
 use Rattle.std.specs.FinMap.{FinMap}
 use Rattle.std.specs.Ordering.{nat_cmp}
+use Rattle.granule_addr.specs.declared.root.Root.{Root}
 use Rattle.realm_model.specs.declared.states.RealmState.{RealmState}
 use Rattle.realm_model.specs.declared.states.RecState.{RecState}
 use Rattle.realm_model.specs.Rows.{Rows}
 use Rattle.realm_model.specs.Machine.{RealmRow, RecRow}
 
--- A realm's own attributes: state, VMID, root table, the number of its next REC, measurement.
+-- A realm's own attributes: state, VMID, starting tables and IPA width, the number of its next REC, measurement.
 pub record RealmAttributes : Type 0 where
   pub state : RealmState
   pub vmid : ℕ
-  pub root : ℕ
+  pub root : Root
   pub next : ℕ
   pub measurement : List ℕ
 

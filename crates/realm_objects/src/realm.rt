@@ -11,7 +11,7 @@ ghost use Rattle.realm_model.specs.declared.states.RealmState.TheVariants.{New, 
 ghost use Rattle.realm_objects.specs.Attributes.{realm_row};
 
 use crate::extend_measurement;
-use granule_addr::{Gran, RecNo, Vmid};
+use granule_addr::{RecNo, Root, Vmid};
 use realm_model::RealmState;
 use std::marker::Model;
 
@@ -22,7 +22,7 @@ use std::marker::Model;
 pub struct RealmDesc {
     state: RealmState,
     vmid: Vmid,
-    root: Gran,
+    root: Root,
     next: RecNo,
     measurement: [u8; 32],
 }
@@ -44,9 +44,9 @@ impl Model for RealmDesc {
 impl RealmDesc {
     /// A realm that has just been made: NEW, with no REC yet, and a measurement of 32 zero bytes.
     ///
-    /// `root` is the granule of its root table. RMM 1.0, RMI_REALM_CREATE.
+    /// `root` says its starting tables. RMM 1.0, RMI_REALM_CREATE.
     #[tactic(auto, unfolding(realm_model::specs::Measurement::zero_measurement, realm_model::specs::Command::Realm::new_realm))]
-    pub fn new(vmid: Vmid, root: Gran) -> RealmDesc
+    pub fn new(vmid: Vmid, root: Root) -> RealmDesc
         ensures attributes { result ≡ record {
           state = New;
           vmid = vmid;
@@ -54,7 +54,7 @@ impl RealmDesc {
           next = 0;
           measurement = zero_measurement;
         } }
-        ensures row { realm_row result empty root_rows ≡ new_realm vmid root }
+        ensures row { realm_row result empty (root_rows root.width) ≡ new_realm vmid root }
     {
         RealmDesc {
             state: RealmState::New,
@@ -87,8 +87,8 @@ impl RealmDesc {
         self.vmid
     }
 
-    /// The granule of the root table.
-    pub fn root(&self) -> Gran
+    /// The starting tables, and with them the IPA width.
+    pub fn root(&self) -> Root
         ensures { result ≡ self.now.root }
     {
         self.root

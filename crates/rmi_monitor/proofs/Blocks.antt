@@ -11,12 +11,12 @@ use Rattle.granule_table.specs.declared.granule.Granule.{Granule}
 use Rattle.realm_model.specs.declared.states.GranuleState.TheVariants.{Undelegated}
 use Rattle.realm_model.specs.Machine.{Cell, Machine, blank, cell_at}
 use Rattle.rtt.specs.Realm.{LeavesAlone}
-use Rattle.rtt.specs.FrameLaws.{rows-alone, HasTables-alone}
+use Rattle.rtt.proofs.FrameLaws.{rows-alone, HasTables-alone}
 use Rattle.rmi_monitor.specs.View.{MonitorView, IsGivable, with_block, without_block}
 use Rattle.rmi_monitor.specs.Inside.{Fields, descriptor_of, cell_of, machine_of, seen_as, IsSoundAt, IsWhole}
 use Rattle.rmi_monitor.proofs.Machines.{length-machine_of, cell_at-machine_of, same_machine, cell_stays, descriptor_stays}
 use Rattle.rmi_monitor.proofs.Checks.{undelegated_state}
-use Rattle.rmi_monitor.proofs.Frames.{StayRecs, recs_of_stay, HasRecs_stay}
+use Rattle.rmi_monitor.proofs.Frames.{recs_beside}
 use Rattle.rmi_monitor.proofs.HostMoves.{cell_of-host}
 use Rattle.rmi_monitor.proofs.Granules.{as_many_pages, cell_is}
 
@@ -77,9 +77,6 @@ module _ (monitor : MonitorView) (fields : Fields) (view_is : seen_as fields ≡
   alone : (rd : ℕ) → LeavesAlone rd fields.pages fields.granules new.pages new.granules
   alone rd = record { page = λ g is. page_stays g (λ e. let at = ap (λ (x : Granule). x.state) is.is in cc); table = λ g is. is; «data» = λ g is. is }
 
-  stay_recs : StayRecs fields new
-  stay_recs = record { granule_count = refl; rec = λ g. refl; granule = λ g is. refl; auxiliary = λ g is. refl }
-
   pub whole_given : IsWhole (given fields order first)
   whole_given = record {
     backed = record {
@@ -87,14 +84,17 @@ module _ (monitor : MonitorView) (fields : Fields) (view_is : seen_as fields ≡
       taken = λ g inside used. flag_stays g used ∙ whole.backed.taken g inside used;
     };
     realm_places = whole.realm_places;
+    count_places = whole.count_places;
     rec_places = whole.rec_places;
     each = sound;
     tables = λ rd realm there. HasTables-alone fields.pages fields.granules new.pages new.granules rd realm.root (whole.tables rd realm there) (alone rd);
-    recs = HasRecs_stay fields new stay_recs whole.each whole.recs (λ h rd rec realm at of there. (realm, there, omega arith));
+    recs = recs_beside fields whole new.pages new.free;
+    counted = whole.counted;
+    vmids_used = whole.vmids_used;
   }
 
   descriptor_is : (g : ℕ) → descriptor_of new g ≡ descriptor_of fields g
-  descriptor_is g = descriptor_stays fields new g refl (recs_of_stay fields new stay_recs whole.each g)
+  descriptor_is g = descriptor_stays fields new g refl refl
       (λ realm there. rows-alone fields.pages fields.granules new.pages new.granules g realm.root (whole.tables g realm there) (alone g))
 
   -- a granule of the block
@@ -140,11 +140,13 @@ module _ (fields : Fields) (whole : IsWhole fields) where
   whole_flags free keeps = record {
     backed = record { as_many = whole.backed.as_many; taken = λ g inside used. keeps g (whole.backed.taken g inside used) };
     realm_places = whole.realm_places;
+    count_places = whole.count_places;
     rec_places = whole.rec_places;
     each = λ g. record { host = (whole.each g).host; zero = (whole.each g).zero; rd = (whole.each g).rd; rec = (whole.each g).rec };
     tables = whole.tables;
-    recs = HasRecs_stay fields (with_store fields.pages free) (record { granule_count = refl; rec = λ g. refl; granule = λ g is. refl; auxiliary = λ g is. refl })
-        whole.each whole.recs (λ h rd rec realm at of there. (realm, there, omega arith));
+    recs = recs_beside fields whole fields.pages free;
+    counted = whole.counted;
+    vmids_used = whole.vmids_used;
   }
 
   whole_pages : (pages : List (List ℕ)) (free : List Bool) → pages ≡ fields.pages → IsWhole (with_store fields.pages free) → IsWhole (with_store pages free)

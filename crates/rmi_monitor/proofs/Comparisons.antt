@@ -3,7 +3,6 @@ use Rattle.std.proofs.Common.{◌≡◌, ◌≢◌, ℕ, Bool, true, false, cond
 use Rattle.std.specs.Prelude.{◌==◌, ◌||◌}
 use Rattle.std.proofs.lemmas.Bool.{ne_eqb}
 use Rattle.std.proofs.lemmas.Option.{same_Some}
-use Rattle.realm_model.specs.Command.Check.{is_protected}
 
 -- one of two tests holds
 pub either : {P : Type 0} (s t : Bool) → (s || t) ≡ true → (s ≡ true → P) → (t ≡ true → P) → P
@@ -26,10 +25,6 @@ test_held false n m place e is = let told : None ≡ Some m = sym e ∙ is in cc
 pub test_failed : (test : Bool) (n : ℕ) (place : Option ℕ) → place ≡ cond test (Some n) None → place ≡ None → test ≡ false
 test_failed true n place e is = let told : Some n ≡ None = sym e ∙ is in cc
 test_failed false n place e is = refl
-
--- an IPA granule that is protected
-pub protected_found : (ipa given : ℕ) → Some given ≡ cond (is_protected ipa) (Some ipa) None → (is_protected given ≡ true) × (given ≡ ipa)
-protected_found ipa given e = let parts = test_held (is_protected ipa) ipa given (Some given) e refl in (ap is_protected parts.1 ∙ parts.0, parts.1)
 
 -- what came of an option's value
 pub some_map : {A B : Type 0} (f : A → B) (o : Option A) (y : B) → option_map f o ≡ Some y → (x : A) × (o ≡ Some x) × (f x ≡ y)

@@ -1,152 +1,215 @@
 -- What comes of making a realm, by the places of a monitor.
-use Rattle.std.proofs.Common.{◌≡◌, ◌≢◌, ℕ, ◌<◌, Bool, true, false, List, [], ◌∷◌, length, set, Some, None, Ok, Err, refl, sym, ap, ◌∙◌, subst}
-use Rattle.std.specs.Prelude.{◌==◌, ◌&&◌, ◌↔◌, IsTrue, not, nat_le}
+use Rattle.std.proofs.Common.{◌≡◌, ◌≢◌, ℕ, ◌<◌, ◌≤◌, ◌+◌, Bool, true, false, List, [], ◌∷◌, length, map, set, cond, Option, Some, None, Ok, Err, refl, sym, ap, ◌∙◌, subst, ⊎_elim}
+use Rattle.std.specs.Prelude.{◌==◌, ◌%◌, ◌&&◌, ◌↔◌, IsTrue, not, nat_le}
 use Rattle.std.specs.Bool.{OnTrue}
-use Rattle.std.specs.List.{list_any}
+use Rattle.std.specs.List.{list_any, list_all, All}
 use Rattle.std.specs.FinMap.{empty}
-use Rattle.std.proofs.lemmas.Bool.{eqb-false, and_parts}
-use Rattle.granule_table.specs.Granules.{granule_at, IsIn}
-use Rattle.granule_table.specs.declared.granule.Granule.{Granule}
-use Rattle.page_arena.specs.Page.{page_at}
+use Rattle.std.proofs.lemmas.Bool.{eqb-false, and_parts, cases_lt}
+use Rattle.std.proofs.lemmas.List.{get_or_past}
+use Rattle.granule_addr.specs.Ipa.{is_width}
 use Rattle.granule_addr.specs.Page.{zero_page}
+use Rattle.granule_addr.specs.Root.{start_count, starting_tables}
+use Rattle.granule_addr.specs.declared.root.Root.{Root}
+use Rattle.granule_table.specs.Granules.{granule_at, undelegated, IsIn}
+use Rattle.granule_table.specs.declared.granule.Granule.{Granule}
 use Rattle.realm_model.specs.declared.states.GranuleState.TheVariants.{Delegated, Rd as InRd, Rtt as InRtt}
 use Rattle.realm_model.specs.Rows.{root_rows}
-use Rattle.realm_model.specs.Machine.{Cell, held}
-use Rattle.realm_model.specs.Step.{has_vmid}
+use Rattle.realm_model.specs.Machine.{Cell, Seen, blank, cell_at, held}
+use Rattle.realm_model.specs.Step.{used_vmids}
+use Rattle.realm_model.specs.StepLaw.{set_each}
 use Rattle.realm_model.specs.Update.{Update, Outcome, Put, machine_after_all}
 use Rattle.realm_model.specs.Command.Check.{check, error_input, is_delegated}
-use Rattle.realm_model.specs.Command.Realm.{new_realm}
+use Rattle.realm_model.specs.Command.Realm.{is_start, new_realm}
 use Rattle.realm_model.proofs.Booleans.{not_true}
+use Rattle.realm_model.proofs.Lists.{is_in, all_in}
 use Rattle.realm_objects.specs.Attributes.{RealmAttributes, realm_row}
 use Rattle.rtt.specs.Tables.{rows}
-use Rattle.rtt.specs.Realm.{IsBacked, HasTables, LeavesOthers}
-use Rattle.rtt.specs.Calls.{with_state}
-use Rattle.rmi_monitor.specs.View.{MonitorView, IsTaken, seen_in, after_command, create_realm}
+use Rattle.rtt.specs.Realm.{HasTables, IsBacked}
+use Rattle.rtt.specs.Calls.{with_state, with_states, Keeps}
+use Rattle.rmi_monitor.specs.View.{MonitorView, IsTaken, seen_in, after_command, make_realm}
 use Rattle.rmi_monitor.specs.Inside.{Fields, machine_of, seen_as, IsWhole}
-use Rattle.rmi_monitor.specs.Places.{is_delegated_at, is_realm_with, are_fit_for_realm}
-use Rattle.rmi_monitor.proofs.Granules.{machine_is, in_granules, after_done, seen_delegated}
-use Rattle.rmi_monitor.proofs.Checks.{delegated_state}
-use Rattle.rmi_monitor.proofs.UsedVmids.{used_vmids}
-use Rattle.rmi_monitor.proofs.RealmCreates.{root_delegated, backed_with_rd, whole_created, machine_created}
+use Rattle.rmi_monitor.specs.Places.{is_delegated_at, is_fit_to_start, are_fit_for_realm}
+use Rattle.rmi_monitor.specs.Vmids.{is_used, IsMarked}
+use Rattle.rmi_monitor.proofs.Granules.{machine_is, as_many_granules, cell_is, in_granules, after_done, seen_delegated}
+use Rattle.rmi_monitor.proofs.Checks.{delegated_state, delegated_test}
+use Rattle.rmi_monitor.proofs.Comparisons.{test_held, test_failed}
+use Rattle.rmi_monitor.proofs.Outcomes.{check_false}
+use Rattle.rmi_monitor.proofs.UsedVmids.{any_used}
+use Rattle.rmi_monitor.proofs.RealmCreates.{CanStart, tables_delegated, backed_with_rd, whole_created, machine_created}
+
+first_fails : (a b c d e f g : Bool) → a ≡ false → (a && b && c && d && e && f && g) ≡ false
+first_fails a b c d e f g h = ap (λ t. t && b && c && d && e && f && g) h
+
+-- no realm has that width
+pub create_no_width : (monitor : MonitorView) (rd first width vmid : ℕ) (given : Option ℕ) → given ≡ cond (is_width width) (Some width) None → given ≡ None
+    → make_realm monitor rd (record { first = first; width = width }) vmid ≡ Err error_input
+create_no_width monitor rd first width vmid given e none = check_false _ _ _ (first_fails _ _ _ _ _ _ _ (test_failed (is_width width) width given e none))
+
+-- the width that is given, where a realm may have it
+pub is_given : (width given : ℕ) (place : Option ℕ) → place ≡ cond (is_width width) (Some width) None → place ≡ Some given → (is_width given ≡ true) × (given ≡ width)
+is_given width given place e is = let held = test_held (is_width width) width given place e is in (ap is_width held.1 ∙ held.0, held.1)
+
+pub by_width : (monitor : MonitorView) (rd first vmid given width : ℕ) → given ≡ width
+    → make_realm monitor rd (record { first = first; width = given }) vmid ≡ make_realm monitor rd (record { first = first; width = width }) vmid
+by_width monitor rd first vmid given width same = ap (λ w. make_realm monitor rd (record { first = first; width = w }) vmid) same
 
 module _ (monitor : MonitorView) (fields : Fields) (view_is : seen_as fields ≡ monitor) (whole : IsWhole fields)
-    (rd root vmid : ℕ) (rd_taken : IsTaken monitor rd) (root_taken : IsTaken monitor root) where
+    (rd : ℕ) (root : Root) (vmid : ℕ) (rd_taken : IsTaken monitor rd) where
   abbrev outcome : Outcome
-  outcome = create_realm monitor rd root vmid
+  outcome = make_realm monitor rd root vmid
+
+  abbrev tables : List ℕ
+  tables = starting_tables root
 
   abbrev rd_cell : Cell
   rd_cell = record { state = InRd; realm = Some rd; bytes = zero_page; descriptor = Some (new_realm vmid root) }
 
   abbrev updates : List Update
-  updates = Put rd rd_cell ∷ Put root (held InRtt rd) ∷ []
+  updates = Put rd rd_cell ∷ map (λ table. Put table (held InRtt rd)) tables
 
-  fit_seen : (is_delegated (seen_in monitor rd) && is_delegated (seen_in monitor root) && not (rd == root) && nat_le 1 vmid && nat_le vmid monitor.vmids)
-      ≡ are_fit_for_realm fields.granules rd root vmid fields.vmids
-  fit_seen =
-      (λ i. seen_delegated monitor fields view_is whole rd rd_taken i && seen_delegated monitor fields view_is whole root root_taken i && not (rd == root) && nat_le 1 vmid && nat_le vmid ((ap (λ (m : MonitorView). m.vmids) (sym view_is)) i))
+  -- ---- what the command sees
 
-  used_seen : list_any (has_vmid vmid) monitor.machine ≡ list_any (is_realm_with vmid) fields.realms
-  used_seen = ap (list_any (has_vmid vmid)) (sym (machine_is monitor fields view_is whole)) ∙ used_vmids fields whole vmid
+  -- a granule is DELEGATED only inside the machine
+  delegated_seen : (table : ℕ) → is_delegated (seen_in monitor table) ≡ is_delegated_at fields.granules table
+  delegated_seen table = ⊎_elim
+      (λ (within : table < length monitor.machine). ap delegated_test (ap (λ (c : Cell). c.state) (cell_is monitor fields view_is whole table within)))
+      (λ (past : length monitor.machine ≤ table).
+      ap delegated_test (ap (λ (c : Cell). c.state) (get_or_past monitor.machine table blank past))
+      ∙ sym (ap delegated_test (ap (λ (x : Granule). x.state) (get_or_past fields.granules table undelegated (subst (λ n. n ≤ table) (as_many_granules monitor fields view_is whole) past)))))
+      (cases_lt table (length monitor.machine))
 
-  -- the two checks, as they are made
-  checked : (used fit : Bool) → list_any (is_realm_with vmid) fields.realms ≡ used → are_fit_for_realm fields.granules rd root vmid fields.vmids ≡ fit
-      → outcome ≡ check (not used) error_input (check fit error_input (Ok updates))
-  checked used fit u f i = check (not ((used_seen ∙ u) i)) error_input (check ((fit_seen ∙ f) i) error_input (Ok updates))
+  starts_seen : (list : List ℕ) → list_all (is_start (seen_in monitor rd)) (map (seen_in monitor) list) ≡ list_all (is_fit_to_start fields.granules rd) list
+  starts_seen [] = refl
+  starts_seen (table ∷ list) = λ i. (delegated_seen table i && not (table == rd)) && starts_seen list i
 
-  pub create_used : list_any (is_realm_with vmid) fields.realms ≡ true → outcome ≡ Err error_input
-  unfolding check
-  create_used u = checked true (are_fit_for_realm fields.granules rd root vmid fields.vmids) u refl
+  puts_seen : (list : List ℕ) → map (λ (t : Seen). Put t.number (held InRtt rd)) (map (seen_in monitor) list) ≡ map (λ table. Put table (held InRtt rd)) list
+  puts_seen [] = refl
+  puts_seen (table ∷ list) = ap (λ us. Put table (held InRtt rd) ∷ us) (puts_seen list)
 
-  module _ (unused : list_any (is_realm_with vmid) fields.realms ≡ false) where
-    pub create_unfit : are_fit_for_realm fields.granules rd root vmid fields.vmids ≡ false → outcome ≡ Err error_input
+  used_seen : list_any (λ v. vmid == v) (used_vmids monitor.machine) ≡ is_used fields.used vmid
+  used_seen = ap (λ m. list_any (λ v. vmid == v) (used_vmids m)) (sym (machine_is monitor fields view_is whole)) ∙ any_used fields whole vmid
+
+  -- ---- its checks, as they are made
+
+  abbrev fit_of : Bool
+  fit_of = are_fit_for_realm fields.granules rd root vmid fields.vmids
+
+  checked : outcome ≡ check (is_width root.width && root.first % start_count root.width == 0 && is_delegated_at fields.granules rd
+      && list_all (is_fit_to_start fields.granules rd) tables && nat_le 1 vmid && nat_le vmid fields.vmids && not (is_used fields.used vmid)) error_input (Ok updates)
+  checked i = check (is_width root.width && root.first % start_count root.width == 0 && delegated_seen rd i
+      && starts_seen tables i && nat_le 1 vmid && nat_le vmid (ap (λ (m : MonitorView). m.vmids) (sym view_is) i) && not (used_seen i)) error_input (Ok (Put rd rd_cell ∷ puts_seen tables i))
+
+  module _ (width : is_width root.width ≡ true) where
+    by_fit : outcome ≡ check (fit_of && not (is_used fields.used vmid)) error_input (Ok updates)
+    by_fit = checked ∙ (λ i. check (width i && root.first % start_count root.width == 0 && is_delegated_at fields.granules rd
+        && list_all (is_fit_to_start fields.granules rd) tables && nat_le 1 vmid && nat_le vmid fields.vmids && not (is_used fields.used vmid)) error_input (Ok updates))
+
+    pub create_used : is_used fields.used vmid ≡ true → outcome ≡ Err error_input
     unfolding check
-    create_unfit f = checked false false unused f
+    create_used u = by_fit ∙ (λ i. check (fit_of && not (u i)) error_input (Ok updates)) ∙ none fit_of
+      where
+        none : (fit : Bool) → check (fit && false) error_input (Ok updates) ≡ Err error_input
+        none true = refl
+        none false = refl
 
-    module _ (fit : are_fit_for_realm fields.granules rd root vmid fields.vmids ≡ true) where
-      pub create_done : outcome ≡ Ok updates
+    module _ (unused : is_used fields.used vmid ≡ false) where
+      pub create_unfit : fit_of ≡ false → outcome ≡ Err error_input
       unfolding check
-      create_done = checked false true unused fit
+      create_unfit f = by_fit ∙ (λ i. check (f i && not (is_used fields.used vmid)) error_input (Ok updates))
 
-      abbrev both : Bool
-      both = is_delegated_at fields.granules rd && is_delegated_at fields.granules root
+      module _ (fit : fit_of ≡ true) where
+        pub create_done : outcome ≡ Ok updates
+        unfolding check
+        create_done = by_fit ∙ (λ i. check (fit i && not (unused i)) error_input (Ok updates))
 
-      two : (both && not (rd == root)) ≡ true
-      two = (and_parts (both && not (rd == root)) (nat_le 1 vmid) (and_parts (both && not (rd == root) && nat_le 1 vmid) (nat_le vmid fields.vmids) fit).0).0
+        -- what the checks say of the granules
+        abbrev both : Bool
+        both = root.first % start_count root.width == 0 && is_delegated_at fields.granules rd
 
-      each : both ≡ true
-      each = (and_parts both (not (rd == root)) two).0
+        abbrev all_start : Bool
+        all_start = list_all (is_fit_to_start fields.granules rd) tables
 
-      rd_was : (granule_at fields.granules rd).state ≡ Delegated
-      rd_was = delegated_state (granule_at fields.granules rd).state ((and_parts (is_delegated_at fields.granules rd) (is_delegated_at fields.granules root) each).0)
+        granules_fit : (both && all_start) ≡ true
+        granules_fit = (and_parts (both && all_start) (nat_le 1 vmid) (and_parts (both && all_start && nat_le 1 vmid) (nat_le vmid fields.vmids) fit).0).0
 
-      root_was : (granule_at fields.granules root).state ≡ Delegated
-      root_was = delegated_state (granule_at fields.granules root).state ((and_parts (is_delegated_at fields.granules rd) (is_delegated_at fields.granules root) each).1)
+        rd_was : (granule_at fields.granules rd).state ≡ Delegated
+        rd_was = delegated_state (granule_at fields.granules rd).state
+            ((and_parts (root.first % start_count root.width == 0) (is_delegated_at fields.granules rd) (and_parts both all_start granules_fit).0).1)
 
-      apart : rd ≢ root
-      apart = eqb-false rd root (not_true (rd == root) ((and_parts both (not (rd == root)) two).1))
+        rd_inside : rd < length fields.granules
+        rd_inside = in_granules monitor fields view_is whole rd rd_taken
 
-      rd_inside : rd < length fields.granules
-      rd_inside = in_granules monitor fields view_is whole rd rd_taken
+        starts : (table : ℕ) → is_in table tables ≡ true → CanStart fields rd table
+        starts table e =
+            let parts = and_parts (is_delegated_at fields.granules table) (not (table == rd)) (all_in (is_fit_to_start fields.granules rd) tables table (and_parts both all_start granules_fit).1 e) in
+            record {
+              inside = within (delegated_state (granule_at fields.granules table).state parts.0);
+              was = delegated_state (granule_at fields.granules table).state parts.0;
+              beside = eqb-false table rd (not_true (table == rd) parts.1);
+            }
+          where
+            within : (granule_at fields.granules table).state ≡ Delegated → table < length fields.granules
+            within was = ⊎_elim (λ (inside : table < length fields.granules). inside)
+                (λ (past : length fields.granules ≤ table).
+                absurd (let differ : undelegated.state ≡ Delegated = ap (λ (x : Granule). x.state) (sym (get_or_past fields.granules table undelegated past)) ∙ was in cc))
+                (cases_lt table (length fields.granules))
 
-      root_inside : root < length fields.granules
-      root_inside = in_granules monitor fields view_is whole root root_taken
+        -- the RD is moved, since it was DELEGATED
+        pub create_shifted : (done : Bool) (shifted : List Granule) → (IsTrue done ↔ ((granule_at fields.granules rd).state ≡ Delegated))
+            → OnTrue done (shifted ≡ with_state fields.granules rd InRd (Some rd)) → shifted ≡ with_state fields.granules rd InRd (Some rd)
+        create_shifted true shifted answer is = is
+        create_shifted false shifted answer is = absurd (let told = answer.1 rd_was in cc)
 
-      -- the RD is moved, since it was DELEGATED
-      pub create_shifted : (done : Bool) (shifted : List Granule) → (IsTrue done ↔ ((granule_at fields.granules rd).state ≡ Delegated))
-          → OnTrue done (shifted ≡ with_state fields.granules rd InRd (Some rd)) → shifted ≡ with_state fields.granules rd InRd (Some rd)
-      create_shifted true shifted answer is = is
-      create_shifted false shifted answer is = absurd (let told = answer.1 rd_was in cc)
+        -- after the RD is one
+        module _ (shifted : List Granule) (shift : shifted ≡ with_state fields.granules rd InRd (Some rd)) where
+          pub create_backed : IsBacked fields.pages fields.free shifted
+          create_backed = subst (IsBacked fields.pages fields.free) (sym shift) (backed_with_rd fields whole rd root rd_inside rd_was starts)
 
-      -- after the RD is one
-      module _ (shifted : List Granule) (shift : shifted ≡ with_state fields.granules rd InRd (Some rd)) where
-        pub create_backed : IsBacked fields.pages fields.free shifted
-        create_backed = subst (IsBacked fields.pages fields.free) (sym shift) (backed_with_rd fields whole rd root apart rd_inside root_inside rd_was root_was)
+          pub create_delegated : All (λ table. IsIn shifted table Delegated None) tables
+          create_delegated = subst (λ gs. All (λ table. IsIn gs table Delegated None) tables) (sym shift) (tables_delegated fields whole rd root rd_inside rd_was starts)
 
-        pub create_delegated : IsIn shifted root Delegated None
-        create_delegated = subst (λ gs. IsIn gs root Delegated None) (sym shift) (root_delegated fields whole rd root apart rd_inside root_inside rd_was root_was)
+          -- and the starting tables are
+          module _ (realm : RealmAttributes) (realm_vmid : realm.vmid ≡ vmid) (realm_root : realm.root ≡ root) (fresh : realm_row realm empty (root_rows root.width) ≡ new_realm vmid root)
+              (granules : List Granule) (pages : List (List ℕ)) (free : List Bool) (moved : granules ≡ with_states shifted tables InRtt (Some rd))
+              (cleared : pages ≡ set_each zero_page tables fields.pages) (translation : rows pages root ≡ root_rows root.width)
+              (keeps : Keeps rd root fields.pages fields.free shifted pages free granules)
+              (used : List Bool) (mark : IsMarked fields.used used vmid true) (n : ℕ) (n_is : n ≡ rd) where
+            abbrev now : List Granule
+            now = with_states (with_state fields.granules rd InRd (Some rd)) tables InRtt (Some rd)
 
-        -- and the root is one too
-        module _ (realm : RealmAttributes) (realm_vmid : realm.vmid ≡ vmid) (realm_root : realm.root ≡ root) (fresh : realm_row realm empty root_rows ≡ new_realm vmid root)
-            (granules : List Granule) (pages : List (List ℕ)) (free : List Bool) (moved : granules ≡ with_state shifted root InRtt (Some rd)) (flags : free ≡ fields.free)
-            (backed : IsBacked pages free granules) (tables : HasTables pages granules rd root) (translation : rows pages root ≡ root_rows)
-            (page_stays : (g : ℕ) → g ≢ root → page_at pages g ≡ page_at fields.pages g) (alone : LeavesOthers rd fields.pages shifted pages granules) (n : ℕ) (n_is : n ≡ rd) where
-          abbrev now : List Granule
-          now = with_state (with_state fields.granules rd InRd (Some rd)) root InRtt (Some rd)
+            granules_are : granules ≡ now
+            granules_are = moved ∙ ap (λ gs. with_states gs tables InRtt (Some rd)) shift
 
-          granules_are : granules ≡ now
-          granules_are = moved ∙ ap (λ gs. with_state gs root InRtt (Some rd)) shift
+            abbrev after_create : List Granule → ℕ → Fields
+            after_create gs place = record fields { granules = gs; pages = pages; free = free; realms = set fields.realms place (Some realm); used = used }
 
-          abbrev after_create : List Granule → ℕ → Fields
-          after_create gs place = record fields { granules = gs; pages = pages; free = free; realms = set fields.realms place (Some realm) }
+            fresh_row : realm_row realm empty (root_rows root.width) ≡ new_realm realm.vmid root
+            fresh_row = fresh ∙ ap (λ v. new_realm v root) (sym realm_vmid)
 
-          fresh_row : realm_row realm empty root_rows ≡ new_realm realm.vmid root
-          fresh_row = fresh ∙ ap (λ v. new_realm v root) (sym realm_vmid)
+            kept : Keeps rd root fields.pages fields.free (with_state fields.granules rd InRd (Some rd)) pages free now
+            kept = subst (λ gs. Keeps rd root fields.pages fields.free gs pages free now) shift (subst (λ gs. Keeps rd root fields.pages fields.free shifted pages free gs) granules_are keeps)
 
-          backed_now : IsBacked pages free now
-          backed_now = subst (IsBacked pages free) granules_are backed
+            unused_now : is_used fields.used realm.vmid ≡ false
+            unused_now = ap (is_used fields.used) realm_vmid ∙ unused
 
-          tables_now : HasTables pages now rd root
-          tables_now = subst (λ gs. HasTables pages gs rd root) granules_are tables
+            marked : IsMarked fields.used used realm.vmid true
+            marked = subst (λ v. IsMarked fields.used used v true) (sym realm_vmid) mark
 
-          alone_now : LeavesOthers rd fields.pages (with_state fields.granules rd InRd (Some rd)) pages now
-          alone_now = subst (λ gs. LeavesOthers rd fields.pages gs pages now) shift (subst (λ gs. LeavesOthers rd fields.pages shifted pages gs) granules_are alone)
+            written : after_create granules n ≡ after_create now rd
+            written i = after_create (granules_are i) (n_is i)
 
-          written : after_create granules n ≡ after_create now rd
-          written i = after_create (granules_are i) (n_is i)
+            pub whole_after_create : IsWhole (after_create granules n)
+            whole_after_create =
+                subst IsWhole (sym written)
+                (whole_created fields whole rd root rd_inside rd_was starts realm realm_root fresh_row pages free kept.rest.flags kept.rest.backed kept.tables translation cleared kept.rest.other_realms used unused_now marked)
 
-          pub whole_after_create : IsWhole (after_create granules n)
-          whole_after_create =
-              subst IsWhole (sym written)
-              (whole_created fields whole rd root apart rd_inside root_inside rd_was root_was realm realm_root fresh_row pages free flags backed_now tables_now translation page_stays alone_now)
+            machine_after : machine_of (after_create now rd) ≡ machine_after_all updates monitor.machine
+            machine_after =
+                machine_created fields whole rd root rd_inside rd_was starts realm realm_root fresh_row pages free kept.rest.flags kept.rest.backed kept.tables translation cleared kept.rest.other_realms used unused_now marked
+                ∙ ap (λ v. machine_after_all (Put rd (record { state = InRd; realm = Some rd; bytes = zero_page; descriptor = Some (new_realm v root) }) ∷ map (λ table. Put table (held InRtt rd)) tables) (machine_of fields)) realm_vmid
+                ∙ ap (machine_after_all updates) (machine_is monitor fields view_is whole)
 
-          machine_after : machine_of (after_create now rd) ≡ machine_after_all updates monitor.machine
-          unfolding machine_after_all
-          machine_after =
-              machine_created fields whole rd root apart rd_inside root_inside rd_was root_was realm realm_root fresh_row pages free flags backed_now tables_now translation page_stays alone_now
-              ∙ ap (λ v. set (set (machine_of fields) rd (record { state = InRd; realm = Some rd; bytes = zero_page; descriptor = Some (new_realm v root) })) root (held InRtt rd)) realm_vmid
-              ∙ ap (λ m. set (set m rd rd_cell) root (held InRtt rd)) (machine_is monitor fields view_is whole)
-
-          pub seen_after_create : seen_as (after_create granules n) ≡ after_command outcome monitor
-          seen_after_create =
-              ap seen_as written
-              ∙ after_done monitor fields view_is whole (after_create now rd) updates outcome create_done refl refl flags machine_after
+            pub seen_after_create : seen_as (after_create granules n) ≡ after_command outcome monitor
+            seen_after_create =
+                ap seen_as written
+                ∙ after_done monitor fields view_is whole (after_create now rd) updates outcome create_done refl refl kept.rest.flags machine_after

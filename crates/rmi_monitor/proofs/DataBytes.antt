@@ -1,5 +1,5 @@
 -- A byte of a realm's page of data is written: the machine has it, and nothing else changes.
-use Rattle.std.proofs.Common.{◌≡◌, ◌≢◌, ℕ, ◌<◌, Bool, false, List, [], ◌∷◌, length, set, Ok, Some, refl, sym, ap, ◌∙◌, subst, arith}
+use Rattle.std.proofs.Common.{◌≡◌, ◌≢◌, ℕ, ◌<◌, Bool, false, List, [], ◌∷◌, length, set, Ok, Some, refl, sym, ap, ◌∙◌, subst}
 use Rattle.std.proofs.lemmas.List.{length-set, get_or-set_same, get_or-set_other}
 use Rattle.page_arena.specs.Page.{page_at, is_free, with_byte}
 use Rattle.granule_table.specs.Granules.{granule_at, IsIn}
@@ -9,11 +9,11 @@ use Rattle.realm_model.specs.declared.states.GranuleState.TheVariants.{Data as I
 use Rattle.realm_model.specs.Machine.{Cell, cell_at}
 use Rattle.realm_model.specs.Update.{PutByte, machine_after_all}
 use Rattle.rtt.specs.Realm.{LeavesAlone}
-use Rattle.rtt.specs.FrameLaws.{rows-alone, HasTables-alone}
+use Rattle.rtt.proofs.FrameLaws.{rows-alone, HasTables-alone}
 use Rattle.rmi_monitor.specs.View.{MonitorView, after_command}
 use Rattle.rmi_monitor.specs.Inside.{Fields, descriptor_of, bytes_of, cell_of, machine_of, seen_as, IsWhole}
 use Rattle.rmi_monitor.proofs.Machines.{one_put, cell_stays, descriptor_stays}
-use Rattle.rmi_monitor.proofs.Frames.{StayRecs, recs_of_stay, HasRecs_stay}
+use Rattle.rmi_monitor.proofs.Frames.{recs_beside}
 use Rattle.rmi_monitor.proofs.Granules.{machine_is, cell_is, after_by, in_machine}
 
 abbrev pub with_pages : Fields → List (List ℕ) → Fields
@@ -54,9 +54,6 @@ module _ (old : Fields) (whole : IsWhole old) (rd page offset value : ℕ) (is :
     «data» = λ g at. at;
   }
 
-  stay_recs : StayRecs old new
-  stay_recs = record { granule_count = refl; rec = λ g. refl; granule = λ g at. refl; auxiliary = λ g at. refl }
-
   pub whole_with_byte : IsWhole (with_pages old (with_byte old.pages page offset value))
   whole_with_byte = record {
     backed = record {
@@ -64,6 +61,7 @@ module _ (old : Fields) (whole : IsWhole old) (rd page offset value : ℕ) (is :
       taken = whole.backed.taken;
     };
     realm_places = whole.realm_places;
+    count_places = whole.count_places;
     rec_places = whole.rec_places;
     each = λ g. record {
       host = (whole.each g).host;
@@ -72,13 +70,15 @@ module _ (old : Fields) (whole : IsWhole old) (rd page offset value : ℕ) (is :
       rec = (whole.each g).rec;
     };
     tables = λ g realm there. HasTables-alone old.pages old.granules new.pages new.granules g realm.root (whole.tables g realm there) (alone g);
-    recs = HasRecs_stay old new stay_recs whole.each whole.recs (λ g r rec realm at of there. (realm, there, omega arith));
+    recs = recs_beside old whole new.pages old.free;
+    counted = whole.counted;
+    vmids_used = whole.vmids_used;
   }
 
   -- ---- the machine
 
   descriptor_is : (g : ℕ) → descriptor_of new g ≡ descriptor_of old g
-  descriptor_is g = descriptor_stays old new g refl (recs_of_stay old new stay_recs whole.each g)
+  descriptor_is g = descriptor_stays old new g refl refl
       (λ realm there. rows-alone old.pages old.granules new.pages new.granules g realm.root (whole.tables g realm there) (alone g))
 
   bytes_here : bytes_of (granule_at old.granules page).state (page_at new.pages page) ≡ set (bytes_of (granule_at old.granules page).state (page_at old.pages page)) offset value

@@ -1,33 +1,37 @@
 -- A DELEGATED granule becomes a page of a NEW realm with the bytes of another granule, over the fields of a monitor.
-use Rattle.std.proofs.Common.{◌≡◌, ◌≢◌, ℕ, ◌<◌, ◌≤◌, ◌&&◌, Bool, true, false, List, [], ◌∷◌, length, set, Option, Some, None, Ok, Err, sym, ap, ◌∙◌, subst, arith}
-use Rattle.std.proofs.lemmas.Bool.{and_from, and_right}
+use Rattle.std.proofs.Common.{◌≡◌, ◌≢◌, ℕ, ◌<◌, ◌&&◌, Bool, true, false, List, [], ◌∷◌, length, set, Option, Some, None, Ok, Err, refl, sym, ap, ◌∙◌, subst, arith}
+use Rattle.std.proofs.lemmas.Bool.{and_from, and_left, and_right}
 use Rattle.std.proofs.lemmas.List.{get_or-set_other}
+use Rattle.granule_addr.specs.Ipa.{is_protected_at}
 use Rattle.granule_table.specs.Granules.{granule_at}
 use Rattle.granule_table.specs.declared.granule.Granule.{Granule}
 use Rattle.page_arena.specs.Page.{page_at}
 use Rattle.realm_model.specs.declared.states.GranuleState.{GranuleState}
 use Rattle.realm_model.specs.declared.states.GranuleState.TheVariants.{Undelegated, Delegated, Data as InData, Rtt as InRtt}
 use Rattle.realm_model.specs.declared.states.Ripas.TheVariants.{Ram}
-use Rattle.realm_model.specs.Rows.{Row, is_unassigned, assigned, put_row}
+use Rattle.realm_model.specs.Rows.{Row, Rows, is_unassigned, assigned, put_row}
 use Rattle.realm_model.specs.Measurement.{measurement_after, data_event}
 use Rattle.realm_model.specs.Machine.{Cell, RealmRow, held}
-use Rattle.realm_model.specs.Update.{Update, Put, Outcome}
-use Rattle.realm_model.specs.Command.Check.{check, error_input, error_realm, error_rtt, is_delegated, is_undelegated, is_protected, is_new, with_row, put_realm}
+use Rattle.realm_model.specs.Update.{Put, Outcome}
+use Rattle.realm_model.specs.Command.Check.{check, error_input, error_realm, error_rtt, is_delegated, is_undelegated, is_new, put_realm}
 use Rattle.realm_model.specs.Command.Data.{data_create}
 use Rattle.realm_model.proofs.Outcomes.{check_true}
 use Rattle.realm_objects.specs.Attributes.{RealmAttributes, realm_row}
+use Rattle.rtt.specs.declared.tables.Tables.{Tables}
 use Rattle.rtt.specs.Tables.{rows}
-use Rattle.rtt.specs.Realm.{IsBacked, HasTables, LeavesOthers}
-use Rattle.rtt.specs.Calls.{with_state, ChangesTablesOnly, map_refusal}
-use Rattle.rmi_monitor.specs.View.{MonitorView, IsTaken, seen_in, after_command}
+use Rattle.rtt.specs.Found.{with_free_page}
+use Rattle.rmi_monitor.specs.View.{MonitorView, IsTaken, seen_in}
 use Rattle.rmi_monitor.specs.Inside.{Fields, realm_at, bytes_of, seen_as, IsWhole}
 use Rattle.rmi_monitor.specs.Places.{is_delegated_at, is_undelegated_at}
 use Rattle.rmi_monitor.proofs.Checks.{delegated_state, undelegated_state}
 use Rattle.rmi_monitor.proofs.Granules.{in_granules, cell_is, seen_delegated, seen_undelegated}
-use Rattle.rmi_monitor.proofs.Outcomes.{check_false}
-use Rattle.rmi_monitor.proofs.DataMaps.{Mapped, no_table, rows_kept, page_written, mapped_written, mapped_whole, mapped_seen}
-use Rattle.rmi_monitor.proofs.Refusals.{Passes, passes_from, row_refused, row_passes}
-use Rattle.rmi_monitor.proofs.RealmCommands.{with_call}
+use Rattle.rmi_monitor.proofs.Outcomes.{check_false, answers_ok}
+use Rattle.rmi_monitor.proofs.DataMaps.{MapCall, Mapped, map_call_at, mapped_by, rows_kept, page_written, mapped_written, mapped_whole, mapped_seen}
+use Rattle.rmi_monitor.proofs.Located.{IsLocated}
+use Rattle.rmi_monitor.proofs.Refusals.{Passes, passed_row, row_passes}
+use Rattle.rmi_monitor.proofs.RealmCommands.{with_call, Done}
+use Rattle.rmi_monitor.proofs.RealmAfter.{Keeps}
+use Rattle.rmi_monitor.proofs.RealmPlaces.{no_table}
 use Rattle.rmi_monitor.proofs.RealmFound.{row_of, nowhere, somewhere}
 
 module _ (monitor : MonitorView) (fields : Fields) (view_is : seen_as fields ≡ monitor) (whole : IsWhole fields) (rd : ℕ) (taken : IsTaken monitor rd)
@@ -38,133 +42,130 @@ module _ (monitor : MonitorView) (fields : Fields) (view_is : seen_as fields ≡
   pub create_no_realm : realm_at fields rd ≡ None → outcome ≡ Err error_input
   create_no_realm none = nowhere monitor fields view_is whole rd taken.inside none _
 
-  abbrev inputs : Bool
-  inputs = is_delegated (seen_in monitor g) && is_undelegated (seen_in monitor source) && is_protected ipa
-
   module _ (realm : RealmAttributes) (there : realm_at fields rd ≡ Some realm) where
     abbrev row : RealmRow
     row = row_of fields rd realm
 
-    abbrev on_row : RealmRow → Row → Outcome
-    on_row d r =
-        Ok (Put g (record (held InData rd) { bytes = (seen_in monitor source).cell.bytes }) ∷ put_realm (seen_in monitor rd) (record d {
-          rows = put_row d.rows 3 ipa (assigned Ram g);
-          measurement = measurement_after d.measurement (data_event ipa (seen_in monitor source).cell.bytes);
-        }) ∷ [])
+    abbrev old_rows : Rows
+    old_rows = rows fields.pages realm.root
+
+    abbrev inputs : Bool
+    inputs = is_delegated (seen_in monitor g) && is_undelegated (seen_in monitor source) && is_protected_at ipa realm.root.width
+
+    abbrev bytes_there : List ℕ
+    bytes_there = (seen_in monitor source).cell.bytes
+
+    abbrev made : RealmRow
+    made = record row {
+      rows = put_row old_rows 3 ipa (assigned Ram g);
+      measurement = measurement_after row.measurement (data_event ipa bytes_there);
+    }
+
+    abbrev on_row : Row → Outcome
+    on_row r = Ok (Put g (record (held InData rd) { bytes = bytes_there }) ∷ put_realm (seen_in monitor rd) made ∷ [])
 
     refused_input : inputs ≡ false → outcome ≡ Err error_input
     refused_input h = somewhere monitor fields view_is whole rd realm there _ ∙ check_false inputs error_input _ h
 
-    pub create_unprotected : is_protected ipa ≡ false → outcome ≡ Err error_input
+    pub create_unprotected : is_protected_at ipa realm.root.width ≡ false → outcome ≡ Err error_input
     create_unprotected h = refused_input (and_right _ _ h)
 
     pub create_not_delegated : is_delegated_at fields.granules g ≡ false → outcome ≡ Err error_input
-    create_not_delegated h = refused_input (ap (λ t. t && is_undelegated (seen_in monitor source) && is_protected ipa) (seen_delegated monitor fields view_is whole g page_taken ∙ h))
+    create_not_delegated h = refused_input (and_left _ _ (and_left _ _ (seen_delegated monitor fields view_is whole g page_taken ∙ h)))
 
     pub create_not_undelegated : is_undelegated_at fields.granules source ≡ false → outcome ≡ Err error_input
-    create_not_undelegated h =
-        refused_input (ap (λ t. t && is_protected ipa) (and_right (is_delegated (seen_in monitor g)) (is_undelegated (seen_in monitor source)) (seen_undelegated monitor fields view_is whole source source_taken ∙ h)))
+    create_not_undelegated h = refused_input (and_left _ _ (and_right _ _ (seen_undelegated monitor fields view_is whole source source_taken ∙ h)))
 
-    module _ (protected : is_protected ipa ≡ true) (delegated : is_delegated_at fields.granules g ≡ true) (undelegated : is_undelegated_at fields.granules source ≡ true) where
-      passed : outcome ≡ check (is_new row) error_realm (with_row row.rows ipa 3 (λ r. check (is_unassigned r) (error_rtt 3) (on_row row r)))
+    module _ (at : Tables) (given : ℕ) (located : IsLocated realm rd ipa at given) (delegated : is_delegated_at fields.granules g ≡ true)
+        (undelegated : is_undelegated_at fields.granules source ≡ true) where
+      passed : outcome ≡ check (is_new row) error_realm (with_free_page old_rows ipa on_row)
       passed =
           somewhere monitor fields view_is whole rd realm there _
-          ∙ check_true inputs error_input _ (and_from _ _ (and_from _ _ (seen_delegated monitor fields view_is whole g page_taken ∙ delegated) (seen_undelegated monitor fields view_is whole source source_taken ∙ undelegated)) protected)
+          ∙ check_true inputs error_input _ (and_from _ _ (and_from _ _ (seen_delegated monitor fields view_is whole g page_taken ∙ delegated) (seen_undelegated monitor fields view_is whole source source_taken ∙ undelegated)) located.protected)
 
       pub create_not_new : is_new row ≡ false → outcome ≡ Err error_realm
       create_not_new h = passed ∙ check_false (is_new row) error_realm _ h
 
       module _ (is_fresh : is_new row ≡ true) where
-        decided : outcome ≡ with_row row.rows ipa 3 (λ r. check (is_unassigned r) (error_rtt 3) (on_row row r))
+        decided : outcome ≡ with_free_page old_rows ipa on_row
         decided = passed ∙ check_true (is_new row) error_realm _ is_fresh
 
-        pub create_refused : (l : ℕ) → map_refusal (rows fields.pages realm.root) ipa ≡ Some l → outcome ≡ Err (error_rtt l)
-        create_refused l e = decided ∙ row_refused row.rows ipa 3 is_unassigned (on_row row) l e
+        pub create_refused : (l : ℕ) → ((f : Row → Outcome) → with_free_page (rows fields.pages at.root) given f ≡ Err (error_rtt l)) → outcome ≡ Err (error_rtt l)
+        create_refused l refused = decided ∙ (λ k. with_free_page (rows fields.pages (sym located.tables k).root) (sym located.same k) on_row) ∙ refused on_row
 
-        module _ (accepted : map_refusal (rows fields.pages realm.root) ipa ≡ None) where
-          found : Passes row.rows ipa 3 is_unassigned
-          found = passes_from row.rows ipa 3 is_unassigned accepted
+        -- what the calls leave: the map, the copy, and the measurement
+        module _ (granules : List Granule) (pages : List (List ℕ)) (free : List Bool)
+            (given_call : MapCall at fields.pages fields.free fields.granules pages free granules g given (Some Ram))
+            (copied : List (List ℕ)) (copies : copied ≡ set pages g (page_at pages source)) (kept : List Bool) (keeps : kept ≡ free)
+            (now : RealmAttributes) (event bytes : List ℕ) (read : bytes ≡ page_at copied source) (event_is : event ≡ data_event given bytes)
+            (measured : now ≡ record realm { measurement = measurement_after realm.measurement event })
+            (realms : List (Option RealmAttributes)) (put : realms ≡ set fields.realms rd (Some now)) where
+          call : MapCall (record { rd = rd; root = realm.root }) fields.pages fields.free fields.granules pages free granules g ipa (Some Ram)
+          call = map_call_at located given_call
 
-          done : outcome ≡ on_row row found.row
-          done = decided ∙ row_passes row.rows ipa 3 is_unassigned (on_row row) found
+          found : Passes old_rows ipa 3 is_unassigned
+          found = (passed_row old_rows ipa 3 is_unassigned on_row _ (call.answer.1 on_row)).0
 
-          pub create_done : (updates : List Update) × (outcome ≡ Ok updates)
-          create_done = (_, done)
+          created : outcome ≡ on_row found.row
+          created = decided ∙ row_passes old_rows ipa 3 is_unassigned on_row found
 
-          -- what the calls leave: the map, the copy, and the measurement
-          module _ (granules : List Granule) (pages : List (List ℕ)) (free : List Bool)
-              (gains : rows pages realm.root ≡ put_row (rows fields.pages realm.root) 3 ipa (assigned Ram g)) (moved : granules ≡ with_state fields.granules g InData (Some rd))
-              (tables : HasTables pages granules rd realm.root) (backed : IsBacked pages free granules) (flags : free ≡ fields.free)
-              (others : ChangesTablesOnly realm.root fields.pages pages) (alone : LeavesOthers rd fields.pages fields.granules pages granules)
-              (copied : List (List ℕ)) (copies : copied ≡ set pages g (page_at pages source)) (kept : List Bool) (keeps : kept ≡ free)
-              (now : RealmAttributes) (event bytes : List ℕ) (read : bytes ≡ page_at copied source) (event_is : event ≡ data_event ipa bytes)
-              (made : now ≡ record realm { measurement = measurement_after realm.measurement event })
-              (realms : List (Option RealmAttributes)) (put : realms ≡ set fields.realms rd (Some now)) where
-            abbrev after : Fields
-            after = with_call fields granules copied kept realms
+          was : (granule_at fields.granules g).state ≡ Delegated
+          was = delegated_state (granule_at fields.granules g).state delegated
 
-            was : (granule_at fields.granules g).state ≡ Delegated
-            was = delegated_state (granule_at fields.granules g).state delegated
+          source_was : (granule_at fields.granules source).state ≡ Undelegated
+          source_was = undelegated_state (granule_at fields.granules source).state undelegated
 
-            source_was : (granule_at fields.granules source).state ≡ Undelegated
-            source_was = undelegated_state (granule_at fields.granules source).state undelegated
+          apart : source ≢ g
+          apart e = let differ : Undelegated ≡ Delegated = sym source_was ∙ ap (λ h. (granule_at fields.granules h).state) e ∙ was in cc
 
-            apart : source ≢ g
-            apart e = let differ : Undelegated ≡ Delegated = sym source_was ∙ ap (λ h. (granule_at fields.granules h).state) e ∙ was in cc
+          inside : g < length fields.granules
+          inside = in_granules monitor fields view_is whole g page_taken
 
-            inside : g < length fields.granules
-            inside = in_granules monitor fields view_is whole g page_taken
+          map : Mapped fields rd realm.root g granules pages free
+          map = mapped_by call
 
-            map : Mapped fields rd realm.root g granules pages free
-            map = record { moved = moved; tables = tables; backed = backed; flags = flags; others = λ h differs not_table. others h not_table; alone = alone }
+          map_after : Mapped fields rd realm.root g granules copied kept
+          map_after =
+              subst (λ (flags : List Bool). Mapped fields rd realm.root g granules copied flags) (sym keeps)
+              (subst (λ (ps : List (List ℕ)). Mapped fields rd realm.root g granules ps free) (sym copies)
+              (mapped_written fields rd realm.root g inside granules pages free map (page_at pages source)))
 
-            map_after : Mapped fields rd realm.root g granules copied kept
-            map_after =
-                subst (λ (flags : List Bool). Mapped fields rd realm.root g granules copied flags) (sym keeps)
-                (subst (λ (ps : List (List ℕ)). Mapped fields rd realm.root g granules ps free) (sym copies)
-                (mapped_written fields rd realm.root g inside granules pages free map (page_at pages source)))
+          -- the source is as it was, and its bytes are now those of the page
+          source_bytes : page_at pages source ≡ bytes_there
+          source_bytes =
+              call.others source (no_table fields whole rd realm there source (λ e. let differ : Undelegated ≡ InRtt = sym source_was ∙ e in cc))
+              ∙ ap (λ (s : GranuleState). bytes_of s (page_at fields.pages source)) (sym source_was)
+              ∙ ap (λ (c : Cell). c.bytes) (sym (cell_is monitor fields view_is whole source source_taken.inside))
 
-            -- the source is as it was, and its bytes are now those of the page
-            source_bytes : page_at pages source ≡ (seen_in monitor source).cell.bytes
-            source_bytes =
-                others source (no_table fields whole rd realm there source (λ e. let differ : Undelegated ≡ InRtt = sym source_was ∙ e in cc))
-                ∙ ap (λ (s : GranuleState). bytes_of s (page_at fields.pages source)) (sym source_was)
-                ∙ ap (λ (c : Cell). c.bytes) (sym (cell_is monitor fields view_is whole source source_taken.inside))
+          page_is : page_at copied g ≡ bytes_there
+          page_is =
+              ap (λ (ps : List (List ℕ)). page_at ps g) copies
+              ∙ page_written fields rd realm.root g inside granules pages free map (page_at pages source) ∙ source_bytes
 
-            page_is : page_at copied g ≡ (seen_in monitor source).cell.bytes
-            page_is =
-                ap (λ (ps : List (List ℕ)). page_at ps g) copies
-                ∙ page_written fields rd realm.root g inside granules pages free map (page_at pages source) ∙ source_bytes
+          event_there : event ≡ data_event ipa bytes_there
+          event_there =
+              event_is
+              ∙ ap (λ n. data_event n bytes) located.same
+              ∙ ap (data_event ipa) (read ∙ ap (λ (ps : List (List ℕ)). page_at ps source) copies ∙ get_or-set_other pages g source (page_at pages source) [] apart ∙ source_bytes)
 
-            event_there : event ≡ data_event ipa (seen_in monitor source).cell.bytes
-            event_there =
-                event_is
-                ∙ ap (data_event ipa) (read ∙ ap (λ (ps : List (List ℕ)). page_at ps source) copies ∙ get_or-set_other pages g source (page_at pages source) [] apart ∙ source_bytes)
+          rows_now : rows copied realm.root ≡ put_row old_rows 3 ipa (assigned Ram g)
+          rows_now =
+              ap (λ (ps : List (List ℕ)). rows ps realm.root) copies
+              ∙ rows_kept fields rd realm.root g inside granules pages free map (page_at pages source) ∙ call.gains found.row found.at
 
-            rows_now : rows copied realm.root ≡ put_row (rows fields.pages realm.root) 3 ipa (assigned Ram g)
-            rows_now =
-                ap (λ (ps : List (List ℕ)). rows ps realm.root) copies
-                ∙ rows_kept fields rd realm.root g inside granules pages free map (page_at pages source) ∙ gains
+          same_realm : Keeps realm now
+          same_realm = subst (Keeps realm) (sym measured) (record { root = refl; vmid = refl; next = omega arith })
 
-            same_root : now.root ≡ realm.root
-            same_root = ap (λ (r : RealmAttributes). r.root) made
+          row_now : realm_row now row.recs (rows copied realm.root) ≡ made
+          row_now =
+              (λ i. realm_row (measured i) row.recs (rows_now i))
+              ∙ ap (λ (e : List ℕ). record row { rows = put_row old_rows 3 ipa (assigned Ram g); measurement = measurement_after row.measurement e }) event_there
 
-            no_less : realm.next ≤ now.next
-            no_less = subst (λ (n : ℕ). realm.next ≤ n) (sym (ap (λ (r : RealmAttributes). r.next) made)) (omega arith)
-
-            pub create_whole : IsWhole after
-            create_whole =
-                mapped_whole monitor fields view_is whole rd taken realm there now same_root no_less g inside was granules copied kept realms put map_after
-
-            row_now : realm_row now row.recs (rows copied realm.root) ≡ record row {
-              rows = put_row row.rows 3 ipa (assigned Ram g);
-              measurement = measurement_after row.measurement (data_event ipa (seen_in monitor source).cell.bytes);
-            }
-            row_now =
-                (λ i. realm_row (made i) row.recs (rows_now i))
-                ∙ ap (λ (e : List ℕ). record row { rows = put_row row.rows 3 ipa (assigned Ram g); measurement = measurement_after row.measurement e }) event_there
-
-            pub create_seen : seen_as after ≡ after_command outcome monitor
-            create_seen =
-                mapped_seen monitor fields view_is whole rd taken realm there now same_root no_less g inside was granules copied kept realms put map_after
-                outcome (seen_in monitor source).cell.bytes _ page_is row_now done
+          pub create_done : Done monitor outcome (with_call fields granules copied kept realms)
+          create_done = record {
+            whole = mapped_whole monitor fields view_is whole rd taken realm there now same_realm g inside was granules copied kept realms put map_after;
+            seen =
+                mapped_seen monitor fields view_is whole rd taken realm there now same_realm g inside was granules copied kept realms put map_after
+                outcome bytes_there made page_is row_now created;
+            answers = answers_ok {A = Unit {0}} tt _ outcome created;
+          }

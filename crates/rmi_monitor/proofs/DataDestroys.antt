@@ -1,33 +1,44 @@
 -- A page of data leaves its realm, over the fields of a monitor.
-use Rattle.std.proofs.Common.{◌≡◌, ℕ, Bool, true, false, List, [], ◌∷◌, Some, None, Result, Ok, Err, refl, sym, ap, ◌∙◌, subst, arith}
-use Rattle.std.specs.Result.{OnOk, OnErr}
+use Rattle.std.proofs.Common.{◌≡◌, ℕ, Bool, true, false, List, [], ◌∷◌, Some, None, Ok, Err, refl, sym, ap, ◌∙◌, subst, lit≤}
 use Rattle.std.proofs.lemmas.Option.{same_Some}
+use Rattle.granule_addr.specs.Ipa.{is_protected_at}
 use Rattle.granule_table.specs.Granules.{IsIn}
 use Rattle.granule_table.specs.declared.granule.Granule.{Granule}
 use Rattle.granule_addr.specs.Page.{zero_page}
 use Rattle.page_arena.specs.Page.{page_at}
 use Rattle.realm_model.specs.declared.states.GranuleState.TheVariants.{Delegated, Data as InData}
-use Rattle.realm_model.specs.Rows.{Row, is_assigned, unassigned, unmapped_ripas, put_row}
+use Rattle.realm_model.specs.Rows.{Row, Rows, is_assigned, unassigned, unmapped_ripas, put_row}
 use Rattle.realm_model.specs.Machine.{RealmRow, left}
-use Rattle.realm_model.specs.Update.{Update, Put, Outcome}
-use Rattle.realm_model.specs.Command.Check.{check, error_input, error_rtt, is_protected, with_row, with_granule, put_realm}
+use Rattle.realm_model.specs.Update.{Put, Outcome}
+use Rattle.realm_model.specs.Command.Check.{check, error_input, error_rtt, with_granule, put_realm}
 use Rattle.realm_model.specs.Command.Data.{data_destroy}
 use Rattle.realm_model.proofs.Outcomes.{check_true, granule_there}
 use Rattle.realm_objects.specs.Attributes.{RealmAttributes}
-use Rattle.rtt.specs.declared.refusal.Rtt.{Rtt}
-use Rattle.rtt.specs.Refusal.{IsRefused}
+use Rattle.rtt.specs.declared.tables.Tables.{Tables}
 use Rattle.rtt.specs.Tables.{rows}
-use Rattle.rtt.specs.Realm.{IsBacked, HasTables, LeavesOthers}
-use Rattle.rtt.specs.Calls.{with_state, LeadsTo, ChangesTablesAnd, LosesPage, unmap_refusal}
-use Rattle.rmi_monitor.specs.View.{MonitorView, IsTaken, seen_in, after_command}
+use Rattle.rtt.specs.Found.{with_mapped_page}
+use Rattle.rtt.specs.Calls.{with_state, LeadsTo, ChangesTablesAnd, LosesPage, Keeps, KeepsRest}
+use Rattle.rmi_monitor.specs.View.{MonitorView, IsTaken, seen_in}
 use Rattle.rmi_monitor.specs.Inside.{Fields, realm_at, seen_as, IsWhole}
-use Rattle.rmi_monitor.proofs.Outcomes.{check_false, after_err}
-use Rattle.rmi_monitor.proofs.RowPages.{row_granule, page_in_data}
+use Rattle.rmi_monitor.proofs.Outcomes.{check_false, answers_ok}
+use Rattle.rmi_monitor.proofs.LedTo.{page_led}
+use Rattle.rmi_monitor.proofs.Located.{IsLocated}
+use Rattle.rmi_monitor.proofs.Protected.{protected_inside}
 use Rattle.rmi_monitor.proofs.TableMoves.{is_moved_state}
-use Rattle.rmi_monitor.proofs.Refusals.{refused_with, not_refused, Passes, passes_from, row_refused, row_passes}
-use Rattle.rmi_monitor.proofs.RealmCommands.{nothing_moved, with_call, whole_after_move, seen_after_move}
+use Rattle.rmi_monitor.proofs.Refusals.{Passes, passed_row, row_passes}
+use Rattle.rmi_monitor.proofs.RealmCommands.{with_call, Done, whole_after_move, seen_after_move}
 use Rattle.rmi_monitor.proofs.Listed.{put_back}
+use Rattle.rmi_monitor.proofs.RealmAfter.{keeps_all}
 use Rattle.rmi_monitor.proofs.RealmFound.{row_of, nowhere, somewhere}
+
+-- What the call says where it is not refused.
+pub record UnmapCall (at : Tables) (pages : List (List ℕ)) (free : List Bool) (granules : List Granule) (new_pages : List (List ℕ)) (new_free : List Bool) (new_granules : List Granule) (ipa : ℕ) : Type 0 where
+  pub answer : (row : Row) × ((f : Row → Outcome) → with_mapped_page (rows pages at.root) ipa f ≡ f row)
+  pub loses : LosesPage (rows pages at.root) ipa (rows new_pages at.root)
+  pub moved : (page : ℕ) → LeadsTo (rows pages at.root) 3 ipa page → new_granules ≡ with_state granules page Delegated None
+  pub cleared : (page : ℕ) → LeadsTo (rows pages at.root) 3 ipa page → page_at new_pages page ≡ zero_page
+  pub others : ChangesTablesAnd (LeadsTo (rows pages at.root) 3 ipa) at.root pages new_pages
+  pub keeps : Keeps at.rd at.root pages free granules new_pages new_free new_granules
 
 module _ (monitor : MonitorView) (fields : Fields) (view_is : seen_as fields ≡ monitor) (whole : IsWhole fields) (rd : ℕ) (taken : IsTaken monitor rd) (ipa : ℕ) where
   abbrev outcome : Outcome
@@ -40,108 +51,72 @@ module _ (monitor : MonitorView) (fields : Fields) (view_is : seen_as fields ≡
     abbrev row : RealmRow
     row = row_of fields rd realm
 
-    abbrev on_row : RealmRow → Row → Outcome
-    on_row d r =
-        with_granule r (λ granule. Ok (Put granule left ∷ put_realm (seen_in monitor rd) (record d { rows = put_row d.rows 3 ipa (unassigned (unmapped_ripas r.ripas)) }) ∷ []))
+    abbrev old_rows : Rows
+    old_rows = rows fields.pages realm.root
 
-    pub destroy_unprotected : is_protected ipa ≡ false → outcome ≡ Err error_input
-    destroy_unprotected h = somewhere monitor fields view_is whole rd realm there _ ∙ check_false (is_protected ipa) error_input _ h
+    abbrev on_row : Row → Outcome
+    on_row r =
+        with_granule r (λ granule. Ok (Put granule left ∷ put_realm (seen_in monitor rd) (record row { rows = put_row old_rows 3 ipa (unassigned (unmapped_ripas r.ripas)) }) ∷ []))
 
-    module _ (protected : is_protected ipa ≡ true) where
-      decided : outcome ≡ with_row row.rows ipa 3 (λ r. check (is_assigned r) (error_rtt 3) (on_row row r))
-      decided = somewhere monitor fields view_is whole rd realm there _ ∙ check_true (is_protected ipa) error_input _ protected
+    pub destroy_unprotected : is_protected_at ipa realm.root.width ≡ false → outcome ≡ Err error_input
+    destroy_unprotected h = somewhere monitor fields view_is whole rd realm there _ ∙ check_false (is_protected_at ipa realm.root.width) error_input _ h
 
-      pub destroy_refused : (l : ℕ) → unmap_refusal (rows fields.pages realm.root) ipa ≡ Some l → outcome ≡ Err (error_rtt l)
-      destroy_refused l e = decided ∙ row_refused row.rows ipa 3 is_assigned (on_row row) l e
+    module _ (at : Tables) (given : ℕ) (located : IsLocated realm rd ipa at given) where
+      decided : outcome ≡ with_mapped_page old_rows ipa on_row
+      decided = somewhere monitor fields view_is whole rd realm there _ ∙ check_true (is_protected_at ipa realm.root.width) error_input _ located.protected
 
-      module _ (accepted : unmap_refusal (rows fields.pages realm.root) ipa ≡ None) where
-        found : Passes row.rows ipa 3 is_assigned
-        found = passes_from row.rows ipa 3 is_assigned accepted
+      pub destroy_refused : (l : ℕ) → ((f : Row → Outcome) → with_mapped_page (rows fields.pages at.root) given f ≡ Err (error_rtt l)) → outcome ≡ Err (error_rtt l)
+      destroy_refused l refused = decided ∙ (λ k. with_mapped_page (rows fields.pages (sym located.tables k).root) (sym located.same k) on_row) ∙ refused on_row
 
-        page : (page : ℕ) × (found.row.granule ≡ Some page)
-        page = row_granule fields.pages fields.granules rd realm.root ipa (whole.tables rd realm there) protected found.row found.at found.holds
+      -- ---- the call is not refused
+
+      module _ (granules : List Granule) (pages : List (List ℕ)) (free : List Bool) (given_call : UnmapCall at fields.pages fields.free fields.granules pages free granules given) where
+        call : UnmapCall (record { rd = rd; root = realm.root }) fields.pages fields.free fields.granules pages free granules ipa
+        call =
+            subst (λ (to : Tables × ℕ). UnmapCall to.0 fields.pages fields.free fields.granules pages free granules to.1) (λ k. (located.tables k, located.same k)) given_call
+
+        found : Passes old_rows ipa 3 is_assigned
+        found = (passed_row old_rows ipa 3 is_assigned (λ r. Ok []) [] (call.answer.1 (λ r. Ok []))).0
+
+        led : (page : ℕ) × (found.row.granule ≡ Some page) × IsIn fields.granules page InData (Some rd)
+        led =
+            page_led fields.pages fields.granules rd realm.root (whole.tables rd realm there) 3 ipa
+            (record { least = lit≤ tt; most = lit≤ tt; below = protected_inside realm.root.width ipa located.protected }) found.row found.at found.holds
+
+        abbrev page : ℕ
+        page = led.0
 
         abbrev lost : RealmRow
-        lost = record row { rows = put_row row.rows 3 ipa (unassigned (unmapped_ripas found.row.ripas)) }
+        lost = record row { rows = put_row old_rows 3 ipa (unassigned (unmapped_ripas found.row.ripas)) }
 
-        done : outcome ≡ Ok (Put page.0 left ∷ put_realm (seen_in monitor rd) lost ∷ [])
-        done = decided ∙ row_passes row.rows ipa 3 is_assigned (on_row row) found ∙ granule_there found.row _ page.0 page.1
+        destroyed : outcome ≡ Ok (Put page left ∷ put_realm (seen_in monitor rd) lost ∷ [])
+        destroyed = decided ∙ row_passes old_rows ipa 3 is_assigned on_row found ∙ granule_there found.row _ page led.1
 
-        pub destroy_done : (updates : List Update) × (outcome ≡ Ok updates)
-        destroy_done = (_, done)
+        leads : LeadsTo old_rows 3 ipa page
+        leads = (found.row, found.at, led.1)
 
-        module _ (granules : List Granule) (pages : List (List ℕ)) (free : List Bool)
-            (loses : LosesPage (rows fields.pages realm.root) ipa (rows pages realm.root))
-            (moved : (page : ℕ) → LeadsTo (rows fields.pages realm.root) 3 ipa page → granules ≡ with_state fields.granules page Delegated None)
-            (cleared : (page : ℕ) → LeadsTo (rows fields.pages realm.root) 3 ipa page → page_at pages page ≡ zero_page)
-            (tables : HasTables pages granules rd realm.root) (backed : IsBacked pages free granules) (flags : free ≡ fields.free)
-            (others : ChangesTablesAnd (LeadsTo (rows fields.pages realm.root) 3 ipa) realm.root fields.pages pages)
-            (alone : LeavesOthers rd fields.pages fields.granules pages granules) where
-          leads : LeadsTo (rows fields.pages realm.root) 3 ipa page.0
-          leads = (found.row, found.at, page.1)
+        -- the row leads to no other page
+        leads_once : (g : ℕ) → LeadsTo old_rows 3 ipa g → g ≡ page
+        leads_once g l =
+            let same : l.0 ≡ found.row = same_Some l.0 found.row (sym l.1 ∙ found.at) in
+            same_Some g page (sym l.2 ∙ ap (λ (r : Row). r.granule) same ∙ led.1)
 
-          -- the row leads to no other page
-          leads_once : (g : ℕ) → LeadsTo (rows fields.pages realm.root) 3 ipa g → g ≡ page.0
-          leads_once g l =
-              let same : l.0 ≡ found.row = same_Some l.0 found.row (sym l.1 ∙ found.at) in
-              same_Some g page.0 (sym l.2 ∙ ap (λ (r : Row). r.granule) same ∙ page.1)
+        abbrev rest : KeepsRest rd fields.pages fields.free fields.granules pages free granules
+        rest = call.keeps.rest
 
-          in_data : IsIn fields.granules page.0 InData (Some rd)
-          in_data = page_in_data fields.pages fields.granules rd realm.root ipa (whole.tables rd realm there) protected found.row found.at found.holds page.0 page.1
-
-          pub destroy_whole : IsWhole (with_call fields granules pages free fields.realms)
-          destroy_whole =
-              whole_after_move monitor fields view_is whole rd taken realm there realm refl (omega arith) granules pages free fields.realms
-              (sym (put_back fields.realms rd None (Some realm) there)) flags backed tables alone page.0 in_data.inside Delegated None (moved page.0 leads)
-              (ap (λ (x : Granule). is_moved_state x.state) in_data.is) refl (λ e. refl) (λ e. cleared page.0 leads)
-              (λ g differs not_table. others g (λ l. differs (leads_once g l)) not_table)
-
-          pub destroy_seen : seen_as (with_call fields granules pages free fields.realms) ≡ after_command outcome monitor
-          destroy_seen =
-              seen_after_move monitor fields view_is whole rd taken realm there realm refl (omega arith) granules pages free fields.realms
-              (sym (put_back fields.realms rd None (Some realm) there)) flags backed tables alone page.0 in_data.inside Delegated None (moved page.0 leads)
-              (ap (λ (x : Granule). is_moved_state x.state) in_data.is) refl (λ e. refl) (λ e. cleared page.0 leads)
-              (λ g differs not_table. others g (λ l. differs (leads_once g l)) not_table)
-              outcome left lost (λ i. record left { bytes = cleared page.0 leads i })
-              (λ i. record row { rows = loses found.row found.at i }) done
-
-      -- what the call leaves, whatever it answers
-      module _ (called : Result (Unit {0}) Rtt) (answer : IsRefused called (unmap_refusal (rows fields.pages realm.root) ipa))
-          (granules : List Granule) (pages : List (List ℕ)) (free : List Bool)
-          (loses : OnOk called (LosesPage (rows fields.pages realm.root) ipa (rows pages realm.root)))
-          (moved : OnOk called ((page : ℕ) → LeadsTo (rows fields.pages realm.root) 3 ipa page → granules ≡ with_state fields.granules page Delegated None))
-          (cleared : OnOk called ((page : ℕ) → LeadsTo (rows fields.pages realm.root) 3 ipa page → page_at pages page ≡ zero_page))
-          (unchanged : OnErr called ((pages ≡ fields.pages) × (granules ≡ fields.granules)))
-          (tables : HasTables pages granules rd realm.root) (backed : IsBacked pages free granules) (flags : free ≡ fields.free)
-          (others : ChangesTablesAnd (LeadsTo (rows fields.pages realm.root) 3 ipa) realm.root fields.pages pages)
-          (alone : LeavesOthers rd fields.pages fields.granules pages granules) where
-        abbrev after : Fields
-        after = with_call fields granules pages free fields.realms
-
-        both : IsWhole after × (seen_as after ≡ after_command outcome monitor)
-        both = by called answer loses moved cleared unchanged
-          where
-            by : (called : Result (Unit {0}) Rtt) → IsRefused called (unmap_refusal (rows fields.pages realm.root) ipa)
-                → OnOk called (LosesPage (rows fields.pages realm.root) ipa (rows pages realm.root))
-                → OnOk called ((page : ℕ) → LeadsTo (rows fields.pages realm.root) 3 ipa page → granules ≡ with_state fields.granules page Delegated None)
-                → OnOk called ((page : ℕ) → LeadsTo (rows fields.pages realm.root) 3 ipa page → page_at pages page ≡ zero_page)
-                → OnErr called ((pages ≡ fields.pages) × (granules ≡ fields.granules))
-                → IsWhole after × (seen_as after ≡ after_command outcome monitor)
-            by (Ok tt) is loses moved cleared unchanged =
-                let accepted = not_refused tt (unmap_refusal (rows fields.pages realm.root) ipa) is in (
-                  destroy_whole accepted granules pages free loses moved cleared tables backed flags others alone,
-                  destroy_seen accepted granules pages free loses moved cleared tables backed flags others alone,
-                )
-            by (Err refusal) is loses moved cleared unchanged =
-                let same : after ≡ fields = nothing_moved fields granules pages free fields.realms unchanged.1 unchanged.0 flags refl in (
-                  subst IsWhole (sym same) whole,
-                  ap seen_as same ∙ view_is
-                      ∙ after_err monitor (error_rtt refusal.level) outcome
-                      (destroy_refused refusal.level (refused_with (Unit {0}) refusal (unmap_refusal (rows fields.pages realm.root) ipa) is)),
-                )
-
-        pub destroy_whole_after : IsWhole after
-        destroy_whole_after = both.0
-
-        pub destroy_seen_after : seen_as after ≡ after_command outcome monitor
-        destroy_seen_after = both.1
+        pub destroy_done : Done monitor outcome (with_call fields granules pages free fields.realms)
+        destroy_done = record {
+          whole =
+              whole_after_move monitor fields view_is whole rd taken realm there realm (keeps_all realm) granules pages free fields.realms
+              (sym (put_back fields.realms rd None (Some realm) there)) rest.flags rest.backed call.keeps.tables rest.other_realms page led.2.inside Delegated None (call.moved page leads)
+              (ap (λ (x : Granule). is_moved_state x.state) led.2.is) refl (λ e. refl) (λ e. call.cleared page leads)
+              (λ g differs not_table. call.others g (λ l. differs (leads_once g l)) not_table);
+          seen =
+              seen_after_move monitor fields view_is whole rd taken realm there realm (keeps_all realm) granules pages free fields.realms
+              (sym (put_back fields.realms rd None (Some realm) there)) rest.flags rest.backed call.keeps.tables rest.other_realms page led.2.inside Delegated None (call.moved page leads)
+              (ap (λ (x : Granule). is_moved_state x.state) led.2.is) refl (λ e. refl) (λ e. call.cleared page leads)
+              (λ g differs not_table. call.others g (λ l. differs (leads_once g l)) not_table)
+              outcome left lost (λ i. record left { bytes = call.cleared page leads i })
+              (λ i. record row { rows = call.loses found.row found.at i }) destroyed;
+          answers = answers_ok {A = Unit {0}} tt _ outcome destroyed;
+        }

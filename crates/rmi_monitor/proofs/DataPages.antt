@@ -1,12 +1,13 @@
 -- The page of a granule in DATA is written: all realms keep their tables.
 use Rattle.std.proofs.Common.{◌≡◌, ◌≢◌, ℕ, Bool, List, [], set, sym, ap, ◌∙◌}
 use Rattle.std.proofs.lemmas.List.{length-set, get_or-set_other}
+use Rattle.granule_addr.specs.declared.root.Root.{Root}
 use Rattle.granule_table.specs.Granules.{granule_at}
 use Rattle.granule_table.specs.declared.granule.Granule.{Granule}
 use Rattle.realm_model.specs.declared.states.GranuleState.TheVariants.{Data as InData, Rtt as InRtt}
 use Rattle.rtt.specs.Tables.{rows}
 use Rattle.rtt.specs.Realm.{IsBacked, HasTables, LeavesAlone}
-use Rattle.rtt.specs.FrameLaws.{rows-alone, HasTables-alone}
+use Rattle.rtt.proofs.FrameLaws.{rows-alone, HasTables-alone}
 
 -- a realm that is left alone twice
 pub alone_twice : (rd : ℕ) (pages : List (List ℕ)) (granules : List Granule) (next : List (List ℕ)) (next_granules : List Granule) (last : List (List ℕ)) (last_granules : List Granule)
@@ -28,10 +29,10 @@ module _ (pages : List (List ℕ)) (granules : List Granule) (g : ℕ) (page : L
       apart : (h : ℕ) → (granule_at granules h).state ≡ InRtt → h ≢ g
       apart h table e = let differ : InData ≡ InRtt = sym is ∙ ap (λ k. (granule_at granules k).state) (sym e) ∙ table in cc
 
-  pub tables_written : (rd root : ℕ) → HasTables pages granules rd root → HasTables (set pages g page) granules rd root
+  pub tables_written : (rd : ℕ) (root : Root) → HasTables pages granules rd root → HasTables (set pages g page) granules rd root
   tables_written rd root there = HasTables-alone pages granules (set pages g page) granules rd root there (alone_written rd)
 
-  pub rows_written : (rd root : ℕ) → HasTables pages granules rd root → rows (set pages g page) root ≡ rows pages root
+  pub rows_written : (rd : ℕ) (root : Root) → HasTables pages granules rd root → rows (set pages g page) root ≡ rows pages root
   rows_written rd root there = rows-alone pages granules (set pages g page) granules rd root there (alone_written rd)
 
 pub backed_written : (pages : List (List ℕ)) (free : List Bool) (granules : List Granule) (g : ℕ) (page : List ℕ) → IsBacked pages free granules → IsBacked (set pages g page) free granules

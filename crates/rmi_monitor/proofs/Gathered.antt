@@ -1,12 +1,11 @@
 -- Maps of what stands at places: what they answer, and what one changed place makes of them.
-use Rattle.std.proofs.Common.{◌≡◌, ◌≢◌, ℕ, zero, suc, ◌<◌, Bool, true, false, cond, Option, Some, None, refl, sym, ap, ◌∙◌, ⊎_elim, arith}
-use Rattle.std.specs.Prelude.{is_some, ◌==◌}
+use Rattle.std.proofs.Common.{◌≡◌, ◌≢◌, ℕ, zero, suc, ◌+◌, ◌-◌, ◌<◌, ◌≤◌, Bool, true, false, cond, Option, Some, None, refl, sym, ap, ◌∙◌, subst, ⊎_elim, arith}
+use Rattle.std.specs.Prelude.{is_some}
 use Rattle.std.specs.Cmp.{nat_cmp_total, unsigned_tied}
 use Rattle.std.specs.Ordering.{nat_cmp, eq_by_cmp}
-use Rattle.std.specs.FinMap.{FinMap, empty, insert, remove, get, len, get-empty, get-insert, get-remove, same_map, nat_cmp-IsAntisymmetric, empty_of_len}
-use Rattle.std.proofs.lemmas.Bool.{cases_eq, eqb-true, eq-eqb, ne_eqb}
+use Rattle.std.specs.FinMap.{FinMap, empty, insert, remove, get, len, get-empty, get-insert, get-remove, len-empty, len-insert, len-remove, same_map, nat_cmp-IsAntisymmetric, empty_of_len}
+use Rattle.std.proofs.lemmas.Bool.{cases_eq, cases_lt, eq-eqb, ne_eqb}
 use Rattle.std.proofs.lemmas.Option.{same_Some, none-some}
-use Rattle.realm_model.proofs.Booleans.{false_from}
 use Rattle.rmi_monitor.specs.Gathered.{added, gathered, IsOnce}
 
 some_either : {A : Type 0} (t : Bool) (a : A) (o : Option A) → is_some o ≡ true → is_some (cond t (Some a) o) ≡ true
@@ -27,6 +26,35 @@ module _ {A : Type 0} where
 
   get-remove_other : (map : FinMap nat_cmp A) (key q : ℕ) → q ≢ key → get (remove map key) q ≡ get map q
   get-remove_other map key q ne = get-remove nat_cmp_total map key q ∙ ap (λ t. cond t None (get map q)) (unsigned_tied q key ∙ ne_eqb q key ne)
+
+  -- ---- how many there are
+
+  pub len-insert_new : (map : FinMap nat_cmp A) (key : ℕ) (a : A) → get map key ≡ None → len (insert map key a) ≡ len map + 1
+  len-insert_new map key a none = len-insert nat_cmp_total map key a ∙ ap (λ o. cond (is_some o) (len map) (len map + 1)) none
+
+  pub len-insert_there : (map : FinMap nat_cmp A) (key : ℕ) (a b : A) → get map key ≡ Some b → len (insert map key a) ≡ len map
+  len-insert_there map key a b there = len-insert nat_cmp_total map key a ∙ ap (λ o. cond (is_some o) (len map) (len map + 1)) there
+
+  pub len-remove_there : (map : FinMap nat_cmp A) (key : ℕ) (a : A) → get map key ≡ Some a → len (remove map key) ≡ len map - 1
+  len-remove_there map key a there = len-remove nat_cmp_total map key ∙ ap (λ o. cond (is_some o) (len map - 1) (len map)) there
+
+  pub len-some : (map : FinMap nat_cmp A) (key : ℕ) (a : A) → get map key ≡ Some a → 0 < len map
+  len-some map key a there = ⊎_elim (λ h. h) (λ h. absurd (none-some a (sym (get-empty nat_cmp key) ∙ ap (λ m. get m key) (sym (empty_of_len map (omega (arith, h)))) ∙ there))) (cases_lt 0 (len map))
+
+  len-added : (o : Option (ℕ × A)) (map : FinMap nat_cmp A) → len (added o map) ≤ len map + 1
+  len-added None map = omega arith
+  len-added (Some entry) map =
+      subst (λ n. n ≤ len map + 1) (sym (len-insert nat_cmp_total map entry.0 entry.1)) (by (is_some (get map entry.0)))
+    where
+      by : (t : Bool) → cond t (len map) (len map + 1) ≤ len map + 1
+      by true = omega arith
+      by false = omega arith
+
+  -- no more than there are places
+  pub len-gathered : (f : ℕ → Option (ℕ × A)) (n : ℕ) → len (gathered f n) ≤ n
+  unfolding gathered
+  len-gathered f zero = let none = len-empty nat_cmp A in omega (arith, none)
+  len-gathered f (suc n) = let one = len-added (f n) (gathered f n) in let rest = len-gathered f n in omega (arith, one, rest)
 
   -- ---- one more place
 
@@ -73,13 +101,6 @@ module _ {A : Type 0} where
       (λ (s : i ≡ n). ap (λ o. is_some (get (added o (gathered f n)) entry.0)) (sym (ap f s) ∙ there) ∙ ap is_some (get-insert_same (gathered f n) entry.0 entry.1))
       (λ (ne : i ≢ n). some-added (f n) (gathered f n) entry.0 (gathered-some f n i entry (omega arith) there))
       (cases_eq i n)
-
-  -- and then the map is not empty
-  pub len-gathered_some : (f : ℕ → Option (ℕ × A)) (n i : ℕ) (entry : ℕ × A) → i < n → f i ≡ Some entry → (len (gathered f n) == 0) ≡ false
-  len-gathered_some f n i entry lt there = false_from _ (λ e.
-      let none : get (gathered f n) entry.0 ≡ None = ap (λ map. get map entry.0) (empty_of_len (gathered f n) (eqb-true _ 0 e)) ∙ get-empty nat_cmp entry.0 in
-      let clash : false ≡ true = sym (ap is_some none) ∙ gathered-some f n i entry lt there in
-      cc)
 
   -- and as it stands there, where no other place has it
   pub get-gathered : (f : ℕ → Option (ℕ × A)) (n i key : ℕ) (a : A) → IsOnce f n → i < n → f i ≡ Some (key, a) → get (gathered f n) key ≡ Some a

@@ -2,7 +2,7 @@
 use Rattle.std.proofs.Common.{◌≡◌, ℕ, ◌<◌, Bool, true, false, List, [], ◌∷◌, length, set, Ok, None, refl, sym, ap, ◌∙◌, subst}
 use Rattle.std.proofs.lemmas.List.{set-get_or}
 use Rattle.page_arena.specs.Page.{page_at, is_free}
-use Rattle.granule_table.specs.Granules.{granule_at, undelegated}
+use Rattle.granule_table.specs.Granules.{granule_at, undelegated, IsIn}
 use Rattle.granule_table.specs.declared.granule.Granule.{Granule}
 use Rattle.granule_addr.specs.Page.{page_of, zero_page}
 use Rattle.realm_model.specs.declared.states.GranuleState.{GranuleState}
@@ -18,7 +18,7 @@ use Rattle.rmi_monitor.specs.Inside.{Fields, cell_of, machine_of, seen_as, IsWho
 use Rattle.rmi_monitor.specs.Places.{is_delegated_at, is_undelegated_at}
 use Rattle.rmi_monitor.proofs.Machines.{length-machine_of, cell_at-machine_of}
 use Rattle.rmi_monitor.proofs.HostMoves.{moved, whole_moved, machine_of-moved, host_cell, cell_of-host}
-use Rattle.rmi_monitor.proofs.Checks.{undelegated_test, delegated_test, not_undelegated, not_delegated}
+use Rattle.rmi_monitor.proofs.Checks.{undelegated_test, delegated_test, not_undelegated, not_delegated, delegated_state}
 
 module _ (monitor : MonitorView) (fields : Fields) (view_is : seen_as fields ≡ monitor) (whole : IsWhole fields) where
   pub machine_is : machine_of fields ≡ monitor.machine
@@ -66,6 +66,12 @@ module _ (monitor : MonitorView) (fields : Fields) (view_is : seen_as fields ≡
 
     pub seen_undelegated : is_undelegated (seen_in monitor g) ≡ is_undelegated_at fields.granules g
     seen_undelegated = ap undelegated_test state_is
+
+    -- a DELEGATED one belongs to no realm
+    pub in_delegated : is_delegated_at fields.granules g ≡ true → IsIn fields.granules g Delegated None
+    in_delegated h =
+        let was : (granule_at fields.granules g).state ≡ Delegated = delegated_state (granule_at fields.granules g).state h in
+        record { inside = in_granules; is = λ i. record { state = was i; realm = (whole.each g).host (ap is_host_state was) i } }
 
     -- the checks of the commands, by the granule's state
     pub is_undelegated_there : (granule_at fields.granules g).state ≡ Undelegated → is_undelegated (seen_in monitor g) ≡ true

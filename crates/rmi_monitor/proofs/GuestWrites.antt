@@ -1,54 +1,33 @@
 -- A guest's write, over the fields of a monitor: what it is refused for, and what it does.
 use Rattle.std.proofs.Common.{◌≡◌, ℕ, Bool, true, false, List, [], ◌∷◌, Ok, Err, Option, Some, None, refl, sym, ap, ◌∙◌, subst}
-use Rattle.std.specs.Prelude.{not, option_map}
-use Rattle.std.proofs.lemmas.Option.{none-some}
-use Rattle.granule_addr.specs.Ipa.{first_covered}
+use Rattle.std.specs.Prelude.{not}
+use Rattle.granule_addr.specs.Ipa.{is_protected_at}
 use Rattle.granule_table.specs.Granules.{IsIn}
 use Rattle.page_arena.specs.Page.{with_byte}
 use Rattle.realm_model.specs.declared.rmi.Rmi.{Rmi}
-use Rattle.realm_model.specs.declared.states.Hipas.{Hipas}
-use Rattle.realm_model.specs.declared.states.Hipas.TheVariants.{Unassigned, Assigned, Table}
 use Rattle.realm_model.specs.declared.states.GranuleState.TheVariants.{Data as InData}
 use Rattle.realm_model.specs.Rows.{Row, Walk, walk, is_assigned}
-use Rattle.realm_model.specs.Ownership.{mapping_of_row}
-use Rattle.realm_model.specs.Sound.{IsKind, IsShaped}
 use Rattle.realm_model.specs.Machine.{RealmRow, RecRow, Seen}
 use Rattle.realm_model.specs.Update.{Outcome, PutByte}
-use Rattle.realm_model.specs.Command.Check.{check, error_input, error_rec, error_rtt, is_ready, is_protected, with_end, with_granule}
+use Rattle.realm_model.specs.Command.Check.{check, error_input, error_rec, error_rtt, is_ready, with_end, with_granule}
 use Rattle.realm_model.specs.Command.Rec.{guest_write}
 use Rattle.realm_model.proofs.Outcomes.{check_true, end_there, granule_there}
 use Rattle.realm_model.proofs.Walks.{walk_end}
 use Rattle.realm_objects.specs.Attributes.{RealmAttributes, RecAttributes, rec_row}
+use Rattle.rtt.specs.declared.tables.Tables.{Tables}
+use Rattle.rtt.specs.Word.{IsEntry}
 use Rattle.rtt.specs.Tables.{data_of, rows}
+use Rattle.rtt.proofs.EntryKinds.{data_of-none, data_of-leads}
+use Rattle.rtt.proofs.RowWords.{rows_said}
 use Rattle.rmi_monitor.specs.View.{MonitorView, IsTaken, IsOnRec, seen_in}
 use Rattle.rmi_monitor.specs.Inside.{Fields, seen_as, IsWhole}
 use Rattle.rmi_monitor.proofs.DataBytes.{byte_put}
+use Rattle.rmi_monitor.proofs.Located.{IsLocated}
 use Rattle.rmi_monitor.proofs.RecFound.{IsKept, outcome_there, on_rec}
 use Rattle.rmi_monitor.proofs.Outcomes.{check_false}
 use Rattle.rmi_monitor.proofs.RealmFound.{row_of}
 
--- a row that leads to a page of data is ASSIGNED
-assigned_row : (row : Row) (page : ℕ) → data_of row ≡ Some page → (is_assigned row ≡ true) × (row.granule ≡ Some page)
-assigned_row row page = by row.hipas row.granule
-  where
-    by : (hipas : Hipas) (granule : Option ℕ) → elim hipas [ Unassigned ↦ None | Assigned ↦ granule | Table ↦ None ] ≡ Some page
-        → (elim hipas [ Unassigned ↦ false | Assigned ↦ true | Table ↦ false ] ≡ true) × (granule ≡ Some page)
-    by Unassigned granule e = absurd (none-some page e)
-    by Assigned granule e = (refl, e)
-    by Table granule e = absurd (none-some page e)
-
--- and one that leads to none is not
-unassigned_row : (level : ℕ) (row : Row) → IsKind level row.hipas row.granule → data_of row ≡ None → is_assigned row ≡ false
-unassigned_row level row = by row.hipas row.granule
-  where
-    by : (hipas : Hipas) (granule : Option ℕ) → IsKind level hipas granule → ◌≡◌ {A = Option ℕ} (elim hipas [ Unassigned ↦ None | Assigned ↦ granule | Table ↦ None ]) None
-        → elim hipas [ Unassigned ↦ false | Assigned ↦ true | Table ↦ false ] ≡ false
-    by Unassigned granule kind e = refl
-    by Assigned None kind e = let clash : false ≡ true = kind.1 in cc
-    by Assigned (Some page) kind e = absurd (none-some page (sym e))
-    by Table granule kind e = refl
-
-module _ (monitor : MonitorView) (fields : Fields) (view_is : seen_as fields ≡ monitor) (whole : IsWhole fields) (granule : ℕ) (taken : IsTaken monitor granule)
+module _ (monitor : MonitorView) (fields : Fields) (view_is : seen_as fields ≡ monitor) (whole : IsWhole fields) (granule : ℕ)
     (rec : RecAttributes) (rd : ℕ) (realm : RealmAttributes) (kept : IsKept fields granule rec rd realm) (ipa offset value : ℕ) where
   abbrev command : Seen → ℕ → Outcome
   command seen number = guest_write seen number ipa offset value
@@ -66,44 +45,47 @@ module _ (monitor : MonitorView) (fields : Fields) (view_is : seen_as fields ≡
   abbrev here : Outcome
   here = after_protected (row_of fields rd realm) (rec_row granule rec)
 
-  write_is : command (seen_in monitor rd) rec.number ≡ check (is_protected ipa) error_input here
-  write_is = outcome_there monitor fields view_is whole granule rec rd realm kept (λ row rec_is. check (is_protected ipa) error_input (after_protected row rec_is))
+  write_is : command (seen_in monitor rd) rec.number ≡ check (is_protected_at ipa realm.root.width) error_input here
+  write_is = outcome_there monitor fields view_is whole granule rec rd realm kept (λ row rec_is. check (is_protected_at ipa row.root.width) error_input (after_protected row rec_is))
 
   refused : (rmi : Rmi) → command (seen_in monitor rd) rec.number ≡ Err rmi
       → IsOnRec {A = Unit {0}} (λ seen number. guest_write seen number ipa offset value) monitor granule (Err rmi) monitor
-  refused rmi comes = on_rec monitor fields view_is whole command granule taken rec rd realm kept (Err rmi) (Err rmi) monitor comes refl refl
+  refused rmi comes = on_rec monitor fields view_is whole command granule rec rd realm kept (Err rmi) (Err rmi) monitor comes refl refl
 
-  pub write_unprotected : is_protected ipa ≡ false → IsOnRec {A = Unit {0}} (λ seen number. guest_write seen number ipa offset value) monitor granule (Err error_input) monitor
-  write_unprotected is = refused error_input (write_is ∙ check_false (is_protected ipa) error_input here is)
+  pub write_unprotected : is_protected_at ipa realm.root.width ≡ false → IsOnRec {A = Unit {0}} (λ seen number. guest_write seen number ipa offset value) monitor granule (Err error_input) monitor
+  write_unprotected is = refused error_input (write_is ∙ check_false (is_protected_at ipa realm.root.width) error_input here is)
 
-  module _ (protected : is_protected ipa ≡ true) where
+  module _ (protected : is_protected_at ipa realm.root.width ≡ true) where
     pub write_ready : is_ready (rec_row granule rec) ≡ true → IsOnRec {A = Unit {0}} (λ seen number. guest_write seen number ipa offset value) monitor granule (Err error_rec) monitor
     write_ready ready =
-        refused error_rec (write_is ∙ check_true (is_protected ipa) error_input here protected ∙ check_false (not (is_ready (rec_row granule rec))) error_rec _ (ap not ready))
+        refused error_rec (write_is ∙ check_true (is_protected_at ipa realm.root.width) error_input here protected ∙ check_false (not (is_ready (rec_row granule rec))) error_rec _ (ap not ready))
 
-    module _ (running : is_ready (rec_row granule rec) ≡ false) (end : Walk) (ends : walk (rows fields.pages realm.root) ipa 3 ≡ Some end) where
+    module _ (running : is_ready (rec_row granule rec) ≡ false) (at : Tables) (given to : ℕ) (located : IsLocated realm rd ipa at given) (last : to ≡ 3)
+        (end : Walk) (given_ends : walk (rows fields.pages at.root) given to ≡ Some end) where
+      ends : walk (rows fields.pages realm.root) ipa 3 ≡ Some end
+      ends = (λ k. walk (rows fields.pages (sym located.tables k).root) (sym located.same k) (sym last k)) ∙ given_ends
+
       write_walks : command (seen_in monitor rd) rec.number ≡ after_walk end
       write_walks =
-          write_is ∙ check_true (is_protected ipa) error_input here protected ∙ check_true (not (is_ready (rec_row granule rec))) error_rec _ (ap not running)
+          write_is ∙ check_true (is_protected_at ipa realm.root.width) error_input here protected ∙ check_true (not (is_ready (rec_row granule rec))) error_rec _ (ap not running)
           ∙ end_there (rows fields.pages realm.root) ipa 3 after_walk end ends
 
-      kind : IsKind end.level end.row.hipas end.row.granule
-      kind =
-          subst (IsShaped end.level) (ap (option_map mapping_of_row) (walk_end (rows fields.pages realm.root) ipa 3 end ends))
-          ((whole.tables rd realm kept.there).sound.shaped (end.level, first_covered end.level ipa))
+      said : IsEntry end.row
+      said = rows_said fields.pages realm.root end.level ipa end.row (walk_end (rows fields.pages realm.root) ipa 3 end ends)
 
-      pub write_unassigned : (level : ℕ) → level ≡ end.level → data_of end.row ≡ None
-          → IsOnRec {A = Unit {0}} (λ seen number. guest_write seen number ipa offset value) monitor granule (Err (error_rtt level)) monitor
-      write_unassigned level same none =
-          refused (error_rtt level)
-          (write_walks ∙ check_false (is_assigned end.row) (error_rtt end.level) _ (unassigned_row end.level end.row kind none) ∙ ap (λ n. Err (error_rtt n)) (sym same))
+      pub write_unassigned : (rmi : Rmi) → rmi ≡ error_rtt end.level → data_of end.row ≡ None
+          → IsOnRec {A = Unit {0}} (λ seen number. guest_write seen number ipa offset value) monitor granule (Err rmi) monitor
+      write_unassigned rmi is none =
+          refused rmi
+          (write_walks ∙ check_false (is_assigned end.row) (error_rtt end.level) _ (data_of-none end.row said none) ∙ ap (λ (r : Rmi). Err r) (sym is))
 
-      pub write_done : (page : ℕ) → data_of end.row ≡ Some page → IsIn fields.granules page InData (Some rd)
+      pub write_done : (page : ℕ) → data_of end.row ≡ Some page → IsIn fields.granules page InData (Some at.rd)
           → (pages : List (List ℕ)) (free : List Bool) → pages ≡ with_byte fields.pages page offset value → free ≡ fields.free
           → IsOnRec (λ seen number. guest_write seen number ipa offset value) monitor granule (Ok (tt {0})) (seen_as (record fields { pages = pages; free = free }))
       write_done page leads is pages free written same =
-          let row = assigned_row end.row page leads in
-          on_rec monitor fields view_is whole command granule taken rec rd realm kept (Ok tt) (Ok (PutByte page offset value ∷ [])) _
-          (write_walks ∙ check_true (is_assigned end.row) (error_rtt end.level) _ row.0 ∙ granule_there end.row (λ g. Ok (PutByte g offset value ∷ [])) page row.1)
+          let row = data_of-leads end.row page leads in
+          on_rec monitor fields view_is whole command granule rec rd realm kept (Ok tt) (Ok (PutByte page offset value ∷ [])) _
+          (write_walks ∙ check_true (is_assigned end.row) (error_rtt end.level) _ (ap is_assigned row)
+          ∙ granule_there end.row (λ g. Ok (PutByte g offset value ∷ [])) page (ap (λ (r : Row). r.granule) row))
           tt
-          (byte_put fields whole rd page offset value is pages free written same monitor view_is)
+          (byte_put fields whole rd page offset value (subst (λ (t : Tables). IsIn fields.granules page InData (Some t.rd)) located.tables is) pages free written same monitor view_is)

@@ -1,7 +1,7 @@
 -- A granule of the host's is moved: it is UNDELEGATED or DELEGATED before and after, and its page may change.
-use Rattle.std.proofs.Common.{◌≡◌, ◌≢◌, ℕ, ◌<◌, Bool, true, false, List, [], length, set, None, option_map, refl, sym, ap, ◌∙◌, subst, arith}
+use Rattle.std.proofs.Common.{◌≡◌, ◌≢◌, ℕ, ◌<◌, Bool, true, false, List, [], length, set, None, refl, sym, ap, ◌∙◌, subst, arith}
 use Rattle.std.specs.Prelude.{◌==◌}
-use Rattle.std.proofs.lemmas.Bool.{eqb-true, eqb-false}
+use Rattle.std.proofs.lemmas.Bool.{eqb-true, eqb-false, ne_eqb}
 use Rattle.std.proofs.lemmas.List.{length-set, get_or-set_same, get_or-set_other}
 use Rattle.granule_table.specs.Granules.{granule_at, undelegated}
 use Rattle.granule_table.specs.declared.granule.Granule.{Granule}
@@ -11,13 +11,11 @@ use Rattle.realm_model.specs.declared.states.GranuleState.{GranuleState}
 use Rattle.realm_model.specs.declared.states.GranuleState.TheVariants.{Undelegated, Delegated, Data as InData, Rec as InRec, RecAux as InRecAux, Rtt as InRtt}
 use Rattle.realm_model.specs.Machine.{Cell}
 use Rattle.realm_model.specs.Sound.{is_host_state, is_rd_state}
-use Rattle.realm_objects.specs.Attributes.{realm_row}
-use Rattle.rtt.specs.Tables.{rows}
 use Rattle.rtt.specs.Realm.{LeavesAlone}
-use Rattle.rtt.specs.FrameLaws.{rows-alone, HasTables-alone}
-use Rattle.rmi_monitor.specs.Inside.{Fields, recs_of, descriptor_of, bytes_of, cell_of, machine_of, is_rec_state, IsSoundAt, IsWhole}
-use Rattle.rmi_monitor.proofs.Machines.{one_put, cell_stays, descriptor_stays}
-use Rattle.rmi_monitor.proofs.Frames.{Stays, StayRecs, sound_after, backed_after, alone_after, recs_of_stay, HasRecs_stay}
+use Rattle.rtt.proofs.FrameLaws.{HasTables-alone}
+use Rattle.rmi_monitor.specs.Inside.{Fields, bytes_of, cell_of, machine_of, is_rec_state, IsSoundAt, IsWhole}
+use Rattle.rmi_monitor.proofs.Machines.{one_put, cell_plain}
+use Rattle.rmi_monitor.proofs.Frames.{Stays, StayRecs, backed_after, alone_after, recs_stay, Leaves, whole_after, cell_after}
 use Rattle.rmi_monitor.proofs.RealmPlaces.{no_realm_there}
 
 -- the fields with another state and another page of a granule that belongs to no realm
@@ -53,12 +51,10 @@ not_rec _ h = cc
 pub cell_of-host : (fields : Fields) (g : ℕ) → IsSoundAt fields g → {state : GranuleState} → (granule_at fields.granules g).state ≡ state → is_host_state state ≡ true
     → {page : List ℕ} → page_at fields.pages g ≡ page → cell_of fields g ≡ host_cell state page
 cell_of-host fields g sound {state} at is {page} page_is =
-    let bytes : bytes_of state page ≡ page = plain state is in
     let host : is_host_state (granule_at fields.granules g).state ≡ true = ap is_host_state at ∙ is in
-    let row : descriptor_of fields g ≡ None =
-    ap (λ o. option_map (λ r. realm_row r (recs_of fields.granules fields.recs g) (rows fields.pages r.root)) o) (no_realm_there fields g sound (not_rd (granule_at fields.granules g).state host)) in
-    (λ i. record { state = at i; realm = sound.host host i; bytes = bytes_of (at i) (page_is i); descriptor = row i })
-    ∙ ap (λ b. record { state = state; realm = None; bytes = b; descriptor = None }) bytes
+    cell_plain fields g (record { state = state; realm = None }) page (λ i. record { state = at i; realm = sound.host host i }) page_is
+    (no_realm_there fields g sound (not_rd (granule_at fields.granules g).state host))
+    ∙ ap (λ b. record { state = state; realm = None; bytes = b; descriptor = None }) (plain state is)
   where
     plain : (s : GranuleState) → is_host_state s ≡ true → bytes_of s page ≡ page
     plain Undelegated h = refl
@@ -84,7 +80,6 @@ module _ (old : Fields) (whole : IsWhole old) (g : ℕ) (inside : g < length old
     page_count = length-set old.pages g page;
     granule = λ h e. get_or-set_other old.granules g h (record { state = state; realm = None }) undelegated (other h e);
     page = λ h e not_table. get_or-set_other old.pages g h page [] (other h e);
-    realm = λ h e. refl;
     rec = λ h e. refl;
   }
 
@@ -124,19 +119,24 @@ module _ (old : Fields) (whole : IsWhole old) (g : ℕ) (inside : g < length old
     auxiliary = λ h at. stays.granule h (not_touched InRecAux refl h at);
   }
 
-  pub whole_moved : IsWhole (moved old g state page)
-  whole_moved = record {
+  leaves : Leaves old new g touched
+  leaves = record {
+    stays = stays;
+    realm_places = refl;
+    count_places = refl;
+    rec_places = refl;
     backed = backed_after old new touched stays whole.backed (λ h e. ap (is_free old.free) (eqb-true h g e) ∙ taken);
-    realm_places = whole.realm_places ∙ sym stays.granule_count;
-    rec_places = whole.rec_places ∙ sym stays.granule_count;
-    each = sound_after old new touched stays whole.each (λ h e. subst (IsSoundAt new) (sym (eqb-true h g e)) sound);
-    tables = λ rd realm there. HasTables-alone old.pages old.granules new.pages new.granules rd realm.root (whole.tables rd realm there) (alone rd);
-    recs = HasRecs_stay old new stay_recs whole.each whole.recs (λ h rd rec realm at of there. (realm, there, omega arith));
+    sound = λ h differs e. absurd (differs (eqb-true h g e));
+    sound_rd = sound;
+    realms = λ h differs. refl;
+    tables = λ realm there. HasTables-alone old.pages old.granules new.pages new.granules g realm.root (whole.tables g realm there) (alone g);
+    alone = λ h differs. alone h;
+    recs = recs_stay old new stay_recs whole refl (λ h rd rec realm at of there. (realm, there, omega arith)) g;
+    vmids_used = whole.vmids_used;
   }
 
-  descriptor_is : (h : ℕ) → descriptor_of new h ≡ descriptor_of old h
-  descriptor_is h = descriptor_stays old new h refl (recs_of_stay old new stay_recs whole.each h)
-      (λ realm there. rows-alone old.pages old.granules new.pages new.granules h realm.root (whole.tables h realm there) (alone h))
+  pub whole_moved : IsWhole (moved old g state page)
+  whole_moved = whole_after old new g touched leaves whole
 
   cell_is : cell_of new g ≡ host_cell state page
   cell_is = cell_of-host new g sound state_is is page_is
@@ -144,9 +144,5 @@ module _ (old : Fields) (whole : IsWhole old) (g : ℕ) (inside : g < length old
   -- the machine has that one granule in its place
   pub machine_of-moved : machine_of (moved old g state page) ≡ set (machine_of old) g (host_cell state page)
   machine_of-moved =
-      one_put old new stays.granule_count g (host_cell state page) inside cell_is (λ h within differs.
-      let e : touched h ≡ false = not_same h g differs in
-      cell_stays old new h (stays.granule h e) (stays.page h e) (descriptor_is h))
-    where
-      not_same : (a b : ℕ) → (a ≡ b → ⊥) → (a == b) ≡ false
-      not_same a b h = elim (a == b) as (λ t. (a == b) ≡ t → (a == b) ≡ false) [ true ↦ λ e. absurd (h (eqb-true a b e)) | false ↦ λ e. e ] refl
+      one_put old new stays.granule_count g (host_cell state page) inside cell_is
+      (λ h within differs. cell_after old new g touched leaves whole h (ne_eqb h g differs) differs)

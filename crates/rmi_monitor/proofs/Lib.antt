@@ -1,6 +1,8 @@
 -- lists and tests
 pub mod Comparisons
+pub mod Protected
 pub mod Listed
+pub mod Starting
 pub mod Gathered
 -- what a command answers and leaves
 pub mod Outcomes
@@ -34,7 +36,7 @@ pub mod RealmDestroys
 pub mod Destroys
 -- tables and data
 pub mod LedTo
-pub mod RowPages
+pub mod Located
 pub mod TableCreates
 pub mod TableDestroys
 pub mod TableRipas

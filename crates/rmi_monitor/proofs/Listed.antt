@@ -3,7 +3,7 @@ use Rattle.std.proofs.Common.{◌≡◌, ℕ, zero, suc, ◌<◌, true, not, Lis
 use Rattle.std.specs.Prelude.{slice_get}
 use Rattle.std.proofs.lemmas.Bool.{and_parts, and_from}
 use Rattle.std.proofs.lemmas.List.{set-get_or, get_or_default}
-use Rattle.std.proofs.lemmas.Option.{slice_get_within, get_or_from_slice_get}
+use Rattle.std.proofs.lemmas.Option.{slice_get_within, slice_get-get_or, get_or_from_slice_get}
 use Rattle.realm_model.proofs.Booleans.{not_true, true_false, false_from}
 use Rattle.realm_model.proofs.Lists.{is_in, is_in_at, index_of}
 use Rattle.rmi_monitor.specs.Places.{are_distinct}
@@ -32,9 +32,13 @@ holds_in P xs x each there =
     let found = index_of xs x there in
     subst P (get_or_from_slice_get xs found.0 x x found.1) (each found.0 x (slice_get_within xs found.0 x found.1))
 
+-- and what holds of what is in the list holds of each
+pub each_in : (P : ℕ → Type 0) (xs : List ℕ) → ((x : ℕ) → is_in x xs ≡ true → P x) → All P xs
+each_in P xs holds k d lt = holds (get_or xs k d) (is_in_at xs k (get_or xs k d) (slice_get-get_or xs k d lt))
+
 -- what is read at a place, by a number that is its
-pub read_at : {A : Type 0} (xs : List (Option A)) (i place : ℕ) (x y : Option A) → i ≡ place → place < length xs → x ≡ get_or xs i x → x ≡ y → get_or xs place None ≡ y
-read_at xs i place x y same inside read is = get_or_default xs place None x inside ∙ ap (λ (n : ℕ). get_or xs n x) (sym same) ∙ sym read ∙ is
+pub read_at : {A : Type 0} (xs : List A) (i place : ℕ) (d x y : A) → i ≡ place → place < length xs → x ≡ get_or xs i x → x ≡ y → get_or xs place d ≡ y
+read_at xs i place d x y same inside read is = get_or_default xs place d x inside ∙ ap (λ (n : ℕ). get_or xs n x) (sym same) ∙ sym read ∙ is
 
 -- and written back
 pub put_back : {A : Type 0} (xs : List A) (i : ℕ) (d x : A) → get_or xs i d ≡ x → set xs i x ≡ xs

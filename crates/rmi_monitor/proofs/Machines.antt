@@ -119,6 +119,16 @@ module _ (old new : Fields) (g : ℕ) where
       same (Some r) = refl
       same None = refl
 
+-- the cell of a granule at which no realm stands
+pub cell_plain : (fields : Fields) (g : ℕ) (granule : Granule) (page : List ℕ) → granule_at fields.granules g ≡ granule → page_at fields.pages g ≡ page → realm_at fields g ≡ None
+    → cell_of fields g ≡ record { state = granule.state; realm = granule.realm; bytes = bytes_of granule.state page; descriptor = None }
+cell_plain fields g granule page at page_is none i = record {
+  state = (at i).state;
+  realm = (at i).realm;
+  bytes = bytes_of (at i).state (page_is i);
+  descriptor = option_map (λ (r : RealmAttributes). realm_row r (recs_of fields.granules fields.recs g) (rows fields.pages r.root)) (none i);
+}
+
 -- the page of a granule that is no table
 pub IsPageOf-cell_of : (fields : Fields) (g : ℕ) (bytes : List ℕ) → bytes ≡ page_at fields.pages g → IsPageOf (cell_of fields g) bytes
 IsPageOf-cell_of fields g bytes e not_table = e ∙ same (granule_at fields.granules g).state not_table

@@ -1,5 +1,6 @@
 -- What a command answers and leaves, by what comes of it.
-use Rattle.std.proofs.Common.{◌≡◌, Bool, false, cond, List, Some, None, Ok, Err, refl, sym, ap, subst}
+use Rattle.std.proofs.Common.{◌≡◌, Bool, false, cond, List, Some, None, Result, Ok, Err, refl, sym, ap, ◌∙◌, subst}
+use Rattle.std.specs.Result.{IsErrAnd}
 use Rattle.realm_model.specs.declared.rmi.Rmi.{Rmi}
 use Rattle.realm_model.specs.Machine.{RealmRow, Seen}
 use Rattle.realm_model.specs.Update.{Update, Outcome}
@@ -11,6 +12,11 @@ answers_err A rmi outcome e = subst (λ (o : Outcome). Answers {A = A} (Err rmi)
 
 pub answers_ok : {A : Type 0} (value : A) (updates : List Update) (outcome : Outcome) → outcome ≡ Ok updates → Answers (Ok value) outcome
 answers_ok value updates outcome e = subst (λ (o : Outcome). Answers (Ok value) o) (sym e) tt
+
+-- a refusal that comes of a call's
+pub answers_refused : {A : Type 0} (answer : Result A Rmi) (rmi : Rmi) (outcome : Outcome) → IsErrAnd answer (λ e. e ≡ rmi) → outcome ≡ Err rmi → Answers answer outcome
+answers_refused (Ok value) rmi outcome said e = absurd said
+answers_refused {A} (Err refusal) rmi outcome said e = answers_err A refusal outcome (e ∙ ap (λ (r : Rmi). Err r) (sym said))
 
 -- a refusal changes nothing
 pub after_err : (monitor : MonitorView) (rmi : Rmi) (outcome : Outcome) → outcome ≡ Err rmi → monitor ≡ after_command outcome monitor

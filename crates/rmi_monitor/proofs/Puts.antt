@@ -40,12 +40,74 @@ module _ {X : Type 0} (y : X) where
             ∙ get_or-set_same xs p y d (subst (λ j. j < length xs) same within)
       ] refl
 
+-- a list with one element at a place, and another at each of some others
+abbrev pub put_all : {X : Type 0} → List X → ℕ → List ℕ → X → X → List X
+put_all xs g others x y = set_each y others (set xs g x)
+
+module _ {X : Type 0} (xs : List X) (g : ℕ) (others : List ℕ) (x y d : X) where
+  pub length-put_all : length (put_all xs g others x y) ≡ length xs
+  length-put_all = length-set_each y others (set xs g x) ∙ length-set xs g x
+
+  pub put_all-first : is_in g others ≡ false → g < length xs → get_or (put_all xs g others x y) g d ≡ x
+  put_all-first own inside = set_each_out y others (set xs g x) g d own ∙ get_or-set_same xs g x d inside
+
+  pub put_all-rest : (h : ℕ) → h < length xs → is_in h others ≡ true → get_or (put_all xs g others x y) h d ≡ y
+  put_all-rest h inside there = set_each_in y others (set xs g x) h d (subst (λ n. h < n) (sym (length-set xs g x)) inside) there
+
+  pub put_all-out : (h : ℕ) → is_in h (g ∷ others) ≡ false → get_or (put_all xs g others x y) h d ≡ get_or xs h d
+  put_all-out h out =
+      let parts = or_parts (h == g) (is_in h others) out in
+      set_each_out y others (set xs g x) h d parts.1 ∙ get_or-set_other xs g h x d (eqb-false h g parts.0)
+
 -- what puts of one cell make of a machine
 pub after_puts : (places : List ℕ) (y : Cell) (updates : List Update) (machine : Machine)
     → machine_after_all (map (λ a. Put a y) places ++ updates) machine ≡ machine_after_all updates (set_each y places machine)
 unfolding machine_after_all set_each
 after_puts [] y updates machine = refl
 after_puts (p ∷ places) y updates machine = after_puts places y updates (set machine p y)
+
+-- and where nothing comes after them
+pub after_each : (places : List ℕ) (y : Cell) (machine : Machine) → machine_after_all (map (λ a. Put a y) places) machine ≡ set_each y places machine
+unfolding machine_after_all set_each
+after_each [] y machine = refl
+after_each (p ∷ places) y machine = after_each places y (set machine p y)
+
+-- one granule is put, and then others alike
+module _ (old new : Fields) (as_many : length new.granules ≡ length old.granules) (g : ℕ) (others : List ℕ) (x y : Cell)
+    (inside : g < length old.granules)
+    (each : (h : ℕ) → h < length old.granules → is_in h others ≡ true → cell_of new h ≡ y)
+    (one : cell_of new g ≡ x)
+    (rest : (h : ℕ) → h < length old.granules → is_in h (g ∷ others) ≡ false → cell_of new h ≡ cell_of old h) where
+  abbrev started : Machine
+  started = set (machine_of old) g x
+
+  started_length : length started ≡ length old.granules
+  started_length = length-set (machine_of old) g x ∙ length-machine_of old
+
+  started_at : (h : ℕ) → h < length old.granules → is_in h others ≡ false → cell_of new h ≡ cell_at started h
+  started_at h within out = elim (h == g) as (λ t. (h == g) ≡ t → cell_of new h ≡ cell_at started h) [
+    | true ↦ λ e.
+        let same = eqb-true h g e in
+        ap (cell_of new) same ∙ one ∙ sym (get_or-set_same (machine_of old) g x blank (subst (λ n. g < n) (sym (length-machine_of old)) inside)) ∙ ap (cell_at started) (sym same)
+    | false ↦ λ e.
+        rest h within (out_of h g others (eqb-false h g e) out)
+        ∙ sym (cell_at-machine_of old h within)
+        ∙ sym (get_or-set_other (machine_of old) g h x blank (eqb-false h g e))
+  ] refl
+
+  put_at : (h : ℕ) → h < length old.granules → cell_of new h ≡ cell_at (set_each y others started) h
+  put_at h within = elim (is_in h others) as (λ t. is_in h others ≡ t → cell_of new h ≡ cell_at (set_each y others started) h) [
+    | true ↦ λ e. each h within e ∙ sym (set_each_in y others started h blank (subst (λ n. h < n) (sym started_length) within) e)
+    | false ↦ λ e. started_at h within e ∙ sym (set_each_out y others started h blank e)
+  ] refl
+
+  pub one_and_others : machine_of new ≡ machine_after_all (Put g x ∷ map (λ a. Put a y) others) (machine_of old)
+  unfolding machine_after_all
+  one_and_others =
+      same_machine (machine_of new) (set_each y others started) (length-machine_of new ∙ as_many ∙ sym (length-set_each y others started ∙ started_length)) (λ h lt.
+      let within : h < length old.granules = subst (λ n. h < n) (length-machine_of new ∙ as_many) lt in
+      cell_at-machine_of new h (subst (λ n. h < n) (length-machine_of new) lt) ∙ put_at h within)
+      ∙ sym (after_each others y started)
 
 -- one granule is put, then others alike, and then one more
 module _ (old new : Fields) (as_many : length new.granules ≡ length old.granules) (g rd : ℕ) (others : List ℕ) (x y z : Cell)

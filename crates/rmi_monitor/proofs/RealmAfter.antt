@@ -1,88 +1,122 @@
 -- A command on one realm that keeps it: what is left of the others, and of it, is whole.
-use Rattle.std.proofs.Common.{◌≡◌, ◌≢◌, ℕ, ◌≤◌, Bool, true, false, length, Some, option_map, refl, sym, ap, ◌∙◌, subst, arith}
-use Rattle.std.specs.Prelude.{◌==◌}
+use Rattle.std.proofs.Common.{◌≡◌, ◌≢◌, ℕ, ◌≤◌, Bool, true, false, cond, length, Some, option_map, refl, sym, ap, ◌∙◌, subst, arith}
+use Rattle.std.specs.Prelude.{◌==◌, is_some}
+use Rattle.std.specs.FinMap.{FinMap}
+use Rattle.std.specs.Ordering.{nat_cmp}
 use Rattle.std.proofs.lemmas.Bool.{eqb-true, eqb-false}
 use Rattle.std.proofs.lemmas.Option.{same_Some}
 use Rattle.granule_table.specs.Granules.{granule_at}
-use Rattle.realm_model.specs.declared.states.GranuleState.TheVariants.{Rec as InRec, RecAux as InRecAux}
-use Rattle.realm_model.specs.Machine.{RealmRow}
+use Rattle.granule_table.specs.declared.granule.Granule.{Granule}
+use Rattle.page_arena.specs.Page.{page_at}
+use Rattle.realm_model.specs.declared.states.GranuleState.TheVariants.{Delegated, Rd as InRd, Rtt as InRtt}
+use Rattle.realm_model.specs.Machine.{Cell, RealmRow, RecRow}
 use Rattle.realm_model.specs.Rows.{Rows}
+use Rattle.realm_model.specs.Sound.{is_host_state, is_rd_state}
 use Rattle.realm_objects.specs.Attributes.{RealmAttributes, realm_row}
 use Rattle.rtt.specs.Tables.{rows}
 use Rattle.rtt.specs.Realm.{IsBacked, HasTables, LeavesOthers}
-use Rattle.rtt.specs.FrameLaws.{rows-alone, HasTables-alone}
-use Rattle.rmi_monitor.specs.Inside.{Fields, realm_at, rec_at, recs_of, descriptor_of, cell_of, IsSoundAt, IsWhole}
-use Rattle.rmi_monitor.proofs.Machines.{cell_stays, descriptor_stays}
-use Rattle.rmi_monitor.proofs.Frames.{Stays, StayRecs, sound_after, recs_of_stay, HasRecs_stay}
+use Rattle.rmi_monitor.specs.Inside.{Fields, realm_at, recs_of, descriptor_of, bytes_of, cell_of, is_rec_state, IsSoundAt, IsWhole}
+use Rattle.rmi_monitor.specs.Vmids.{is_used}
+use Rattle.rmi_monitor.proofs.Frames.{Stays, LeavesRecs, Leaves, whole_after, cell_after}
+use Rattle.rmi_monitor.proofs.RealmPlaces.{in_rd}
+use Rattle.rmi_monitor.proofs.UsedVmids.{used-kept}
 
--- The realm has other attributes, but the same root. Its tables may have changed, and of the granules those that are touched.
--- No REC is touched, and the other realms are left alone.
-pub record Changes (old new : Fields) (rd : ℕ) (realm now : RealmAttributes) (touched : ℕ → Bool) : Type 0 where
-  pub stays : Stays old new touched
-  pub own : touched rd ≡ true
+-- A realm's attributes change, and its root and its VMID do not. RECs that had numbers keep them.
+pub record Keeps (realm now : RealmAttributes) : Type 0 where
+  pub root : now.root ≡ realm.root
+  pub vmid : now.vmid ≡ realm.vmid
+  pub next : realm.next ≤ now.next
+
+pub keeps_all : (realm : RealmAttributes) → Keeps realm realm
+keeps_all realm = record { root = refl; vmid = refl; next = omega arith }
+
+-- a cell with another row of its realm
+abbrev pub with_row_of : Cell → RealmRow → Cell
+with_row_of cell row = record cell { descriptor = Some row }
+
+-- A realm has other attributes, and its tables and its RECs may have changed. Granules are moved to it or from it, and its RD is none
+-- of them. The other realms are left alone.
+pub record Changes (old new : Fields) (rd : ℕ) (moved : ℕ → Bool) (realm now : RealmAttributes) : Type 0 where
   pub there : realm_at old rd ≡ Some realm
   pub is : realm_at new rd ≡ Some now
-  pub others : (g : ℕ) → g ≢ rd → realm_at new g ≡ realm_at old g
-  pub root : now.root ≡ realm.root
-  pub next : realm.next ≤ now.next
+  pub keeps : Keeps realm now
+  pub realms : (g : ℕ) → g ≢ rd → realm_at new g ≡ realm_at old g
+  pub used : new.used ≡ old.used
+  pub realm_places : length new.realms ≡ length old.realms
+  pub count_places : length new.rec_counts ≡ length old.rec_counts
+  pub rec_places : length new.recs ≡ length old.recs
+  pub stays : Stays old new moved
+  pub rd_stays : moved rd ≡ false
+  pub sound : (g : ℕ) → moved g ≡ true → IsSoundAt new g
   pub backed : IsBacked new.pages new.free new.granules
-  pub realm_places : length new.realms ≡ length new.granules
-  pub rec_places : length new.recs ≡ length new.granules
-  pub rec : (g : ℕ) → rec_at new g ≡ rec_at old g
-  pub rec_granule : (g : ℕ) → (granule_at old.granules g).state ≡ InRec → granule_at new.granules g ≡ granule_at old.granules g
-  pub auxiliary : (g : ℕ) → (granule_at old.granules g).state ≡ InRecAux → granule_at new.granules g ≡ granule_at old.granules g
-  pub sound : (g : ℕ) → touched g ≡ true → IsSoundAt new g
   pub tables : HasTables new.pages new.granules rd realm.root
   pub alone : LeavesOthers rd old.pages old.granules new.pages new.granules
+  pub recs : LeavesRecs old new rd
 
-module _ (old new : Fields) (rd : ℕ) (realm now : RealmAttributes) (touched : ℕ → Bool) (changes : Changes old new rd realm now touched) (whole : IsWhole old) where
-  stay_recs : StayRecs old new
-  stay_recs = record { granule_count = changes.stays.granule_count; rec = changes.rec; granule = changes.rec_granule; auxiliary = changes.auxiliary }
+-- a realm that was there is there still
+pub still_there : (old new : Fields) (rd : ℕ) (realm now : RealmAttributes) → realm_at old rd ≡ Some realm → realm_at new rd ≡ Some now → Keeps realm now
+    → ((g : ℕ) → g ≢ rd → realm_at new g ≡ realm_at old g)
+    → (g : ℕ) (r : RealmAttributes) → realm_at old g ≡ Some r → (after : RealmAttributes) × (realm_at new g ≡ Some after) × (r.next ≤ after.next)
+still_there old new rd realm now there is keeps others g r at =
+    elim (g == rd) as (λ t. (g == rd) ≡ t → (after : RealmAttributes) × (realm_at new g ≡ Some after) × (r.next ≤ after.next)) [
+      | true ↦ λ e.
+          let same = eqb-true g rd e in
+          let was : realm ≡ r = same_Some realm r (sym there ∙ ap (realm_at old) (sym same) ∙ at) in
+          (now, ap (realm_at new) same ∙ is, subst (λ (x : RealmAttributes). x.next ≤ now.next) was keeps.next)
+      | false ↦ λ e. (r, others g (eqb-false g rd e) ∙ at, omega arith)
+    ] refl
 
-  tables_after : (g : ℕ) (r : RealmAttributes) → realm_at new g ≡ Some r → HasTables new.pages new.granules g r.root
-  tables_after g r at = elim (g == rd) as (λ t. (g == rd) ≡ t → HasTables new.pages new.granules g r.root) [
-    | true ↦ λ e.
-        let same = eqb-true g rd e in
-        let root : realm.root ≡ r.root = sym changes.root ∙ ap (λ (x : RealmAttributes). x.root) (same_Some now r (sym changes.is ∙ ap (realm_at new) (sym same) ∙ at)) in
-        subst (λ h. HasTables new.pages new.granules h r.root) (sym same) (subst (HasTables new.pages new.granules rd) root changes.tables)
-    | false ↦ λ e.
-        let differs = eqb-false g rd e in
-        HasTables-alone old.pages old.granules new.pages new.granules g r.root (whole.tables g r (sym (changes.others g differs) ∙ at)) (changes.alone g differs)
-  ] refl
+module _ (old new : Fields) (rd : ℕ) (moved : ℕ → Bool) (realm now : RealmAttributes) (changes : Changes old new rd moved realm now) (whole : IsWhole old) where
+  was_rd : (granule_at old.granules rd).state ≡ InRd
+  was_rd = in_rd old whole rd realm changes.there
 
-  still_there : (g : ℕ) (r : RealmAttributes) → realm_at old g ≡ Some r → (after : RealmAttributes) × (realm_at new g ≡ Some after) × (r.next ≤ after.next)
-  still_there g r at = elim (g == rd) as (λ t. (g == rd) ≡ t → (after : RealmAttributes) × (realm_at new g ≡ Some after) × (r.next ≤ after.next)) [
-    | true ↦ λ e.
-        let same = eqb-true g rd e in
-        let was : realm ≡ r = same_Some realm r (sym changes.there ∙ ap (realm_at old) (sym same) ∙ at) in
-        (now, ap (realm_at new) same ∙ changes.is, subst (λ (x : RealmAttributes). x.next ≤ now.next) was changes.next)
-    | false ↦ λ e. (r, changes.others g (eqb-false g rd e) ∙ at, omega arith)
-  ] refl
+  rd_granule : granule_at new.granules rd ≡ granule_at old.granules rd
+  rd_granule = changes.stays.granule rd changes.rd_stays
 
-  pub whole_changed : IsWhole new
-  whole_changed = record {
-    backed = changes.backed;
+  rd_page : page_at new.pages rd ≡ page_at old.pages rd
+  rd_page = changes.stays.page rd changes.rd_stays (λ e. let differ : InRd ≡ InRtt = sym was_rd ∙ e in cc)
+
+  sound_rd : IsSoundAt new rd
+  sound_rd =
+      let state : (granule_at new.granules rd).state ≡ InRd = ap (λ (x : Granule). x.state) rd_granule ∙ was_rd in
+      record {
+        host = λ h. let differ : false ≡ true = sym (ap is_host_state state) ∙ h in cc;
+        zero = λ h. let differ : InRd ≡ Delegated = sym state ∙ h in cc;
+        rd = ap is_some changes.is ∙ sym (ap is_rd_state state);
+        rec = ap is_some (changes.stays.rec rd changes.rd_stays) ∙ (whole.each rd).rec ∙ ap is_rec_state was_rd ∙ sym (ap is_rec_state state);
+      }
+
+  leaves : Leaves old new rd moved
+  leaves = record {
+    stays = changes.stays;
     realm_places = changes.realm_places;
+    count_places = changes.count_places;
     rec_places = changes.rec_places;
-    each = sound_after old new touched changes.stays whole.each changes.sound;
-    tables = tables_after;
-    recs = HasRecs_stay old new stay_recs whole.each whole.recs (λ h g rec r at of there. still_there g r there);
+    backed = changes.backed;
+    sound = λ g differs. changes.sound g;
+    sound_rd = sound_rd;
+    realms = changes.realms;
+    tables = λ r at.
+        let root : realm.root ≡ r.root = sym changes.keeps.root ∙ ap (λ (x : RealmAttributes). x.root) (same_Some now r (sym changes.is ∙ at)) in
+        subst (HasTables new.pages new.granules rd) root changes.tables;
+    alone = changes.alone;
+    recs = changes.recs;
+    vmids_used = λ vmid.
+        used-kept old.realms new.realms old.used whole.vmids_used changes.realm_places rd realm now changes.there changes.is changes.keeps.vmid changes.realms vmid
+        ∙ ap (λ used. cond (is_used used vmid) 1 0) (sym changes.used);
   }
 
-  pub recs_of_changed : (g : ℕ) → recs_of new.granules new.recs g ≡ recs_of old.granules old.recs g
-  recs_of_changed = recs_of_stay old new stay_recs whole.each
+  pub whole_changed : IsWhole new
+  whole_changed = whole_after old new rd moved leaves whole
 
-  -- what is not touched
-  pub cell_unchanged : (g : ℕ) → touched g ≡ false → g ≢ rd → cell_of new g ≡ cell_of old g
-  cell_unchanged g e differs =
-      cell_stays old new g (changes.stays.granule g e) (changes.stays.page g e)
-      (descriptor_stays old new g (changes.others g differs) (recs_of_changed g)
-      (λ r there. rows-alone old.pages old.granules new.pages new.granules g r.root (whole.tables g r there) (changes.alone g differs)))
+  pub cell_unchanged : (g : ℕ) → moved g ≡ false → g ≢ rd → cell_of new g ≡ cell_of old g
+  cell_unchanged = cell_after old new rd moved leaves whole
 
-  -- the realm, with its RECs and its new translation
-  pub descriptor_changed : (translation : Rows) → rows new.pages realm.root ≡ translation
-      → descriptor_of new rd ≡ Some (realm_row now (recs_of old.granules old.recs rd) translation)
-  descriptor_changed translation is =
-      let row : RealmAttributes → RealmRow = λ r. realm_row r (recs_of new.granules new.recs rd) (rows new.pages r.root) in
-      ap (option_map row) changes.is
-      ∙ (λ i. Some (realm_row now (recs_of_changed rd i) ((ap (rows new.pages) changes.root ∙ is) i)))
+  -- the realm's RD, with its RECs and its translation
+  pub cell_changed : (recs : FinMap nat_cmp RecRow) (translation : Rows) → recs_of new.granules new.recs rd ≡ recs → rows new.pages realm.root ≡ translation
+      → cell_of new rd ≡ with_row_of (cell_of old rd) (realm_row now recs translation)
+  cell_changed recs translation recs_are rows_are =
+      let row : descriptor_of new rd ≡ Some (realm_row now recs translation) =
+      ap (option_map (λ (r : RealmAttributes). realm_row r (recs_of new.granules new.recs rd) (rows new.pages r.root))) changes.is
+      ∙ (λ i. Some (realm_row now (recs_are i) ((ap (rows new.pages) changes.keeps.root ∙ rows_are) i))) in
+      λ i. record { state = (rd_granule i).state; realm = (rd_granule i).realm; bytes = bytes_of (rd_granule i).state (rd_page i); descriptor = row i }

@@ -1,21 +1,24 @@
 -- The monitor after a command on a realm, by what its call leaves.
-use Rattle.std.proofs.Common.{◌≡◌, ℕ, ◌<◌, ◌≤◌, Bool, true, List, [], ◌∷◌, length, set, Option, Some, None, Ok, refl, sym, ap, ◌∙◌, subst, get_or}
+use Rattle.std.proofs.Common.{◌≡◌, ℕ, ◌<◌, Bool, true, List, [], ◌∷◌, length, set, Option, Some, None, Ok, Err, refl, sym, ap, ◌∙◌, subst, get_or}
 use Rattle.granule_table.specs.Granules.{granule_at}
 use Rattle.granule_table.specs.declared.granule.Granule.{Granule}
 use Rattle.granule_addr.specs.Page.{zero_page}
 use Rattle.page_arena.specs.Page.{page_at}
 use Rattle.realm_model.specs.declared.states.GranuleState.{GranuleState}
 use Rattle.realm_model.specs.declared.states.GranuleState.TheVariants.{Delegated}
+use Rattle.realm_model.specs.declared.rmi.Rmi.{Rmi}
 use Rattle.realm_model.specs.Machine.{Cell, RealmRow}
 use Rattle.realm_model.specs.Update.{Outcome, Put, machine_after_all}
 use Rattle.realm_model.specs.Command.Check.{put_realm}
 use Rattle.realm_objects.specs.Attributes.{RealmAttributes, realm_row}
 use Rattle.rtt.specs.Tables.{rows}
 use Rattle.rtt.specs.Realm.{IsBacked, HasTables, IsTableOf, LeavesOthers}
-use Rattle.rmi_monitor.specs.View.{MonitorView, IsTaken, seen_in, after_command}
+use Rattle.rmi_monitor.specs.View.{MonitorView, IsTaken, Answers, seen_in, after_command}
 use Rattle.rmi_monitor.specs.Inside.{Fields, realm_at, recs_of, bytes_of, machine_of, seen_as, IsWhole, cell_of}
+use Rattle.rmi_monitor.proofs.Outcomes.{after_err}
 use Rattle.rmi_monitor.proofs.Granules.{machine_is, cell_is, after_done}
-use Rattle.rmi_monitor.proofs.TableMoves.{is_moved_state, with_row_of, whole_moved_to, machine_moved_to}
+use Rattle.rmi_monitor.proofs.RealmAfter.{Keeps, with_row_of}
+use Rattle.rmi_monitor.proofs.TableMoves.{is_moved_state, whole_moved_to, machine_moved_to}
 use Rattle.rmi_monitor.proofs.Listed.{put_back}
 
 -- the fields as a call on a realm's tables leaves them
@@ -27,7 +30,20 @@ pub nothing_moved : (fields : Fields) (granules : List Granule) (pages : List (L
     → granules ≡ fields.granules → pages ≡ fields.pages → free ≡ fields.free → realms ≡ fields.realms → with_call fields granules pages free realms ≡ fields
 nothing_moved fields granules pages free realms a b c d i = with_call fields (a i) (b i) (c i) (d i)
 
--- and the realm's place is written as it was
+-- what comes of a command whose call is refused
+pub seen_refused : (monitor : MonitorView) (fields : Fields) → seen_as fields ≡ monitor
+    → (granules : List Granule) (pages : List (List ℕ)) (free : List Bool) → granules ≡ fields.granules → pages ≡ fields.pages → free ≡ fields.free
+    → (rmi : Rmi) (outcome : Outcome) → outcome ≡ Err rmi → seen_as (with_call fields granules pages free fields.realms) ≡ after_command outcome monitor
+seen_refused monitor fields view_is granules pages free a b c rmi outcome e =
+    ap seen_as (nothing_moved fields granules pages free fields.realms a b c refl) ∙ view_is ∙ after_err monitor rmi outcome e
+
+-- and of one that is done
+pub record Done (monitor : MonitorView) (outcome : Outcome) (new : Fields) : Type 0 where
+  pub whole : IsWhole new
+  pub seen : seen_as new ≡ after_command outcome monitor
+  pub answers : Answers (Ok (tt {0})) outcome
+
+-- the realm's place is written as it was
 pub seen_unmoved : (monitor : MonitorView) (fields : Fields) → seen_as fields ≡ monitor
     → (granules : List Granule) (pages : List (List ℕ)) (free : List Bool) → granules ≡ fields.granules → pages ≡ fields.pages → free ≡ fields.free
     → (number : ℕ) (x y : Option RealmAttributes) → x ≡ get_or fields.realms number x → x ≡ y
@@ -47,7 +63,7 @@ module _ (monitor : MonitorView) (fields : Fields) (view_is : seen_as fields ≡
 
   module _ (realm : RealmAttributes) (there : realm_at fields rd ≡ Some realm) where
     -- a call that moves a granule
-    module _ (now : RealmAttributes) (root : now.root ≡ realm.root) (next : realm.next ≤ now.next)
+    module _ (now : RealmAttributes) (keeps : Keeps realm now)
         (granules : List Granule) (pages : List (List ℕ)) (free : List Bool) (realms : List (Option RealmAttributes)) (put : realms ≡ set fields.realms rd (Some now))
         (flags : free ≡ fields.free) (backed : IsBacked pages free granules) (tables : HasTables pages granules rd realm.root)
         (alone : LeavesOthers rd fields.pages fields.granules pages granules)
@@ -62,7 +78,7 @@ module _ (monitor : MonitorView) (fields : Fields) (view_is : seen_as fields ≡
       pub whole_after_move : IsWhole (with_call fields granules pages free realms)
       whole_after_move =
           subst (λ (rs : List (Option RealmAttributes)). IsWhole (with_now rs)) (sym put)
-          (whole_moved_to fields whole rd realm now there root next granules pages free flags backed tables alone m inside state owner moved was is host zero page_stays)
+          (whole_moved_to fields whole rd realm now there keeps granules pages free flags backed tables alone m inside state owner moved was is host zero page_stays)
 
       -- the monitor after a command that puts that granule and the realm's row
       pub seen_after_move : (outcome : Outcome) (cell : Cell) (row : RealmRow)
@@ -74,5 +90,5 @@ module _ (monitor : MonitorView) (fields : Fields) (view_is : seen_as fields ≡
       seen_after_move outcome cell row here there_is done =
           after_done monitor fields view_is whole (with_call fields granules pages free realms) (Put m cell ∷ put_realm (seen_in monitor rd) row ∷ []) outcome done refl refl flags
           (ap (λ (rs : List (Option RealmAttributes)). machine_of (with_now rs)) put
-          ∙ machine_moved_to fields whole rd realm now there root next granules pages free flags backed tables alone m inside state owner moved was is host zero page_stays
+          ∙ machine_moved_to fields whole rd realm now there keeps granules pages free flags backed tables alone m inside state owner moved was is host zero page_stays
           ∙ (λ i. set (set (machine_is monitor fields view_is whole i) m (here i)) rd (with_row_of (sym (cell_is monitor fields view_is whole rd taken.inside) i) (there_is i))))

@@ -1,73 +1,99 @@
 -- A realm is made, over the fields of a monitor.
-use Rattle.std.proofs.Common.{◌≡◌, ◌≢◌, ℕ, ◌<◌, Bool, true, false, List, length, set, Some, None, is_some, option_map, refl, sym, ap, ◌∙◌, subst, arith}
-use Rattle.std.specs.Prelude.{◌==◌, ◌||◌}
+use Rattle.std.proofs.Common.{◌≡◌, ◌≢◌, ℕ, ◌<◌, Bool, true, false, List, [], ◌∷◌, length, map, set, Some, None, is_some, option_map, refl, sym, ap, ◌∙◌, subst, arith}
+use Rattle.std.specs.Prelude.{◌==◌}
+use Rattle.std.specs.List.{All}
 use Rattle.std.specs.FinMap.{empty}
-use Rattle.std.proofs.lemmas.Bool.{eqb-true, eqb-false, or_parts}
+use Rattle.std.proofs.lemmas.Bool.{eqb-true, eqb-false}
 use Rattle.std.proofs.lemmas.List.{length-set, get_or-set_same, get_or-set_other}
 use Rattle.std.proofs.lemmas.Option.{same_Some}
+use Rattle.granule_addr.specs.Page.{zero_page}
+use Rattle.granule_addr.specs.Root.{starting_tables}
+use Rattle.granule_addr.specs.declared.root.Root.{Root}
 use Rattle.granule_table.specs.Granules.{granule_at, undelegated, IsIn}
 use Rattle.granule_table.specs.declared.granule.Granule.{Granule}
 use Rattle.page_arena.specs.Page.{page_at, is_free}
-use Rattle.granule_addr.specs.Page.{zero_page}
 use Rattle.realm_model.specs.declared.states.GranuleState.{GranuleState}
 use Rattle.realm_model.specs.declared.states.GranuleState.TheVariants.{Undelegated, Delegated, Data as InData, Rd as InRd, Rec as InRec, RecAux as InRecAux, Rtt as InRtt}
 use Rattle.realm_model.specs.Rows.{root_rows}
-use Rattle.realm_model.specs.Machine.{held}
+use Rattle.realm_model.specs.Machine.{Cell, held}
 use Rattle.realm_model.specs.Sound.{is_host_state, is_rd_state}
+use Rattle.realm_model.specs.StepLaw.{set_each}
+use Rattle.realm_model.specs.Update.{Put, machine_after_all}
 use Rattle.realm_model.specs.Command.Realm.{new_realm}
+use Rattle.realm_model.proofs.Booleans.{or_parts, false_from, true_false}
+use Rattle.realm_model.proofs.Lists.{is_in}
 use Rattle.realm_objects.specs.Attributes.{RealmAttributes, realm_row}
 use Rattle.rtt.specs.Tables.{rows}
 use Rattle.rtt.specs.Realm.{IsBacked, HasTables, LeavesAlone, LeavesOthers}
-use Rattle.rtt.specs.FrameLaws.{rows-alone, HasTables-alone}
 use Rattle.rmi_monitor.specs.Inside.{Fields, realm_at, recs_of, descriptor_of, bytes_of, cell_of, machine_of, is_rec_state, IsSoundAt, IsWhole}
-use Rattle.rmi_monitor.proofs.Machines.{two_put, cell_stays, descriptor_stays}
-use Rattle.rmi_monitor.proofs.Frames.{Stays, StayRecs, sound_after, recs_of_stay, HasRecs_stay}
-use Rattle.rmi_monitor.proofs.Comparisons.{or_rest, neither}
+use Rattle.rmi_monitor.specs.Vmids.{is_used, IsMarked}
+use Rattle.rmi_monitor.proofs.Machines.{cell_plain}
+use Rattle.rmi_monitor.proofs.Frames.{Stays, StayRecs, recs_of_stay, recs_stay, Leaves, whole_after, cell_after}
+use Rattle.rmi_monitor.proofs.Listed.{each_in}
+use Rattle.rmi_monitor.proofs.Puts.{put_all, length-put_all, put_all-first, put_all-rest, put_all-out, set_each_out, out_of, one_and_others}
+use Rattle.rmi_monitor.proofs.Comparisons.{or_rest}
 use Rattle.rmi_monitor.proofs.RealmPlaces.{no_realm_there}
 use Rattle.rmi_monitor.proofs.RealmRecs.{recs_of-none}
+use Rattle.rmi_monitor.proofs.UsedVmids.{used-create}
 
--- the state that both granules are in before
+-- the state that the granules are in before
 abbrev is_delegated_state : GranuleState → Bool
 is_delegated_state Delegated = true
 is_delegated_state _ = false
 
-module _ (old : Fields) (whole : IsWhole old) (rd root : ℕ) (apart : rd ≢ root) (rd_inside : rd < length old.granules) (root_inside : root < length old.granules)
-    (rd_was : (granule_at old.granules rd).state ≡ Delegated) (root_was : (granule_at old.granules root).state ≡ Delegated) where
-  -- the granules after the RD is one, and after the root is one too
+-- a granule can be a starting table
+pub record CanStart (old : Fields) (rd table : ℕ) : Type 0 where
+  pub inside : table < length old.granules
+  pub was : (granule_at old.granules table).state ≡ Delegated
+  pub beside : table ≢ rd
+
+module _ (old : Fields) (whole : IsWhole old) (rd : ℕ) (root : Root) (rd_inside : rd < length old.granules) (rd_was : (granule_at old.granules rd).state ≡ Delegated)
+    (starts : (table : ℕ) → is_in table (starting_tables root) ≡ true → CanStart old rd table) where
+  abbrev tables : List ℕ
+  tables = starting_tables root
+
+  abbrev rd_granule : Granule
+  rd_granule = record { state = InRd; realm = Some rd }
+
+  abbrev table_granule : Granule
+  table_granule = record { state = InRtt; realm = Some rd }
+
+  -- the granules after the RD is one, and after the starting tables are
   abbrev with_rd : List Granule
-  with_rd = set old.granules rd (record { state = InRd; realm = Some rd })
+  with_rd = set old.granules rd rd_granule
 
-  abbrev with_root : List Granule
-  with_root = set with_rd root (record { state = InRtt; realm = Some rd })
+  abbrev with_tables : List Granule
+  with_tables = put_all old.granules rd tables rd_granule table_granule
 
-  rd_root_differ : root ≢ rd
-  rd_root_differ e = apart (sym e)
+  rd_apart : is_in rd tables ≡ false
+  rd_apart = false_from (is_in rd tables) (λ e. (starts rd e).beside refl)
 
   count_rd : length with_rd ≡ length old.granules
-  count_rd = length-set old.granules rd (record { state = InRd; realm = Some rd })
+  count_rd = length-set old.granules rd rd_granule
 
-  count : length with_root ≡ length old.granules
-  count = length-set with_rd root (record { state = InRtt; realm = Some rd }) ∙ count_rd
+  count : length with_tables ≡ length old.granules
+  count = length-put_all old.granules rd tables rd_granule table_granule undelegated
 
-  rd_is : granule_at with_root rd ≡ record { state = InRd; realm = Some rd }
-  rd_is = get_or-set_other with_rd root rd (record { state = InRtt; realm = Some rd }) undelegated apart
-      ∙ get_or-set_same old.granules rd (record { state = InRd; realm = Some rd }) undelegated rd_inside
+  rd_is : granule_at with_tables rd ≡ rd_granule
+  rd_is = put_all-first old.granules rd tables rd_granule table_granule undelegated rd_apart rd_inside
 
-  root_is : granule_at with_root root ≡ record { state = InRtt; realm = Some rd }
-  root_is = get_or-set_same with_rd root (record { state = InRtt; realm = Some rd }) undelegated (subst (λ n. root < n) (sym count_rd) root_inside)
+  table_is : (table : ℕ) → is_in table tables ≡ true → granule_at with_tables table ≡ table_granule
+  table_is table e = put_all-rest old.granules rd tables rd_granule table_granule undelegated table (starts table e).inside e
+
+  granule_other : (g : ℕ) → is_in g (rd ∷ tables) ≡ false → granule_at with_tables g ≡ granule_at old.granules g
+  granule_other g out = put_all-out old.granules rd tables rd_granule table_granule undelegated g out
 
   with_rd_other : (g : ℕ) → g ≢ rd → granule_at with_rd g ≡ granule_at old.granules g
-  with_rd_other g differs = get_or-set_other old.granules rd g (record { state = InRd; realm = Some rd }) undelegated differs
-
-  granule_other : (g : ℕ) → g ≢ rd → g ≢ root → granule_at with_root g ≡ granule_at old.granules g
-  granule_other g not_rd not_root = get_or-set_other with_rd root g (record { state = InRtt; realm = Some rd }) undelegated not_root ∙ with_rd_other g not_rd
+  with_rd_other g differs = get_or-set_other old.granules rd g rd_granule undelegated differs
 
   -- what opening the root asks for
-  pub root_delegated : IsIn with_rd root Delegated None
-  root_delegated = record {
-    inside = subst (λ n. root < n) (sym count_rd) root_inside;
-    is = with_rd_other root rd_root_differ ∙ (λ i. record { state = root_was i; realm = (whole.each root).host (ap is_host_state root_was) i });
-  }
+  pub tables_delegated : All (λ table. IsIn with_rd table Delegated None) tables
+  tables_delegated = each_in (λ table. IsIn with_rd table Delegated None) tables (λ table e.
+      let start = starts table e in
+      record {
+        inside = subst (λ n. table < n) (sym count_rd) start.inside;
+        is = with_rd_other table start.beside ∙ (λ i. record { state = start.was i; realm = (whole.each table).host (ap is_host_state start.was) i });
+      })
 
   pub backed_with_rd : IsBacked old.pages old.free with_rd
   backed_with_rd = record {
@@ -81,21 +107,16 @@ module _ (old : Fields) (whole : IsWhole old) (rd root : ℕ) (apart : rd ≢ ro
   no_realm_rd : realm_at old rd ≡ None
   no_realm_rd = no_realm_there old rd (whole.each rd) (ap is_rd_state rd_was)
 
-  no_realm_root : realm_at old root ≡ None
-  no_realm_root = no_realm_there old root (whole.each root) (ap is_rd_state root_was)
-
-  module _ (realm : RealmAttributes) (realm_root : realm.root ≡ root) (fresh : realm_row realm empty root_rows ≡ new_realm realm.vmid root)
-      (pages : List (List ℕ)) (free : List Bool) (flags : free ≡ old.free) (backed : IsBacked pages free with_root) (tables : HasTables pages with_root rd root)
-      (translation : rows pages root ≡ root_rows) (page_stays : (g : ℕ) → g ≢ root → page_at pages g ≡ page_at old.pages g)
-      (alone : LeavesOthers rd old.pages with_rd pages with_root) where
+  module _ (realm : RealmAttributes) (realm_root : realm.root ≡ root) (fresh : realm_row realm empty (root_rows root.width) ≡ new_realm realm.vmid root)
+      (pages : List (List ℕ)) (free : List Bool) (flags : free ≡ old.free) (backed : IsBacked pages free with_tables) (has_tables : HasTables pages with_tables rd root)
+      (translation : rows pages root ≡ root_rows root.width) (cleared : pages ≡ set_each zero_page tables old.pages)
+      (alone : LeavesOthers rd old.pages with_rd pages with_tables)
+      (used : List Bool) (unused : is_used old.used realm.vmid ≡ false) (marked : IsMarked old.used used realm.vmid true) where
     abbrev new : Fields
-    new = record old { granules = with_root; pages = pages; free = free; realms = set old.realms rd (Some realm) }
+    new = record old { granules = with_tables; pages = pages; free = free; realms = set old.realms rd (Some realm); used = used }
 
     abbrev touched : ℕ → Bool
-    touched g = (g == root) || (g == rd)
-
-    untouched : (g : ℕ) → touched g ≡ false → (g ≢ root) × (g ≢ rd)
-    untouched g e = (eqb-false g root ((or_parts (g == root) (g == rd) e).0), eqb-false g rd ((or_parts (g == root) (g == rd) e).1))
+    touched g = is_in g (rd ∷ tables)
 
     realm_is : realm_at new rd ≡ Some realm
     realm_is = get_or-set_same old.realms rd (Some realm) None (subst (λ n. rd < n) (sym whole.realm_places) rd_inside)
@@ -103,27 +124,29 @@ module _ (old : Fields) (whole : IsWhole old) (rd root : ℕ) (apart : rd ≢ ro
     realm_other : (g : ℕ) → g ≢ rd → realm_at new g ≡ realm_at old g
     realm_other g differs = get_or-set_other old.realms rd g (Some realm) None differs
 
+    page_other : (g : ℕ) → is_in g tables ≡ false → page_at pages g ≡ page_at old.pages g
+    page_other g out = ap (λ ps. page_at ps g) cleared ∙ set_each_out zero_page tables old.pages g [] out
+
     stays : Stays old new touched
     stays = record {
       free = flags;
       granule_count = count;
       page_count = sym backed.as_many ∙ count ∙ whole.backed.as_many;
-      granule = λ g e. granule_other g (untouched g e).1 (untouched g e).0;
-      page = λ g e not_table. page_stays g (untouched g e).0;
-      realm = λ g e. realm_other g (untouched g e).1;
+      granule = granule_other;
+      page = λ g e not_table. page_other g (or_parts (g == rd) (is_in g tables) e).1;
       rec = λ g e. refl;
     }
 
-    -- a granule of another state is neither
-    not_delegated : (wanted : GranuleState) → is_delegated_state wanted ≡ false → (g : ℕ) → (granule_at old.granules g).state ≡ wanted → (g ≢ rd) × (g ≢ root)
-    not_delegated wanted other g at = (away rd rd_was, away root root_was)
+    -- a granule of another state is none of them
+    not_delegated : (wanted : GranuleState) → is_delegated_state wanted ≡ false → (g : ℕ) → (granule_at old.granules g).state ≡ wanted → is_in g (rd ∷ tables) ≡ false
+    not_delegated wanted other g at =
+        out_of g rd tables (λ e. away (ap (λ k. (granule_at old.granules k).state) e ∙ rd_was)) (false_from (is_in g tables) (λ e. away (starts g e).was))
       where
-        away : (h : ℕ) → (granule_at old.granules h).state ≡ Delegated → g ≢ h
-        away h was e =
-            let differ : true ≡ false = ap is_delegated_state (sym was ∙ ap (λ k. (granule_at old.granules k).state) (sym e) ∙ at) ∙ other in cc
+        away : (granule_at old.granules g).state ≡ Delegated → ⊥
+        away was = let differ : true ≡ false = ap is_delegated_state (sym was ∙ at) ∙ other in cc
 
     -- another realm is left alone
-    alone_from : (g : ℕ) → g ≢ rd → LeavesAlone g old.pages old.granules pages with_root
+    alone_from : (g : ℕ) → g ≢ rd → LeavesAlone g old.pages old.granules pages with_tables
     alone_from g differs = record {
       page = λ h is. (alone g differs).page h (early h InRtt refl is);
       table = λ h is. (alone g differs).table h (early h InRtt refl is);
@@ -133,12 +156,12 @@ module _ (old : Fields) (whole : IsWhole old) (rd root : ℕ) (apart : rd ≢ ro
         early : (h : ℕ) (state : GranuleState) → is_delegated_state state ≡ false → IsIn old.granules h state (Some g) → IsIn with_rd h state (Some g)
         early h state other is = record {
           inside = subst (λ n. h < n) (sym count_rd) is.inside;
-          is = with_rd_other h (not_delegated state other h (ap (λ (x : Granule). x.state) is.is)).0 ∙ is.is;
+          is = with_rd_other h (eqb-false h rd (or_parts (h == rd) (is_in h tables) (not_delegated state other h (ap (λ (x : Granule). x.state) is.is))).0) ∙ is.is;
         }
 
     sound_rd : IsSoundAt new rd
     sound_rd =
-        let state : (granule_at with_root rd).state ≡ InRd = ap (λ (x : Granule). x.state) rd_is in
+        let state : (granule_at with_tables rd).state ≡ InRd = ap (λ (x : Granule). x.state) rd_is in
         record {
           host = λ h. let differ : false ≡ true = sym (ap is_host_state state) ∙ h in cc;
           zero = λ h. let differ : InRd ≡ Delegated = sym state ∙ h in cc;
@@ -146,77 +169,67 @@ module _ (old : Fields) (whole : IsWhole old) (rd root : ℕ) (apart : rd ≢ ro
           rec = (whole.each rd).rec ∙ ap is_rec_state rd_was ∙ sym (ap is_rec_state state);
         }
 
-    sound_root : IsSoundAt new root
-    sound_root =
-        let state : (granule_at with_root root).state ≡ InRtt = ap (λ (x : Granule). x.state) root_is in
+    no_realm_table : (table : ℕ) → is_in table tables ≡ true → realm_at new table ≡ None
+    no_realm_table table e = let start = starts table e in realm_other table start.beside ∙ no_realm_there old table (whole.each table) (ap is_rd_state start.was)
+
+    sound_table : (table : ℕ) → is_in table tables ≡ true → IsSoundAt new table
+    sound_table table e =
+        let state : (granule_at with_tables table).state ≡ InRtt = ap (λ (x : Granule). x.state) (table_is table e) in
         record {
           host = λ h. let differ : false ≡ true = sym (ap is_host_state state) ∙ h in cc;
           zero = λ h. let differ : InRtt ≡ Delegated = sym state ∙ h in cc;
-          rd = ap is_some (realm_other root rd_root_differ ∙ no_realm_root) ∙ sym (ap is_rd_state state);
-          rec = (whole.each root).rec ∙ ap is_rec_state root_was ∙ sym (ap is_rec_state state);
+          rd = ap is_some (no_realm_table table e) ∙ sym (ap is_rd_state state);
+          rec = (whole.each table).rec ∙ ap is_rec_state (starts table e).was ∙ sym (ap is_rec_state state);
         }
-
-    sound_touched : (g : ℕ) → touched g ≡ true → IsSoundAt new g
-    sound_touched g e = elim (g == root) as (λ t. (g == root) ≡ t → IsSoundAt new g) [
-      | true ↦ λ at. subst (IsSoundAt new) (sym (eqb-true g root at)) sound_root
-      | false ↦ λ at. subst (IsSoundAt new) (sym (eqb-true g rd (or_rest (g == root) (g == rd) at e))) sound_rd
-    ] refl
 
     stay_recs : StayRecs old new
     stay_recs = record {
       granule_count = count;
       rec = λ g. refl;
-      granule = λ g at. let away = not_delegated InRec refl g at in granule_other g away.0 away.1;
-      auxiliary = λ g at. let away = not_delegated InRecAux refl g at in granule_other g away.0 away.1;
+      granule = λ g at. granule_other g (not_delegated InRec refl g at);
+      auxiliary = λ g at. granule_other g (not_delegated InRecAux refl g at);
     }
-
-    tables_after : (g : ℕ) (r : RealmAttributes) → realm_at new g ≡ Some r → HasTables pages with_root g r.root
-    tables_after g r at = elim (g == rd) as (λ t. (g == rd) ≡ t → HasTables pages with_root g r.root) [
-      | true ↦ λ e.
-          let same = eqb-true g rd e in
-          let is : root ≡ r.root = sym realm_root ∙ ap (λ (x : RealmAttributes). x.root) (same_Some realm r (sym realm_is ∙ ap (realm_at new) (sym same) ∙ at)) in
-          subst (λ h. HasTables pages with_root h r.root) (sym same) (subst (HasTables pages with_root rd) is tables)
-      | false ↦ λ e.
-          let differs = eqb-false g rd e in
-          HasTables-alone old.pages old.granules pages with_root g r.root (whole.tables g r (sym (realm_other g differs) ∙ at)) (alone_from g differs)
-    ] refl
 
     -- a realm that was there is another one
     not_new : (g : ℕ) (r : RealmAttributes) → realm_at old g ≡ Some r → g ≢ rd
     not_new g r at e = let differ : None ≡ Some r = sym no_realm_rd ∙ ap (realm_at old) (sym e) ∙ at in cc
 
-    pub whole_created : IsWhole new
-    whole_created = record {
+    leaves : Leaves old new rd touched
+    leaves = record {
+      stays = stays;
+      realm_places = length-set old.realms rd (Some realm);
+      count_places = refl;
+      rec_places = refl;
       backed = backed;
-      realm_places = length-set old.realms rd (Some realm) ∙ whole.realm_places ∙ sym count;
-      rec_places = whole.rec_places ∙ sym count;
-      each = sound_after old new touched stays whole.each sound_touched;
-      tables = tables_after;
-      recs = HasRecs_stay old new stay_recs whole.each whole.recs (λ h g rec r at of there. (r, realm_other g (not_new g r there) ∙ there, omega arith));
+      sound = λ g differs e. sound_table g (or_rest (g == rd) (is_in g tables) (false_from (g == rd) (λ s. differs (eqb-true g rd s))) e);
+      sound_rd = sound_rd;
+      realms = realm_other;
+      tables = λ r at. subst (HasTables pages with_tables rd) (sym realm_root ∙ ap (λ (x : RealmAttributes). x.root) (same_Some realm r (sym realm_is ∙ at))) has_tables;
+      alone = alone_from;
+      recs = recs_stay old new stay_recs whole refl (λ h g rec r at of there. (r, realm_other g (not_new g r there) ∙ there, omega arith)) rd;
+      vmids_used = used-create old.realms old.used used whole.vmids_used rd (subst (λ n. rd < n) (sym whole.realm_places) rd_inside) realm no_realm_rd unused marked;
     }
 
-    cell_rd : cell_of new rd ≡ record { state = InRd; realm = Some rd; bytes = zero_page; descriptor = Some (new_realm realm.vmid root) }
+    pub whole_created : IsWhole new
+    whole_created = whole_after old new rd touched leaves whole
+
+    abbrev pub rd_cell : Cell
+    rd_cell = record { state = InRd; realm = Some rd; bytes = zero_page; descriptor = Some (new_realm realm.vmid root) }
+
+    cell_rd : cell_of new rd ≡ rd_cell
     cell_rd =
-        let page : page_at pages rd ≡ zero_page = page_stays rd apart ∙ (whole.each rd).zero rd_was in
-        let recs : recs_of new.granules new.recs rd ≡ empty = recs_of_stay old new stay_recs whole.each rd ∙ recs_of-none old whole rd no_realm_rd in
-        let translated : rows pages realm.root ≡ root_rows = ap (rows pages) realm_root ∙ translation in
+        let page : page_at pages rd ≡ zero_page = page_other rd rd_apart ∙ (whole.each rd).zero rd_was in
+        let recs : recs_of new.granules new.recs rd ≡ empty = recs_of_stay old new stay_recs whole rd ∙ recs_of-none old whole rd no_realm_rd in
+        let translated : rows pages realm.root ≡ root_rows root.width = ap (rows pages) realm_root ∙ translation in
         let row : descriptor_of new rd ≡ Some (new_realm realm.vmid root) =
         ap (option_map (λ (r : RealmAttributes). realm_row r (recs_of new.granules new.recs rd) (rows pages r.root))) realm_is
         ∙ (λ i. Some (realm_row realm (recs i) (translated i))) ∙ ap Some fresh in
         (λ i. record { state = (rd_is i).state; realm = (rd_is i).realm; bytes = bytes_of (rd_is i).state (page i); descriptor = row i })
 
-    cell_root : cell_of new root ≡ held InRtt rd
-    cell_root =
-        let row : descriptor_of new root ≡ None =
-        ap (option_map (λ (r : RealmAttributes). realm_row r (recs_of new.granules new.recs root) (rows pages r.root))) (realm_other root rd_root_differ ∙ no_realm_root) in
-        (λ i. record { state = (root_is i).state; realm = (root_is i).realm; bytes = bytes_of (root_is i).state (page_at pages root); descriptor = row i })
+    cell_table : (table : ℕ) → is_in table tables ≡ true → cell_of new table ≡ held InRtt rd
+    cell_table table e = cell_plain new table table_granule (page_at pages table) (table_is table e) refl (no_realm_table table e)
 
-    pub machine_created : machine_of new
-        ≡ set (set (machine_of old) rd (record { state = InRd; realm = Some rd; bytes = zero_page; descriptor = Some (new_realm realm.vmid root) })) root (held InRtt rd)
+    pub machine_created : machine_of new ≡ machine_after_all (Put rd rd_cell ∷ map (λ table. Put table (held InRtt rd)) tables) (machine_of old)
     machine_created =
-        two_put old new count rd root _ _ rd_inside root_inside apart cell_rd cell_root
-        (λ g within not_rd not_root.
-        let e : touched g ≡ false = neither g root rd not_root not_rd in
-        cell_stays old new g (stays.granule g e) (stays.page g e)
-        (descriptor_stays old new g (realm_other g not_rd) (recs_of_stay old new stay_recs whole.each g)
-        (λ r there. rows-alone old.pages old.granules pages with_root g r.root (whole.tables g r there) (alone_from g not_rd))))
+        one_and_others old new count rd tables rd_cell (held InRtt rd) rd_inside (λ h within e. cell_table h e) cell_rd
+        (λ h within out. cell_after old new rd touched leaves whole h out (eqb-false h rd (or_parts (h == rd) (is_in h tables) out).0))

@@ -51,9 +51,4 @@ module _ (monitor : MonitorView) (fields : Fields) (view_is : seen_as fields ≡
     realm_place n same = subst (λ k. n < k) (as_many_granules monitor fields view_is whole ∙ sym whole.realm_places) (subst (λ k. k < length monitor.machine) (sym same) inside)
 
     pub realm_read : (n : ℕ) (x y : Option RealmAttributes) → n ≡ rd → x ≡ get_or fields.realms n x → x ≡ y → realm_at fields rd ≡ y
-    realm_read n x y same read is = read_at fields.realms n rd x y same (realm_place rd refl) read is
-
-    -- with the root that code reads of it
-    pub realm_rooted : (n : ℕ) (x : Option RealmAttributes) (realm : RealmAttributes) (root : ℕ) → n ≡ rd → x ≡ get_or fields.realms n x → x ≡ Some realm → root ≡ realm.root
-        → realm_at fields rd ≡ Some (record realm { root = root })
-    realm_rooted n x realm root same read is rooted = realm_read n x (Some (record realm { root = root })) same read (is ∙ (λ i. Some (record realm { root = sym rooted i })))
+    realm_read n x y same read is = read_at fields.realms n rd None x y same (realm_place rd refl) read is

@@ -1,11 +1,13 @@
 -- The place of a realm that is there.
-use Rattle.std.proofs.Common.{◌≡◌, ℕ, ◌<◌, true, false, length, Some, None, is_some, refl, sym, ap, ◌∙◌, subst}
+use Rattle.std.proofs.Common.{◌≡◌, ◌≢◌, ℕ, ◌<◌, true, false, length, Some, None, is_some, refl, sym, ap, ◌∙◌, subst}
 use Rattle.granule_table.specs.Granules.{granule_at}
+use Rattle.granule_table.specs.declared.granule.Granule.{Granule}
 use Rattle.realm_model.specs.declared.states.GranuleState.{GranuleState}
-use Rattle.realm_model.specs.declared.states.GranuleState.TheVariants.{Rd as InRd}
+use Rattle.realm_model.specs.declared.states.GranuleState.TheVariants.{Rd as InRd, Rtt as InRtt}
 use Rattle.realm_model.specs.Sound.{is_rd_state}
 use Rattle.realm_model.proofs.Booleans.{none_from}
 use Rattle.realm_objects.specs.Attributes.{RealmAttributes}
+use Rattle.rtt.specs.Realm.{IsTableOf}
 use Rattle.rmi_monitor.specs.Inside.{Fields, realm_at, IsSoundAt, IsWhole}
 use Rattle.rmi_monitor.proofs.Listed.{some_inside}
 
@@ -19,6 +21,10 @@ module _ (fields : Fields) (whole : IsWhole fields) (rd : ℕ) (realm : RealmAtt
 
   pub in_rd : (granule_at fields.granules rd).state ≡ InRd
   in_rd = rd_state (granule_at fields.granules rd).state (sym (whole.each rd).rd ∙ ap is_some there)
+
+  -- a granule that is not in RTT is none of its tables
+  pub no_table : (g : ℕ) → (granule_at fields.granules g).state ≢ InRtt → IsTableOf fields.pages realm.root g → ⊥
+  no_table g not_rtt of = not_rtt (ap (λ (x : Granule). x.state) ((whole.tables rd realm there).own.tables of.level of.ipa g of.inside of.at).is)
 
 -- no realm stands at a granule that is not in RD
 pub no_realm_there : (fields : Fields) (g : ℕ) → IsSoundAt fields g → is_rd_state (granule_at fields.granules g).state ≡ false → realm_at fields g ≡ None

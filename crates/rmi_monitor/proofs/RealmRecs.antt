@@ -1,36 +1,13 @@
--- A realm's RECs, by what stands at the granules: whether it has some, and the one of a number.
-use Rattle.std.proofs.Common.{◌≡◌, ℕ, ◌<◌, true, false, not, List, length, get_or, Option, Some, None, refl, sym, ap, ◌∙◌, subst}
-use Rattle.std.specs.Prelude.{is_some, ◌==◌}
-use Rattle.std.specs.Ordering.{nat_cmp}
-use Rattle.std.specs.FinMap.{get, len, len-empty, empty}
+-- A realm's RECs, by what stands at the granules: the one of a number, and those of no realm.
+use Rattle.std.proofs.Common.{◌≡◌, ℕ, ◌<◌, true, List, length, get_or, Option, Some, None, refl, sym, ap, ◌∙◌}
+use Rattle.std.specs.FinMap.{get, empty}
 use Rattle.std.proofs.lemmas.Option.{none-some}
-use Rattle.granule_table.specs.Granules.{granule_at}
 use Rattle.granule_table.specs.declared.granule.Granule.{Granule}
 use Rattle.realm_model.specs.Machine.{RecRow}
-use Rattle.realm_model.proofs.Booleans.{some_is, true_false}
 use Rattle.realm_objects.specs.Attributes.{RecAttributes, rec_row}
 use Rattle.rmi_monitor.specs.Inside.{is_of_realm, rec_of, recs_of, IsNumbered, IsRecAt, Fields, realm_at, rec_at, IsWhole}
-use Rattle.rmi_monitor.proofs.Gathered.{gathered-none, len-gathered_some, get-gathered, gathered-get-none}
-use Rattle.rmi_monitor.proofs.Listed.{some_inside}
-use Rattle.rmi_monitor.proofs.RecEntries.{rec_of-none, rec_of-other, rec_of-some, of_realm, of_other}
-
-module _ (granules : List Granule) (recs : List (Option RecAttributes)) (rd granule : ℕ) where
-  -- a realm with a REC at a granule has some
-  some_recs : (rec : RecAttributes) → is_of_realm granules rd granule ≡ true → get_or recs granule None ≡ Some rec → granule < length granules
-      → (len (recs_of granules recs rd) == 0) ≡ false
-  unfolding recs_of
-  some_recs rec of there inside = len-gathered_some (rec_of granules recs rd) (length granules) granule _ inside (rec_of-some granules recs rd granule rec of there)
-
-  pub has_recs : is_of_realm granules rd granule ≡ true → is_some (get_or recs granule None) ≡ true → granule < length granules
-      → true ≡ not (len (recs_of granules recs rd) == 0)
-  has_recs of some inside = let rec = some_is (get_or recs granule None) some in sym (ap not (some_recs rec.0 of rec.1 inside))
-
--- and a realm with none at any place has none
-pub has_no_recs : (granules : List Granule) (recs : List (Option RecAttributes)) (rd : ℕ) → ((granule : ℕ) → granule < length granules → rec_of granules recs rd granule ≡ None)
-    → false ≡ not (len (recs_of granules recs rd) == 0)
-unfolding recs_of
-has_no_recs granules recs rd none =
-    sym (ap (λ map. not (len map == 0)) (gathered-none (rec_of granules recs rd) (length granules) none) ∙ ap (λ n. not (n == 0)) (len-empty nat_cmp RecRow))
+use Rattle.rmi_monitor.proofs.Gathered.{gathered-none, get-gathered, gathered-get-none}
+use Rattle.rmi_monitor.proofs.RecEntries.{rec_of-none, rec_of-other, rec_of-some, of_other}
 
 module _ (granules : List Granule) (recs : List (Option RecAttributes)) (rd number granule : ℕ) where
   -- the REC of that number, where no other granule has it
@@ -55,12 +32,6 @@ unfolding recs_of
 recs_of-without granules recs rd number out = gathered-get-none (rec_of granules recs rd) (length granules) number (λ granule row lt at. out granule lt row at)
 
 module _ (fields : Fields) (whole : IsWhole fields) (rd : ℕ) where
-  -- where the realm has no REC, no granule is one
-  pub no_rec_of : (len (recs_of fields.granules fields.recs rd) == 0) ≡ true → (g : ℕ) (rec : RecAttributes) → rec_at fields g ≡ Some rec → (granule_at fields.granules g).realm ≡ Some rd → ⊥
-  no_rec_of none g rec at of =
-      let inside : g < length fields.granules = subst (λ n. g < n) whole.rec_places (some_inside fields.recs g rec at) in
-      true_false (len (recs_of fields.granules fields.recs rd) == 0) none (some_recs fields.granules fields.recs rd g rec (of_realm fields.granules rd g of) at inside)
-
   -- where there is no realm, it has no REC
   pub recs_of-none : realm_at fields rd ≡ None → recs_of fields.granules fields.recs rd ≡ empty
   unfolding recs_of

@@ -1,7 +1,7 @@
 -- A REC that changes and keeps its number and its auxiliaries: the machine has another row of it, and nothing else changes.
 use Rattle.std.proofs.Common.{◌≡◌, ◌≢◌, ℕ, ◌<◌, false, List, [], ◌∷◌, length, set, Ok, Option, Some, None, option_map, refl, sym, ap, ◌∙◌, subst, ⊎_elim}
 use Rattle.std.specs.Prelude.{is_some, slice_get, if◌then◌else◌}
-use Rattle.std.specs.FinMap.{insert}
+use Rattle.std.specs.FinMap.{insert, len}
 use Rattle.std.proofs.lemmas.Bool.{cases_eq}
 use Rattle.std.proofs.lemmas.List.{length-set, get_or-set_same, get_or-set_other}
 use Rattle.std.proofs.lemmas.Option.{same_Some}
@@ -13,10 +13,10 @@ use Rattle.realm_objects.specs.Attributes.{RealmAttributes, RecAttributes, realm
 use Rattle.rtt.specs.Tables.{rows}
 use Rattle.rmi_monitor.specs.View.{MonitorView, seen_in, after_command}
 use Rattle.rmi_monitor.specs.Inside.{Fields, rec_at, is_of_realm, rec_of, recs_of, descriptor_of, cell_of, machine_of, seen_as, IsSoundAt, IsRecOf, HasRecs, IsWhole}
-use Rattle.rmi_monitor.proofs.Gathered.{gathered-put, gathered-same}
+use Rattle.rmi_monitor.proofs.Gathered.{len-insert_there, gathered-put, gathered-same}
 use Rattle.rmi_monitor.proofs.Machines.{one_put, cell_stays, descriptor_stays}
 use Rattle.rmi_monitor.proofs.Granules.{machine_is, cell_is, after_by, in_machine}
-use Rattle.rmi_monitor.proofs.RecFound.{IsKept, rec_inside}
+use Rattle.rmi_monitor.proofs.RecFound.{IsKept, rec_inside, row_found}
 use Rattle.rmi_monitor.proofs.RealmFound.{row_of}
 use Rattle.rmi_monitor.proofs.RealmPlaces.{realm_inside}
 use Rattle.rmi_monitor.proofs.RecEntries.{rec_of-other, rec_of-some, rec_of-number, realm_of, of_realm, numbered_recs}
@@ -92,17 +92,7 @@ module _ (old : Fields) (whole : IsWhole old) (granule : ℕ) (rec : RecAttribut
           (λ (ne : g ≢ granule). ap is_some (elsewhere g ne))
           (cases_eq g granule)
 
-  pub whole_with_rec : IsWhole (with_recs old (set old.recs granule (Some now)))
-  whole_with_rec = record {
-    backed = whole.backed;
-    realm_places = whole.realm_places;
-    rec_places = length-set old.recs granule (Some now) ∙ whole.rec_places;
-    each = sound;
-    tables = whole.tables;
-    recs = has_recs;
-  }
-
-  -- ---- the machine
+  -- ---- the RECs of each realm
 
   place_elsewhere : (of g : ℕ) → g ≢ granule → rec_of new.granules new.recs of g ≡ rec_of old.granules old.recs of g
   place_elsewhere of g ne = ap (λ o. if is_of_realm old.granules of g then option_map (λ r. (r.number, rec_row g r)) o else None) (elsewhere g ne)
@@ -131,6 +121,32 @@ module _ (old : Fields) (whole : IsWhole old) (granule : ℕ) (rec : RecAttribut
       (rec_of-some new.granules new.recs rd granule now (of_realm old.granules rd granule kept.of) here ∙ ap (λ n. Some (n, rec_row granule now)) number)
       (λ before e. sym (rec_of-number old.granules old.recs rd granule rec before.0 before.1 kept.at e))
       (λ g lt ne. place_elsewhere rd g ne)
+
+  -- as many as before
+  counts : (r : ℕ) → len (recs_of new.granules new.recs r) ≡ len (recs_of old.granules old.recs r)
+  counts r = ⊎_elim
+      (λ (s : r ≡ rd).
+      ap (λ k. len (recs_of new.granules new.recs k)) s
+      ∙ ap len own_recs
+      ∙ len-insert_there (recs_of old.granules old.recs rd) rec.number (rec_row granule now) (rec_row granule rec) (row_found old whole granule rec rd realm kept)
+      ∙ ap (λ k. len (recs_of old.granules old.recs k)) (sym s))
+      (λ (ne : r ≢ rd). ap len (others_recs r ne))
+      (cases_eq r rd)
+
+  pub whole_with_rec : IsWhole (with_recs old (set old.recs granule (Some now)))
+  whole_with_rec = record {
+    backed = whole.backed;
+    realm_places = whole.realm_places;
+    count_places = whole.count_places;
+    rec_places = length-set old.recs granule (Some now) ∙ whole.rec_places;
+    each = sound;
+    tables = whole.tables;
+    recs = has_recs;
+    counted = λ r. whole.counted r ∙ sym (counts r);
+    vmids_used = whole.vmids_used;
+  }
+
+  -- ---- the machine
 
   pub machine_with_rec : machine_of (with_recs old (set old.recs granule (Some now)))
       ≡ set (machine_of old) rd (record (cell_of old rd) {

@@ -11,7 +11,6 @@ use Rattle.std.proofs.lemmas.List.{length-set, get_or-set_other}
 use Rattle.std.proofs.lemmas.Option.{same_Some, slice_get-get_or}
 use Rattle.granule_table.specs.Granules.{granule_at, undelegated}
 use Rattle.granule_table.specs.declared.granule.Granule.{Granule}
-use Rattle.page_arena.specs.Page.{is_free}
 use Rattle.realm_model.specs.declared.states.GranuleState.TheVariants.{Delegated, Rec as InRec, RecAux as InRecAux}
 use Rattle.realm_model.specs.declared.rmi.Rmi.{Rmi}
 use Rattle.realm_model.specs.Measurement.{measurement_after, rec_event}
@@ -26,11 +25,11 @@ use Rattle.realm_model.proofs.Lists.{is_in, all_in, is_in_at, is_in_head, is_in_
 use Rattle.realm_model.proofs.Outcomes.{check_true}
 use Rattle.realm_objects.specs.Attributes.{RealmAttributes, RecAttributes, realm_row, rec_row}
 use Rattle.rtt.specs.Tables.{rows}
-use Rattle.rmi_monitor.specs.View.{MonitorView, IsTaken, seen_in, after_command, limits_of}
-use Rattle.rmi_monitor.specs.Inside.{Fields, realm_at, recs_of, seen_as, IsWhole}
-use Rattle.rmi_monitor.specs.Places.{is_delegated_at, are_distinct, is_fit, IsInState}
+use Rattle.rmi_monitor.specs.View.{MonitorView, IsTaken, seen_in, after_command}
+use Rattle.rmi_monitor.specs.Inside.{Fields, realm_at, rec_count_at, recs_of, seen_as, IsWhole}
+use Rattle.rmi_monitor.specs.Places.{is_delegated_at, are_distinct, are_fit_for_rec, IsInState}
 use Rattle.rmi_monitor.proofs.Checks.{delegated_state}
-use Rattle.rmi_monitor.proofs.Granules.{machine_is, cell_is, in_granules, not_free, seen_delegated, after_done}
+use Rattle.rmi_monitor.proofs.Granules.{machine_is, cell_is, in_granules, seen_delegated, after_done}
 use Rattle.rmi_monitor.proofs.Listed.{once_from_distinct, holds_in, put_back}
 use Rattle.rmi_monitor.proofs.RecMade.{CanMake, made, new_rec, with_rec_more}
 use Rattle.rmi_monitor.proofs.RecMadeAfter.{whole_made, machine_made}
@@ -70,10 +69,10 @@ module _ (monitor : MonitorView) where
 module _ (monitor : MonitorView) (fields : Fields) (view_is : seen_as fields ≡ monitor) (whole : IsWhole fields) (rd g : ℕ) (others : List ℕ)
     (rd_taken : IsTaken monitor rd) (g_taken : IsTaken monitor g) (others_taken : All (IsTaken monitor) others) where
   abbrev outcome : Outcome
-  outcome = rec_create (limits_of monitor) (seen_in monitor rd) (seen_in monitor g) (map (seen_in monitor) others)
+  outcome = rec_create monitor.aux (seen_in monitor rd) (seen_in monitor g) (map (seen_in monitor) others)
 
   abbrev fit : Bool
-  fit = is_fit fields.granules g others fields.aux
+  fit = are_fit_for_rec fields.granules g others fields.aux
 
   taken : (h : ℕ) → is_in h (g ∷ others) ≡ true → IsTaken monitor h
   taken h e = either (h == g) (is_in h others) e (λ same. subst (IsTaken monitor) (sym (eqb-true h g same)) g_taken) (holds_in (IsTaken monitor) others h others_taken)
@@ -85,8 +84,8 @@ module _ (monitor : MonitorView) (fields : Fields) (view_is : seen_as fields ≡
   inside_by list same = subst (λ l. All (λ h. h < length fields.granules) l) (sym same) others_inside
 
   -- what a call answers of them
-  pub fit_by : (list : List ℕ) (answer wanted : Bool) → list ≡ others → answer ≡ is_fit fields.granules g list fields.aux → answer ≡ wanted → fit ≡ wanted
-  fit_by list answer wanted same e is = ap (λ l. is_fit fields.granules g l fields.aux) (sym same) ∙ sym e ∙ is
+  pub fit_by : (list : List ℕ) (answer wanted : Bool) → list ≡ others → answer ≡ are_fit_for_rec fields.granules g list fields.aux → answer ≡ wanted → fit ≡ wanted
+  fit_by list answer wanted same e is = ap (λ l. are_fit_for_rec fields.granules g l fields.aux) (sym same) ∙ sym e ∙ is
 
   -- a refusal changes nothing
   pub refused_after : (n : ℕ) (x : Option RealmAttributes) (rmi : Rmi) → n ≡ rd → realm_at fields rd ≡ x → outcome ≡ Err rmi
@@ -183,11 +182,7 @@ module _ (monitor : MonitorView) (fields : Fields) (view_is : seen_as fields ≡
 
       can : CanMake fields rd g others realm
       can = record {
-        rd_inside = in_granules monitor fields view_is whole rd rd_taken;
         inside = λ h k. in_granules monitor fields view_is whole h (taken h k);
-        taken = λ h k. either (h == rd) (is_in h (g ∷ others)) k
-            (λ same. subst (λ j. is_free fields.free j ≡ false) (sym (eqb-true h rd same)) (not_free monitor fields view_is whole rd rd_taken))
-            (λ k. not_free monitor fields view_is whole h (taken h k));
         there = there;
         delegated = all_delegated;
         own = own;
@@ -206,17 +201,18 @@ module _ (monitor : MonitorView) (fields : Fields) (view_is : seen_as fields ≡
 -- ---- the fields as calls leave them
 
 module _ (fields : Fields) (rd g : ℕ) (others : List ℕ) (realm : RealmAttributes) where
-  abbrev fields_with : List Granule → List (Option RealmAttributes) → List (Option RecAttributes) → Fields
-  fields_with granules realms recs = record fields { granules = granules; realms = realms; recs = recs }
+  abbrev fields_with : List Granule → List (Option RealmAttributes) → List ℕ → List (Option RecAttributes) → Fields
+  fields_with granules realms rec_counts recs = record fields { granules = granules; realms = realms; rec_counts = rec_counts; recs = recs }
 
-  pub made_by : (begun granules : List Granule) (list : List ℕ) (rd' g' : ℕ) (now : RealmAttributes) (rec : RecAttributes) → begun ≡ set fields.granules g (record { state = InRec; realm = Some rd })
-      → granules ≡ set_each (record { state = InRecAux; realm = Some rd }) list begun → list ≡ others → rd' ≡ rd → g' ≡ g → now ≡ with_rec_more realm → rec ≡ new_rec realm.next others
-      → fields_with granules (set fields.realms rd' (Some now)) (set fields.recs g' (Some rec)) ≡ made fields rd g others realm
-  made_by begun granules list rd' g' now rec first then same rd_is g_is realm_is rec_is =
-      (λ i. record fields { granules = then i; realms = set fields.realms (rd_is i) (Some (realm_is i)); recs = set fields.recs (g_is i) (Some (rec_is i)) })
+  pub made_by : (begun granules : List Granule) (list : List ℕ) (rd' g' at count : ℕ) (now : RealmAttributes) (rec : RecAttributes) → begun ≡ set fields.granules g (record { state = InRec; realm = Some rd })
+      → granules ≡ set_each (record { state = InRecAux; realm = Some rd }) list begun → list ≡ others → rd' ≡ rd → g' ≡ g → now ≡ with_rec_more realm → rec ≡ new_rec realm.next others → at ≡ rd → count ≡ rec_count_at fields rd
+      → fields_with granules (set fields.realms rd' (Some now)) (set fields.rec_counts at (count + 1)) (set fields.recs g' (Some rec)) ≡ made fields rd g others realm
+  made_by begun granules list rd' g' at count now rec first then same rd_is g_is realm_is rec_is at_is count_is =
+      (λ i. record fields { granules = then i; realms = set fields.realms (rd_is i) (Some (realm_is i)); rec_counts = set fields.rec_counts (at_is i) (count_is i + 1); recs = set fields.recs (g_is i) (Some (rec_is i)) })
       ∙ (λ i. record fields {
         granules = set_each (record { state = InRecAux; realm = Some rd }) (same i) (first i);
         realms = set fields.realms rd (Some (with_rec_more realm));
+        rec_counts = set fields.rec_counts rd (rec_count_at fields rd + 1);
         recs = set fields.recs g (Some (new_rec realm.next others));
       })
 

@@ -1,5 +1,5 @@
 -- RMI_REC_DESTROY over the fields of a monitor: its checks, and what it changes.
-use Rattle.std.proofs.Common.{◌≡◌, ℕ, ◌<◌, Bool, true, false, List, [], ◌∷◌, ◌++◌, map, set, get_or, All, IsTrue, Option, Some, None, Ok, Err, refl, sym, ap, ◌∙◌, subst}
+use Rattle.std.proofs.Common.{◌≡◌, ℕ, ◌-◌, ◌<◌, Bool, true, false, List, [], ◌∷◌, ◌++◌, map, set, get_or, All, IsTrue, Option, Some, None, Ok, Err, refl, sym, ap, ◌∙◌, subst}
 use Rattle.std.specs.FinMap.{remove}
 use Rattle.std.proofs.lemmas.List.{length-set, get_or-set_other}
 use Rattle.std.proofs.lemmas.Option.{slice_get-get_or}
@@ -16,7 +16,7 @@ use Rattle.realm_model.proofs.Lists.{is_in, is_in_head, is_in_at, is_in_more}
 use Rattle.realm_model.proofs.Outcomes.{check_true}
 use Rattle.realm_objects.specs.Attributes.{RealmAttributes, RecAttributes, rec_row}
 use Rattle.rmi_monitor.specs.View.{MonitorView, IsTaken, IsOnRec, seen_in, after_command}
-use Rattle.rmi_monitor.specs.Inside.{Fields, rec_at, recs_of, seen_as, IsWhole}
+use Rattle.rmi_monitor.specs.Inside.{Fields, rec_count_at, rec_at, recs_of, seen_as, IsWhole}
 use Rattle.rmi_monitor.specs.Places.{are_distinct, IsInState, HasPage}
 use Rattle.rmi_monitor.proofs.Granules.{machine_is, cell_is, after_done, in_machine}
 use Rattle.rmi_monitor.proofs.Listed.{distinct_from_once}
@@ -73,20 +73,21 @@ module _ (fields : Fields) (whole : IsWhole fields) (g : ℕ) (rec : RecAttribut
         })))
 
   -- the fields as the calls leave them
-  abbrev left_with : List Granule → List (List ℕ) → List Bool → List (Option RecAttributes) → Fields
-  left_with granules pages free recs = record fields { granules = granules; pages = pages; free = free; recs = recs }
+  abbrev left_with : List Granule → List (List ℕ) → List Bool → List ℕ → List (Option RecAttributes) → Fields
+  left_with granules pages free rec_counts recs = record fields { granules = granules; pages = pages; free = free; rec_counts = rec_counts; recs = recs }
 
-  pub gone_by : (granules then : List Granule) (pages cleared : List (List ℕ)) (free flags : List Bool) (list : List ℕ) (g' : ℕ) → list ≡ rec.auxiliaries → g' ≡ g
+  pub gone_by : (of : ℕ) (granules then : List Granule) (pages cleared : List (List ℕ)) (free flags : List Bool) (list : List ℕ) (g' of' count : ℕ) → list ≡ rec.auxiliaries → g' ≡ g
       → then ≡ set fields.granules g left_granule → granules ≡ set_each left_granule list then
       → cleared ≡ set fields.pages g zero_page → pages ≡ set_each zero_page list cleared → flags ≡ fields.free → free ≡ flags
-      → left_with granules pages free (set fields.recs g' None) ≡ gone fields g rec.auxiliaries
-  gone_by granules then pages cleared free flags list g' same place first moved one all was kept =
-      (λ i. left_with (moved i) (all i) (kept i) (set fields.recs (place i) None))
-      ∙ (λ i. left_with (set_each left_granule (same i) (first i)) (set_each zero_page (same i) (one i)) (was i) (set fields.recs g None))
+      → of' ≡ of → count ≡ rec_count_at fields of
+      → left_with granules pages free (set fields.rec_counts of' (count - 1)) (set fields.recs g' None) ≡ gone fields of g rec.auxiliaries
+  gone_by of granules then pages cleared free flags list g' of' count same place first moved one all was kept of_is count_is =
+      (λ i. left_with (moved i) (all i) (kept i) (set fields.rec_counts (of_is i) (count_is i - 1)) (set fields.recs (place i) None))
+      ∙ (λ i. left_with (set_each left_granule (same i) (first i)) (set_each zero_page (same i) (one i)) (was i) (set fields.rec_counts of (rec_count_at fields of - 1)) (set fields.recs g None))
 
 -- ---- the command
 
-module _ (monitor : MonitorView) (fields : Fields) (view_is : seen_as fields ≡ monitor) (whole : IsWhole fields) (g : ℕ) (taken : IsTaken monitor g)
+module _ (monitor : MonitorView) (fields : Fields) (view_is : seen_as fields ≡ monitor) (whole : IsWhole fields) (g : ℕ)
     (rec : RecAttributes) (rd : ℕ) (realm : RealmAttributes) (kept : IsKept fields g rec rd realm) where
   -- the updates, by the cell of the RD
   abbrev updates_by : Cell → List Update
@@ -102,21 +103,21 @@ module _ (monitor : MonitorView) (fields : Fields) (view_is : seen_as fields ≡
       outcome_there monitor fields view_is whole g rec rd realm kept
       (λ r c. check (is_ready c) error_rec (Ok (Put c.granule left ∷ map (λ a. Put a left) c.auxiliaries ++ put_realm (seen_in monitor rd) (record r { recs = remove r.recs rec.number }) ∷ [])))
 
-  seen_gone : seen_as (gone fields g rec.auxiliaries) ≡ after_command (Ok updates) monitor
+  seen_gone : seen_as (gone fields rd g rec.auxiliaries) ≡ after_command (Ok updates) monitor
   seen_gone =
       let rd_inside = in_machine monitor fields view_is whole rd (realm_inside fields whole rd realm kept.there) in
-      after_done monitor fields view_is whole (gone fields g rec.auxiliaries) updates (Ok updates) refl refl refl refl
+      after_done monitor fields view_is whole (gone fields rd g rec.auxiliaries) updates (Ok updates) refl refl refl refl
       (machine_gone fields whole rd g rec realm kept
       ∙ (λ i. machine_after_all (updates_by (sym (cell_is monitor fields view_is whole rd rd_inside) i)) (machine_is monitor fields view_is whole i)))
 
   pub not_ready : (answer : Bool) (new : MonitorView) → ((granule : ℕ) → answer ≡ is_ready (rec_row granule rec)) → answer ≡ false → new ≡ monitor
       → IsOnRec {A = Unit {0}} rec_destroy monitor g (Err error_rec) new
   not_ready answer new says is same =
-      on_rec monitor fields view_is whole rec_destroy g taken rec rd realm kept (Err error_rec) (Err error_rec) new
+      on_rec monitor fields view_is whole rec_destroy g rec rd realm kept (Err error_rec) (Err error_rec) new
       (checked ∙ check_false (is_ready (rec_row g rec)) error_rec (Ok updates) (sym (says g) ∙ is)) refl same
 
-  pub ready : (answer : Bool) (new : MonitorView) → ((granule : ℕ) → answer ≡ is_ready (rec_row granule rec)) → answer ≡ true → new ≡ seen_as (gone fields g rec.auxiliaries)
+  pub ready : (answer : Bool) (new : MonitorView) → ((granule : ℕ) → answer ≡ is_ready (rec_row granule rec)) → answer ≡ true → new ≡ seen_as (gone fields rd g rec.auxiliaries)
       → IsOnRec {A = Unit {0}} rec_destroy monitor g (Ok tt) new
   ready answer new says is same =
-      on_rec monitor fields view_is whole rec_destroy g taken rec rd realm kept (Ok tt) (Ok updates) new
+      on_rec monitor fields view_is whole rec_destroy g rec rd realm kept (Ok tt) (Ok updates) new
       (checked ∙ check_true (is_ready (rec_row g rec)) error_rec (Ok updates) (sym (says g) ∙ is)) tt (same ∙ seen_gone)

@@ -14,7 +14,7 @@ use Rattle.rmi_monitor.specs.View.{MonitorView, IsTaken, IsRec, IsOnRec, Answers
 use Rattle.rmi_monitor.specs.Inside.{Fields, realm_at, rec_at, rec_of, recs_of, seen_as, IsWhole}
 use Rattle.rmi_monitor.proofs.Gathered.{get-gathered, gathered-get}
 use Rattle.rmi_monitor.proofs.Granules.{cell_is}
-use Rattle.rmi_monitor.proofs.RealmFound.{row_of, somewhere, realm_found}
+use Rattle.rmi_monitor.proofs.RealmFound.{row_of, descriptor_there, somewhere, realm_found}
 use Rattle.rmi_monitor.proofs.Listed.{some_inside}
 use Rattle.rmi_monitor.proofs.RecEntries.{rec_of-some, IsEntry, entry_at, numbered_recs, of_realm}
 use Rattle.rmi_monitor.proofs.Frames.{in_rec}
@@ -34,6 +34,14 @@ module _ (fields : Fields) (whole : IsWhole fields) where
   -- a REC has a realm, which is there
   pub kept_at : (granule : ℕ) (rec : RecAttributes) (at : rec_at fields granule ≡ Some rec) → IsKept fields granule rec (whole.recs.of granule rec at).rd (whole.recs.of granule rec at).realm
   kept_at granule rec at = let is = whole.recs.of granule rec at in record { at = at; of = is.of; there = is.there }
+
+  -- and its realm has it by its number
+  pub row_found : (granule : ℕ) (rec : RecAttributes) (rd : ℕ) (realm : RealmAttributes) → IsKept fields granule rec rd realm
+      → get (recs_of fields.granules fields.recs rd) rec.number ≡ Some (rec_row granule rec)
+  unfolding recs_of
+  row_found granule rec rd realm kept =
+      get-gathered (rec_of fields.granules fields.recs rd) (length fields.granules) granule rec.number (rec_row granule rec) (numbered_recs fields whole.recs rd)
+      (rec_inside granule rec kept.at) (rec_of-some fields.granules fields.recs rd granule rec (of_realm fields.granules rd granule kept.of) kept.at)
 
 -- ---- the fields and the machine
 
@@ -56,24 +64,16 @@ module _ (monitor : MonitorView) (fields : Fields) (view_is : seen_as fields ≡
         place.numbered,
       )
 
-  -- and what the fields have the machine has
-  pub row_found : (granule : ℕ) (rec : RecAttributes) (rd : ℕ) (realm : RealmAttributes) → IsKept fields granule rec rd realm
-      → get (recs_of fields.granules fields.recs rd) rec.number ≡ Some (rec_row granule rec)
-  unfolding recs_of
-  row_found granule rec rd realm kept =
-      get-gathered (rec_of fields.granules fields.recs rd) (length fields.granules) granule rec.number (rec_row granule rec) (numbered_recs fields whole.recs rd)
-      (rec_inside fields whole granule rec kept.at) (rec_of-some fields.granules fields.recs rd granule rec (of_realm fields.granules rd granule kept.of) kept.at)
-
   -- what a command on a REC goes on with
   pub outcome_there : (granule : ℕ) (rec : RecAttributes) (rd : ℕ) (realm : RealmAttributes) → IsKept fields granule rec rd realm → (f : RealmRow → RecRow → Outcome)
       → with_realm (seen_in monitor rd) (λ row. with_rec row rec.number (f row)) ≡ f (row_of fields rd realm) (rec_row granule rec)
   outcome_there granule rec rd realm kept f =
       somewhere monitor fields view_is whole rd realm kept.there (λ row. with_rec row rec.number (f row))
-      ∙ rec_there (row_of fields rd realm) rec.number (f (row_of fields rd realm)) (rec_row granule rec) (row_found granule rec rd realm kept)
+      ∙ rec_there (row_of fields rd realm) rec.number (f (row_of fields rd realm)) (rec_row granule rec) (row_found fields whole granule rec rd realm kept)
 
   -- ---- what comes of a command on a REC
 
-  module _ (command : Seen → ℕ → Outcome) (granule : ℕ) (taken : IsTaken monitor granule) where
+  module _ (command : Seen → ℕ → Outcome) (granule : ℕ) where
     -- on a granule that is no REC
     pub on_none : {A : Type 0} (new : MonitorView) → rec_at fields granule ≡ None → new ≡ monitor → IsOnRec {A = A} command monitor granule (Err error_input) new
     on_none new gone same = record {
@@ -95,13 +95,19 @@ module _ (monitor : MonitorView) (fields : Fields) (view_is : seen_as fields ≡
           let number_same : rec.number ≡ number = ap (λ (r : RecAttributes). r.number) rec_same ∙ found.3 in
           λ i. command (seen_in monitor (realm_same i)) (number_same i)
 
-      in_other_state : {P : Type 0} → (cell_at monitor.machine granule).state ≢ InRec → P
-      in_other_state other = absurd (other (ap (λ (c : Cell). c.state) (cell_is monitor fields view_is whole granule taken.inside) ∙ in_rec fields granule (whole.each granule) rec kept.at))
+      is_rec : IsRec monitor.machine rd rec.number granule
+      is_rec = record {
+        realm = row_of fields rd realm;
+        there = descriptor_there monitor fields view_is whole rd realm kept.there;
+        rec = rec_row granule rec;
+        numbered = row_found fields whole granule rec rd realm kept;
+        is = refl;
+      }
 
       pub on_rec : {A : Type 0} (result : Result A Rmi) (outcome : Outcome) (new : MonitorView) → command (seen_in monitor rd) rec.number ≡ outcome → Answers result outcome
           → new ≡ after_command outcome monitor → IsOnRec command monitor granule result new
       on_rec result outcome new comes answers changed = record {
         answer = λ other number is. subst (Answers result) (sym comes ∙ same_command other number is) answers;
         machine = λ other number is. changed ∙ ap (λ o. after_command o monitor) (sym comes ∙ same_command other number is);
-        none = λ other. in_other_state other;
+        none = λ nobody. absurd (nobody rd rec.number is_rec);
       }

@@ -1,26 +1,22 @@
 -- A REC is removed: its granule and its auxiliaries are DELEGATED and zero.
-use Rattle.std.proofs.Common.{◌≡◌, ◌≢◌, ℕ, ◌<◌, true, false, List, [], ◌∷◌, length, set, None, refl, sym, ap, ◌∙◌, subst}
+use Rattle.std.proofs.Common.{◌≡◌, ◌≢◌, ℕ, ◌-◌, ◌<◌, true, false, List, [], ◌∷◌, length, set, None, refl, sym, ap, ◌∙◌, subst}
 use Rattle.std.specs.Prelude.{◌==◌, is_some}
-use Rattle.std.proofs.lemmas.Bool.{eqb-true, eqb-false}
-use Rattle.std.proofs.lemmas.List.{length-set, get_or-set_same, get_or-set_other}
+use Rattle.std.proofs.lemmas.Bool.{eqb-true}
 use Rattle.granule_addr.specs.Page.{zero_page}
-use Rattle.granule_table.specs.Granules.{granule_at, undelegated, IsIn}
+use Rattle.granule_table.specs.Granules.{granule_at, IsIn}
 use Rattle.granule_table.specs.declared.granule.Granule.{Granule}
 use Rattle.page_arena.specs.Page.{page_at, is_free}
 use Rattle.realm_model.specs.declared.states.GranuleState.{GranuleState}
-use Rattle.realm_model.specs.declared.states.GranuleState.TheVariants.{Undelegated, Delegated, Rd as InRd, Rec as InRec, RecAux as InRecAux}
+use Rattle.realm_model.specs.declared.states.GranuleState.TheVariants.{Undelegated, Delegated, Rec as InRec, RecAux as InRecAux}
 use Rattle.realm_model.specs.Sound.{is_rd_state}
-use Rattle.realm_model.specs.StepLaw.{set_each}
-use Rattle.realm_model.proofs.Booleans.{or_parts, true_false, false_from, none_from}
+use Rattle.realm_model.proofs.Booleans.{true_false, false_from}
 use Rattle.realm_model.proofs.Lists.{is_in, index_of}
-use Rattle.realm_model.proofs.SetEach.{length-set_each}
 use Rattle.realm_objects.specs.Attributes.{RealmAttributes, RecAttributes}
-use Rattle.rmi_monitor.specs.Inside.{Fields, realm_at, rec_at, is_rec_state, IsSoundAt, IsWhole}
-use Rattle.rmi_monitor.proofs.Listed.{some_inside}
-use Rattle.rmi_monitor.proofs.Puts.{set_each_in, set_each_out}
-use Rattle.rmi_monitor.proofs.RecMoves.{Moves, is_moved_state}
+use Rattle.rmi_monitor.specs.Inside.{Fields, rec_count_at, rec_at, is_rec_state, IsSoundAt, IsWhole}
+use Rattle.rmi_monitor.proofs.Puts.{put_all, length-put_all, put_all-first, put_all-rest, put_all-out}
+use Rattle.rmi_monitor.proofs.RecMoves.{RecMove, is_moved_state, granule_first, granule_rest, rec_first, rec_out, no_realm, no_rec}
 use Rattle.rmi_monitor.proofs.RecFound.{IsKept, rec_inside}
-use Rattle.rmi_monitor.proofs.RealmPlaces.{realm_inside, in_rd}
+use Rattle.rmi_monitor.proofs.RealmAfter.{keeps_all}
 use Rattle.rmi_monitor.proofs.Frames.{in_rec}
 use Rattle.rmi_monitor.proofs.Comparisons.{either}
 
@@ -28,10 +24,11 @@ use Rattle.rmi_monitor.proofs.Comparisons.{either}
 abbrev pub left_granule : Granule
 left_granule = record { state = Delegated; realm = None }
 
-abbrev pub gone : Fields → ℕ → List ℕ → Fields
-gone old g others = record old {
-  granules = set_each left_granule others (set old.granules g left_granule);
-  pages = set_each zero_page others (set old.pages g zero_page);
+abbrev pub gone : Fields → ℕ → ℕ → List ℕ → Fields
+gone old rd g others = record old {
+  granules = put_all old.granules g others left_granule left_granule;
+  pages = put_all old.pages g others zero_page zero_page;
+  rec_counts = set old.rec_counts rd (rec_count_at old rd - 1);
   recs = set old.recs g None;
 }
 
@@ -40,7 +37,7 @@ module _ (old : Fields) (whole : IsWhole old) (rd g : ℕ) (rec : RecAttributes)
   others = rec.auxiliaries
 
   abbrev new : Fields
-  new = gone old g others
+  new = gone old rd g others
 
   -- ---- where they are before
 
@@ -60,10 +57,10 @@ module _ (old : Fields) (whole : IsWhole old) (rd g : ℕ) (rec : RecAttributes)
   both : (P : ℕ → Type 0) → P g → ((h : ℕ) → is_in h others ≡ true → P h) → (h : ℕ) → is_in h (g ∷ others) ≡ true → P h
   both P own_case aux_case h e = either (h == g) (is_in h others) e (λ same. subst P (sym (eqb-true h g same)) own_case) (aux_case h)
 
-  inside : (h : ℕ) → is_in h (g ∷ others) ≡ true → h < length old.granules
+  pub inside : (h : ℕ) → is_in h (g ∷ others) ≡ true → h < length old.granules
   inside = both (λ h. h < length old.granules) (rec_inside old whole g rec is.at) (λ h e. (aux_is h e).inside)
 
-  moved : (h : ℕ) → is_in h (g ∷ others) ≡ true → is_moved_state (granule_at old.granules h).state ≡ true
+  pub moved : (h : ℕ) → is_in h (g ∷ others) ≡ true → is_moved_state (granule_at old.granules h).state ≡ true
   moved = both (λ h. is_moved_state (granule_at old.granules h).state ≡ true) (ap is_moved_state (in_rec old g (whole.each g) rec is.at)) (λ h e. ap is_moved_state (aux_state h e))
 
   -- each of them is taken
@@ -73,89 +70,52 @@ module _ (old : Fields) (whole : IsWhole old) (rd g : ℕ) (rec : RecAttributes)
   pub taken_moved : (h : ℕ) → is_in h (g ∷ others) ≡ true → is_free old.free h ≡ false
   taken_moved = both (λ h. is_free old.free h ≡ false) (taken_as g InRec (rec_inside old whole g rec is.at) (in_rec old g (whole.each g) rec is.at) (λ e. cc)) (λ h e. taken_as h InRecAux (aux_is h e).inside (aux_state h e) (λ k. cc))
 
-  taken : (h : ℕ) → is_in h (rd ∷ g ∷ others) ≡ true → is_free old.free h ≡ false
-  taken h e = either (h == rd) (is_in h (g ∷ others)) e
-      (λ same. subst (λ k. is_free old.free k ≡ false) (sym (eqb-true h rd same)) (taken_as rd InRd (realm_inside old whole rd realm is.there) (in_rd old whole rd realm is.there) (λ k. cc)))
-      (taken_moved h)
-
-  no_realm : (h : ℕ) → is_in h (g ∷ others) ≡ true → realm_at old h ≡ None
-  no_realm h e = none_from (realm_at old h) ((whole.each h).rd ∙ none (granule_at old.granules h).state (moved h e))
-    where
-      none : (state : GranuleState) → is_moved_state state ≡ true → is_rd_state state ≡ false
-      none InRd k = cc
-      none _ k = refl
-
   -- ---- after
 
-  pub granule_count : length new.granules ≡ length old.granules
-  granule_count = length-set_each left_granule others (set old.granules g left_granule) ∙ length-set old.granules g left_granule
-
-  page_count : length new.pages ≡ length old.pages
-  page_count = length-set_each zero_page others (set old.pages g zero_page) ∙ length-set old.pages g zero_page
-
-  pub granule_in : (h : ℕ) → is_in h (g ∷ others) ≡ true → granule_at new.granules h ≡ left_granule
-  granule_in = both (λ h. granule_at new.granules h ≡ left_granule)
-      (set_each_out left_granule others (set old.granules g left_granule) g undelegated own ∙ get_or-set_same old.granules g left_granule undelegated (rec_inside old whole g rec is.at))
-      (λ h e. set_each_in left_granule others (set old.granules g left_granule) h undelegated (subst (λ n. h < n) (sym (length-set old.granules g left_granule)) (aux_is h e).inside) e)
-
-  pub granule_out : (h : ℕ) → is_in h (g ∷ others) ≡ false → granule_at new.granules h ≡ granule_at old.granules h
-  granule_out h e =
-      let parts = or_parts (h == g) (is_in h others) e in
-      set_each_out left_granule others (set old.granules g left_granule) h undelegated parts.1 ∙ get_or-set_other old.granules g h left_granule undelegated (eqb-false h g parts.0)
-
-  in_pages : (h : ℕ) → h < length old.granules → h < length old.pages
-  in_pages h within = subst (λ n. h < n) whole.backed.as_many within
-
-  pub page_in : (h : ℕ) → is_in h (g ∷ others) ≡ true → page_at new.pages h ≡ zero_page
-  page_in = both (λ h. page_at new.pages h ≡ zero_page)
-      (set_each_out zero_page others (set old.pages g zero_page) g [] own ∙ get_or-set_same old.pages g zero_page [] (in_pages g (rec_inside old whole g rec is.at)))
-      (λ h e. set_each_in zero_page others (set old.pages g zero_page) h [] (subst (λ n. h < n) (sym (length-set old.pages g zero_page)) (in_pages h (aux_is h e).inside)) e)
-
-  page_out : (h : ℕ) → is_in h (g ∷ others) ≡ false → page_at new.pages h ≡ page_at old.pages h
-  page_out h e =
-      let parts = or_parts (h == g) (is_in h others) e in
-      set_each_out zero_page others (set old.pages g zero_page) h [] parts.1 ∙ get_or-set_other old.pages g h zero_page [] (eqb-false h g parts.0)
-
-  pub rec_g : rec_at new g ≡ None
-  rec_g = get_or-set_same old.recs g None None (some_inside old.recs g rec is.at)
-
-  pub rec_out : (h : ℕ) → h ≢ g → rec_at new h ≡ rec_at old h
-  rec_out h differs = get_or-set_other old.recs g h None None differs
-
-  pub no_rec : (h : ℕ) → is_in h others ≡ true → rec_at old h ≡ None
-  no_rec h e = none_from (rec_at old h) ((whole.each h).rec ∙ ap is_rec_state (aux_state h e))
-
-  rec_in : (h : ℕ) → is_in h (g ∷ others) ≡ true → rec_at new h ≡ None
-  rec_in = both (λ h. rec_at new h ≡ None) rec_g (λ h e. rec_out h (not_own h e) ∙ no_rec h e)
-
-  pub no_realm_after : (h : ℕ) → is_in h (g ∷ others) ≡ true → realm_at new h ≡ None
-  no_realm_after h e = no_realm h e
-
-  sound : (h : ℕ) → is_in h (g ∷ others) ≡ true → IsSoundAt new h
-  sound h e = record {
-    host = λ k. ap (λ (x : Granule). x.realm) (granule_in h e);
-    zero = λ k. page_in h e;
-    rd = ap is_some (no_realm h e) ∙ sym (ap (λ (x : Granule). is_rd_state x.state) (granule_in h e));
-    rec = ap is_some (rec_in h e) ∙ sym (ap (λ (x : Granule). is_rec_state x.state) (granule_in h e));
-  }
-
-  pub moves : Moves old new rd g others realm realm
-  moves = record {
-    free = refl;
-    granule_count = granule_count;
-    page_count = page_count;
-    realm_count = refl;
-    rec_count = length-set old.recs g None;
-    granule = granule_out;
-    page = page_out;
+  abbrev pub going : RecMove old
+  going = record {
+    rd = rd;
+    granule = g;
+    auxiliaries = rec.auxiliaries;
+    first = left_granule;
+    rest = left_granule;
+    pages = put_all old.pages g rec.auxiliaries zero_page zero_page;
+    realms = old.realms;
+    realm = realm;
+    now = realm;
+    count = rec_count_at old rd - 1;
+    rec = None;
     there = is.there;
     is = is.there;
-    realms = λ h differs. refl;
-    root = refl;
-    recs = rec_out;
-    moved = moved;
-    aux = no_rec;
+    keeps = keeps_all realm;
+    others = λ h differs. refl;
+    realm_places = refl;
+    inside = inside;
+    states = moved;
+    no_recs = λ h e. ap is_rec_state (aux_state h e);
     own = own;
-    taken = taken;
-    sound = sound;
+    page_count = length-put_all old.pages g rec.auxiliaries zero_page zero_page [];
+    page = put_all-out old.pages g rec.auxiliaries zero_page zero_page [];
+  }
+
+  pub granule_left : (h : ℕ) → is_in h (g ∷ others) ≡ true → granule_at new.granules h ≡ left_granule
+  granule_left = both (λ h. granule_at new.granules h ≡ left_granule) (granule_first old whole going) (granule_rest old whole going)
+
+  pub page_left : (h : ℕ) → is_in h (g ∷ others) ≡ true → page_at new.pages h ≡ zero_page
+  page_left = both (λ h. page_at new.pages h ≡ zero_page)
+      (put_all-first old.pages g others zero_page zero_page [] own (in_pages g (rec_inside old whole g rec is.at)))
+      (λ h e. put_all-rest old.pages g others zero_page zero_page [] h (in_pages h (aux_is h e).inside) e)
+    where
+      in_pages : (h : ℕ) → h < length old.granules → h < length old.pages
+      in_pages h within = subst (λ n. h < n) whole.backed.as_many within
+
+  no_rec_left : (h : ℕ) → is_in h (g ∷ others) ≡ true → rec_at new h ≡ None
+  no_rec_left = both (λ h. rec_at new h ≡ None) (rec_first old whole going) (λ h e. rec_out old whole going h (not_own h e) ∙ no_rec old whole going h e)
+
+  pub sound_left : (h : ℕ) → is_in h (g ∷ others) ≡ true → IsSoundAt new h
+  sound_left h e = record {
+    host = λ k. ap (λ (x : Granule). x.realm) (granule_left h e);
+    zero = λ k. page_left h e;
+    rd = ap is_some (no_realm old whole going h e) ∙ sym (ap (λ (x : Granule). is_rd_state x.state) (granule_left h e));
+    rec = ap is_some (no_rec_left h e) ∙ sym (ap (λ (x : Granule). is_rec_state x.state) (granule_left h e));
   }

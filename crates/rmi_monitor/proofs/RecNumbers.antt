@@ -42,4 +42,4 @@ module _ (monitor : MonitorView) (fields : Fields) (view_is : seen_as fields ≡
     rec_in-read recs i read rec same is place reads some =
         let there : IsRecAt fields.granules fields.recs rd number granule = subst (λ rs. IsRecAt fields.granules rs rd number granule) same is in
         let inside : granule < length fields.recs = subst (λ n. granule < n) (sym whole.rec_places) there.inside in
-        sym (rec_in-some rec there (read_at fields.recs i granule read (Some rec) place inside reads (sym some)))
+        sym (rec_in-some rec there (read_at fields.recs i granule None read (Some rec) place inside reads (sym some)))

@@ -20,7 +20,7 @@ use Rattle.rmi_monitor.proofs.Outcomes.{check_false}
 use Rattle.rmi_monitor.proofs.RealmFound.{row_of}
 use Rattle.rmi_monitor.proofs.Listed.{put_back}
 
-module _ (monitor : MonitorView) (fields : Fields) (view_is : seen_as fields ≡ monitor) (whole : IsWhole fields) (granule : ℕ) (taken : IsTaken monitor granule)
+module _ (monitor : MonitorView) (fields : Fields) (view_is : seen_as fields ≡ monitor) (whole : IsWhole fields) (granule : ℕ)
     (recs : List (Option RecAttributes)) where
   abbrev new : MonitorView
   new = seen_as (with_recs fields recs)
@@ -29,7 +29,7 @@ module _ (monitor : MonitorView) (fields : Fields) (view_is : seen_as fields ≡
   pub refused_none : {A : Type 0} (command : Seen → ℕ → Outcome) → rec_at fields granule ≡ None → recs ≡ set fields.recs granule None
       → IsOnRec {A = A} command monitor granule (Err error_input) (seen_as (with_recs fields recs))
   refused_none command gone back =
-      on_none monitor fields view_is whole command granule taken new gone
+      on_none monitor fields view_is whole command granule new gone
       (ap (λ rs. seen_as (with_recs fields rs)) (back ∙ put_back fields.recs granule None None gone) ∙ view_is)
 
   module _ (rec : RecAttributes) (rd : ℕ) (realm : RealmAttributes) (kept : IsKept fields granule rec rd realm) where
@@ -43,7 +43,7 @@ module _ (monitor : MonitorView) (fields : Fields) (view_is : seen_as fields ≡
     refused : {A : Type 0} (command : Seen → ℕ → Outcome) (rmi : Rmi) → recs ≡ set fields.recs granule (Some rec) → command (seen_in monitor rd) rec.number ≡ Err rmi
         → IsOnRec {A = A} command monitor granule (Err rmi) new
     refused command rmi back comes =
-        on_rec monitor fields view_is whole command granule taken rec rd realm kept (Err rmi) (Err rmi) new comes refl
+        on_rec monitor fields view_is whole command granule rec rd realm kept (Err rmi) (Err rmi) new comes refl
         (ap (λ rs. seen_as (with_recs fields rs)) (back ∙ put_back fields.recs granule None (Some rec) kept.at) ∙ view_is)
 
     -- and one that is done puts the other row
@@ -51,7 +51,7 @@ module _ (monitor : MonitorView) (fields : Fields) (view_is : seen_as fields ≡
         → command (seen_in monitor rd) rec.number ≡ Ok (put_rec (seen_in monitor rd) row rec.number (rec_row granule now) ∷ [])
         → IsOnRec command monitor granule (Ok (tt {0})) new
     done command now number auxiliaries made comes =
-        on_rec monitor fields view_is whole command granule taken rec rd realm kept (Ok tt) (Ok (put_rec (seen_in monitor rd) row rec.number (rec_row granule now) ∷ [])) new comes tt
+        on_rec monitor fields view_is whole command granule rec rd realm kept (Ok tt) (Ok (put_rec (seen_in monitor rd) row rec.number (rec_row granule now) ∷ [])) new comes tt
         (rec_put fields whole granule rec rd realm kept now number auxiliaries recs made monitor view_is)
 
     -- ---- RMI_REC_ENTER

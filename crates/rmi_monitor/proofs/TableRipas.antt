@@ -1,55 +1,60 @@
 -- Pages of a NEW realm become RAM: RMI_RTT_INIT_RIPAS over the fields of a monitor.
-use Rattle.std.proofs.Common.{◌≡◌, ℕ, ◌+◌, ◌-◌, Bool, true, false, List, [], ◌∷◌, set, Some, None, Ok, Err, refl, sym, ap, ◌∙◌, subst, arith}
+use Rattle.std.proofs.Common.{◌≡◌, ℕ, ◌+◌, ◌-◌, Bool, true, false, List, [], ◌∷◌, set, cond, Option, Some, None, Ok, Err, refl, sym, ap, ◌∙◌, subst, arith}
 use Rattle.std.specs.Prelude.{◌/◌, ◌==◌, ◌&&◌, nat_le}
+use Rattle.std.proofs.lemmas.Bool.{and_parts}
+use Rattle.granule_addr.specs.Ipa.{is_protected_at}
+use Rattle.granule_addr.specs.declared.root.Root.{Root}
 use Rattle.granule_table.specs.declared.granule.Granule.{Granule}
-use Rattle.realm_model.specs.Rows.{Rows, is_unassigned, all_rows, with_ram}
+use Rattle.realm_model.specs.Rows.{Row, Rows, is_unassigned, all_rows, with_ram}
 use Rattle.realm_model.specs.Measurement.{measurement_after, ripas_event}
 use Rattle.realm_model.specs.Update.{Outcome}
-use Rattle.realm_model.specs.Command.Check.{check, error_input, error_realm, error_rtt, is_new, is_protected, with_row, put_realm}
+use Rattle.realm_model.specs.Command.Check.{check, error_input, error_realm, error_rtt, is_new, put_realm}
 use Rattle.realm_model.specs.Command.Table.{rtt_init_ripas}
 use Rattle.realm_model.proofs.Outcomes.{check_true}
 use Rattle.realm_objects.specs.Attributes.{RealmAttributes, realm_row}
+use Rattle.rtt.specs.declared.tables.Tables.{Tables}
 use Rattle.rtt.specs.Tables.{rows}
-use Rattle.rtt.specs.Realm.{IsBacked, HasTables, LeavesOthers}
-use Rattle.rtt.specs.Calls.{ChangesTablesOnly, ripas_refusal}
-use Rattle.rmi_monitor.specs.View.{MonitorView, IsTaken, Answers, seen_in, after_command}
+use Rattle.rtt.specs.Found.{with_free_pages}
+use Rattle.rtt.specs.Calls.{ChangesTablesOnly, Keeps, KeepsRest}
+use Rattle.rmi_monitor.specs.View.{MonitorView, IsTaken, seen_in}
 use Rattle.rmi_monitor.specs.Inside.{Fields, realm_at, seen_as, IsWhole, recs_of}
 use Rattle.rmi_monitor.proofs.TableMoves.{whole_still, machine_still}
-use Rattle.rmi_monitor.proofs.Refusals.{Passes, passes_from, or_passes, both_refused, both_pass}
+use Rattle.rmi_monitor.proofs.Comparisons.{test_held, test_failed}
+use Rattle.rmi_monitor.proofs.Located.{IsLocated}
 use Rattle.rmi_monitor.proofs.Outcomes.{check_false, answers_ok}
+use Rattle.rmi_monitor.proofs.RealmAfter.{Keeps as KeepsRealm}
 use Rattle.rmi_monitor.proofs.RealmFound.{row_of, nowhere, somewhere}
-use Rattle.rmi_monitor.proofs.RealmCommands.{after_put}
+use Rattle.rmi_monitor.proofs.RealmCommands.{with_call, Done, after_put}
 
--- What the call leaves where it is not refused.
-pub record RipasCall (rd : ℕ) (pages : List (List ℕ)) (free : List Bool) (granules : List Granule) (new_pages : List (List ℕ)) (new_free : List Bool) (root ipa count : ℕ) : Type 0 where
-  pub gains : rows new_pages root ≡ with_ram (rows pages root) ipa count
-  pub tables : HasTables new_pages granules rd root
-  pub backed : IsBacked new_pages new_free granules
-  pub flags : new_free ≡ free
-  pub others : ChangesTablesOnly root pages new_pages
-  pub other_realms : LeavesOthers rd pages granules new_pages granules
-
--- the same at numbers that are equal
-pub ripas_call_at : {rd : ℕ} {pages : List (List ℕ)} {free : List Bool} {granules : List Granule} {new_pages : List (List ℕ)} {new_free : List Bool} {root ipa count root' ipa' : ℕ}
-    → root ≡ root' → ipa ≡ ipa' → RipasCall rd pages free granules new_pages new_free root ipa count → RipasCall rd pages free granules new_pages new_free root' ipa' count
-ripas_call_at {rd} {pages} {free} {granules} {new_pages} {new_free} {root} {ipa} {count} r i call =
-    subst (λ (at : ℕ × ℕ). RipasCall rd pages free granules new_pages new_free at.0 at.1 count) (λ k. (r k, i k)) call
+-- What the call says where it is not refused.
+pub record RipasCall (at : Tables) (pages : List (List ℕ)) (free : List Bool) (granules : List Granule) (new_pages : List (List ℕ)) (new_free : List Bool) (ipa count : ℕ) : Type 0 where
+  pub answer : (row : Row) × ((f : Row → Outcome) → with_free_pages (rows pages at.root) ipa count f ≡ f row)
+  pub gains : rows new_pages at.root ≡ with_ram (rows pages at.root) ipa count
+  pub others : ChangesTablesOnly at.root pages new_pages
+  pub keeps : Keeps at.rd at.root pages free granules new_pages new_free granules
 
 -- the pages are 1 to 512, of one table of level 3, and protected
-abbrev pub is_run : ℕ → ℕ → Bool
-is_run ipa count = nat_le 1 count && nat_le count 512 && ipa / 512 == (ipa + count - 1) / 512 && is_protected ipa
+abbrev pub is_run : ℕ → ℕ → ℕ → Bool
+is_run ipa count width = nat_le 1 count && nat_le count 512 && ipa / 512 == (ipa + count - 1) / 512 && is_protected_at ipa width
+
+-- what code makes of them, by the root that it reads of the realm
+module _ (realm : RealmAttributes) (ipa count : ℕ) (root : Root) (read : root ≡ realm.root) (place : Option ℕ) (tested : place ≡ cond (is_run ipa count root.width) (Some ipa) None) where
+  pub no_run : place ≡ None → is_run ipa count realm.root.width ≡ false
+  no_run none = ap (λ (r : Root). is_run ipa count r.width) (sym read) ∙ test_failed (is_run ipa count root.width) ipa place tested none
+
+  pub is_run_there : (given : ℕ) → place ≡ Some given → is_run ipa count realm.root.width ≡ true
+  is_run_there given some = ap (λ (r : Root). is_run ipa count r.width) (sym read) ∙ (test_held (is_run ipa count root.width) ipa given place tested some).0
+
+  pub run_located : (rd : ℕ) (at : Tables) → at ≡ record { rd = rd; root = realm.root } → (given : ℕ) → place ≡ Some given → IsLocated realm rd ipa at given
+  run_located rd at tables given some = record {
+    tables = tables;
+    same = (test_held (is_run ipa count root.width) ipa given place tested some).1;
+    protected = (and_parts _ (is_protected_at ipa realm.root.width) (is_run_there given some)).1;
+  }
 
 -- the realm, with its measurement extended
 abbrev pub measured : RealmAttributes → ℕ → ℕ → RealmAttributes
 measured realm ipa count = record realm { measurement = measurement_after realm.measurement (ripas_event ipa count) }
-
--- extended by an event of the same bytes
-pub measured_by : (realm now : RealmAttributes) (first ipa count : ℕ) (event : List ℕ) → now ≡ record realm { measurement = measurement_after realm.measurement event }
-    → event ≡ ripas_event first count → first ≡ ipa → now ≡ measured realm ipa count
-measured_by realm now first ipa count event is bytes same =
-    is
-    ∙ ap (λ (e : List ℕ). record realm { measurement = measurement_after realm.measurement e }) bytes
-    ∙ ap (λ (n : ℕ). measured realm n count) same
 
 module _ (monitor : MonitorView) (fields : Fields) (view_is : seen_as fields ≡ monitor) (whole : IsWhole fields) (rd ipa count : ℕ) (taken : IsTaken monitor rd) where
   abbrev outcome : Outcome
@@ -62,8 +67,8 @@ module _ (monitor : MonitorView) (fields : Fields) (view_is : seen_as fields ≡
     abbrev old_rows : Rows
     old_rows = rows fields.pages realm.root
 
-    abbrev unused : Bool
-    unused = all_rows is_unassigned old_rows 3 ipa count
+    abbrev run : Bool
+    run = is_run ipa count realm.root.width
 
     abbrev made : Outcome
     made =
@@ -73,55 +78,68 @@ module _ (monitor : MonitorView) (fields : Fields) (view_is : seen_as fields ≡
         }) ∷ [])
 
     abbrev looked : Outcome
-    looked = with_row old_rows ipa 3 (λ row. check unused (error_rtt 3) made)
+    looked = with_free_pages old_rows ipa count (λ row. made)
 
     abbrev checked : Outcome
     checked = check (is_new (row_of fields rd realm)) error_realm looked
 
-    found : outcome ≡ check (is_run ipa count) error_input checked
+    found : outcome ≡ check run error_input checked
     found = somewhere monitor fields view_is whole rd realm there _
 
-    pub ripas_no_run : is_run ipa count ≡ false → outcome ≡ Err error_input
-    ripas_no_run h = found ∙ check_false (is_run ipa count) error_input checked h
+    pub ripas_no_run : run ≡ false → outcome ≡ Err error_input
+    ripas_no_run h = found ∙ check_false run error_input checked h
 
-    module _ (run : is_run ipa count ≡ true) where
+    module _ (runs : run ≡ true) where
       pub ripas_not_new : is_new (row_of fields rd realm) ≡ false → outcome ≡ Err error_realm
-      ripas_not_new h = found ∙ check_true (is_run ipa count) error_input checked run ∙ check_false (is_new (row_of fields rd realm)) error_realm looked h
+      ripas_not_new h = found ∙ check_true run error_input checked runs ∙ check_false (is_new (row_of fields rd realm)) error_realm looked h
 
-      module _ (new_realm : is_new (row_of fields rd realm) ≡ true) where
-        looks : outcome ≡ looked
-        looks = found ∙ check_true (is_run ipa count) error_input checked run ∙ check_true (is_new (row_of fields rd realm)) error_realm looked new_realm
+      module _ (new_realm : is_new (row_of fields rd realm) ≡ true) (at : Tables) (given : ℕ) (located : IsLocated realm rd ipa at given) where
+        looks : outcome ≡ with_free_pages (rows fields.pages at.root) given count (λ row. made)
+        looks =
+            found ∙ check_true run error_input checked runs ∙ check_true (is_new (row_of fields rd realm)) error_realm looked new_realm
+            ∙ (λ k. with_free_pages (rows fields.pages (sym located.tables k).root) (sym located.same k) count (λ row. made))
 
-        pub ripas_refused : (l : ℕ) → ripas_refusal old_rows ipa count ≡ Some l → outcome ≡ Err (error_rtt l)
-        unfolding check
-        ripas_refused l e = looks ∙ both_refused old_rows ipa 3 (λ row. true) unused 3 (λ row. made) l e
+        pub ripas_refused : (l : ℕ) → ((f : Row → Outcome) → with_free_pages (rows fields.pages at.root) given count f ≡ Err (error_rtt l)) → outcome ≡ Err (error_rtt l)
+        ripas_refused l refused = looks ∙ refused (λ row. made)
 
         -- ---- the call is not refused
 
-        module _ (accepted : ripas_refusal old_rows ipa count ≡ None) where
-          passed : Passes old_rows ipa 3 (λ row. true)
-          passed = passes_from old_rows ipa 3 (λ row. true) (or_passes _ unused 3 accepted).0
+        module _ (pages : List (List ℕ)) (free : List Bool) (given_call : RipasCall at fields.pages fields.free fields.granules pages free given count)
+            (now : RealmAttributes) (event : List ℕ) (now_is : now ≡ record realm { measurement = measurement_after realm.measurement event }) (event_is : event ≡ ripas_event given count)
+            (realms : List (Option RealmAttributes)) (put : realms ≡ set fields.realms rd (Some now)) where
+          call : RipasCall (record { rd = rd; root = realm.root }) fields.pages fields.free fields.granules pages free ipa count
+          call = subst (λ (to : Tables × ℕ). RipasCall to.0 fields.pages fields.free fields.granules pages free to.1 count) (λ k. (located.tables k, located.same k)) given_call
 
           gives_ram : outcome ≡ made
-          unfolding check
-          gives_ram = looks ∙ both_pass old_rows ipa 3 (λ row. true) unused 3 (λ row. made) passed (or_passes _ unused 3 accepted).1
+          gives_ram = looks ∙ given_call.answer.1 (λ row. made)
 
-          pub ripas_answers : {A : Type 0} (value : A) → Answers (Ok value) outcome
-          ripas_answers value = answers_ok value _ outcome gives_ram
+          measured_now : now ≡ measured realm ipa count
+          measured_now =
+              now_is
+              ∙ ap (λ (e : List ℕ). record realm { measurement = measurement_after realm.measurement e }) event_is
+              ∙ ap (λ (n : ℕ). measured realm n count) located.same
 
-          module _ (now : RealmAttributes) (now_is : now ≡ measured realm ipa count) (pages : List (List ℕ)) (free : List Bool)
-              (call : RipasCall rd fields.pages fields.free fields.granules pages free realm.root ipa count) where
-            abbrev new : RealmAttributes → Fields
-            new r = record fields { pages = pages; free = free; realms = set fields.realms rd (Some r) }
+          abbrev rest : KeepsRest rd fields.pages fields.free fields.granules pages free fields.granules
+          rest = call.keeps.rest
 
-            pub whole_ram : IsWhole (new now)
-            whole_ram =
-                subst (λ r. IsWhole (new r)) (sym now_is)
-                (whole_still fields whole rd realm (measured realm ipa count) there refl (omega arith) fields.granules pages free call.flags call.backed call.tables call.other_realms refl call.others)
+          same_realm : KeepsRealm realm (measured realm ipa count)
+          same_realm = record { root = refl; vmid = refl; next = omega arith }
 
-            pub ripas_done : seen_as (new now) ≡ after_command outcome monitor
-            ripas_done =
-                ap (λ r. seen_as (new r)) now_is
-                ∙ after_put monitor fields view_is whole rd taken outcome (new (measured realm ipa count)) refl refl call.flags _ _
+          realms_are : realms ≡ set fields.realms rd (Some (measured realm ipa count))
+          realms_are = put ∙ ap (λ (r : RealmAttributes). set fields.realms rd (Some r)) measured_now
+
+          abbrev after : List (Option RealmAttributes) → Fields
+          after rs = with_call fields fields.granules pages free rs
+
+          pub ripas_done : Done monitor outcome (after realms)
+          ripas_done = record {
+            whole =
+                subst (λ rs. IsWhole (after rs)) (sym realms_are)
+                (whole_still fields whole rd realm (measured realm ipa count) there same_realm fields.granules pages free rest.flags rest.backed call.keeps.tables rest.other_realms refl call.others);
+            seen =
+                ap (λ rs. seen_as (after rs)) realms_are
+                ∙ after_put monitor fields view_is whole rd taken outcome (after (set fields.realms rd (Some (measured realm ipa count)))) refl refl rest.flags _ _
                 (λ i. realm_row (measured realm ipa count) (recs_of fields.granules fields.recs rd) (call.gains i)) gives_ram
-                (machine_still fields whole rd realm (measured realm ipa count) there refl (omega arith) fields.granules pages free call.flags call.backed call.tables call.other_realms refl call.others)
+                (machine_still fields whole rd realm (measured realm ipa count) there same_realm fields.granules pages free rest.flags rest.backed call.keeps.tables rest.other_realms refl call.others);
+            answers = answers_ok {A = Unit {0}} tt _ outcome gives_ram;
+          }

@@ -1,8 +1,8 @@
 -- What a monitor keeps, the machine that it stands for, and what always holds of it.
-use Rattle.std.specs.Prelude.{◌≡◌, ◌<◌, ℕ, List, length, map, Bool, true, false, nat_eq, Option, Some, None, is_some, option_map, slice_index_or, slice_get, if◌then◌else◌}
+use Rattle.std.specs.Prelude.{◌≡◌, ◌<◌, ℕ, List, length, map, count_by, Bool, true, false, nat_eq, Option, Some, None, is_some, option_map, slice_index_or, slice_get, if◌then◌else◌}
 use Rattle.std.specs.List.{range_with_len}
 use Rattle.std.specs.Option.{option_eq}
-use Rattle.std.specs.FinMap.{FinMap, get}
+use Rattle.std.specs.FinMap.{FinMap, get, len}
 use Rattle.std.specs.Ordering.{nat_cmp}
 use Rattle.granule_table.specs.Granules.{granule_at, IsIn}
 use Rattle.granule_table.specs.declared.granule.Granule.{Granule}
@@ -17,31 +17,42 @@ use Rattle.rtt.specs.Tables.{rows}
 use Rattle.rtt.specs.Realm.{IsBacked, HasTables}
 use Rattle.rmi_monitor.specs.View.{MonitorView}
 use Rattle.rmi_monitor.specs.Gathered.{gathered, IsOnce}
+use Rattle.rmi_monitor.specs.Places.{is_realm_with}
+use Rattle.rmi_monitor.specs.Vmids.{is_used}
 
--- Of each granule: its state and realm, the bytes of its page, whether it is free, and the realm or the REC that it is.
+-- The VMIDs that are used, and of each granule: its state and realm, the bytes of its page, whether it is free, the realm or
+-- the REC that it is, and how many RECs that realm has.
 pub record Fields : Type 0 where
   pub vmids : ℕ
   pub aux : ℕ
+  pub used : List Bool
   pub granules : List Granule
   pub pages : List (List ℕ)
   pub free : List Bool
   pub realms : List (Option RealmAttributes)
+  pub rec_counts : List ℕ
   pub recs : List (Option RecAttributes)
 
-abbrev pub fields_of : ℕ → ℕ → List Granule → List (List ℕ) → List Bool → List (Option RealmAttributes) → List (Option RecAttributes) → Fields
-fields_of vmids aux granules pages free realms recs = record {
+abbrev pub fields_of : ℕ → ℕ → List Bool → List Granule → List (List ℕ) → List Bool → List (Option RealmAttributes) → List ℕ → List (Option RecAttributes) → Fields
+fields_of vmids aux used granules pages free realms rec_counts recs = record {
   vmids = vmids;
   aux = aux;
+  used = used;
   granules = granules;
   pages = pages;
   free = free;
   realms = realms;
+  rec_counts = rec_counts;
   recs = recs;
 }
 
 -- the realm whose RD a granule is
 abbrev pub realm_at : Fields → ℕ → Option RealmAttributes
 realm_at fields rd = slice_index_or fields.realms rd None
+
+-- how many RECs that realm has, as it is kept
+abbrev pub rec_count_at : Fields → ℕ → ℕ
+rec_count_at fields rd = slice_index_or fields.rec_counts rd 0
 
 -- the REC that a granule is
 abbrev pub rec_at : Fields → ℕ → Option RecAttributes
@@ -131,10 +142,14 @@ pub record HasRecs (fields : Fields) : Type 0 where
       → slice_get rec.auxiliaries i ≡ Some auxiliary → slice_get other.auxiliaries j ≡ Some auxiliary → (g ≡ h) × (i ≡ j)
 
 pub record IsWhole (fields : Fields) : Type 0 where
-  -- There is a page, a place for a realm and one for a REC for each granule. What is not UNDELEGATED is taken.
+  -- There is a page, a place for a realm, a count and a place for a REC for each granule. What is not UNDELEGATED is taken.
   pub backed : IsBacked fields.pages fields.free fields.granules
   pub realm_places : length fields.realms ≡ length fields.granules
+  pub count_places : length fields.rec_counts ≡ length fields.granules
   pub rec_places : length fields.recs ≡ length fields.granules
   pub each : (granule : ℕ) → IsSoundAt fields granule
   pub tables : (rd : ℕ) (realm : RealmAttributes) → realm_at fields rd ≡ Some realm → HasTables fields.pages fields.granules rd realm.root
   pub recs : HasRecs fields
+  -- A realm's count is that of its RECs. A VMID is used where a realm has it, and then one alone does.
+  pub counted : (rd : ℕ) → rec_count_at fields rd ≡ len (recs_of fields.granules fields.recs rd)
+  pub vmids_used : (vmid : ℕ) → count_by (is_realm_with vmid) fields.realms ≡ (if is_used fields.used vmid then 1 else 0)

@@ -1,6 +1,8 @@
 -- Tests of what stands at the places of a monitor.
-use Rattle.std.specs.Prelude.{◌≡◌, ℕ, ◌==◌, ◌<◌, List, [], ◌∷◌, length, Bool, true, false, not, ◌&&◌, nat_le, Option, Some, None}
+use Rattle.std.specs.Prelude.{◌≡◌, ℕ, ◌%◌, ◌==◌, ◌<◌, List, [], ◌∷◌, length, Bool, true, false, not, ◌&&◌, nat_le, Option, Some, None}
 use Rattle.std.specs.List.{list_any, list_all}
+use Rattle.granule_addr.specs.Root.{start_count, starting_tables}
+use Rattle.granule_addr.specs.declared.root.Root.{Root}
 use Rattle.page_arena.specs.Page.{is_free}
 use Rattle.granule_table.specs.Granules.{granule_at}
 use Rattle.granule_table.specs.declared.granule.Granule.{Granule}
@@ -14,10 +16,16 @@ is_delegated_at granules granule = elim (granule_at granules granule).state [ De
 abbrev pub is_undelegated_at : List Granule → ℕ → Bool
 is_undelegated_at granules granule = elim (granule_at granules granule).state [ Undelegated ↦ true | _ ↦ false ]
 
--- two DELEGATED granules that are not the same, and a VMID up to the machine's greatest
-abbrev pub are_fit_for_realm : List Granule → ℕ → ℕ → ℕ → ℕ → Bool
+-- a granule can be a starting table beside that RD: it is DELEGATED, and another granule
+abbrev pub is_fit_to_start : List Granule → ℕ → ℕ → Bool
+is_fit_to_start granules rd table = is_delegated_at granules table && not (table == rd)
+
+-- A DELEGATED granule for the RD, starting tables beside it from a multiple of their count on, and a VMID up to the machine's
+-- greatest.
+abbrev pub are_fit_for_realm : List Granule → ℕ → Root → ℕ → ℕ → Bool
 are_fit_for_realm granules rd root vmid vmids =
-    is_delegated_at granules rd && is_delegated_at granules root && not (rd == root) && nat_le 1 vmid && nat_le vmid vmids
+    root.first % start_count root.width == 0 && is_delegated_at granules rd
+    && list_all (is_fit_to_start granules rd) (starting_tables root) && nat_le 1 vmid && nat_le vmid vmids
 
 -- a realm with the VMID
 abbrev pub is_realm_with : ℕ → Option RealmAttributes → Bool
@@ -33,8 +41,8 @@ are_distinct [] = true
 are_distinct (granule ∷ others) = is_apart_from granule others && are_distinct others
 
 -- granules are DELEGATED, none is there twice, and those after the first are so many
-abbrev pub is_fit : List Granule → ℕ → List ℕ → ℕ → Bool
-is_fit granules first others count =
+abbrev pub are_fit_for_rec : List Granule → ℕ → List ℕ → ℕ → Bool
+are_fit_for_rec granules first others count =
     list_all (is_delegated_at granules) (first ∷ others) && are_distinct (first ∷ others) && length others == count
 
 -- a granule of the machine is in a state

@@ -1,16 +1,17 @@
 -- What a contract sees of a monitor, and of its answers.
-use Rattle.std.specs.Prelude.{◌≡◌, ◌≢◌, ℕ, ◌+◌, ◌^◌, ◌<◌, ◌≤◌, Bool, true, false, not, List, length, replicate, Option, Some, option_and_then, Result, Ok, Err}
-use Rattle.std.specs.List.{list_any}
+use Rattle.std.specs.Prelude.{◌≡◌, ◌≢◌, ℕ, ◌+◌, ◌^◌, ◌<◌, ◌≤◌, Bool, true, false, List, length, map, replicate, Option, Some, option_and_then, Result, Ok, Err}
 use Rattle.std.specs.FinMap.{get}
+use Rattle.granule_addr.specs.Root.{starting_tables}
+use Rattle.granule_addr.specs.declared.root.Root.{Root}
 use Rattle.page_arena.specs.Page.{is_free}
 use Rattle.page_arena.specs.Block.{IsTakenBlock, with_run, with_taken, with_given}
 use Rattle.realm_model.specs.declared.rmi.Rmi.{Rmi}
-use Rattle.realm_model.specs.declared.states.GranuleState.TheVariants.{Rec as InRec, Rtt}
-use Rattle.realm_model.specs.Machine.{Limits, RealmRow, RecRow, Cell, Machine, Seen, seen, blank, cell_at}
+use Rattle.realm_model.specs.declared.states.GranuleState.TheVariants.{Rtt}
+use Rattle.realm_model.specs.Machine.{RealmRow, RecRow, Cell, Machine, Seen, seen, blank, cell_at}
 use Rattle.realm_model.specs.Update.{Outcome, machine_after_command}
-use Rattle.realm_model.specs.Command.Check.{check, error_input, is_undelegated}
+use Rattle.realm_model.specs.Command.Check.{error_input, is_undelegated}
 use Rattle.realm_model.specs.Command.Realm.{realm_create}
-use Rattle.realm_model.specs.Step.{has_vmid}
+use Rattle.realm_model.specs.Step.{used_vmids}
 use Rattle.realm_objects.specs.Attributes.{RealmAttributes}
 
 -- How many VMIDs and auxiliary granules of a REC there are, the machine, and of each granule whether it is free.
@@ -47,15 +48,10 @@ after_command outcome monitor = record monitor { machine = machine_after_command
 
 -- ---- realms
 
--- the limits of a monitor; builds are the host's
-abbrev pub limits_of : MonitorView → Limits
-limits_of monitor = record { pages = length monitor.machine; vmids = monitor.vmids; aux = monitor.aux; builds = 0 }
-
--- What comes of making a realm: a VMID that a realm uses is an input error too. RMM 1.0, RMI_REALM_CREATE.
-abbrev pub create_realm : MonitorView → ℕ → ℕ → ℕ → Outcome
-create_realm monitor rd root vmid =
-    check (not (list_any (has_vmid vmid) monitor.machine)) error_input
-    (realm_create (limits_of monitor) (seen_in monitor rd) (seen_in monitor root) vmid)
+-- the command that makes a realm, on the granules that a monitor has and the VMIDs that its realms use
+abbrev pub make_realm : MonitorView → ℕ → Root → ℕ → Outcome
+make_realm monitor rd root vmid =
+    realm_create monitor.vmids (used_vmids monitor.machine) (seen_in monitor rd) (map (seen_in monitor) (starting_tables root)) root vmid
 
 -- a realm's own attributes
 abbrev pub attributes_of : RealmRow → RealmAttributes
@@ -79,12 +75,12 @@ pub record IsRec (machine : Machine) (rd number granule : ℕ) : Type 0 where
 abbrev pub rec_in : Machine → ℕ → ℕ → Option RecRow
 rec_in machine rd number = option_and_then (λ realm. get realm.recs number) (cell_at machine rd).descriptor
 
--- What comes of a command on a REC is what its definition says of the realm and the number; a granule that is no REC is an
--- input error.
+-- What comes of a command on a REC is what its definition says of the realm and the number. Where no realm and number have
+-- the granule as their REC, it is an input error and nothing changes.
 pub record IsOnRec {A : Type 0} (command : Seen → ℕ → Outcome) (old : MonitorView) (granule : ℕ) (result : Result A Rmi) (new : MonitorView) : Type 0 where
   pub answer : (rd number : ℕ) → IsRec old.machine rd number granule → Answers result (command (seen_in old rd) number)
   pub machine : (rd number : ℕ) → IsRec old.machine rd number granule → new ≡ after_command (command (seen_in old rd) number) old
-  pub none : (cell_at old.machine granule).state ≢ InRec → (result ≡ Err error_input) × (new ≡ old)
+  pub none : ((rd number : ℕ) → ¬ (IsRec old.machine rd number granule)) → (result ≡ Err error_input) × (new ≡ old)
 
 -- ---- blocks
 

@@ -4,13 +4,12 @@ ghost use Rattle.realm_model.specs.Command.Data as command;
 ghost use Rattle.rmi_monitor.specs.View.{IsTaken, Answers, seen_in, after_command};
 
 use crate::Monitor;
-use crate::inputs::{protected, rtt_refusal};
-use crate::places::{is_delegated, is_undelegated};
-use granule_addr::{Gran, Level};
+use crate::inputs::protected;
+use crate::places::{is_delegated, is_undelegated, tables_of};
+use granule_addr::Gran;
 use page_arena::PageStore;
 use realm_model::{Ripas, Rmi};
 use realm_objects::data_event;
-use rtt::Tables;
 
 impl<S: PageStore> Monitor<S> {
     /// Makes a DELEGATED granule a page of a NEW realm, with the bytes of an UNDELEGATED one, and extends the realm's
@@ -31,7 +30,7 @@ impl<S: PageStore> Monitor<S> {
         let Some(realm) = &mut self.realms[rd.number() as usize] else {
             return Err(Rmi::INPUT);
         };
-        let Some(ipa) = protected(ipa) else {
+        let Some(ipa) = protected(ipa, realm.root().width) else {
             return Err(Rmi::INPUT);
         };
         if !is_delegated(&self.granules, page) {
@@ -43,19 +42,13 @@ impl<S: PageStore> Monitor<S> {
         if !realm.is_new() {
             return Err(Rmi::REALM);
         }
-        let tables = Tables {
-            rd,
-            root: realm.root(),
-        };
-        if let Err(refusal) = tables.map(
+        tables_of(rd, realm).map(
             &mut self.store,
             &mut self.granules,
             page,
             ipa,
-            Ripas::Ram,
-        ) {
-            return Err(rtt_refusal(refusal));
-        }
+            Some(Ripas::Ram),
+        )?;
         self.store.copy(page, source);
         realm.measure(&data_event(ipa, self.store.bytes(source)));
         Ok(())
@@ -76,26 +69,14 @@ impl<S: PageStore> Monitor<S> {
         let Some(realm) = &self.realms[rd.number() as usize] else {
             return Err(Rmi::INPUT);
         };
-        let Some(ipa) = protected(ipa) else {
+        let Some(ipa) = protected(ipa, realm.root().width) else {
             return Err(Rmi::INPUT);
         };
         if !is_delegated(&self.granules, page) {
             return Err(Rmi::INPUT);
         }
-        let tables = Tables {
-            rd,
-            root: realm.root(),
-        };
-        let walk = tables.walk(&self.store, &self.granules, ipa, Level::last());
-        tables
-            .map(
-                &mut self.store,
-                &mut self.granules,
-                page,
-                ipa,
-                walk.entry.ripas,
-            )
-            .map_err(rtt_refusal)
+        tables_of(rd, realm).map(&mut self.store, &mut self.granules, page, ipa, None)?;
+        Ok(())
     }
 
     /// Removes a page of a realm: it is zero and DELEGATED, and where it was RAM, the IPA granule is DESTROYED.
@@ -110,15 +91,10 @@ impl<S: PageStore> Monitor<S> {
         let Some(realm) = &self.realms[rd.number() as usize] else {
             return Err(Rmi::INPUT);
         };
-        let Some(ipa) = protected(ipa) else {
+        let Some(ipa) = protected(ipa, realm.root().width) else {
             return Err(Rmi::INPUT);
         };
-        let tables = Tables {
-            rd,
-            root: realm.root(),
-        };
-        tables
-            .unmap(&mut self.store, &mut self.granules, ipa)
-            .map_err(rtt_refusal)
+        tables_of(rd, realm).unmap(&mut self.store, &mut self.granules, ipa)?;
+        Ok(())
     }
 }

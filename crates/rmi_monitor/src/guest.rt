@@ -4,10 +4,11 @@ ghost use Rattle.rmi_monitor.specs.View.{IsTaken, IsOnRec};
 
 use crate::Monitor;
 use crate::inputs::protected;
+use crate::places::tables_of;
 use granule_addr::{Gran, Level, PageOff};
 use page_arena::PageStore;
-use realm_model::{Rmi, Status};
-use rtt::Tables;
+use realm_model::Rmi;
+use rtt::Rtt;
 
 impl<S: PageStore> Monitor<S> {
     /// Lets a RUNNING REC write a byte of a page of its realm, under any RIPAS. This profile's own, for guest instructions.
@@ -29,27 +30,20 @@ impl<S: PageStore> Monitor<S> {
             return Err(Rmi::INPUT);
         };
         let Some(rd) = self.granules.realm_of(rec) else {
-            return Err(Rmi::INPUT);
+            unreachable!()
         };
         let Some(realm) = &self.realms[rd.number() as usize] else {
-            return Err(Rmi::INPUT);
+            unreachable!()
         };
-        let Some(granule) = protected(ipa) else {
+        let Some(granule) = protected(ipa, realm.root().width) else {
             return Err(Rmi::INPUT);
         };
         if kept.is_ready() {
             return Err(Rmi::REC);
         }
-        let tables = Tables {
-            rd,
-            root: realm.root(),
-        };
-        let walk = tables.walk(&self.store, &self.granules, granule, Level::last());
+        let walk = tables_of(rd, realm).walk(&self.store, &self.granules, granule, Level::last());
         let Some(page) = walk.entry.page() else {
-            return Err(Rmi {
-                status: Status::Rtt,
-                index: walk.level.number(),
-            });
+            return Err(Rmi::from(Rtt { level: walk.level }));
         };
         self.store.set(page, offset, value);
         Ok(())

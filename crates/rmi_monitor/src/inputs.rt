@@ -1,18 +1,16 @@
 //! Checks of what a command is given.
 ghost use Rattle.std.specs.Prelude.{◌≡◌, ◌+◌, ◌-◌, ◌/◌, ◌==◌, ◌&&◌, nat_le, Some, None, if◌then◌else◌};
+ghost use Rattle.granule_addr.specs.Ipa.{is_protected_at};
 ghost use Rattle.realm_model.specs.Rows.{is_table_place};
-ghost use Rattle.realm_model.specs.Command.Check.{is_protected, error_rtt};
 
-use granule_addr::{IPA_WIDTH, IpaGran, Level, is_protected};
-use realm_model::{Rmi, Status};
-use rtt::Rtt;
+use granule_addr::{IpaGran, IpaWidth, Level, is_protected};
 
-// The IPA granule of that number, where it is protected.
-pub fn protected(ipa: u32) -> Option<IpaGran>
-    ensures { result ≡ (if is_protected ipa then Some ipa else None) }
+// The IPA granule of that number, where it is protected in an address space of that width.
+pub fn protected(ipa: u32, width: IpaWidth) -> Option<IpaGran>
+    ensures { result ≡ (if is_protected_at ipa width then Some ipa else None) }
 {
-    let granule = IpaGran::new(ipa, IPA_WIDTH)?;
-    if is_protected(granule, IPA_WIDTH) {
+    let granule = IpaGran::new(ipa, width.number())?;
+    if is_protected(granule, width) {
         Some(granule)
     } else {
         None
@@ -20,11 +18,11 @@ pub fn protected(ipa: u32) -> Option<IpaGran>
 }
 
 // The first of `count` IPA granules, where it is protected, they are 1 to 512, and one table of level 3 serves all of them.
-pub fn protected_run(ipa: u32, count: u16) -> Option<IpaGran>
-    ensures { result ≡ (if nat_le 1 count && nat_le count 512 && ipa / 512 == (ipa + count - 1) / 512 && is_protected ipa
+pub fn protected_run(ipa: u32, count: u16, width: IpaWidth) -> Option<IpaGran>
+    ensures { result ≡ (if nat_le 1 count && nat_le count 512 && ipa / 512 == (ipa + count - 1) / 512 && is_protected_at ipa width
         then Some ipa else None) }
 {
-    let first = protected(ipa)?;
+    let first = protected(ipa, width)?;
     if count == 0 || count > 512 || ipa / 512 != (ipa + u32::from(count) - 1) / 512 {
         return None;
     }
@@ -44,15 +42,5 @@ pub fn table_level(ipa: u32, level: u8) -> Option<Level>
         Level::new(level)
     } else {
         None
-    }
-}
-
-// The refusal of a call on tables.
-pub fn rtt_refusal(refusal: Rtt) -> Rmi
-    ensures { result ≡ error_rtt refusal.level }
-{
-    Rmi {
-        status: Status::Rtt,
-        index: refusal.level.number(),
     }
 }

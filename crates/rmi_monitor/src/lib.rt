@@ -16,5 +16,6 @@ mod realm;
 mod rec;
 mod recs;
 mod table;
+mod vmids;
 
 pub use monitor::Monitor;

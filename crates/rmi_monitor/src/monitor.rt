@@ -9,6 +9,7 @@ ghost use Rattle.realm_model.specs.Machine.{RealmRow, cell_at};
 ghost use Rattle.rtt.specs.RowWords.{AreWordsOf};
 ghost use Rattle.rmi_monitor.specs.View.{IsGivable, IsPageOf, fresh, with_block, without_block};
 
+use crate::vmids::VmidSet;
 use granule_addr::{Gran, Order};
 use granule_table::GranuleTable;
 use page_arena::PageStore;
@@ -22,9 +23,12 @@ use std::marker::Model;
 pub struct Monitor<S: PageStore> {
     pub(crate) store: S,
     pub(crate) granules: GranuleTable,
-    // Of each granule, the realm whose RD it is, and the REC that it is.
+    // Of each granule, the realm whose RD it is, how many RECs that realm has, and the REC that it is.
     pub(crate) realms: Vec<Option<RealmDesc>>,
+    pub(crate) rec_counts: Vec<u16>,
     pub(crate) recs: Vec<Option<Rec>>,
+    // The VMIDs that realms have, and the greatest that one can have.
+    pub(crate) used: VmidSet,
     pub(crate) vmids: u8,
     pub(crate) aux: u8,
 }
@@ -38,9 +42,9 @@ impl<S: PageStore> Model for Monitor<S> {
 
     ghost coded = { monitor_code };
 
-    ghost view = { λ m. seen_as (fields_of m.vmids m.aux m.granules (S.page_bytes m.store) (S.free_flags m.store) m.realms.items m.recs.items) };
+    ghost view = { λ m. seen_as (fields_of m.vmids m.aux m.used m.granules (S.page_bytes m.store) (S.free_flags m.store) m.realms.items m.rec_counts.items m.recs.items) };
 
-    ghost invariant = { λ m. IsWhole (fields_of m.vmids m.aux m.granules (S.page_bytes m.store) (S.free_flags m.store) m.realms.items m.recs.items) };
+    ghost invariant = { λ m. IsWhole (fields_of m.vmids m.aux m.used m.granules (S.page_bytes m.store) (S.free_flags m.store) m.realms.items m.rec_counts.items m.recs.items) };
 }
 
 impl<S: PageStore> Monitor<S> {
@@ -54,12 +58,21 @@ impl<S: PageStore> Monitor<S> {
         ensures ok { IfOk result (λ m. m ≡ fresh vmids aux (length (S.page_bytes store))) }
         ensures err { IfErr result (λ e. e.1 ≡ store) }
     {
-        match places(alloc, store.pages()) {
-            Ok((granules, realms, recs)) => Ok(Monitor {
+        match empty_places(alloc, store.pages()) {
+            Ok(
+                Places {
+                    granules,
+                    realms,
+                    rec_counts,
+                    recs,
+                },
+            ) => Ok(Monitor {
                 store,
                 granules,
                 realms,
+                rec_counts,
                 recs,
+                used: VmidSet::new(),
                 vmids,
                 aux,
             }),
@@ -103,7 +116,9 @@ impl<S: PageStore> Monitor<S> {
 
     /// How many granules there are, 1 to 4,096.
     pub fn pages(&self) -> u16
-        ensures { result ≡ length self.now.machine }
+        ensures value { result ≡ length self.now.machine }
+        ensures some { 1 ≤ result }
+        ensures few { result ≤ 4096 }
     {
         self.store.pages()
     }
@@ -119,7 +134,8 @@ impl<S: PageStore> Monitor<S> {
     /// The 4,096 bytes of a granule that is no table. Of a table nothing is said: its contents are rows.
     pub fn bytes(&self, granule: Gran) -> &[u8]
         requires { granule < length self.now.machine }
-        ensures { IsPageOf (cell_at self.now.machine granule) result.now }
+        ensures count { length result.now ≡ 4096 }
+        ensures value { IsPageOf (cell_at self.now.machine granule) result.now }
     {
         self.store.bytes(granule)
     }
@@ -159,21 +175,33 @@ fn nothing<T: Drop>(alloc: Global, count: u16) -> Result<Vec<Option<T>>, AllocEr
     Ok(places)
 }
 
-// The granules of a machine of so many pages, and a place for a realm and one for a REC at each.
-fn places(
-    alloc: Global,
-    pages: u16,
-) -> Result<(GranuleTable, Vec<Option<RealmDesc>>, Vec<Option<Rec>>), AllocError>
+// The granules of a machine, and the places at each.
+struct Places {
+    granules: GranuleTable,
+    realms: Vec<Option<RealmDesc>>,
+    rec_counts: Vec<u16>,
+    recs: Vec<Option<Rec>>,
+}
+
+// The places of a machine of so many pages, where there is no realm and no REC.
+fn empty_places(alloc: Global, pages: u16) -> Result<Places, AllocError>
     requires some { 1 ≤ pages }
     requires few { pages ≤ 4096 }
-    ensures granules { IfOk result (λ all. all.0 ≡ replicate pages undelegated) }
-    ensures realms { IfOk result (λ all. all.1.items ≡ replicate pages None) }
-    ensures recs { IfOk result (λ all. all.2.items ≡ replicate pages None) }
+    ensures granules { IfOk result (λ places. places.granules ≡ replicate pages undelegated) }
+    ensures realms { IfOk result (λ places. places.realms.items ≡ replicate pages None) }
+    ensures rec_counts { IfOk result (λ places. places.rec_counts.items ≡ replicate pages 0) }
+    ensures recs { IfOk result (λ places. places.recs.items ≡ replicate pages None) }
 {
     let granules = GranuleTable::build(alloc, pages)?;
     let realms = nothing(alloc, pages)?;
+    let rec_counts = vec![in alloc; 0_u16; pages as usize]?;
     let recs = nothing(alloc, pages)?;
-    Ok((granules, realms, recs))
+    Ok(Places {
+        granules,
+        realms,
+        rec_counts,
+        recs,
+    })
 }
 
 // The sum of the bytes of a page.

@@ -4,12 +4,24 @@ ghost use Rattle.std.specs.List.{list_all};
 ghost use Rattle.granule_addr.specs.Page.{zero_page};
 ghost use Rattle.realm_model.specs.StepLaw.{set_each};
 ghost use Rattle.realm_model.specs.declared.states.GranuleState.TheVariants.{Delegated};
-ghost use Rattle.rmi_monitor.specs.Places.{is_delegated_at, is_undelegated_at, is_apart_from, are_distinct, is_fit, IsInState, HasPage};
+ghost use Rattle.rmi_monitor.specs.Places.{is_delegated_at, is_undelegated_at, is_apart_from, are_distinct, are_fit_for_rec, IsInState, HasPage};
 
 use granule_addr::Gran;
 use granule_table::GranuleTable;
 use page_arena::PageStore;
 use realm_model::GranuleState;
+use realm_objects::RealmDesc;
+use rtt::Tables;
+
+// The tables of the realm that stands at an RD granule.
+pub fn tables_of(rd: Gran, realm: &RealmDesc) -> Tables
+    ensures { result ≡ record { rd = rd; root = realm.now.root } }
+{
+    Tables {
+        rd,
+        root: realm.root(),
+    }
+}
 
 // Whether a granule is DELEGATED.
 pub fn is_delegated(granules: &GranuleTable, granule: Gran) -> bool
@@ -65,10 +77,10 @@ pub fn are_different(first: Gran, others: &[Gran]) -> bool
 }
 
 // Whether a granule and others are DELEGATED, no two of them the same, and the others so many.
-pub fn are_fit(granules: &GranuleTable, first: Gran, others: &[Gran], count: u8) -> bool
+pub fn can_be_rec(granules: &GranuleTable, first: Gran, others: &[Gran], count: u8) -> bool
     requires first { first < length granules.now }
     requires others { All (λ granule. granule < length granules.now) others.now }
-    ensures { result ≡ is_fit granules.now first others.now count }
+    ensures { result ≡ are_fit_for_rec granules.now first others.now count }
 {
     others.len() == count as usize
         && is_delegated(granules, first)

@@ -1,62 +1,85 @@
 //! Commands on realms.
 ghost use Rattle.std.specs.Prelude.{◌≡◌, ◌<◌, option_map, length};
-ghost use Rattle.std.specs.List.{list_any};
+ghost use Rattle.std.specs.List.{list_all};
 ghost use Rattle.std.specs.Option.{option_copied};
+ghost use Rattle.granule_addr.specs.Root.{starting_tables};
 ghost use Rattle.realm_model.specs.Machine.{cell_at};
 ghost use Rattle.realm_model.specs.Command.Realm as command;
-ghost use Rattle.rmi_monitor.specs.View.{IsTaken, Answers, seen_in, after_command, create_realm, attributes_of};
-ghost use Rattle.rmi_monitor.specs.Places.{are_fit_for_realm, is_realm_with};
+ghost use Rattle.rmi_monitor.specs.View.{IsTaken, Answers, seen_in, after_command, attributes_of, make_realm};
+ghost use Rattle.rmi_monitor.specs.Places.{are_fit_for_realm, is_fit_to_start};
 
 use crate::Monitor;
-use crate::places::is_delegated;
-use crate::recs::has_rec;
-use granule_addr::{Gran, Vmid};
+use crate::places::{is_delegated, release, tables_of};
+use granule_addr::{Gran, IpaWidth, Root, Vmid};
 use granule_table::GranuleTable;
 use page_arena::PageStore;
 use realm_model::{GranuleState, Rmi};
 use realm_objects::RealmDesc;
 use rtt::Tables;
 
-// Whether a realm uses the VMID.
-fn is_used(realms: &[Option<RealmDesc>], vmid: Vmid) -> bool
-    ensures { result ≡ list_any (is_realm_with vmid) realms.now }
+// Whether a granule of that number can be a starting table beside that RD.
+fn can_start(granules: &GranuleTable, rd: Gran, number: u16) -> bool
+    ensures { result ≡ is_fit_to_start granules.now rd number }
 {
-    realms.iter().any(|place| matches!(place, Some(realm) if realm.vmid() == vmid))
+    match Gran::new(number, granules.pages()) {
+        Some(table) => is_delegated(granules, table) && table != rd,
+        None => false,
+    }
 }
 
-// Whether two granules and a VMID can be those of a new realm.
-fn are_fit(granules: &GranuleTable, rd: Gran, root: Gran, vmid: Vmid, vmids: u8) -> bool
-    requires rd { rd < length granules.now }
-    requires root { root < length granules.now }
-    ensures { result ≡ are_fit_for_realm granules.now rd root vmid vmids }
+// Whether all starting tables can.
+fn can_all_start(granules: &GranuleTable, tables: &Tables) -> bool
+    ensures { result ≡ list_all (is_fit_to_start granules.now tables.now.rd) (starting_tables tables.now.root) }
 {
-    is_delegated(granules, rd)
-        && is_delegated(granules, root)
-        && rd != root
+    for number in 0..tables.root.width.start_count() {
+        if !can_start(granules, tables.rd, tables.root.first.number() + number) {
+            return false;
+        }
+    }
+    true
+}
+
+// Whether an RD, starting tables and a VMID can be those of a new realm, as far as no other realm decides.
+fn can_be_realm(granules: &GranuleTable, tables: &Tables, vmid: Vmid, vmids: u8) -> bool
+    requires { tables.now.rd < length granules.now }
+    ensures { result ≡ are_fit_for_realm granules.now tables.now.rd tables.now.root vmid vmids }
+{
+    tables.root.first.number() % tables.root.width.start_count() == 0
+        && is_delegated(granules, tables.rd)
+        && can_all_start(granules, tables)
         && vmid.number() <= vmids
 }
 
 impl<S: PageStore> Monitor<S> {
-    /// Makes two DELEGATED granules the RD and the root table of a new realm.
+    /// Makes DELEGATED granules the RD and the starting tables of a new realm, whose IPAs have `width` bits.
     ///
-    /// RMM 1.0, RMI_REALM_CREATE. RMI_ERROR_INPUT comes where one of them is not DELEGATED, where they are the same, and
-    /// where the VMID is above the machine's or a realm uses it.
-    pub fn realm_create(&mut self, rd: Gran, root: Gran, vmid: Vmid) -> Result<(), Rmi>
-        requires rd_taken { IsTaken self.old rd }
-        requires root_taken { IsTaken self.old root }
-        ensures answer { Answers result (create_realm self.old rd root vmid) }
-        ensures machine { self.new ≡ after_command (create_realm self.old rd root vmid) self.old }
+    /// `root` is the first starting table; there are 2^(width - 39), one after another. RMM 1.0, RMI_REALM_CREATE.
+    /// RMI_ERROR_INPUT comes where the width is not 39 to 43, where `root` is no multiple of their count, where one of the
+    /// granules is not DELEGATED or the RD is a starting table, and where the VMID is above the machine's or a realm uses it.
+    pub fn realm_create(&mut self, rd: Gran, root: Gran, vmid: Vmid, width: u8) -> Result<(), Rmi>
+        requires { IsTaken self.old rd }
+        ensures answer { Answers result (make_realm self.old rd (record { first = root; width = width }) vmid) }
+        ensures machine { self.new ≡ after_command (make_realm self.old rd (record { first = root; width = width }) vmid) self.old }
     {
-        if is_used(&self.realms, vmid) {
+        let Some(width) = IpaWidth::new(width) else {
+            return Err(Rmi::INPUT);
+        };
+        if self.used.contains(vmid) {
             return Err(Rmi::INPUT);
         }
-        if !are_fit(&self.granules, rd, root, vmid, self.vmids) {
+        let tables = Tables {
+            rd,
+            root: Root { first: root, width },
+        };
+        if !can_be_realm(&self.granules, &tables, vmid, self.vmids) {
             return Err(Rmi::INPUT);
         }
         self.granules
             .shift(rd, GranuleState::Delegated, GranuleState::Rd, Some(rd));
-        Tables { rd, root }.open_root(&mut self.store, &mut self.granules);
-        self.realms[rd.number() as usize] = Some(RealmDesc::new(vmid, root));
+        tables.open_root(&mut self.store, &mut self.granules);
+        let realm = RealmDesc::new(vmid, Root { first: root, width });
+        self.realms[rd.number() as usize] = Some(realm);
+        self.used.insert(vmid);
         Ok(())
     }
 
@@ -79,10 +102,10 @@ impl<S: PageStore> Monitor<S> {
         Ok(())
     }
 
-    /// Removes a realm that has no REC and no table below its root: its RD and its root are zero and DELEGATED.
+    /// Removes a realm that has no REC and no table below its starting tables: they and its RD are zero and DELEGATED.
     ///
     /// RMM 1.0, RMI_REALM_DESTROY. RMI_ERROR_INPUT comes where the granule is no RD, RMI_ERROR_REALM where the realm has
-    /// a REC or a table.
+    /// a REC, or an entry of a starting table is TABLE.
     pub fn realm_destroy(&mut self, rd: Gran) -> Result<(), Rmi>
         requires { IsTaken self.old rd }
         ensures answer { Answers result (command.realm_destroy (seen_in self.old rd)) }
@@ -91,24 +114,20 @@ impl<S: PageStore> Monitor<S> {
         let Some(realm) = &self.realms[rd.number() as usize] else {
             return Err(Rmi::INPUT);
         };
-        if has_rec(&self.granules, &self.recs, rd) {
+        let recs = self.rec_counts[rd.number() as usize];
+        if recs > 0 {
             return Err(Rmi::REALM);
         }
-        let tables = Tables {
-            rd,
-            root: realm.root(),
-        };
-        if !tables.close_root(&mut self.store, &mut self.granules) {
+        if !tables_of(rd, realm).close_root(&mut self.store, &mut self.granules) {
             return Err(Rmi::REALM);
         }
-        self.store.fill(rd, 0);
-        self.granules
-            .shift(rd, GranuleState::Rd, GranuleState::Delegated, None);
+        release(&mut self.store, &mut self.granules, rd, GranuleState::Rd);
+        self.used.remove(realm.vmid());
         self.realms[rd.number() as usize] = None;
         Ok(())
     }
 
-    /// The realm whose RD a granule is: state, VMID, root, the number of its next REC, and measurement.
+    /// The realm whose RD a granule is: state, VMID, starting tables, the number of its next REC, and measurement.
     pub fn realm(&self, rd: Gran) -> Option<&RealmDesc>
         requires { rd < length self.now.machine }
         ensures { option_copied result ≡ option_map attributes_of (cell_at self.now.machine rd).descriptor }

@@ -4,10 +4,10 @@ ghost use Rattle.std.specs.List.{All};
 ghost use Rattle.realm_model.specs.Machine.{RealmRow, cell_at};
 ghost use Rattle.realm_model.specs.Command.Rec as command;
 ghost use Rattle.realm_objects.specs.Attributes.{rec_row};
-ghost use Rattle.rmi_monitor.specs.View.{IsTaken, Answers, IsOnRec, seen_in, after_command, limits_of, rec_in};
+ghost use Rattle.rmi_monitor.specs.View.{IsTaken, Answers, IsOnRec, seen_in, after_command, rec_in};
 
 use crate::Monitor;
-use crate::places::{are_fit, release, release_all, shift_all};
+use crate::places::{can_be_rec, release, release_all, shift_all};
 use crate::recs::find_rec;
 use arrayvec::ArrayVec;
 use granule_addr::{Gran, RecNo};
@@ -40,15 +40,15 @@ impl<S: PageStore> Monitor<S> {
         requires auxiliaries_taken { All (IsTaken self.old) auxiliaries.items }
         requires numbers { (realm : RealmRow) → (cell_at self.old.machine rd).descriptor ≡ Some realm → realm.next < 65535 }
         ensures answer { Answers result
-            (command.rec_create (limits_of self.old) (seen_in self.old rd) (seen_in self.old rec) (map (seen_in self.old) auxiliaries.items)) }
+            (command.rec_create self.old.aux (seen_in self.old rd) (seen_in self.old rec) (map (seen_in self.old) auxiliaries.items)) }
         ensures number { IfOk result (λ number. (realm : RealmRow) → (cell_at self.old.machine rd).descriptor ≡ Some realm → number ≡ realm.next) }
         ensures machine { self.new ≡ after_command
-            (command.rec_create (limits_of self.old) (seen_in self.old rd) (seen_in self.old rec) (map (seen_in self.old) auxiliaries.items)) self.old }
+            (command.rec_create self.old.aux (seen_in self.old rd) (seen_in self.old rec) (map (seen_in self.old) auxiliaries.items)) self.old }
     {
         let Some(realm) = &mut self.realms[rd.number() as usize] else {
             return Err(Rmi::INPUT);
         };
-        if !are_fit(&self.granules, rec, auxiliaries.as_slice(), self.aux) {
+        if !can_be_rec(&self.granules, rec, auxiliaries.as_slice(), self.aux) {
             return Err(Rmi::INPUT);
         }
         if !realm.is_new() {
@@ -66,6 +66,7 @@ impl<S: PageStore> Monitor<S> {
         let number = realm.next_rec();
         realm.measure(&rec_event(number));
         self.recs[rec.number() as usize] = Some(Rec::new(number, auxiliaries));
+        self.rec_counts[rd.number() as usize] += 1;
         Ok(number)
     }
 
@@ -81,10 +82,10 @@ impl<S: PageStore> Monitor<S> {
             return Err(Rmi::INPUT);
         };
         let Some(rd) = self.granules.realm_of(rec) else {
-            return Err(Rmi::INPUT);
+            unreachable!()
         };
         let Some(realm) = &self.realms[rd.number() as usize] else {
-            return Err(Rmi::INPUT);
+            unreachable!()
         };
         if realm.is_new() {
             return Err(Rmi::REALM);
@@ -127,6 +128,9 @@ impl<S: PageStore> Monitor<S> {
         if !kept.is_ready() {
             return Err(Rmi::REC);
         }
+        let Some(rd) = self.granules.realm_of(rec) else {
+            unreachable!()
+        };
         release(&mut self.store, &mut self.granules, rec, GranuleState::Rec);
         release_all(
             &mut self.store,
@@ -135,6 +139,7 @@ impl<S: PageStore> Monitor<S> {
             GranuleState::RecAux,
         );
         self.recs[rec.number() as usize] = None;
+        self.rec_counts[rd.number() as usize] -= 1;
         Ok(())
     }
 

@@ -1,25 +1,11 @@
 //! RECs in their places.
-ghost use Rattle.std.specs.Prelude.{◌≡◌, ◌==◌, not, length, IfSome, IfNone, None};
-ghost use Rattle.std.specs.FinMap.{get, len};
+ghost use Rattle.std.specs.Prelude.{◌≡◌, length, IfSome, IfNone, None};
+ghost use Rattle.std.specs.FinMap.{get};
 ghost use Rattle.rmi_monitor.specs.Inside.{recs_of, IsNumbered, IsRecAt};
 
 use granule_addr::{Gran, MOST_PAGES, RecNo};
 use granule_table::GranuleTable;
 use realm_objects::Rec;
-
-// Whether a realm has a REC.
-pub fn has_rec(granules: &GranuleTable, recs: &[Option<Rec>], rd: Gran) -> bool
-    requires { length recs.now ≡ length granules.now }
-    ensures { result ≡ not (len (recs_of granules.now recs.now rd) == 0) }
-{
-    'granules: for number in 0..granules.pages() {
-        let granule = Gran::new(number, MOST_PAGES).unwrap();
-        if recs[number as usize].is_some() && granules.realm_of(granule) == Some(rd) {
-            return true;
-        }
-    }
-    false
-}
 
 // The granule of the realm's REC of that number.
 pub fn find_rec(

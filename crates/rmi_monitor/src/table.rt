@@ -4,13 +4,12 @@ ghost use Rattle.realm_model.specs.Command.Table as command;
 ghost use Rattle.rmi_monitor.specs.View.{IsTaken, Answers, seen_in, after_command};
 
 use crate::Monitor;
-use crate::inputs::{protected, protected_run, rtt_refusal, table_level};
-use crate::places::is_delegated;
+use crate::inputs::{protected, protected_run, table_level};
+use crate::places::{is_delegated, tables_of};
 use granule_addr::Gran;
 use page_arena::PageStore;
 use realm_model::Rmi;
 use realm_objects::ripas_event;
-use rtt::Tables;
 
 impl<S: PageStore> Monitor<S> {
     /// Makes a DELEGATED granule a table of level 2 or 3 of a realm.
@@ -28,25 +27,14 @@ impl<S: PageStore> Monitor<S> {
         let Some(realm) = &self.realms[rd.number() as usize] else {
             return Err(Rmi::INPUT);
         };
-        let (Some(level), Some(ipa)) = (table_level(ipa, level), protected(ipa)) else {
+        let (Some(level), Some(ipa)) = (table_level(ipa, level), protected(ipa, realm.root().width))
+        else {
             return Err(Rmi::INPUT);
         };
         if !is_delegated(&self.granules, table) {
             return Err(Rmi::INPUT);
         }
-        let tables = Tables {
-            rd,
-            root: realm.root(),
-        };
-        if let Err(refusal) = tables.create_table(
-            &mut self.store,
-            &mut self.granules,
-            table,
-            ipa,
-            level,
-        ) {
-            return Err(rtt_refusal(refusal));
-        }
+        tables_of(rd, realm).create_table(&mut self.store, &mut self.granules, table, ipa, level)?;
         Ok(())
     }
 
@@ -64,21 +52,11 @@ impl<S: PageStore> Monitor<S> {
         let Some(realm) = &self.realms[rd.number() as usize] else {
             return Err(Rmi::INPUT);
         };
-        let (Some(level), Some(ipa)) = (table_level(ipa, level), protected(ipa)) else {
+        let (Some(level), Some(ipa)) = (table_level(ipa, level), protected(ipa, realm.root().width))
+        else {
             return Err(Rmi::INPUT);
         };
-        let tables = Tables {
-            rd,
-            root: realm.root(),
-        };
-        if let Err(refusal) = tables.destroy_table(
-            &mut self.store,
-            &mut self.granules,
-            ipa,
-            level,
-        ) {
-            return Err(rtt_refusal(refusal));
-        }
+        tables_of(rd, realm).destroy_table(&mut self.store, &mut self.granules, ipa, level)?;
         Ok(())
     }
 
@@ -95,19 +73,13 @@ impl<S: PageStore> Monitor<S> {
         let Some(realm) = &mut self.realms[rd.number() as usize] else {
             return Err(Rmi::INPUT);
         };
-        let Some(first) = protected_run(ipa, count) else {
+        let Some(first) = protected_run(ipa, count, realm.root().width) else {
             return Err(Rmi::INPUT);
         };
         if !realm.is_new() {
             return Err(Rmi::REALM);
         }
-        let tables = Tables {
-            rd,
-            root: realm.root(),
-        };
-        if let Err(refusal) = tables.init_ripas(&mut self.store, &self.granules, first, count) {
-            return Err(rtt_refusal(refusal));
-        }
+        tables_of(rd, realm).init_ripas(&mut self.store, &self.granules, first, count)?;
         realm.measure(&ripas_event(first, count));
         Ok(())
     }

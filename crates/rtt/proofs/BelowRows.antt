@@ -1,18 +1,20 @@
 -- The rows of a table below an entry.
-use Rattle.std.proofs.Common.{◌≡◌, ℕ, suc, ◌+◌, ◌-◌, ◌*◌, ◌/◌, ◌^◌, ◌<◌, ◌≤◌, true, false, Some, ⊎_elim, sym, ap, subst, ◌∙◌, arith}
+use Rattle.std.proofs.Common.{◌≡◌, ℕ, suc, ◌+◌, ◌-◌, ◌*◌, ◌/◌, ◌<◌, ◌≤◌, true, Some, ⊎_elim, sym, ap, subst, ◌∙◌, arith}
 use Rattle.std.specs.FinMap.{get}
 use Rattle.std.proofs.lemmas.Bool.{and_parts, eqb-true}
 use Rattle.granule_addr.specs.Ipa.{covered_count, first_covered, entry_index}
+use Rattle.granule_addr.specs.Root.{space_of}
+use Rattle.granule_addr.specs.declared.root.Root.{Root}
 use Rattle.realm_model.specs.Rows.{is_unassigned, is_table_place, is_table_unused}
 use Rattle.realm_model.proofs.Rows.{is_among}
 use Rattle.realm_model.proofs.Booleans.{false_from}
 use Rattle.realm_model.proofs.TablePlaces.{IsTablePlace, table_place}
 use Rattle.rtt.specs.Tables.{Entries, table_at, is_place, rows_in}
 use Rattle.rtt.specs.Realm.{IsInside, served_count}
-use Rattle.rtt.specs.PlaceLaws.{first_covers, served_below, below_is_place, is_under, under_cases}
+use Rattle.rtt.proofs.PlaceLaws.{first_covers, served_below, below_is_place, is_under, under_cases}
 use Rattle.rtt.proofs.TableAt.{table_at-same, entry_at-some}
 use Rattle.rtt.proofs.RowsIn.{get-rows_in, row_in-place}
-use Rattle.rtt.proofs.RowRuns.{all_rows_each, all_rows_true, all_rows_false}
+use Rattle.rtt.proofs.RowRuns.{all_rows_each, all_rows_true}
 
 -- a level, and the one above it
 module _ (level above ipa : ℕ) (next : above + 1 ≡ level) (place : is_table_place ipa level ≡ true) where
@@ -34,11 +36,11 @@ module _ (level above ipa : ℕ) (next : above + 1 ≡ level) (place : is_table_
   pub first : first_covered above ipa ≡ ipa
   first = ap (λ (k : ℕ). first_covered k ipa) (sym above_is) ∙ facts.first
 
-  pub above_inside : ipa < 2 ^ 27 → IsInside above ipa
-  above_inside below = let l = low in let h = high in record { least = l; most = omega arith; below = below }
+  pub above_inside : (width : ℕ) → ipa < space_of width → IsInside width above ipa
+  above_inside width below = let l = low in let h = high in record { least = l; most = omega arith; below = below }
 
-  pub level_inside : ipa < 2 ^ 27 → IsInside level ipa
-  level_inside below = let l = low in let h = high in record { least = omega arith; most = omega arith; below = below }
+  pub level_inside : (width : ℕ) → ipa < space_of width → IsInside width level ipa
+  level_inside width below = let l = low in let h = high in record { least = omega arith; most = omega arith; below = below }
 
   -- the places of the table are those under the entry above it
   pub among_under : (l i : ℕ) → is_among level ipa (512 * covered_count level) (l, i) ≡ is_under (suc above) above ipa l i
@@ -57,22 +59,22 @@ module _ (level above ipa : ℕ) (next : above + 1 ≡ level) (place : is_table_
       ∙ sym u.0)
       (under_cases (suc above) above ipa l i)
 
-  module _ (entries : Entries) (root granule : ℕ) (below : ipa < 2 ^ 27) (at : table_at entries root level ipa ≡ Some granule) where
+  module _ (entries : Entries) (root : Root) (granule : ℕ) (below : ipa < space_of root.width) (at : table_at entries root level ipa ≡ Some granule) where
     -- The rows at a table's places are its entries.
     pub table_rows : (k : ℕ) → k < 512 → get (rows_in entries root) (level, ipa + k * covered_count level) ≡ Some (entries granule k)
     table_rows k few =
         let i = ipa + k * covered_count level in
-        let stands = below_is_place above ipa k (above_inside below) high few in
+        let stands = below_is_place root.width above ipa k (above_inside root.width below) high few in
         let here : first_covered above ipa + k * covered_count (suc above) ≡ i =
         ap (λ (n : ℕ). n + k * covered_count (suc above)) first ∙ ap (λ (n : ℕ). ipa + k * covered_count n) suc_above in
         let cov : i / covered_count above ≡ ipa / covered_count above = ap (λ (n : ℕ). n / covered_count above) (sym here) ∙ stands.0 in
-        let is_there : is_place level i ≡ true = ap (λ (n : ℕ). is_place n i) (sym suc_above) ∙ ap (is_place (suc above)) (sym here) ∙ stands.1 in
+        let is_there : is_place root.width level i ≡ true = ap (λ (n : ℕ). is_place root.width n i) (sym suc_above) ∙ ap (is_place root.width (suc above)) (sym here) ∙ stands.1 in
         let index : entry_index level i ≡ k = ap (λ (n : ℕ). entry_index n i) (sym suc_above) ∙ ap (entry_index (suc above)) (sym here) ∙ stands.2 in
         let served : served_count level ≡ covered_count above = ap served_count (sym suc_above) ∙ served_below above low high in
         let same : i / served_count level ≡ ipa / served_count level = ap (λ (n : ℕ). i / n) served ∙ cov ∙ sym (ap (λ (n : ℕ). ipa / n) served) in
         get-rows_in entries root level i
         ∙ row_in-place entries root level i is_there
-        ∙ entry_at-some entries root level i granule (table_at-same entries root level i ipa (level_inside below).most same ∙ at)
+        ∙ entry_at-some entries root level i granule (table_at-same entries root level i ipa (level_inside root.width below).most same ∙ at)
         ∙ ap (λ (n : ℕ). Some (entries granule n)) index
 
     -- A table is unused exactly where each of its entries is UNASSIGNED.
@@ -83,7 +85,3 @@ module _ (level above ipa : ℕ) (next : above + 1 ≡ level) (place : is_table_
     pub unused_entry : is_table_unused (rows_in entries root) level ipa ≡ true → (index : ℕ) → index < 512 → is_unassigned (entries granule index) ≡ true
     unfolding is_table_unused
     unused_entry unused = all_rows_each is_unassigned (rows_in entries root) level ipa 512 (entries granule) table_rows unused
-
-    pub table_used : (index : ℕ) → index < 512 → is_unassigned (entries granule index) ≡ false → is_table_unused (rows_in entries root) level ipa ≡ false
-    unfolding is_table_unused
-    table_used = all_rows_false is_unassigned (rows_in entries root) level ipa 512 (entries granule) table_rows

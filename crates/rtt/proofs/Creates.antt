@@ -1,8 +1,11 @@
 -- A table is made below an entry that led to none.
-use Rattle.std.proofs.Common.{◌≡◌, ◌≢◌, ℕ, suc, ◌+◌, ◌*◌, ◌/◌, ◌^◌, ◌<◌, true, false, cond, List, Option, Some, None, inl, inr, ⊎_elim, refl, sym, ap, subst, ◌∙◌, arith}
+use Rattle.std.proofs.Common.{◌≡◌, ◌≢◌, ℕ, suc, ◌+◌, ◌*◌, ◌/◌, ◌<◌, true, false, cond, List, Option, Some, None, inl, inr, ⊎_elim, refl, sym, ap, subst, ◌∙◌, arith}
+use Rattle.std.specs.Prelude.{option_and_then}
 use Rattle.std.specs.FinMap.{get}
 use Rattle.std.proofs.lemmas.Option.{same_Some}
 use Rattle.granule_addr.specs.Ipa.{covered_count, first_covered, entry_index}
+use Rattle.granule_addr.specs.Root.{space_of}
+use Rattle.granule_addr.specs.declared.root.Root.{Root}
 use Rattle.granule_table.specs.Granules.{IsIn}
 use Rattle.granule_table.specs.declared.granule.Granule.{Granule}
 use Rattle.realm_model.specs.declared.states.GranuleState.{GranuleState}
@@ -10,10 +13,10 @@ use Rattle.realm_model.specs.declared.states.GranuleState.TheVariants.{Delegated
 use Rattle.realm_model.specs.declared.states.Ripas.{Ripas}
 use Rattle.realm_model.specs.Rows.{Row, Rows, put_row, put_rows, unassigned, table as table_row, with_table, is_table_place}
 use Rattle.realm_model.proofs.Rows.{is_place as is_at}
-use Rattle.rtt.specs.FiniteRowsLaws.{place_tells}
-use Rattle.rtt.specs.Tables.{Entries, table_of, in_table, table_at, is_place, row_in, rows_in}
+use Rattle.rtt.proofs.FiniteRowsLaws.{place_tells}
+use Rattle.rtt.specs.Tables.{Entries, table_of, table_at, is_place, row_in, rows_in}
 use Rattle.rtt.specs.Realm.{IsInside, HasGranules}
-use Rattle.rtt.specs.PlaceLaws.{index_below, place_facts, below_is_place, place_is_below, is_under, under_cases}
+use Rattle.rtt.proofs.PlaceLaws.{index_below, place_facts, below_is_place, place_is_below, is_under, under_cases}
 use Rattle.rtt.proofs.RowsIn.{get-rows_in, rows_in-from, row_in-none}
 use Rattle.rtt.proofs.RowRuns.{get-insert_row, get-put_rows_at, get-put_rows_beside}
 use Rattle.rtt.proofs.Writes.{Writes, each_written}
@@ -22,7 +25,7 @@ use Rattle.rtt.proofs.Owned.{Moves, apart_states, HasGranules-written}
 use Rattle.rtt.proofs.BelowRows as below_rows
 
 -- the rows after an entry is written that leads to a table whose entries are all one
-module _ (entries new : Entries) (granules : List Granule) (rd root above ipa table : ℕ) (entry : Row)
+module _ (entries new : Entries) (granules : List Granule) (rd : ℕ) (root : Root) (above ipa table : ℕ) (entry : Row)
     (own : HasGranules entries granules rd root) (w : Writes entries new root above ipa table entry)
     (high : above < 3) (granule : ℕ) (row : Row) (leads : table_of entry ≡ Some granule) (fresh : (index : ℕ) → index < 512 → new granule index ≡ row) where
   abbrev first : ℕ
@@ -38,35 +41,35 @@ module _ (entries new : Entries) (granules : List Granule) (rd root above ipa ta
   base_has l i = get-insert_row (rows_in entries root) (above, first) (l, i) entry ∙ ap (cond (is_at (l, i) (above, first)) (Some entry)) (get-rows_in entries root l i)
 
   made_row : (l i : ℕ) → cond (is_at (l, i) (above, first)) (Some entry)
-      (cond (is_under (suc above) above ipa l i) (cond (is_place l i) (in_table (λ t. Some (new t (entry_index l i))) (table_of entry)) None) (row_in entries root l i))
+      (cond (is_under (suc above) above ipa l i) (cond (is_place root.width l i) (option_and_then (λ t. Some (new t (entry_index l i))) (table_of entry)) None) (row_in entries root l i))
       ≡ get made (l, i)
   made_row l i =
       let at_test = is_at (l, i) (above, first) in
       let under_test = is_under (suc above) above ipa l i in
       let index = entry_index l i in
-      let below = cond (is_place l i) (in_table (λ t. Some (new t index)) (table_of entry)) None in
+      let below = cond (is_place root.width l i) (option_and_then (λ t. Some (new t index)) (table_of entry)) None in
       let was = row_in entries root l i in
       elim (under_cases (suc above) above ipa l i) [
         | inl u ↦
             let off : at_test ≡ false = ⊎_elim (λ t. let same : l ≡ above = ap (λ (q : ℕ × ℕ). q.0) t.1 in let deep = u.1 in absurd (omega arith)) (λ t. t.0) (place_tells (l, i) (above, first)) in
             ap (λ b. cond b (Some entry) (cond under_test below was)) off ∙ ap (λ b. cond b below was) u.0
-            ∙ elim (is_place l i) as (λ b. is_place l i ≡ b → cond b (in_table (λ t. Some (new t index)) (table_of entry)) None ≡ get made (l, i)) [
+            ∙ elim (is_place root.width l i) as (λ b. is_place root.width l i ≡ b → cond b (option_and_then (λ t. Some (new t index)) (table_of entry)) None ≡ get made (l, i)) [
               | true ↦ λ place.
-                  let whole : first_covered (suc above) i ≡ i = ap (λ (k : ℕ). first_covered k i) (sym u.1) ∙ (place_facts l i place).first in
+                  let whole : first_covered (suc above) i ≡ i = ap (λ (k : ℕ). first_covered k i) (sym u.1) ∙ (place_facts root.width l i place).first in
                   let at : i ≡ first + entry_index (suc above) i * covered_count (suc above) = place_is_below above ipa i w.inside.least high whole u.2 in
                   let level_is : l ≡ suc above = u.1 in
-                  ap (in_table (λ t. Some (new t index))) leads
+                  ap (option_and_then (λ t. Some (new t index))) leads
                   ∙ ap (λ x. Some x) (fresh index (index_below l i))
                   ∙ sym (ap (get made) (λ j. (level_is j, at j)) ∙ get-put_rows_at (λ _. row) base (suc above) first 512 (entry_index (suc above) i) (index_below (suc above) i))
               | false ↦ λ place.
                   let outside : (k : ℕ) → k < 512 → (l, i) ≡ (suc above, first + k * covered_count (suc above)) → ⊥ = λ k few q.
-                  let clash : false ≡ true = sym place ∙ ap (λ (p : ℕ × ℕ). is_place p.0 p.1) q ∙ (below_is_place above ipa k w.inside high few).1 in cc in
+                  let clash : false ≡ true = sym place ∙ ap (λ (p : ℕ × ℕ). is_place root.width p.0 p.1) q ∙ (below_is_place root.width above ipa k w.inside high few).1 in cc in
                   sym (get-put_rows_beside (λ _. row) base (suc above) first 512 (l, i) outside ∙ base_has l i
                   ∙ ap (λ b. cond b (Some entry) was) off ∙ row_in-none entries root l i place)
             ] refl
         | inr u ↦
             let outside : (k : ℕ) → k < 512 → (l, i) ≡ (suc above, first + k * covered_count (suc above)) → ⊥ = λ k few q.
-            u.1 (ap (λ (p : ℕ × ℕ). p.0) q) (ap (λ (p : ℕ × ℕ). p.1 / covered_count above) q ∙ (below_is_place above ipa k w.inside high few).0) in
+            u.1 (ap (λ (p : ℕ × ℕ). p.0) q) (ap (λ (p : ℕ × ℕ). p.1 / covered_count above) q ∙ (below_is_place root.width above ipa k w.inside high few).0) in
             ap (λ b. cond at_test (Some entry) (cond b below was)) u.0
             ∙ sym (get-put_rows_beside (λ _. row) base (suc above) first 512 (l, i) outside ∙ base_has l i)
       ]
@@ -74,11 +77,11 @@ module _ (entries new : Entries) (granules : List Granule) (rd root above ipa ta
   rows_in-below : rows_in new root ≡ made
   rows_in-below = rows_in-from new root made (λ l i. row_in-written entries new granules rd root above ipa table entry own w l i ∙ made_row l i)
 
-module _ (entries new : Entries) (granules : List Granule) (rd root level above ipa table granule : ℕ) (ripas : Ripas) (realm : Option ℕ)
+module _ (entries new : Entries) (granules : List Granule) (rd : ℕ) (root : Root) (level above ipa table granule : ℕ) (ripas : Ripas) (realm : Option ℕ)
     (own : HasGranules entries granules rd root)
     (next : above + 1 ≡ level)
     (place : is_table_place ipa level ≡ true)
-    (below : ipa < 2 ^ 27)
+    (below : ipa < space_of root.width)
     (at : table_at entries root above ipa ≡ Some table)
     (was_none : table_of (entries table (entry_index above ipa)) ≡ None)
     (delegated : IsIn granules granule Delegated realm)
@@ -94,7 +97,7 @@ module _ (entries new : Entries) (granules : List Granule) (rd root level above 
 
   writes : Writes entries new root above ipa table (table_row granule)
   writes = record {
-    inside = below_rows.above_inside level above ipa next place below;
+    inside = below_rows.above_inside level above ipa next place root.width below;
     at = at;
     wrote = wrote;
     old_below = λ child index _ is _. let clash : None ≡ Some child = sym was_none ∙ is in cc;
@@ -126,8 +129,8 @@ module _ (entries new : Entries) (granules : List Granule) (rd root level above 
 
   -- what holds of the entry, of the table's and of those kept holds of each entry afterwards
   pub created_each : (P : ℕ → ℕ → Type 0) → P table (entry_index above ipa) → ((index : ℕ) → index < 512 → P granule index)
-      → ((l i t index : ℕ) → IsInside l i → table_at entries root l i ≡ Some t → index < 512 → t ≢ granule → ((t ≡ table) × (index ≡ entry_index above ipa) → ⊥) → P t index)
-      → (l i t index : ℕ) → IsInside l i → table_at new root l i ≡ Some t → index < 512 → P t index
+      → ((l i t index : ℕ) → IsInside root.width l i → table_at entries root l i ≡ Some t → index < 512 → t ≢ granule → ((t ≡ table) × (index ≡ entry_index above ipa) → ⊥) → P t index)
+      → (l i t index : ℕ) → IsInside root.width l i → table_at new root l i ≡ Some t → index < 512 → P t index
   created_each P here its others = each_written entries new granules rd root above ipa table (table_row granule) own writes P here
       (λ child index _ is few. subst (λ (k : ℕ). P k index) (same_Some granule child is) (its index few))
       (λ l i t index inside is few _ out. others l i t index inside is few (apart_table t (own.tables l i t inside is)) out)

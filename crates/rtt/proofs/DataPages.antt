@@ -1,8 +1,10 @@
 -- Pages of data are mapped and unmapped.
-use Rattle.std.proofs.Common.{◌≡◌, ◌≢◌, ℕ, ◌^◌, ◌<◌, Bool, true, false, List, [], length, set, Option, Some, None, refl, sym, ap, subst, ◌∙◌, arith}
+use Rattle.std.proofs.Common.{◌≡◌, ◌≢◌, ℕ, ◌<◌, Bool, true, List, [], length, set, Some, None, refl, sym, ap, subst, ◌∙◌, arith}
 use Rattle.std.proofs.lemmas.List.{length-set, get_or-set_same, get_or-set_other}
 use Rattle.std.proofs.lemmas.Option.{same_Some}
 use Rattle.granule_addr.specs.Ipa.{entry_index}
+use Rattle.granule_addr.specs.Root.{space_of}
+use Rattle.granule_addr.specs.declared.root.Root.{Root}
 use Rattle.granule_table.specs.Granules.{IsIn}
 use Rattle.granule_table.specs.declared.granule.Granule.{Granule}
 use Rattle.granule_addr.specs.Page.{zero_page}
@@ -10,16 +12,15 @@ use Rattle.page_arena.specs.Page.{page_at, IsSized}
 use Rattle.page_arena.specs.Word.{with_word}
 use Rattle.page_arena.specs.Words.{page_at-with_word_other}
 use Rattle.realm_model.specs.declared.states.GranuleState.TheVariants.{Delegated, Data as InData, Rtt as InRtt}
-use Rattle.realm_model.specs.declared.states.Hipas.{Hipas}
-use Rattle.realm_model.specs.declared.states.Hipas.TheVariants.{Unassigned, Assigned, Table}
 use Rattle.realm_model.specs.declared.states.Ripas.{Ripas}
 use Rattle.realm_model.specs.Rows.{Row, row_at, unassigned, assigned, is_table, is_unassigned, put_row, unmapped_ripas}
 use Rattle.realm_model.specs.Sound.{look, IsSoundRows}
 use Rattle.rtt.specs.Word.{entry_word, IsEntry}
 use Rattle.rtt.specs.Tables.{entries_of, table_at, data_of, rows}
 use Rattle.rtt.specs.Realm.{IsBacked, IsInside, HasTables, AreWords, LeavesOthers}
-use Rattle.rtt.specs.PlaceLaws.{index_below}
+use Rattle.rtt.proofs.PlaceLaws.{index_below}
 use Rattle.rtt.specs.Calls.{LeadsTo, ChangesTablesOnly, ChangesTablesAnd, LosesPage}
+use Rattle.rtt.proofs.EntryKinds.{unassigned_plain, data_of-leads}
 use Rattle.rtt.proofs.Owned.{Moves-set, apart_states}
 use Rattle.rtt.proofs.TableAt.{entry_at-some}
 use Rattle.rtt.proofs.RowsIn.{row_at-rows_in}
@@ -31,8 +32,8 @@ use Rattle.rtt.proofs.Written.{IsExact, same_entry, same_exact, entry_written, e
 
 -- ---- an entry of the last level is written, in pages where the realm's tables are as they were
 
-module _ (pages mid : List (List ℕ)) (flags : List Bool) (sized : IsSized mid flags) (granules : List Granule) (rd root ipa table : ℕ) (entry : Row)
-    (tables : HasTables pages granules rd root) (below : ipa < 2 ^ 27) (at : table_at (entries_of pages) root 3 ipa ≡ Some table)
+module _ (pages mid : List (List ℕ)) (flags : List Bool) (sized : IsSized mid flags) (granules : List Granule) (rd : ℕ) (root : Root) (ipa table : ℕ) (entry : Row)
+    (tables : HasTables pages granules rd root) (below : ipa < space_of root.width) (at : table_at (entries_of pages) root 3 ipa ≡ Some table)
     (within : table < length mid) (is : IsEntry entry)
     (same : (granule : ℕ) → IsIn granules granule InRtt (Some rd) → page_at mid granule ≡ page_at pages granule) where
   abbrev pub written_pages : List (List ℕ)
@@ -63,45 +64,30 @@ module _ (pages mid : List (List ℕ)) (flags : List Bool) (sized : IsSized mid 
   leaf_rows_are = leaf_rows (entries_of pages) (entries_of written_pages) granules rd root ipa table entry tables.own below at wrote kept
 
 -- the row that a walk has found at the last level
-row_found : (pages : List (List ℕ)) (root ipa table : ℕ) (entry : Row) → IsInside 3 ipa → table_at (entries_of pages) root 3 ipa ≡ Some table → entry ≡ entries_of pages table (entry_index 3 ipa)
+row_found : (pages : List (List ℕ)) (root : Root) (ipa table : ℕ) (entry : Row) → IsInside root.width 3 ipa → table_at (entries_of pages) root 3 ipa ≡ Some table → entry ≡ entries_of pages table (entry_index 3 ipa)
     → row_at (rows pages root) 3 ipa ≡ Some entry
 unfolding rows
 row_found pages root ipa table entry inside at is =
     row_at-rows_in (entries_of pages) root 3 ipa inside ∙ entry_at-some (entries_of pages) root 3 ipa table at ∙ ap (λ (r : Row). Some r) (sym is)
 
-unassigned_plain : (row : Row) → is_unassigned row ≡ true → is_table row ≡ false
-unassigned_plain row is = by_kind row.hipas is
-  where
-    by_kind : (h : Hipas) → elim h [ Unassigned ↦ true | Assigned ↦ false | Table ↦ false ] ≡ true → elim h [ Unassigned ↦ false | Assigned ↦ false | Table ↦ true ] ≡ false
-    by_kind Unassigned e = refl
-    by_kind Assigned e = cc
-    by_kind Table e = cc
-
-data_plain : (row : Row) (page : ℕ) → data_of row ≡ Some page → is_table row ≡ false
-data_plain row page leads = by_kind row.hipas leads
-  where
-    by_kind : (h : Hipas) → elim h [ Unassigned ↦ None | Assigned ↦ row.granule | Table ↦ None ] ≡ Some page → elim h [ Unassigned ↦ false | Assigned ↦ false | Table ↦ true ] ≡ false
-    by_kind Unassigned e = cc
-    by_kind Assigned e = refl
-    by_kind Table e = cc
-
 -- ---- a page is mapped
 
-pub record Mapped (pages new_pages : List (List ℕ)) (granules new_granules : List Granule) (rd root ipa : ℕ) (entry : Row) : Type 0 where
+pub record Mapped (pages new_pages : List (List ℕ)) (granules new_granules : List Granule) (rd : ℕ) (root : Root) (ipa : ℕ) (old entry : Row) : Type 0 where
+  pub was : row_at (rows pages root) 3 ipa ≡ Some old
   pub rows_are : rows new_pages root ≡ put_row (rows pages root) 3 ipa entry
   pub tables : HasTables new_pages new_granules rd root
   pub others : ChangesTablesOnly root pages new_pages
   pub other_realms : LeavesOthers rd pages granules new_pages new_granules
 
-pub mapped : (pages new_pages : List (List ℕ)) (flags : List Bool) (granules new_granules : List Granule) (rd root level ipa table index page : ℕ) (ripas : Ripas) (old row : Row)
+pub mapped : (pages new_pages : List (List ℕ)) (flags : List Bool) (granules new_granules : List Granule) (rd : ℕ) (root : Root) (level ipa table index page : ℕ) (ripas : Ripas) (old row : Row)
     → IsSized pages flags → IsBacked pages flags granules → HasTables pages granules rd root
-    → IsInside level ipa → level ≡ 3 → table_at (entries_of pages) root level ipa ≡ Some table → table < length pages → index ≡ entry_index level ipa
+    → IsInside root.width level ipa → level ≡ 3 → table_at (entries_of pages) root level ipa ≡ Some table → table < length pages → index ≡ entry_index level ipa
     → old ≡ entries_of pages table (entry_index level ipa) → is_unassigned old ≡ true → IsIn granules page Delegated None → row ≡ assigned ripas page
     → new_pages ≡ with_word pages table index (entry_word row) → new_granules ≡ set granules page (record { state = InData; realm = Some rd })
-    → Mapped pages new_pages granules new_granules rd root ipa (assigned ripas page)
+    → Mapped pages new_pages granules new_granules rd root ipa old (assigned ripas page)
 mapped pages new_pages flags granules new_granules rd root level ipa table index page ripas old row sized backed tables inside last at within index_is old_is free delegated row_is pages_are granules_are =
     let entry = assigned ripas page in
-    let inside_last : IsInside 3 ipa = subst (λ (l : ℕ). IsInside l ipa) last inside in
+    let inside_last : IsInside root.width 3 ipa = subst (λ (l : ℕ). IsInside root.width l ipa) last inside in
     let below = inside.below in
     let at_last : table_at (entries_of pages) root 3 ipa ≡ Some table = ap (λ (l : ℕ). table_at (entries_of pages) root l ipa) (sym last) ∙ at in
     let is : IsEntry entry = let lies = delegated.inside in let as_many = backed.as_many in let few = sized.few_pages in omega arith in
@@ -114,6 +100,7 @@ mapped pages new_pages flags granules new_granules rd root level ipa table index
     let table_in : IsIn granules table InRtt (Some rd) = tables.own.tables 3 ipa table inside_last at_last in
     let beside : (granule : ℕ) → granule ≢ table → page_at after granule ≡ page_at pages granule = λ granule apart. page_at-with_word_other pages table (entry_index 3 ipa) (entry_word entry) granule apart in
     rw (written, granules_are) (record {
+      was = row_is;
       rows_are = rows_are;
       tables = record {
         own = leaf_mapped (entries_of pages) (entries_of after) granules rd root ipa table entry tables.own below at_last
@@ -121,7 +108,7 @@ mapped pages new_pages flags granules new_granules rd root level ipa table index
             (kept pages pages flags sized granules rd root ipa table entry tables below at_last within is (λ _ _. refl))
             moved ripas page None refl delegated (Moves-set granules page InData (Some rd) delegated.inside);
         words = leaf_words pages pages flags sized granules rd root ipa table entry tables below at_last within is (λ _ _. refl);
-        sound = subst (λ r. IsSoundRows (look r)) (sym rows_are) (mapped_sound (rows pages root) ipa old tables.sound row_is (unassigned_plain old free) ripas page);
+        sound = subst (λ r. IsSoundRows root.width (look r)) (sym rows_are) (mapped_sound (rows pages root) ipa old tables.sound row_is (unassigned_plain old free) ripas page);
       };
       others = λ granule no_table. beside granule (λ q. no_table (record { level = 3; ipa = ipa; inside = inside_last; at = at_last ∙ ap (λ (k : ℕ). Some k) (sym q) }));
       other_realms = others_left pages after granules moved rd page Delegated InData None (Some rd) delegated (λ _ _ e. cc) (Moves-set granules page InData (Some rd) delegated.inside)
@@ -130,17 +117,7 @@ mapped pages new_pages flags granules new_granules rd root level ipa table index
 
 -- ---- a page is unmapped
 
--- an entry that leads to a page of data
-assigned_from : (row : Row) (page : ℕ) → data_of row ≡ Some page → row ≡ assigned row.ripas page
-assigned_from row page leads = by_kind row.hipas row.granule leads
-  where
-    by_kind : (h : Hipas) (o : Option ℕ) → elim h [ Unassigned ↦ None | Assigned ↦ o | Table ↦ None ] ≡ Some page
-        → ◌≡◌ {A = Row} (record { hipas = h; ripas = row.ripas; granule = o }) (assigned row.ripas page)
-    by_kind Unassigned o e = cc
-    by_kind Assigned o e = λ i. record { hipas = Assigned; ripas = row.ripas; granule = e i }
-    by_kind Table o e = cc
-
-pub record Unmapped (pages new_pages : List (List ℕ)) (granules new_granules : List Granule) (rd root ipa : ℕ) : Type 0 where
+pub record Unmapped (pages new_pages : List (List ℕ)) (granules new_granules : List Granule) (rd : ℕ) (root : Root) (ipa : ℕ) : Type 0 where
   pub rows_are : LosesPage (rows pages root) ipa (rows new_pages root)
   pub moved : (page : ℕ) → LeadsTo (rows pages root) 3 ipa page → new_granules ≡ set granules page (record { state = Delegated; realm = None })
   pub cleared : (page : ℕ) → LeadsTo (rows pages root) 3 ipa page → page_at new_pages page ≡ zero_page
@@ -148,8 +125,8 @@ pub record Unmapped (pages new_pages : List (List ℕ)) (granules new_granules :
   pub others : ChangesTablesAnd (LeadsTo (rows pages root) 3 ipa) root pages new_pages
   pub other_realms : LeavesOthers rd pages granules new_pages new_granules
 
-module _ (pages mid : List (List ℕ)) (flags : List Bool) (sized : IsSized mid flags) (granules : List Granule) (rd root ipa table page : ℕ) (entry : Row) (ripas : Ripas)
-    (tables : HasTables pages granules rd root) (inside : IsInside 3 ipa) (at : table_at (entries_of pages) root 3 ipa ≡ Some table)
+module _ (pages mid : List (List ℕ)) (flags : List Bool) (sized : IsSized mid flags) (granules : List Granule) (rd : ℕ) (root : Root) (ipa table page : ℕ) (entry : Row) (ripas : Ripas)
+    (tables : HasTables pages granules rd root) (inside : IsInside root.width 3 ipa) (at : table_at (entries_of pages) root 3 ipa ≡ Some table)
     (within : table < length mid) (page_within : page < length pages) (is : entry ≡ entries_of pages table (entry_index 3 ipa)) (leads : Some page ≡ data_of entry)
     (mid_is : mid ≡ set pages page zero_page) (ripas_is : ripas ≡ unmapped_ripas entry.ripas) where
   abbrev row : Row
@@ -177,7 +154,7 @@ module _ (pages mid : List (List ℕ)) (flags : List Bool) (sized : IsSized mid 
   row_is = row_found pages root ipa table entry inside at is
 
   its_granule : entry.granule ≡ Some page
-  its_granule = ap (λ (r : Row). r.granule) (assigned_from entry page (sym leads))
+  its_granule = ap (λ (r : Row). r.granule) (data_of-leads entry page (sym leads))
 
   page_is : (other : ℕ) → LeadsTo (rows pages root) 3 ipa other → page ≡ other
   page_is other there = same_Some _ _ (sym its_granule ∙ ap (λ (r : Row). r.granule) (same_Some _ _ (sym row_is ∙ there.1)) ∙ there.2)
@@ -208,7 +185,7 @@ module _ (pages mid : List (List ℕ)) (flags : List Bool) (sized : IsSized mid 
           (kept pages mid flags sized granules rd root ipa table row tables inside.below at within refl same)
           (set granules page (record { state = Delegated; realm = None })) page Delegated None refl (ap data_of (sym is) ∙ sym leads) (Moves-set granules page Delegated None lies.inside);
       words = leaf_words pages mid flags sized granules rd root ipa table row tables inside.below at within refl same;
-      sound = subst (λ r. IsSoundRows (look r)) (sym rows_after) (unmapped_sound (rows pages root) ipa entry tables.sound row_is (data_plain entry page (sym leads)) ripas);
+      sound = subst (λ r. IsSoundRows root.width (look r)) (sym rows_after) (unmapped_sound (rows pages root) ipa entry tables.sound row_is (ap is_table (data_of-leads entry page (sym leads))) ripas);
     };
     others = λ granule not_page no_table.
         beside granule (λ q. no_table (record { level = 3; ipa = ipa; inside = inside; at = at ∙ ap (λ (k : ℕ). Some k) (sym q) })) (λ q. not_page (page_at_is granule q));
@@ -216,9 +193,9 @@ module _ (pages mid : List (List ℕ)) (flags : List Bool) (sized : IsSized mid 
         (λ granule other no_rtt. beside granule (λ q. no_rtt (subst (λ (k : ℕ). IsIn granules k InRtt (Some rd)) (sym q) table_in)) other);
   }
 
-pub unmapped : (pages mid new_pages : List (List ℕ)) (flags mid_flags : List Bool) (granules new_granules : List Granule) (rd root level ipa table index page : ℕ) (entry row : Row) (ripas : Ripas)
+pub unmapped : (pages mid new_pages : List (List ℕ)) (flags mid_flags : List Bool) (granules new_granules : List Granule) (rd : ℕ) (root : Root) (level ipa table index page : ℕ) (entry row : Row) (ripas : Ripas)
     → IsSized mid mid_flags → IsBacked pages flags granules → HasTables pages granules rd root
-    → IsInside level ipa → level ≡ 3 → table_at (entries_of pages) root level ipa ≡ Some table → table < length pages → index ≡ entry_index level ipa
+    → IsInside root.width level ipa → level ≡ 3 → table_at (entries_of pages) root level ipa ≡ Some table → table < length pages → index ≡ entry_index level ipa
     → entry ≡ entries_of pages table (entry_index level ipa) → Some page ≡ data_of entry → IsIn granules page InData (Some rd) → ripas ≡ unmapped_ripas entry.ripas → row ≡ unassigned ripas
     → mid ≡ set pages page zero_page → new_pages ≡ with_word mid table index (entry_word row) → new_granules ≡ set granules page (record { state = Delegated; realm = None })
     → Unmapped pages new_pages granules new_granules rd root ipa
@@ -229,6 +206,6 @@ unmapped pages mid new_pages flags mid_flags granules new_granules rd root level
     let there = lies.inside in
     let as_many = backed.as_many in
     rw (written, granules_are)
-    (unmapped_at pages mid mid_flags sized granules rd root ipa table page entry ripas tables (subst (λ (l : ℕ). IsInside l ipa) last inside)
+    (unmapped_at pages mid mid_flags sized granules rd root ipa table page entry ripas tables (subst (λ (l : ℕ). IsInside root.width l ipa) last inside)
     (ap (λ (l : ℕ). table_at (entries_of pages) root l ipa) (sym last) ∙ at) (omega arith) (omega arith)
     (is ∙ ap (λ (l : ℕ). entries_of pages table (entry_index l ipa)) last) leads mid_is ripas_is)

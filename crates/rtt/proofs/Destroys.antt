@@ -1,8 +1,10 @@
 -- A table whose entries are all UNASSIGNED is taken away from below its entry.
-use Rattle.std.proofs.Common.{◌≡◌, ◌≢◌, ℕ, suc, ◌+◌, ◌*◌, ◌/◌, ◌^◌, ◌<◌, Bool, true, false, cond, not, List, Option, Some, None, refl, sym, ap, ◌∙◌}
+use Rattle.std.proofs.Common.{◌≡◌, ◌≢◌, ℕ, suc, ◌+◌, ◌*◌, ◌/◌, ◌<◌, Bool, true, false, cond, not, List, Option, Some, None, refl, sym, ap, ◌∙◌}
 use Rattle.std.specs.FinMap.{get}
 use Rattle.std.proofs.lemmas.Option.{same_Some}
 use Rattle.granule_addr.specs.Ipa.{covered_count, first_covered, entry_index}
+use Rattle.granule_addr.specs.Root.{space_of}
+use Rattle.granule_addr.specs.declared.root.Root.{Root}
 use Rattle.granule_table.specs.Granules.{IsIn}
 use Rattle.granule_table.specs.declared.granule.Granule.{Granule}
 use Rattle.realm_model.specs.declared.states.GranuleState.{GranuleState}
@@ -13,7 +15,7 @@ use Rattle.realm_model.proofs.Rows.{is_place as is_at, get-drop_rows}
 use Rattle.rtt.specs.Tables.{Entries, table_of, table_at, is_place, row_in, rows_in}
 use Rattle.rtt.specs.Realm.{IsInside, HasGranules, served_count}
 use Rattle.rtt.proofs.EntryKinds.{unassigned_kind}
-use Rattle.rtt.specs.PlaceLaws.{served_below, is_under}
+use Rattle.rtt.proofs.PlaceLaws.{served_below, is_under}
 use Rattle.rtt.proofs.TableAt.{table_at-next}
 use Rattle.rtt.proofs.RowsIn.{get-rows_in, rows_in-from}
 use Rattle.rtt.proofs.RowRuns.{get-insert_row}
@@ -28,11 +30,11 @@ cut true true o = refl
 cut true false o = refl
 cut false place o = refl
 
-module _ (entries new : Entries) (granules : List Granule) (rd root level above ipa table granule : ℕ)
+module _ (entries new : Entries) (granules : List Granule) (rd : ℕ) (root : Root) (level above ipa table granule : ℕ)
     (own : HasGranules entries granules rd root)
     (next : above + 1 ≡ level)
     (place : is_table_place ipa level ≡ true)
-    (below : ipa < 2 ^ 27)
+    (below : ipa < space_of root.width)
     (at : table_at entries root above ipa ≡ Some table)
     (was : table_of (entries table (entry_index above ipa)) ≡ Some granule)
     (unused : (index : ℕ) → index < 512 → is_unassigned (entries granule index) ≡ true)
@@ -45,9 +47,9 @@ module _ (entries new : Entries) (granules : List Granule) (rd root level above 
       ∙ table_at-next entries root above ipa table (below_rows.low level above ipa next place) at ∙ was
 
   -- any other table is in another granule
-  no_other : (l i other : ℕ) → IsInside l i → table_at entries root l i ≡ Some other → (l ≡ suc above → i / covered_count above ≢ ipa / covered_count above) → other ≢ granule
+  no_other : (l i other : ℕ) → IsInside root.width l i → table_at entries root l i ≡ Some other → (l ≡ suc above → i / covered_count above ≢ ipa / covered_count above) → other ≢ granule
   no_other l i other inside is out same =
-      let both = own.tables_once l i level ipa granule inside (below_rows.level_inside level above ipa next place below) (is ∙ ap (λ (k : ℕ). Some k) same) its_place in
+      let both = own.tables_once l i level ipa granule inside (below_rows.level_inside level above ipa next place root.width below) (is ∙ ap (λ (k : ℕ). Some k) same) its_place in
       let suc_above = below_rows.suc_above level above ipa next place in
       let served : served_count level ≡ covered_count above = ap served_count (sym suc_above) ∙ served_below above (below_rows.low level above ipa next place) (below_rows.high level above ipa next place) in
       out (both.0 ∙ sym suc_above)
@@ -55,7 +57,7 @@ module _ (entries new : Entries) (granules : List Granule) (rd root level above 
 
   writes : Writes entries new root above ipa table (unassigned Destroyed)
   writes = record {
-    inside = below_rows.above_inside level above ipa next place below;
+    inside = below_rows.above_inside level above ipa next place root.width below;
     at = at;
     wrote = wrote;
     old_below = λ child index _ is few. let same : granule ≡ child = same_Some granule child (sym was ∙ is) in
@@ -78,14 +80,14 @@ module _ (entries new : Entries) (granules : List Granule) (rd root level above 
       ∙ ap (λ b. cond (not b) (get rows (l, i)) None) (below_rows.among_under level above ipa next place l i)
       ∙ ap (λ r. cond (not under_test) r None) (get-rows_in entries root l i) in
       row_in-written entries new granules rd root above ipa table (unassigned Destroyed) own writes l i
-      ∙ ap (cond at_test (Some (unassigned Destroyed))) (cut under_test (is_place l i) (row_in entries root l i) ∙ sym now)
+      ∙ ap (cond at_test (Some (unassigned Destroyed))) (cut under_test (is_place root.width l i) (row_in entries root l i) ∙ sym now)
       ∙ sym (get-insert_row dropped (above, first_covered above ipa) (l, i) (unassigned Destroyed)))
       ∙ ap (λ (k : ℕ). put_row dropped k ipa (unassigned Destroyed)) (sym (below_rows.above_is level above ipa next place))
 
   -- The table's granule has left the realm.
   pub destroyed_granules : (new_granules : List Granule) (state : GranuleState) (realm : Option ℕ) → Moves granules new_granules granule state realm → HasGranules new new_granules rd root
   destroyed_granules new_granules state realm moves =
-      let was_in : IsIn granules granule InRtt (Some rd) = own.tables level ipa granule (below_rows.level_inside level above ipa next place below) its_place in
+      let was_in : IsIn granules granule InRtt (Some rd) = own.tables level ipa granule (below_rows.level_inside level above ipa next place root.width below) its_place in
       HasGranules-written entries new granules rd root above ipa table (unassigned Destroyed) own writes new_granules (record {
         tables_stay = λ l i t inside is out. moves.others t InRtt (Some rd) (no_other l i t inside is out) (own.tables l i t inside is);
         table_new = λ t _ is. let clash : None ≡ Some t = is in cc;
@@ -98,8 +100,8 @@ module _ (entries new : Entries) (granules : List Granule) (rd root level above 
 
   -- what holds of the entry and of those kept holds of each entry afterwards
   pub destroyed_each : (P : ℕ → ℕ → Type 0) → P table (entry_index above ipa)
-      → ((l i t index : ℕ) → IsInside l i → table_at entries root l i ≡ Some t → index < 512 → t ≢ granule → ((t ≡ table) × (index ≡ entry_index above ipa) → ⊥) → P t index)
-      → (l i t index : ℕ) → IsInside l i → table_at new root l i ≡ Some t → index < 512 → P t index
+      → ((l i t index : ℕ) → IsInside root.width l i → table_at entries root l i ≡ Some t → index < 512 → t ≢ granule → ((t ≡ table) × (index ≡ entry_index above ipa) → ⊥) → P t index)
+      → (l i t index : ℕ) → IsInside root.width l i → table_at new root l i ≡ Some t → index < 512 → P t index
   destroyed_each P here others = each_written entries new granules rd root above ipa table (unassigned Destroyed) own writes P here
       (λ child index _ is _. let clash : None ≡ Some child = is in cc)
       (λ l i t index inside is few out apart. others l i t index inside is few (no_other l i t inside is out) apart)

@@ -1,7 +1,10 @@
 -- An entry of a table of the last level is written: a page is mapped or unmapped, or a RIPAS changes.
-use Rattle.std.proofs.Common.{◌≡◌, ◌≢◌, ℕ, ◌/◌, ◌^◌, ◌<◌, List, Option, Some, None, refl, sym, ap, subst, ◌∙◌, arith, lit≤}
+use Rattle.std.proofs.Common.{◌≡◌, ◌≢◌, ℕ, ◌/◌, ◌<◌, List, Option, Some, None, refl, sym, ap, subst, ◌∙◌, arith, lit≤}
+use Rattle.std.specs.Prelude.{option_and_then}
 use Rattle.std.proofs.lemmas.Option.{same_Some}
 use Rattle.granule_addr.specs.Ipa.{covered_count, entry_index}
+use Rattle.granule_addr.specs.Root.{space_of}
+use Rattle.granule_addr.specs.declared.root.Root.{Root}
 use Rattle.granule_table.specs.Granules.{IsIn}
 use Rattle.granule_table.specs.declared.granule.Granule.{Granule}
 use Rattle.realm_model.specs.declared.states.GranuleState.{GranuleState}
@@ -9,23 +12,23 @@ use Rattle.realm_model.specs.declared.states.GranuleState.TheVariants.{Delegated
 use Rattle.realm_model.specs.declared.states.Hipas.TheVariants.{Unassigned}
 use Rattle.realm_model.specs.declared.states.Ripas.{Ripas}
 use Rattle.realm_model.specs.Rows.{Row, assigned, put_row}
-use Rattle.rtt.specs.Tables.{Entries, data_of, in_table, table_at, data_at, rows_in}
+use Rattle.rtt.specs.Tables.{Entries, data_of, table_at, data_at, rows_in}
 use Rattle.rtt.specs.Realm.{IsInside, HasGranules}
 use Rattle.rtt.proofs.EntryKinds.{data_of-unassigned}
 use Rattle.rtt.proofs.Owned.{Moves, apart_states, HasGranules-written}
 use Rattle.rtt.proofs.RowsAfter.{rows_in-last}
 use Rattle.rtt.proofs.Writes.{Writes, each_written}
 
-module _ (entries new : Entries) (granules : List Granule) (rd root ipa table : ℕ) (entry : Row)
+module _ (entries new : Entries) (granules : List Granule) (rd : ℕ) (root : Root) (ipa table : ℕ) (entry : Row)
     (own : HasGranules entries granules rd root)
-    (below : ipa < 2 ^ 27)
+    (below : ipa < space_of root.width)
     (at : table_at entries root 3 ipa ≡ Some table)
     (wrote : new table (entry_index 3 ipa) ≡ entry)
     (kept : (granule index : ℕ) → IsIn granules granule InRtt (Some rd) → index < 512 → ((granule ≡ table) × (index ≡ entry_index 3 ipa) → ⊥) → new granule index ≡ entries granule index) where
   abbrev old_entry : Row
   old_entry = entries table (entry_index 3 ipa)
 
-  inside : IsInside 3 ipa
+  inside : IsInside root.width 3 ipa
   inside = record { least = lit≤ tt; most = lit≤ tt; below = below }
 
   writes : Writes entries new root 3 ipa table entry
@@ -44,19 +47,19 @@ module _ (entries new : Entries) (granules : List Granule) (rd root ipa table : 
 
   -- what holds of the entry and of those kept holds of each entry afterwards
   pub leaf_each : (P : ℕ → ℕ → Type 0) → P table (entry_index 3 ipa)
-      → ((l i t index : ℕ) → IsInside l i → table_at entries root l i ≡ Some t → index < 512 → ((t ≡ table) × (index ≡ entry_index 3 ipa) → ⊥) → P t index)
-      → (l i t index : ℕ) → IsInside l i → table_at new root l i ≡ Some t → index < 512 → P t index
+      → ((l i t index : ℕ) → IsInside root.width l i → table_at entries root l i ≡ Some t → index < 512 → ((t ≡ table) × (index ≡ entry_index 3 ipa) → ⊥) → P t index)
+      → (l i t index : ℕ) → IsInside root.width l i → table_at new root l i ≡ Some t → index < 512 → P t index
   leaf_each P here others = each_written entries new granules rd root 3 ipa table entry own writes P here
       (λ child index deep _ _. absurd (omega arith)) (λ l i t index there is few _ apart. others l i t index there is few apart)
 
   own_data : (page : ℕ) → data_of old_entry ≡ Some page → data_at entries root 3 ipa ≡ Some page
-  own_data page is = ap (in_table (λ t. data_of (entries t (entry_index 3 ipa)))) at ∙ is
+  own_data page is = ap (option_and_then (λ t. data_of (entries t (entry_index 3 ipa)))) at ∙ is
 
   written : (new_granules : List Granule)
       → ((granule : ℕ) → IsIn granules granule InRtt (Some rd) → IsIn new_granules granule InRtt (Some rd))
-      → ((l i page : ℕ) → IsInside l i → data_at entries root l i ≡ Some page → (l ≡ 3 → i / covered_count 3 ≢ ipa / covered_count 3) → IsIn new_granules page InData (Some rd))
+      → ((l i page : ℕ) → IsInside root.width l i → data_at entries root l i ≡ Some page → (l ≡ 3 → i / covered_count 3 ≢ ipa / covered_count 3) → IsIn new_granules page InData (Some rd))
       → ((page : ℕ) → data_of entry ≡ Some page → IsIn new_granules page InData (Some rd))
-      → ((l i page : ℕ) → data_of entry ≡ Some page → IsInside l i → data_at entries root l i ≡ Some page → (l ≡ 3 → i / covered_count 3 ≢ ipa / covered_count 3) → ⊥)
+      → ((l i page : ℕ) → data_of entry ≡ Some page → IsInside root.width l i → data_at entries root l i ≡ Some page → (l ≡ 3 → i / covered_count 3 ≢ ipa / covered_count 3) → ⊥)
       → HasGranules new new_granules rd root
   written new_granules stay data_stays data_new data_once = HasGranules-written entries new granules rd root 3 ipa table entry own writes new_granules (record {
     tables_stay = λ l i t there is _. stay t (own.tables l i t there is);

@@ -1,4 +1,9 @@
+pub mod WordLaws
+pub mod FiniteRowsLaws
+pub mod PlaceLaws
+pub mod FrameLaws
 pub mod EntryKinds
+pub mod StartTables
 pub mod TableAt
 pub mod RowsIn
 pub mod RowRuns
@@ -16,7 +21,7 @@ pub mod RowWords
 pub mod OtherRealms
 pub mod RowShapes
 pub mod Written
-pub mod Refusals
+pub mod FoundRows
 pub mod DataPages
 pub mod RootTables
 pub mod RamPages

@@ -3,6 +3,7 @@ use Rattle.std.proofs.Common.{◌≡◌, ◌≢◌, ℕ, ◌+◌, ◌-◌, ◌<�
 use Rattle.std.proofs.lemmas.Option.{same_Some}
 use Rattle.std.specs.FinMap.{get}
 use Rattle.granule_addr.specs.Ipa.{first_covered, entry_index}
+use Rattle.granule_addr.specs.declared.root.Root.{Root}
 use Rattle.granule_table.specs.Granules.{IsIn}
 use Rattle.granule_table.specs.declared.granule.Granule.{Granule}
 use Rattle.page_arena.specs.Page.{page_at, IsSized}
@@ -17,7 +18,7 @@ use Rattle.realm_model.proofs.TablePlaces.{table_place}
 use Rattle.rtt.specs.Word.{entry_word, IsEntry}
 use Rattle.rtt.specs.Tables.{entries_of, table_of, table_at, rows}
 use Rattle.rtt.specs.Realm.{IsBacked, IsInside, HasTables, LeavesOthers}
-use Rattle.rtt.specs.PlaceLaws.{index_below}
+use Rattle.rtt.proofs.PlaceLaws.{index_below}
 use Rattle.rtt.specs.Calls.{GainsTable, ChangesTablesAnd}
 use Rattle.rtt.proofs.EntryKinds.{table_of-plain}
 use Rattle.rtt.proofs.OtherRealms.{others_left}
@@ -27,15 +28,15 @@ use Rattle.rtt.proofs.RowsIn.{row_at-rows_in}
 use Rattle.rtt.proofs.Creates.{created_rows, created_granules, created_each}
 use Rattle.rtt.proofs.Written.{IsExact, same_entry, same_exact, entry_read, exact_read, entry_written, exact_written, word_kept, word_as}
 
-pub record Created (pages new_pages : List (List ℕ)) (granules new_granules : List Granule) (rd root level ipa granule : ℕ) : Type 0 where
+pub record Created (pages new_pages : List (List ℕ)) (granules new_granules : List Granule) (rd : ℕ) (root : Root) (level ipa granule : ℕ) : Type 0 where
   pub rows_are : GainsTable (rows pages root) level ipa granule (rows new_pages root)
   pub tables : HasTables new_pages new_granules rd root
   pub others : ChangesTablesAnd (λ other. other ≡ granule) root pages new_pages
   pub other_realms : LeavesOthers rd pages granules new_pages new_granules
 
-module _ (pages mid : List (List ℕ)) (flags : List Bool) (sized : IsSized mid flags) (granules : List Granule) (rd root level above ipa table granule : ℕ) (old : Row)
+module _ (pages mid : List (List ℕ)) (flags : List Bool) (sized : IsSized mid flags) (granules : List Granule) (rd : ℕ) (root : Root) (level above ipa table granule : ℕ) (old : Row)
     (tables : HasTables pages granules rd root) (next : above + 1 ≡ level) (place : is_table_place ipa level ≡ true)
-    (inside : IsInside above ipa) (at : table_at (entries_of pages) root above ipa ≡ Some table) (within : table < length mid)
+    (inside : IsInside root.width above ipa) (at : table_at (entries_of pages) root above ipa ≡ Some table) (within : table < length mid)
     (is : old ≡ entries_of pages table (entry_index above ipa)) (plain : is_table old ≡ false)
     (delegated : IsIn granules granule Delegated None) (small : granule < 4096)
     (written : (index : ℕ) → index < 512 → word_at mid granule index ≡ entry_word (unassigned old.ripas))
@@ -107,16 +108,16 @@ module _ (pages mid : List (List ℕ)) (flags : List Bool) (sized : IsSized mid 
               (exact_written mid flags sized table (entry_index above ipa) (table_row granule) within few said)
               (λ index lt. exact_read after granule index (unassigned old.ripas) refl (fresh_word index lt))
               (λ l i t index there t_at lt ne out. same_exact pages after t index (far_word t index ne lt out) (tables.words l i t index there t_at lt));
-          sound = subst (λ r. IsSoundRows (look r)) (sym rows_after) (with_table_sound (rows pages root) level ipa old tables.sound (table_place ipa level place) row_there granule old.ripas plain);
+          sound = subst (λ r. IsSoundRows root.width (look r)) (sym rows_after) (with_table_sound (rows pages root) level ipa old tables.sound (table_place ipa level place) row_there granule old.ripas plain);
         };
         others = λ other ne no_table. beside other (λ q. no_table (record { level = above; ipa = ipa; inside = inside; at = at ∙ ap (λ (k : ℕ). Some k) (sym q) })) ne;
         other_realms = others_left pages after granules moved rd granule Delegated InRtt None (Some rd) delegated (λ _ _ e. cc) (Moves-set granules granule InRtt (Some rd) delegated.inside)
             (λ other ne no_rtt. beside other (λ q. no_rtt (subst (λ (k : ℕ). IsIn granules k InRtt (Some rd)) (sym q) (tables.own.tables above ipa table inside at))) ne);
       }
 
-pub created : (pages mid new_pages : List (List ℕ)) (flags mid_flags : List Bool) (granules new_granules : List Granule) (rd root level wanted ended ipa table index granule : ℕ) (old fresh leads : Row) (ripas : Ripas)
+pub created : (pages mid new_pages : List (List ℕ)) (flags mid_flags : List Bool) (granules new_granules : List Granule) (rd : ℕ) (root : Root) (level wanted ended ipa table index granule : ℕ) (old fresh leads : Row) (ripas : Ripas)
     → IsSized mid mid_flags → IsBacked pages flags granules → HasTables pages granules rd root → wanted + 1 ≡ level → is_table_place ipa level ≡ true
-    → IsInside ended ipa → ended ≡ wanted → table_at (entries_of pages) root ended ipa ≡ Some table → table < length pages → index ≡ entry_index ended ipa
+    → IsInside root.width ended ipa → ended ≡ wanted → table_at (entries_of pages) root ended ipa ≡ Some table → table < length pages → index ≡ entry_index ended ipa
     → old ≡ entries_of pages table (entry_index ended ipa) → is_table old ≡ false → IsIn granules granule Delegated None
     → ripas ≡ old.ripas → fresh ≡ unassigned ripas → leads ≡ table_row granule
     → ((i : ℕ) → 0 ≤ i → i < 512 → word_at mid granule i ≡ entry_word fresh) → ((other : ℕ) → other ≢ granule → page_at mid other ≡ page_at pages other) → length mid ≡ length pages
@@ -130,6 +131,6 @@ created pages mid new_pages flags mid_flags granules new_granules rd root level 
     let as_many = backed.as_many in
     let few = sized.few_pages in
     rw (after, granules_are)
-    (created_at pages mid mid_flags sized granules rd root level wanted ipa table granule old tables next place (subst (λ (l : ℕ). IsInside l ipa) ends inside)
+    (created_at pages mid mid_flags sized granules rd root level wanted ipa table granule old tables next place (subst (λ (l : ℕ). IsInside root.width l ipa) ends inside)
     (ap (λ (l : ℕ). table_at (entries_of pages) root l ipa) (sym ends) ∙ at) (omega arith) (is ∙ ap (λ (l : ℕ). entries_of pages table (entry_index l ipa)) ends) plain delegated (omega arith)
     (λ i lt. written i (omega arith) lt ∙ ap entry_word (fresh_is ∙ ap unassigned ripas_is)) others)

@@ -4,6 +4,7 @@ use Rattle.std.specs.Prelude.{IsTrue, ◌↔◌}
 use Rattle.std.proofs.lemmas.List.{length-set, get_or-set_same, get_or-set_other}
 use Rattle.std.proofs.lemmas.Option.{same_Some}
 use Rattle.granule_addr.specs.Ipa.{entry_index}
+use Rattle.granule_addr.specs.declared.root.Root.{Root}
 use Rattle.granule_table.specs.Granules.{IsIn}
 use Rattle.granule_table.specs.declared.granule.Granule.{Granule}
 use Rattle.granule_addr.specs.Page.{zero_page}
@@ -11,19 +12,18 @@ use Rattle.page_arena.specs.Page.{page_at, IsSized}
 use Rattle.page_arena.specs.Word.{word_at, with_word}
 use Rattle.page_arena.specs.Words.{page_at-with_word_other}
 use Rattle.realm_model.specs.declared.states.GranuleState.TheVariants.{Delegated, Rtt as InRtt}
-use Rattle.realm_model.specs.declared.states.Hipas.{Hipas}
-use Rattle.realm_model.specs.declared.states.Hipas.TheVariants.{Unassigned, Assigned, Table}
 use Rattle.realm_model.specs.declared.states.Ripas.TheVariants.{Destroyed}
-use Rattle.realm_model.specs.Rows.{Row, row_at, unassigned, is_unassigned, is_table, without_table, is_table_place, is_table_unused}
+use Rattle.realm_model.specs.Rows.{Row, row_at, unassigned, is_unassigned, without_table, is_table_place, is_table_unused}
 use Rattle.realm_model.specs.Sound.{look, IsSoundRows}
 use Rattle.realm_model.proofs.SoundRows.{without_table_sound}
 use Rattle.realm_model.proofs.TablePlaces.{table_place}
 use Rattle.rtt.specs.Word.{entry_word}
 use Rattle.rtt.specs.Tables.{entries_of, table_of, table_at, rows}
 use Rattle.rtt.specs.Realm.{IsBacked, IsInside, HasTables, LeavesOthers}
-use Rattle.rtt.specs.PlaceLaws.{index_below}
+use Rattle.rtt.proofs.PlaceLaws.{index_below}
 use Rattle.rtt.specs.Calls.{LeadsTo, ChangesTablesOnly}
 use Rattle.rtt.proofs.BelowRows.{level_inside, table_unused, unused_entry}
+use Rattle.rtt.proofs.EntryKinds.{table_of-leads}
 use Rattle.rtt.proofs.Owned.{Moves-set}
 use Rattle.rtt.proofs.OtherRealms.{others_left}
 use Rattle.rtt.proofs.TableAt.{entry_at-some}
@@ -32,26 +32,9 @@ use Rattle.rtt.proofs.Destroys.{its_place, destroyed_rows, destroyed_granules, d
 use Rattle.rtt.proofs.Walks.{table_at-below}
 use Rattle.rtt.proofs.Written.{IsExact, same_entry, same_exact, entry_written, exact_written, word_as}
 
--- an entry that leads to a table is TABLE
-pub is_table-leads : (row : Row) (granule : ℕ) → table_of row ≡ Some granule → is_table row ≡ true
-is_table-leads row granule leads = by_kind row.hipas leads
-  where
-    by_kind : (h : Hipas) → elim h [ Unassigned ↦ None | Assigned ↦ None | Table ↦ row.granule ] ≡ Some granule → elim h [ Unassigned ↦ false | Assigned ↦ false | Table ↦ true ] ≡ true
-    by_kind Unassigned e = cc
-    by_kind Assigned e = cc
-    by_kind Table e = refl
-
-leads_granule : (row : Row) (granule : ℕ) → table_of row ≡ Some granule → row.granule ≡ Some granule
-leads_granule row granule leads = by_kind row.hipas leads
-  where
-    by_kind : (h : Hipas) → elim h [ Unassigned ↦ None | Assigned ↦ None | Table ↦ row.granule ] ≡ Some granule → row.granule ≡ Some granule
-    by_kind Unassigned e = cc
-    by_kind Assigned e = cc
-    by_kind Table e = e
-
 -- whether the table has no ASSIGNED and no TABLE entry
-pub is_unused : (pages : List (List ℕ)) (root level wanted ended ipa table granule : ℕ) (entry : Row) (answer : Bool) → wanted + 1 ≡ level → is_table_place ipa level ≡ true
-    → IsInside ended ipa → ended ≡ wanted → table_at (entries_of pages) root ended ipa ≡ Some table → entry ≡ entries_of pages table (entry_index ended ipa) → Some granule ≡ table_of entry
+pub is_unused : (pages : List (List ℕ)) (root : Root) (level wanted ended ipa table granule : ℕ) (entry : Row) (answer : Bool) → wanted + 1 ≡ level → is_table_place ipa level ≡ true
+    → IsInside root.width ended ipa → ended ≡ wanted → table_at (entries_of pages) root ended ipa ≡ Some table → entry ≡ entries_of pages table (entry_index ended ipa) → Some granule ≡ table_of entry
     → (IsTrue answer ↔ ((index : ℕ) → 0 ≤ index → index < 512 → is_unassigned (entries_of pages granule index) ≡ true))
     → is_table_unused (rows pages root) level ipa ≡ answer
 unfolding rows
@@ -70,7 +53,7 @@ is_unused pages root level wanted ended ipa table granule entry answer next plac
         let clash : IsTrue false = t.1 (λ index _ few. unused_entry level wanted ipa next place (entries_of pages) root granule inside.below its e index few) in cc
     by_cases false false e t = refl
 
-pub record Gone (pages new_pages : List (List ℕ)) (granules new_granules : List Granule) (rd root level ipa : ℕ) : Type 0 where
+pub record Gone (pages new_pages : List (List ℕ)) (granules new_granules : List Granule) (rd : ℕ) (root : Root) (level ipa : ℕ) : Type 0 where
   pub rows_are : rows new_pages root ≡ without_table (rows pages root) level ipa
   pub moved : (table : ℕ) → LeadsTo (rows pages root) (level - 1) ipa table → new_granules ≡ set granules table (record { state = Delegated; realm = None })
   pub cleared : (table : ℕ) → LeadsTo (rows pages root) (level - 1) ipa table → page_at new_pages table ≡ zero_page
@@ -78,9 +61,9 @@ pub record Gone (pages new_pages : List (List ℕ)) (granules new_granules : Lis
   pub others : ChangesTablesOnly root pages new_pages
   pub other_realms : LeavesOthers rd pages granules new_pages new_granules
 
-module _ (pages mid : List (List ℕ)) (flags : List Bool) (sized : IsSized mid flags) (granules : List Granule) (rd root level above ipa table granule : ℕ) (entry : Row)
+module _ (pages mid : List (List ℕ)) (flags : List Bool) (sized : IsSized mid flags) (granules : List Granule) (rd : ℕ) (root : Root) (level above ipa table granule : ℕ) (entry : Row)
     (tables : HasTables pages granules rd root) (next : above + 1 ≡ level) (place : is_table_place ipa level ≡ true)
-    (inside : IsInside above ipa) (at : table_at (entries_of pages) root above ipa ≡ Some table) (within : table < length mid) (granule_within : granule < length pages)
+    (inside : IsInside root.width above ipa) (at : table_at (entries_of pages) root above ipa ≡ Some table) (within : table < length mid) (granule_within : granule < length pages)
     (is : entry ≡ entries_of pages table (entry_index above ipa)) (leads : Some granule ≡ table_of entry)
     (unused : (index : ℕ) → index < 512 → is_unassigned (entries_of pages granule index) ≡ true)
     (mid_is : mid ≡ set pages granule zero_page) where
@@ -115,8 +98,8 @@ module _ (pages mid : List (List ℕ)) (flags : List Bool) (sized : IsSized mid 
   its : table_at (entries_of pages) root level ipa ≡ Some granule
   its = its_place (entries_of pages) (entries_of after) granules rd root level above ipa table granule tables.own next place inside.below at was unused wrote kept
 
-  deep : IsInside level ipa
-  deep = level_inside level above ipa next place inside.below
+  deep : IsInside root.width level ipa
+  deep = level_inside level above ipa next place root.width inside.below
 
   -- the table above is another one
   above_apart : table ≢ granule
@@ -136,7 +119,7 @@ module _ (pages mid : List (List ℕ)) (flags : List Bool) (sized : IsSized mid 
   row_there = ap (λ (l : ℕ). row_at (rows pages root) l ipa) above_is ∙ row_above
 
   its_granule : entry.granule ≡ Some granule
-  its_granule = leads_granule entry granule (sym leads)
+  its_granule = (table_of-leads entry granule (sym leads)).1
 
   granule_is : (other : ℕ) → LeadsTo (rows pages root) (level - 1) ipa other → granule ≡ other
   granule_is other there = same_Some _ _ (sym its_granule ∙ ap (λ (r : Row). r.granule) (same_Some _ _ (sym row_there ∙ there.1)) ∙ there.2)
@@ -173,7 +156,7 @@ module _ (pages mid : List (List ℕ)) (flags : List Bool) (sized : IsSized mid 
       words = destroyed_each (entries_of pages) (entries_of after) granules rd root level above ipa table granule tables.own next place inside.below at was unused wrote kept (IsExact after)
           (exact_written mid flags sized table (entry_index above ipa) row within few refl)
           (λ l i t index there t_at lt ne out. same_exact pages after t index (far_word t index ne lt out) (tables.words l i t index there t_at lt));
-      sound = subst (λ r. IsSoundRows (look r)) (sym rows_after) (without_table_sound (rows pages root) level ipa entry tables.sound (table_place ipa level place) row_there all_unused);
+      sound = subst (λ r. IsSoundRows root.width (look r)) (sym rows_after) (without_table_sound (rows pages root) level ipa entry tables.sound (table_place ipa level place) row_there all_unused);
     };
     others = λ other no_table.
         beside other (λ q. no_table (record { level = above; ipa = ipa; inside = inside; at = at ∙ ap (λ (k : ℕ). Some k) (sym q) }))
@@ -182,9 +165,9 @@ module _ (pages mid : List (List ℕ)) (flags : List Bool) (sized : IsSized mid 
         (λ other ne no_rtt. beside other (λ q. no_rtt (subst (λ (k : ℕ). IsIn granules k InRtt (Some rd)) (sym q) (tables.own.tables above ipa table inside at))) ne);
   }
 
-pub gone : (pages mid new_pages : List (List ℕ)) (flags mid_flags : List Bool) (granules new_granules : List Granule) (rd root level wanted ended ipa table index granule : ℕ) (entry row : Row)
+pub gone : (pages mid new_pages : List (List ℕ)) (flags mid_flags : List Bool) (granules new_granules : List Granule) (rd : ℕ) (root : Root) (level wanted ended ipa table index granule : ℕ) (entry row : Row)
     → IsSized mid mid_flags → IsBacked pages flags granules → HasTables pages granules rd root → wanted + 1 ≡ level → is_table_place ipa level ≡ true
-    → IsInside ended ipa → ended ≡ wanted → table_at (entries_of pages) root ended ipa ≡ Some table → table < length pages → index ≡ entry_index ended ipa
+    → IsInside root.width ended ipa → ended ≡ wanted → table_at (entries_of pages) root ended ipa ≡ Some table → table < length pages → index ≡ entry_index ended ipa
     → entry ≡ entries_of pages table (entry_index ended ipa) → Some granule ≡ table_of entry → granule < length pages
     → ((i : ℕ) → 0 ≤ i → i < 512 → is_unassigned (entries_of pages granule i) ≡ true) → row ≡ unassigned Destroyed
     → mid ≡ set pages granule zero_page → new_pages ≡ with_word mid table index (entry_word row) → new_granules ≡ set granules granule (record { state = Delegated; realm = None })
@@ -195,6 +178,6 @@ gone pages mid new_pages flags mid_flags granules new_granules rd root level wan
     let after : new_pages ≡ with_word mid table (entry_index wanted ipa) (entry_word (unassigned Destroyed)) = pages_are ∙ (λ i. with_word mid table (index_at i) (entry_word (row_is i))) in
     let len : length mid ≡ length pages = ap length mid_is ∙ length-set pages granule zero_page in
     rw (after, granules_are)
-    (gone_at pages mid mid_flags sized granules rd root level wanted ipa table granule entry tables next place (subst (λ (l : ℕ). IsInside l ipa) ends inside)
+    (gone_at pages mid mid_flags sized granules rd root level wanted ipa table granule entry tables next place (subst (λ (l : ℕ). IsInside root.width l ipa) ends inside)
     (ap (λ (l : ℕ). table_at (entries_of pages) root l ipa) (sym ends) ∙ at) (omega arith) granule_within
     (is ∙ ap (λ (l : ℕ). entries_of pages table (entry_index l ipa)) ends) leads (λ i lt. unused i (omega arith) lt) mid_is)

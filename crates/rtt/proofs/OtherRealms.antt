@@ -5,12 +5,8 @@ use Rattle.granule_table.specs.declared.granule.Granule.{Granule}
 use Rattle.page_arena.specs.Page.{page_at}
 use Rattle.realm_model.specs.declared.states.GranuleState.{GranuleState}
 use Rattle.realm_model.specs.declared.states.GranuleState.TheVariants.{Rtt as InRtt}
-use Rattle.rtt.specs.Realm.{HasTables, IsTableOf, LeavesOthers}
+use Rattle.rtt.specs.Realm.{LeavesOthers}
 use Rattle.rtt.proofs.Owned.{Moves, apart_realms}
-
--- a table of a realm is in RTT of it
-pub table_in : (pages : List (List ℕ)) (granules : List Granule) (rd root granule : ℕ) → HasTables pages granules rd root → IsTableOf pages root granule → IsIn granules granule InRtt (Some rd)
-table_in pages granules rd root granule tables is = tables.own.tables is.level is.ipa granule is.inside is.at
 
 -- a granule of one realm is in no state of another
 of_one_realm : (granules : List Granule) (rd other granule : ℕ) (state : GranuleState) → other ≢ rd → IsIn granules granule InRtt (Some rd) → IsIn granules granule state (Some other) → ⊥

@@ -1,18 +1,20 @@
 -- The granules of a realm's tables after an entry is written.
 use Rattle.std.proofs.Common.{◌≡◌, ◌≢◌, ℕ, suc, ◌/◌, ◌<◌, ◌≤◌, cond, set, List, length, Option, Some, None, ◌⊎◌, inl, inr, ⊎_elim, refl, sym, ap, ◌∙◌, arith}
+use Rattle.std.specs.Prelude.{option_and_then}
 use Rattle.std.proofs.lemmas.List.{length-set, get_or-set_same, get_or-set_other}
 use Rattle.std.proofs.lemmas.Option.{same_Some}
 use Rattle.granule_addr.specs.Ipa.{covered_count, entry_index}
+use Rattle.granule_addr.specs.declared.root.Root.{Root}
 use Rattle.granule_table.specs.Granules.{granule_at, undelegated, IsIn}
 use Rattle.granule_table.specs.declared.granule.Granule.{Granule}
 use Rattle.realm_model.specs.declared.states.GranuleState.{GranuleState}
 use Rattle.realm_model.specs.declared.states.GranuleState.TheVariants.{Data as InData, Rtt as InRtt}
 use Rattle.realm_model.specs.declared.states.Hipas.TheVariants.{Unassigned}
 use Rattle.realm_model.specs.Rows.{Row}
-use Rattle.rtt.specs.Tables.{Entries, table_of, data_of, in_table, table_at, entry_at, data_at}
+use Rattle.rtt.specs.Tables.{Entries, table_of, data_of, table_at, entry_at, data_at}
 use Rattle.rtt.specs.Realm.{IsInside, HasGranules, served_count}
 use Rattle.rtt.proofs.EntryKinds.{data_of-unassigned}
-use Rattle.rtt.specs.PlaceLaws.{index_below, served_below, is_under, under_cases}
+use Rattle.rtt.proofs.PlaceLaws.{index_below, served_below, is_under, under_cases}
 use Rattle.rtt.proofs.TableAt.{data_in, data_at-entry}
 use Rattle.rtt.proofs.Writes.{Writes, entry_at-written, table_cases}
 
@@ -51,32 +53,32 @@ apart_realms granules granule other state other_state realm other_realm is other
 -- ---- an entry that is written
 
 -- The granules afterwards: those of what stays and of what is new. Nothing new was there before.
-pub record Fits (entries : Entries) (new_granules : List Granule) (rd root level ipa : ℕ) (entry : Row) : Type 0 where
-  pub tables_stay : (other_level other table : ℕ) → IsInside other_level other → table_at entries root other_level other ≡ Some table
+pub record Fits (entries : Entries) (new_granules : List Granule) (rd : ℕ) (root : Root) (level ipa : ℕ) (entry : Row) : Type 0 where
+  pub tables_stay : (other_level other table : ℕ) → IsInside root.width other_level other → table_at entries root other_level other ≡ Some table
       → (other_level ≡ suc level → other / covered_count level ≢ ipa / covered_count level) → IsIn new_granules table InRtt (Some rd)
   pub table_new : (table : ℕ) → level < 3 → table_of entry ≡ Some table → IsIn new_granules table InRtt (Some rd)
-  pub table_once : (other_level other table : ℕ) → level < 3 → table_of entry ≡ Some table → IsInside other_level other
+  pub table_once : (other_level other table : ℕ) → level < 3 → table_of entry ≡ Some table → IsInside root.width other_level other
       → table_at entries root other_level other ≡ Some table → (other_level ≡ suc level → other / covered_count level ≢ ipa / covered_count level) → ⊥
-  pub data_stays : (other_level other page : ℕ) → IsInside other_level other → data_at entries root other_level other ≡ Some page
+  pub data_stays : (other_level other page : ℕ) → IsInside root.width other_level other → data_at entries root other_level other ≡ Some page
       → (other_level ≡ level → other / covered_count level ≢ ipa / covered_count level) → IsIn new_granules page InData (Some rd)
   pub data_new : (page : ℕ) → data_of entry ≡ Some page → IsIn new_granules page InData (Some rd)
-  pub data_once : (other_level other page : ℕ) → data_of entry ≡ Some page → IsInside other_level other
+  pub data_once : (other_level other page : ℕ) → data_of entry ≡ Some page → IsInside root.width other_level other
       → data_at entries root other_level other ≡ Some page → (other_level ≡ level → other / covered_count level ≢ ipa / covered_count level) → ⊥
 
 none_of_data : (entries : Entries) (o : Option ℕ) (index : ℕ) → ((child : ℕ) → o ≡ Some child → (entries child index).hipas ≡ Unassigned)
-    → data_in (in_table (λ t. Some (entries t index)) o) ≡ None
+    → data_in (option_and_then (λ t. Some (entries t index)) o) ≡ None
 none_of_data entries None index h = refl
 none_of_data entries (Some child) index h = data_of-unassigned (entries child index) (h child refl)
 
-module _ (entries new : Entries) (granules : List Granule) (rd root level ipa table : ℕ) (entry : Row)
+module _ (entries new : Entries) (granules : List Granule) (rd : ℕ) (root : Root) (level ipa table : ℕ) (entry : Row)
     (own : HasGranules entries granules rd root) (w : Writes entries new root level ipa table entry) where
   -- a page of data afterwards is new, or was there
-  data_cases : (l i page : ℕ) → IsInside l i → data_at new root l i ≡ Some page
+  data_cases : (l i page : ℕ) → IsInside root.width l i → data_at new root l i ≡ Some page
       → ((data_of entry ≡ Some page) × (l ≡ level) × (i / covered_count level ≡ ipa / covered_count level))
       ⊎ ((data_at entries root l i ≡ Some page) × (l ≡ level → i / covered_count level ≢ ipa / covered_count level))
   data_cases l i page inside is =
       let index = entry_index l i in
-      let below = in_table (λ t. Some (new t index)) (table_of entry) in
+      let below = option_and_then (λ t. Some (new t index)) (table_of entry) in
       let was = entry_at entries root l i in
       let under_test = is_under (suc level) level ipa l i in
       let now = data_at-entry new root l i ∙ ap data_in (entry_at-written entries new granules rd root level ipa table entry own w l i inside) in

@@ -1,7 +1,9 @@
 -- Several pages of one table become RAM.
-use Rattle.std.proofs.Common.{◌≡◌, ◌≢◌, ℕ, ◌+◌, ◌-◌, ◌/◌, ◌%◌, ◌^◌, ◌<◌, ◌≤◌, Bool, true, false, List, ◌⊎◌, Some, None, refl, sym, ap, subst, ◌∙◌, arith}
+use Rattle.std.proofs.Common.{◌≡◌, ◌≢◌, ℕ, ◌+◌, ◌-◌, ◌/◌, ◌%◌, ◌<◌, ◌≤◌, Bool, true, false, List, ◌⊎◌, Some, None, refl, sym, ap, subst, ◌∙◌, arith}
 use Rattle.std.specs.Prelude.{IsTrue, ◌↔◌}
 use Rattle.granule_addr.specs.Ipa.{entry_index}
+use Rattle.granule_addr.specs.Root.{space_of}
+use Rattle.granule_addr.specs.declared.root.Root.{Root}
 use Rattle.granule_table.specs.Granules.{IsIn}
 use Rattle.granule_table.specs.declared.granule.Granule.{Granule}
 use Rattle.page_arena.specs.Page.{page_at}
@@ -28,7 +30,7 @@ fits_table ipa level first count last first_is some one_table =
     omega arith
 
 -- whether the rows are all UNASSIGNED
-pub pages_unused : (pages : List (List ℕ)) (root level ipa table first count : ℕ) (answer : Bool) → IsInside level ipa → level ≡ 3 → table_at (entries_of pages) root level ipa ≡ Some table
+pub pages_unused : (pages : List (List ℕ)) (root : Root) (level ipa table first count : ℕ) (answer : Bool) → IsInside root.width level ipa → level ≡ 3 → table_at (entries_of pages) root level ipa ≡ Some table
     → first ≡ entry_index level ipa → first + count ≤ 512
     → (IsTrue answer ↔ ((index : ℕ) → first ≤ index → index < first + count → is_unassigned (entries_of pages table index) ≡ true))
     → all_rows is_unassigned (rows pages root) 3 ipa count ≡ answer
@@ -64,20 +66,20 @@ pages_unused pages root level ipa table first count answer inside last at first_
 granule_none : (row : Row) → IsEntry row → row.hipas ≡ Unassigned → row.granule ≡ None
 granule_none row is kind = let said : IsSaid Unassigned row.ripas row.granule = subst (λ h. IsSaid h row.ripas row.granule) kind is in said
 
-pub record RamGiven (pages new_pages : List (List ℕ)) (granules : List Granule) (rd root ipa count : ℕ) : Type 0 where
+pub record RamGiven (pages new_pages : List (List ℕ)) (granules : List Granule) (rd : ℕ) (root : Root) (ipa count : ℕ) : Type 0 where
   pub rows_are : rows new_pages root ≡ with_ram (rows pages root) ipa count
   pub tables : HasTables new_pages granules rd root
   pub others : ChangesTablesOnly root pages new_pages
   pub other_realms : LeavesOthers rd pages granules new_pages granules
 
-module _ (pages new_pages : List (List ℕ)) (granules : List Granule) (rd root ipa table first count : ℕ)
-    (tables : HasTables pages granules rd root) (inside : IsInside 3 ipa) (at : table_at (entries_of pages) root 3 ipa ≡ Some table)
+module _ (pages new_pages : List (List ℕ)) (granules : List Granule) (rd : ℕ) (root : Root) (ipa table first count : ℕ)
+    (tables : HasTables pages granules rd root) (inside : IsInside root.width 3 ipa) (at : table_at (entries_of pages) root 3 ipa ≡ Some table)
     (start : first ≡ entry_index 3 ipa) (fits : entry_index 3 ipa + count ≤ 512)
     (unused : (index : ℕ) → first ≤ index → index < first + count → is_unassigned (entries_of pages table index) ≡ true)
     (written : (index : ℕ) → first ≤ index → index < first + count → word_at new_pages table index ≡ entry_word (unassigned Ram))
     (left : (index : ℕ) → index < 512 → (index < first) ⊎ (first + count ≤ index) → word_at new_pages table index ≡ word_at pages table index)
     (others : (granule : ℕ) → granule ≢ table → page_at new_pages granule ≡ page_at pages granule) where
-  below : ipa < 2 ^ 27
+  below : ipa < space_of root.width
   below = inside.below
 
   was : (k : ℕ) → k < count → is_unassigned (entries_of pages table (entry_index 3 ipa + k)) ≡ true
@@ -118,14 +120,14 @@ module _ (pages new_pages : List (List ℕ)) (granules : List Granule) (rd root 
           exact_after pages new_pages table first count (unassigned Ram) refl written left others t index few
           (tables.words l i t index inside
           (sym (ram_tables (entries_of pages) root ipa table count below at fits (entries_of new_pages) granules rd tables.own was wrote kept l i inside) ∙ there) few);
-      sound = subst (λ r. IsSoundRows (look r)) (sym rows_after) (with_ram_sound (rows pages root) ipa count tables.sound all_unused);
+      sound = subst (λ r. IsSoundRows root.width (look r)) (sym rows_after) (with_ram_sound (rows pages root) ipa count tables.sound all_unused);
     };
     others = λ granule no_table. others granule (λ q. no_table (record { level = 3; ipa = ipa; inside = inside; at = at ∙ ap (λ (k : ℕ). Some k) (sym q) }));
     other_realms = others_kept pages new_pages granules rd (λ granule no_rtt. others granule (λ q. no_rtt (subst (λ (k : ℕ). IsIn granules k InRtt (Some rd)) (sym q) table_there)));
   }
 
-pub ram_given : (pages new_pages : List (List ℕ)) (granules : List Granule) (rd root level ipa table first count : ℕ) (row : Row)
-    → HasTables pages granules rd root → IsInside level ipa → level ≡ 3 → table_at (entries_of pages) root level ipa ≡ Some table
+pub ram_given : (pages new_pages : List (List ℕ)) (granules : List Granule) (rd : ℕ) (root : Root) (level ipa table first count : ℕ) (row : Row)
+    → HasTables pages granules rd root → IsInside root.width level ipa → level ≡ 3 → table_at (entries_of pages) root level ipa ≡ Some table
     → first ≡ entry_index level ipa → first + count ≤ 512 → row ≡ unassigned Ram
     → ((index : ℕ) → first ≤ index → index < first + count → is_unassigned (entries_of pages table index) ≡ true)
     → ((index : ℕ) → first ≤ index → index < first + count → word_at new_pages table index ≡ entry_word row)
@@ -134,5 +136,5 @@ pub ram_given : (pages new_pages : List (List ℕ)) (granules : List Granule) (r
     → RamGiven pages new_pages granules rd root ipa count
 ram_given pages new_pages granules rd root level ipa table first count row tables inside last at first_is fits row_is unused written left others =
     let start : first ≡ entry_index 3 ipa = first_is ∙ ap (λ (l : ℕ). entry_index l ipa) last in
-    ram_at pages new_pages granules rd root ipa table first count tables (subst (λ (l : ℕ). IsInside l ipa) last inside) (ap (λ (l : ℕ). table_at (entries_of pages) root l ipa) (sym last) ∙ at)
+    ram_at pages new_pages granules rd root ipa table first count tables (subst (λ (l : ℕ). IsInside root.width l ipa) last inside) (ap (λ (l : ℕ). table_at (entries_of pages) root l ipa) (sym last) ∙ at)
     start (subst (λ (i : ℕ). i + count ≤ 512) start fits) unused (λ index low high. written index low high ∙ ap entry_word row_is) left others

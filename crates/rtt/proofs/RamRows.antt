@@ -1,38 +1,41 @@
 -- Pages of one table of the last level become RAM.
-use Rattle.std.proofs.Common.{◌≡◌, ℕ, ◌+◌, ◌-◌, ◌*◌, ◌/◌, ◌%◌, ◌^◌, ◌<◌, ◌≤◌, true, false, List, Option, Some, None, ◌⊎◌, inl, inr, refl, sym, ap, ◌∙◌, arith, lit≤}
+use Rattle.std.proofs.Common.{◌≡◌, ℕ, ◌+◌, ◌-◌, ◌*◌, ◌/◌, ◌%◌, ◌<◌, ◌≤◌, true, false, List, Option, Some, None, ◌⊎◌, inl, inr, refl, sym, ap, ◌∙◌, arith, lit≤}
+use Rattle.std.specs.Prelude.{option_and_then}
 use Rattle.std.specs.FinMap.{get}
 use Rattle.std.proofs.lemmas.Bool.{cases_eq, cases_lt}
 use Rattle.std.proofs.lemmas.Option.{same_Some}
 use Rattle.granule_addr.specs.Ipa.{covered_count, first_covered, entry_index}
+use Rattle.granule_addr.specs.Root.{space_of}
+use Rattle.granule_addr.specs.declared.root.Root.{Root}
 use Rattle.granule_table.specs.Granules.{IsIn}
 use Rattle.granule_table.specs.declared.granule.Granule.{Granule}
 use Rattle.realm_model.specs.declared.states.GranuleState.TheVariants.{Rtt as InRtt}
 use Rattle.realm_model.specs.declared.states.Hipas.TheVariants.{Unassigned}
 use Rattle.realm_model.specs.Rows.{Row, Rows, is_unassigned, all_rows, put_rows, as_ram, with_ram}
-use Rattle.rtt.specs.Tables.{Entries, table_of, data_of, in_table, table_at, is_place, row_in, rows_in}
+use Rattle.rtt.specs.Tables.{Entries, table_of, data_of, table_at, is_place, row_in, rows_in}
 use Rattle.rtt.specs.Realm.{IsInside, HasGranules, served_count}
 use Rattle.rtt.proofs.EntryKinds.{unassigned_kind, table_of-unassigned, data_of-unassigned}
-use Rattle.rtt.specs.PlaceLaws.{option_cases, index_below, place_facts, inside_place, is_place_from}
+use Rattle.rtt.proofs.PlaceLaws.{option_cases, index_below, place_facts, inside_place, is_place_from}
 use Rattle.rtt.proofs.TableAt.{table_at-same, entry_at-some}
 use Rattle.rtt.proofs.RowsIn.{get-rows_in, rows_in-from, row_in-place, row_in-none}
 use Rattle.rtt.proofs.RowRuns.{get-put_rows_at, get-put_rows_beside, all_rows_each, all_rows_true}
-use Rattle.rtt.specs.FrameLaws.{same_table_at, HasGranules-same}
+use Rattle.rtt.proofs.FrameLaws.{same_table_at, HasGranules-same}
 
-module _ (entries : Entries) (root ipa table count : ℕ) (below : ipa < 2 ^ 27) (at : table_at entries root 3 ipa ≡ Some table) (fits : entry_index 3 ipa + count ≤ 512) where
+module _ (entries : Entries) (root : Root) (ipa table count : ℕ) (below : ipa < space_of root.width) (at : table_at entries root 3 ipa ≡ Some table) (fits : entry_index 3 ipa + count ≤ 512) where
   abbrev start : ℕ
   start = entry_index 3 ipa
 
   -- the places of the pages
-  page_place : (k : ℕ) → k < count → (is_place 3 (ipa + k * covered_count 3) ≡ true) × (entry_index 3 (ipa + k * covered_count 3) ≡ start + k) × ((ipa + k * covered_count 3) / served_count 3 ≡ ipa / served_count 3)
+  page_place : (k : ℕ) → k < count → (is_place root.width 3 (ipa + k * covered_count 3) ≡ true) × (entry_index 3 (ipa + k * covered_count 3) ≡ start + k) × ((ipa + k * covered_count 3) / served_count 3 ≡ ipa / served_count 3)
   page_place k few =
-      let lt : ipa < 134217728 = below in
       let room : ipa / 1 % 512 + count ≤ 512 = fits in
       let n = ipa + k * 1 in
-      let inside : n < 134217728 = omega arith in
+      let lt : ipa < space_of root.width = below in
+      let inside : n < space_of root.width = omega arith in
       let first : n / 1 * 1 ≡ n = omega arith in
       let index : n / 1 % 512 ≡ ipa / 1 % 512 + k = omega arith in
       let served : n / 512 ≡ ipa / 512 = omega arith in
-      (is_place_from 3 n (record { least = lit≤ tt; most = lit≤ tt; below = inside }) first, index, served)
+      (is_place_from root.width 3 n (record { least = lit≤ tt; most = lit≤ tt; below = inside }) first, index, served)
 
   page_table : (k : ℕ) → k < count → table_at entries root 3 (ipa + k * covered_count 3) ≡ Some table
   page_table k few = table_at-same entries root 3 (ipa + k * covered_count 3) ipa (lit≤ tt) (page_place k few).2 ∙ at
@@ -78,7 +81,7 @@ module _ (entries : Entries) (root ipa table count : ℕ) (below : ipa < 2 ^ 27)
           | inr ne ↦ beside (λ o. ne o.0)
         ]
 
-    still : (f : Row → Option ℕ) → ((row : Row) → row.hipas ≡ Unassigned → f row ≡ None) → (l i granule index : ℕ) → IsInside l i → table_at entries root l i ≡ Some granule → index < 512
+    still : (f : Row → Option ℕ) → ((row : Row) → row.hipas ≡ Unassigned → f row ≡ None) → (l i granule index : ℕ) → IsInside root.width l i → table_at entries root l i ≡ Some granule → index < 512
         → f (new granule index) ≡ f (entries granule index)
     unfolding InRun
     still f nothing l i granule index inside is few = elim (entry_cases granule index (own.tables l i granule inside is) few) [
@@ -91,7 +94,7 @@ module _ (entries : Entries) (root ipa table count : ℕ) (below : ipa < 2 ^ 27)
     ]
 
     -- the tables stay
-    pub ram_tables : (l i : ℕ) → IsInside l i → table_at new root l i ≡ table_at entries root l i
+    pub ram_tables : (l i : ℕ) → IsInside root.width l i → table_at new root l i ≡ table_at entries root l i
     ram_tables = same_table_at entries new root (still table_of table_of-unassigned)
 
     -- The realm owns its granules as before.
@@ -111,7 +114,7 @@ module _ (entries : Entries) (root ipa table count : ℕ) (below : ipa < 2 ^ 27)
         in_run l i k few q =
             let n = ipa + k * covered_count 3 in
             let place = page_place k few in
-            let here : IsInside 3 n = inside_place 3 n place.0 in
+            let here : IsInside root.width 3 n = inside_place root.width 3 n place.0 in
             ap (λ (p : ℕ × ℕ). row_in new root p.0 p.1) q
             ∙ row_in-place new root 3 n place.0
             ∙ entry_at-some new root 3 n table (ram_tables 3 n here ∙ page_table k few)
@@ -124,7 +127,7 @@ module _ (entries : Entries) (root ipa table count : ℕ) (below : ipa < 2 ^ 27)
         beside l i out same = same ∙ sym (get-put_rows_beside as_ram rows 3 ipa count (l, i) out ∙ get-rows_in entries root l i)
 
         -- an entry of the run is at a place of the run
-        its_place : (l i t k : ℕ) → IsInside l i → first_covered l i ≡ i → table_at entries root l i ≡ Some t → t ≡ table → k < count → entry_index l i ≡ start + k → ◌≡◌ {A = ℕ × ℕ} (l, i) (3, ipa + k * covered_count 3)
+        its_place : (l i t k : ℕ) → IsInside root.width l i → first_covered l i ≡ i → table_at entries root l i ≡ Some t → t ≡ table → k < count → entry_index l i ≡ start + k → ◌≡◌ {A = ℕ × ℕ} (l, i) (3, ipa + k * covered_count 3)
         its_place l i t k inside first is same few index =
             let both = own.tables_once l i 3 ipa table inside (record { least = lit≤ tt; most = lit≤ tt; below = below }) (is ∙ ap (λ (g : ℕ). Some g) same) at in
             let three : l ≡ 3 = both.0 in
@@ -134,18 +137,18 @@ module _ (entries : Entries) (root ipa table count : ℕ) (below : ipa < 2 ^ 27)
             λ j. (three j, at_i j)
 
         ram_row : (l i : ℕ) → row_in new root l i ≡ get (put_rows as_ram rows 3 ipa count) (l, i)
-        ram_row l i = elim (is_place l i) as (λ b. is_place l i ≡ b → row_in new root l i ≡ get (put_rows as_ram rows 3 ipa count) (l, i)) [
+        ram_row l i = elim (is_place root.width l i) as (λ b. is_place root.width l i ≡ b → row_in new root l i ≡ get (put_rows as_ram rows 3 ipa count) (l, i)) [
           | true ↦ λ place.
-              let inside = inside_place l i place in
-              let first = (place_facts l i place).first in
+              let inside = inside_place root.width l i place in
+              let first = (place_facts root.width l i place).first in
               let index = entry_index l i in
-              let now = ap (in_table (λ t. Some (new t index))) (ram_tables l i inside) in
+              let now = ap (option_and_then (λ t. Some (new t index))) (ram_tables l i inside) in
               elim (option_cases (table_at entries root l i)) [
                 | inl none ↦
                     beside l i
                     (λ k few q. let clash : None ≡ Some table = sym none ∙ ap (λ (p : ℕ × ℕ). table_at entries root p.0 p.1) q ∙ page_table k few in cc)
-                    (row_in-place new root l i place ∙ now ∙ ap (in_table (λ t. Some (new t index))) none
-                    ∙ sym (row_in-place entries root l i place ∙ ap (in_table (λ t. Some (entries t index))) none))
+                    (row_in-place new root l i place ∙ now ∙ ap (option_and_then (λ t. Some (new t index))) none
+                    ∙ sym (row_in-place entries root l i place ∙ ap (option_and_then (λ t. Some (entries t index))) none))
                 | inr found ↦ elim (entry_cases found.0 index (own.tables l i found.0 inside found.1) (index_below l i)) [
                   | inl p ↦ in_run l i p.0 p.1 (its_place l i found.0 p.0 inside first found.1 p.2 p.1 p.3)
                   | inr same ↦
@@ -163,6 +166,6 @@ module _ (entries : Entries) (root ipa table count : ℕ) (below : ipa < 2 ^ 27)
               ]
           | false ↦ λ place.
               beside l i
-              (λ k few q. let clash : false ≡ true = sym place ∙ ap (λ (p : ℕ × ℕ). is_place p.0 p.1) q ∙ (page_place k few).0 in cc)
+              (λ k few q. let clash : false ≡ true = sym place ∙ ap (λ (p : ℕ × ℕ). is_place root.width p.0 p.1) q ∙ (page_place k few).0 in cc)
               (row_in-none new root l i place ∙ sym (row_in-none entries root l i place))
         ] refl

@@ -6,9 +6,8 @@ use Rattle.granule_addr.specs.Ipa.{covered_count}
 use Rattle.realm_model.specs.Rows.{Row, Rows, all_rows, put_rows}
 use Rattle.realm_model.proofs.Maps.{place_total}
 use Rattle.realm_model.proofs.Rows.{is_place as is_at, get-put_rows_other, all_rows_at}
-use Rattle.realm_model.proofs.Booleans.{false_from}
 use Rattle.std.proofs.lemmas.Option.{same_Some}
-use Rattle.rtt.specs.FiniteRowsLaws.{place_tells}
+use Rattle.rtt.proofs.FiniteRowsLaws.{place_tells}
 
 pub get-insert_row : (rows : Rows) (place q : ℕ × ℕ) (row : Row) → get (insert rows place row) q ≡ cond (is_at q place) (Some row) (get rows q)
 get-insert_row rows place q row = get-insert place_total rows place row q
@@ -55,10 +54,6 @@ module _ (test : Row → Bool) (rows : Rows) (level first n : ℕ) (row : ℕ �
       first_ones (suc m) few =
           let lt : m < n = few m (omega arith) in
           and_from _ _ (ap (λ o. elim o [ Some row ↦ test row | None ↦ false ]) (are m lt) ∙ each m lt) (first_ones m (λ k h. few k (omega arith)))
-
-  -- and not all do where one does not
-  pub all_rows_false : (k : ℕ) → k < n → test (row k) ≡ false → all_rows test rows level first n ≡ false
-  all_rows_false k lt fails = false_from _ (λ all. let clash : false ≡ true = sym fails ∙ all_rows_each all k lt in cc)
 
   -- where not all pass there is one that does not
   pub all_rows_fails : all_rows test rows level first n ≡ false → (k : ℕ) × (k < n) × (test (row k) ≡ false)

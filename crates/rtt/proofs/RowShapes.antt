@@ -11,12 +11,12 @@ use Rattle.realm_model.proofs.SoundRows.{put_sound}
 kind_table : (row : Row) → is_table row ≡ false → is_table_kind (Some (mapping_of_row row)) ≡ false
 kind_table row plain = plain
 
-module _ (rows : Rows) (ipa : ℕ) (row : Row) (sound : IsSoundRows (look rows)) (at : row_at rows 3 ipa ≡ Some row) (plain : is_table row ≡ false) where
+module _ {width : ℕ} (rows : Rows) (ipa : ℕ) (row : Row) (sound : IsSoundRows width (look rows)) (at : row_at rows 3 ipa ≡ Some row) (plain : is_table row ≡ false) where
   seen : look rows (3, first_covered 3 ipa) ≡ Some (mapping_of_row row)
   seen = ap (option_map mapping_of_row) at
 
-  pub mapped_sound : (ripas : Ripas) (page : ℕ) → IsSoundRows (look (put_row rows 3 ipa (assigned ripas page)))
+  pub mapped_sound : (ripas : Ripas) (page : ℕ) → IsSoundRows width (look (put_row rows 3 ipa (assigned ripas page)))
   mapped_sound ripas page = put_sound rows (3, first_covered 3 ipa) (assigned ripas page) sound (ap is_some seen) (ap is_table_kind seen ∙ kind_table row plain) (refl, refl)
 
-  pub unmapped_sound : (ripas : Ripas) → IsSoundRows (look (put_row rows 3 ipa (unassigned ripas)))
+  pub unmapped_sound : (ripas : Ripas) → IsSoundRows width (look (put_row rows 3 ipa (unassigned ripas)))
   unmapped_sound ripas = put_sound rows (3, first_covered 3 ipa) (unassigned ripas) sound (ap is_some seen) (ap is_table_kind seen ∙ kind_table row plain) refl

@@ -1,13 +1,15 @@
 -- The rows after an entry is written, place by place.
 use Rattle.std.proofs.Common.{◌≡◌, ℕ, suc, ◌/◌, ◌≤◌, Bool, true, false, cond, List, Option, Some, None, inl, inr, ⊎_elim, refl, sym, ap, ◌∙◌, arith}
+use Rattle.std.specs.Prelude.{option_and_then}
 use Rattle.granule_addr.specs.Ipa.{covered_count, first_covered, entry_index}
+use Rattle.granule_addr.specs.declared.root.Root.{Root}
 use Rattle.granule_table.specs.declared.granule.Granule.{Granule}
 use Rattle.realm_model.specs.Rows.{Row, put_row}
 use Rattle.realm_model.proofs.Rows.{is_place as is_at}
-use Rattle.rtt.specs.FiniteRowsLaws.{place_tells}
-use Rattle.rtt.specs.Tables.{Entries, table_of, in_table, entry_at, is_place, row_in, rows_in}
+use Rattle.rtt.proofs.FiniteRowsLaws.{place_tells}
+use Rattle.rtt.specs.Tables.{Entries, table_of, entry_at, is_place, row_in, rows_in}
 use Rattle.rtt.specs.Realm.{HasGranules}
-use Rattle.rtt.specs.PlaceLaws.{place_facts, inside_place, first_covers, first_is_place, place_is_first, is_under, under_cases}
+use Rattle.rtt.proofs.PlaceLaws.{place_facts, inside_place, first_covers, first_is_place, place_is_first, is_under, under_cases}
 use Rattle.rtt.proofs.RowsIn.{get-rows_in, rows_in-from, row_in-place, row_in-none}
 use Rattle.rtt.proofs.RowRuns.{get-insert_row}
 use Rattle.rtt.proofs.Writes.{Writes, entry_at-written}
@@ -29,25 +31,25 @@ own_place level ipa l i first =
           (λ u. u.0) (under_cases level level ipa l i))
     ]
 
-module _ (entries new : Entries) (granules : List Granule) (rd root level ipa table : ℕ) (entry : Row)
+module _ (entries new : Entries) (granules : List Granule) (rd : ℕ) (root : Root) (level ipa table : ℕ) (entry : Row)
     (own : HasGranules entries granules rd root) (w : Writes entries new root level ipa table entry) where
   -- The rows afterwards: the one written, those of the table below it, and all others as they were.
   pub row_in-written : (l i : ℕ) → row_in new root l i ≡ cond (is_at (l, i) (level, first_covered level ipa)) (Some entry)
-      (cond (is_under (suc level) level ipa l i) (cond (is_place l i) (in_table (λ t. Some (new t (entry_index l i))) (table_of entry)) None) (row_in entries root l i))
+      (cond (is_under (suc level) level ipa l i) (cond (is_place root.width l i) (option_and_then (λ t. Some (new t (entry_index l i))) (table_of entry)) None) (row_in entries root l i))
   row_in-written l i =
       let at_test = is_at (l, i) (level, first_covered level ipa) in
       let under_test = is_under (suc level) level ipa l i in
-      let below = in_table (λ t. Some (new t (entry_index l i))) (table_of entry) in
-      elim (is_place l i) as (λ b. is_place l i ≡ b → row_in new root l i ≡ cond at_test (Some entry) (cond under_test (cond b below None) (row_in entries root l i))) [
+      let below = option_and_then (λ t. Some (new t (entry_index l i))) (table_of entry) in
+      elim (is_place root.width l i) as (λ b. is_place root.width l i ≡ b → row_in new root l i ≡ cond at_test (Some entry) (cond under_test (cond b below None) (row_in entries root l i))) [
         | true ↦ λ place.
-            let facts = place_facts l i place in
+            let facts = place_facts root.width l i place in
             row_in-place new root l i place
-            ∙ entry_at-written entries new granules rd root level ipa table entry own w l i (inside_place l i place)
+            ∙ entry_at-written entries new granules rd root level ipa table entry own w l i (inside_place root.width l i place)
             ∙ ap (λ b. cond b (Some entry) (cond under_test below (entry_at entries root l i))) (sym (own_place level ipa l i facts.first))
             ∙ ap (λ r. cond at_test (Some entry) (cond under_test below r)) (sym (row_in-place entries root l i place))
         | false ↦ λ place.
             let off : at_test ≡ false = ⊎_elim
-            (λ t. let clash : false ≡ true = sym place ∙ ap (λ (q : ℕ × ℕ). is_place q.0 q.1) t.1 ∙ first_is_place level ipa w.inside in cc)
+            (λ t. let clash : false ≡ true = sym place ∙ ap (λ (q : ℕ × ℕ). is_place root.width q.0 q.1) t.1 ∙ first_is_place root.width level ipa w.inside in cc)
             (λ t. t.0) (place_tells (l, i) (level, first_covered level ipa)) in
             row_in-none new root l i place
             ∙ sym (ap (λ b. cond b (Some entry) (cond under_test None (row_in entries root l i))) off
@@ -67,17 +69,17 @@ module _ (entries new : Entries) (granules : List Granule) (rd root level ipa ta
       ∙ sym (get-insert_row (rows_in entries root) (level, first_covered level ipa) (l, i) entry
       ∙ ap (cond (is_at (l, i) (level, first_covered level ipa)) (Some entry)) (get-rows_in entries root l i)))
     where
-      beside : (l i : ℕ) → cond (is_under (suc level) level ipa l i) (cond (is_place l i) (in_table (λ t. Some (new t (entry_index l i))) (table_of entry)) None) (row_in entries root l i)
+      beside : (l i : ℕ) → cond (is_under (suc level) level ipa l i) (cond (is_place root.width l i) (option_and_then (λ t. Some (new t (entry_index l i))) (table_of entry)) None) (row_in entries root l i)
           ≡ row_in entries root l i
       beside l i =
-          let below = in_table (λ t. Some (new t (entry_index l i))) (table_of entry) in
+          let below = option_and_then (λ t. Some (new t (entry_index l i))) (table_of entry) in
           elim (under_cases (suc level) level ipa l i) [
             | inl u ↦
-                let none : is_place l i ≡ false = elim (is_place l i) as (λ b. is_place l i ≡ b → b ≡ false) [
-                  | true ↦ λ place. let most : l ≤ 3 = (place_facts l i place).most in let deep = u.1 in absurd (omega arith)
+                let none : is_place root.width l i ≡ false = elim (is_place root.width l i) as (λ b. is_place root.width l i ≡ b → b ≡ false) [
+                  | true ↦ λ place. let most : l ≤ 3 = (place_facts root.width l i place).most in let deep = u.1 in absurd (omega arith)
                   | false ↦ λ place. refl
                 ] refl in
-                ap (λ c. cond c (cond (is_place l i) below None) (row_in entries root l i)) u.0
+                ap (λ c. cond c (cond (is_place root.width l i) below None) (row_in entries root l i)) u.0
                 ∙ ap (λ b. cond b below None) none ∙ sym (row_in-none entries root l i none)
-            | inr u ↦ ap (λ c. cond c (cond (is_place l i) below None) (row_in entries root l i)) u.0
+            | inr u ↦ ap (λ c. cond c (cond (is_place root.width l i) below None) (row_in entries root l i)) u.0
           ]

@@ -1,48 +1,51 @@
 -- The rows that tables hold: what they have at each place, and where walks over them end.
-use Rattle.std.proofs.Common.{◌≡◌, ℕ, zero, suc, ◌^◌, ◌<◌, ◌≤◌, true, false, cond, Option, Some, None, ◌⊎◌, inl, inr, ⊎_elim, refl, sym, ap, ◌∙◌, arith}
+use Rattle.std.proofs.Common.{◌≡◌, ℕ, zero, suc, ◌<◌, ◌≤◌, true, false, cond, Option, Some, None, ◌⊎◌, inl, inr, ⊎_elim, refl, sym, ap, ◌∙◌, arith}
+use Rattle.std.specs.Prelude.{option_and_then}
 use Rattle.std.specs.FinMap.{get}
 use Rattle.std.proofs.lemmas.Bool.{cases_eq}
 use Rattle.granule_addr.specs.Ipa.{first_covered, entry_index}
+use Rattle.granule_addr.specs.Root.{space_of}
+use Rattle.granule_addr.specs.declared.root.Root.{Root}
 use Rattle.realm_model.specs.Rows.{Row, Rows, row_at, walk}
-use Rattle.rtt.specs.FiniteRows.{ipa_count_is, IsBounded}
-use Rattle.rtt.specs.FiniteRowsLaws.{get-rows_by, same_rows}
-use Rattle.rtt.specs.Tables.{Entries, table_of, in_table, table_at, entry_at, is_place, row_in, rows_in}
+use Rattle.rtt.specs.FiniteRows.{IsBounded}
+use Rattle.rtt.proofs.FiniteRowsLaws.{get-rows_by, same_rows}
+use Rattle.rtt.specs.Tables.{Entries, table_of, table_at, entry_at, is_place, row_in, rows_in}
 use Rattle.rtt.specs.Realm.{IsInside}
-use Rattle.rtt.specs.PlaceLaws.{place_facts, first_covers, first_is_place}
+use Rattle.rtt.proofs.PlaceLaws.{place_facts, first_covers, first_is_place}
 use Rattle.rtt.proofs.TableAt.{entry_at-same, entry_at-some, no_table}
 
-row_in-bounded : (entries : Entries) (root : ℕ) → IsBounded (row_in entries root)
+row_in-bounded : (entries : Entries) (root : Root) → IsBounded (space_of root.width) (row_in entries root)
 unfolding row_in
 row_in-bounded entries root =
-    let nothing : (level ipa : ℕ) → (is_place level ipa ≡ true → ⊥) → row_in entries root level ipa ≡ None = λ level ipa n.
-    elim (is_place level ipa) as (λ b. is_place level ipa ≡ b → cond b (entry_at entries root level ipa) None ≡ None) [ true ↦ λ k. absurd (n k) | false ↦ λ k. refl ] refl in
+    let nothing : (level ipa : ℕ) → (is_place root.width level ipa ≡ true → ⊥) → row_in entries root level ipa ≡ None = λ level ipa n.
+    elim (is_place root.width level ipa) as (λ b. is_place root.width level ipa ≡ b → cond b (entry_at entries root level ipa) None ≡ None) [ true ↦ λ k. absurd (n k) | false ↦ λ k. refl ] refl in
     record {
-      levels = λ level ipa out. nothing level ipa (λ k. let facts = place_facts level ipa k in let low : 1 ≤ level = facts.least in let high : level ≤ 3 = facts.most in ⊎_elim (λ z. omega arith) (λ z. omega arith) out);
-      granules = λ level ipa past. nothing level ipa (λ k. let facts = place_facts level ipa k in let lt : ipa < 2 ^ 27 = facts.inside in let count = ipa_count_is in omega arith);
+      levels = λ level ipa out. nothing level ipa (λ k. let facts = place_facts root.width level ipa k in let low : 1 ≤ level = facts.least in let high : level ≤ 3 = facts.most in ⊎_elim (λ z. omega arith) (λ z. omega arith) out);
+      granules = λ level ipa past. nothing level ipa (λ k. let facts = place_facts root.width level ipa k in let lt : ipa < space_of root.width = facts.inside in omega arith);
     }
 
 -- The rows have at each place what the tables have there.
-pub get-rows_in : (entries : Entries) (root level ipa : ℕ) → get (rows_in entries root) (level, ipa) ≡ row_in entries root level ipa
+pub get-rows_in : (entries : Entries) (root : Root) (level ipa : ℕ) → get (rows_in entries root) (level, ipa) ≡ row_in entries root level ipa
 unfolding rows_in
-get-rows_in entries root level ipa = get-rows_by (row_in entries root) (row_in-bounded entries root) level ipa
+get-rows_in entries root level ipa = get-rows_by (space_of root.width) (row_in entries root) (row_in-bounded entries root) level ipa
 
 -- rows that have at each place what the tables have there are theirs
-pub rows_in-from : (entries : Entries) (root : ℕ) (rows : Rows) → ((level ipa : ℕ) → row_in entries root level ipa ≡ get rows (level, ipa)) → rows_in entries root ≡ rows
+pub rows_in-from : (entries : Entries) (root : Root) (rows : Rows) → ((level ipa : ℕ) → row_in entries root level ipa ≡ get rows (level, ipa)) → rows_in entries root ≡ rows
 rows_in-from entries root rows same = same_rows _ _ (λ level ipa. get-rows_in entries root level ipa ∙ same level ipa)
 
-pub row_in-place : (entries : Entries) (root level ipa : ℕ) → is_place level ipa ≡ true → row_in entries root level ipa ≡ entry_at entries root level ipa
+pub row_in-place : (entries : Entries) (root : Root) (level ipa : ℕ) → is_place root.width level ipa ≡ true → row_in entries root level ipa ≡ entry_at entries root level ipa
 unfolding row_in
 row_in-place entries root level ipa place = ap (λ b. cond b (entry_at entries root level ipa) None) place
 
-pub row_in-none : (entries : Entries) (root level ipa : ℕ) → is_place level ipa ≡ false → row_in entries root level ipa ≡ None
+pub row_in-none : (entries : Entries) (root : Root) (level ipa : ℕ) → is_place root.width level ipa ≡ false → row_in entries root level ipa ≡ None
 unfolding row_in
 row_in-none entries root level ipa place = ap (λ b. cond b (entry_at entries root level ipa) None) place
 
 -- The row that covers an IPA granule is the entry that does.
-pub row_at-rows_in : (entries : Entries) (root level ipa : ℕ) → IsInside level ipa → row_at (rows_in entries root) level ipa ≡ entry_at entries root level ipa
+pub row_at-rows_in : (entries : Entries) (root : Root) (level ipa : ℕ) → IsInside root.width level ipa → row_at (rows_in entries root) level ipa ≡ entry_at entries root level ipa
 row_at-rows_in entries root level ipa inside =
     get-rows_in entries root level (first_covered level ipa)
-    ∙ row_in-place entries root level (first_covered level ipa) (first_is_place level ipa inside)
+    ∙ row_in-place entries root level (first_covered level ipa) (first_is_place root.width level ipa inside)
     ∙ entry_at-same entries root level (first_covered level ipa) ipa inside.most (first_covers level ipa)
 
 -- ---- walks
@@ -52,14 +55,14 @@ step_walk : (rows : Rows) (ipa level : ℕ) (o : Option Row) → row_at rows (su
 unfolding walk
 step_walk rows ipa level o is = ap (λ o. elim o [ Some row ↦ Some (record { level = suc level; row = row }) | None ↦ walk rows ipa level ]) is
 
-walk_here : (entries : Entries) (root level ipa table : ℕ) → IsInside level ipa → table_at entries root level ipa ≡ Some table
+walk_here : (entries : Entries) (root : Root) (level ipa table : ℕ) → IsInside root.width level ipa → table_at entries root level ipa ≡ Some table
     → walk (rows_in entries root) ipa level ≡ Some (record { level = level; row = entries table (entry_index level ipa) })
 walk_here entries root zero ipa table inside at = let low : 1 ≤ 0 = inside.least in absurd (omega arith)
 walk_here entries root (suc level) ipa table inside at =
     step_walk (rows_in entries root) ipa level _ (row_at-rows_in entries root (suc level) ipa inside ∙ entry_at-some entries root (suc level) ipa table at)
 
 -- A walk towards a level ends there, or at an entry that leads to no table.
-pub walk_ends : (entries : Entries) (root level wanted ipa table : ℕ) → IsInside level ipa → level ≤ wanted → wanted ≤ 3 → table_at entries root level ipa ≡ Some table
+pub walk_ends : (entries : Entries) (root : Root) (level wanted ipa table : ℕ) → IsInside root.width level ipa → level ≤ wanted → wanted ≤ 3 → table_at entries root level ipa ≡ Some table
     → (level ≡ wanted) ⊎ (table_of (entries table (entry_index level ipa)) ≡ None)
     → walk (rows_in entries root) ipa wanted ≡ Some (record { level = level; row = entries table (entry_index level ipa) })
 walk_ends entries root level zero ipa table inside le high at stop = let low = inside.least in absurd (omega arith)
@@ -69,10 +72,10 @@ walk_ends entries root level (suc wanted) ipa table inside le high at stop =
       | inr ne ↦
           let none : table_of (entries table (entry_index level ipa)) ≡ None = ⊎_elim (λ s. absurd (ne s)) (λ n. n) stop in
           let low = inside.least in
-          let below : IsInside (suc wanted) ipa = record { least = omega arith; most = high; below = inside.below } in
+          let below : IsInside root.width (suc wanted) ipa = record { least = omega arith; most = high; below = inside.below } in
           let here : row_at (rows_in entries root) (suc wanted) ipa ≡ None =
           row_at-rows_in entries root (suc wanted) ipa below
-          ∙ ap (in_table (λ table. Some (entries table (entry_index (suc wanted) ipa)))) (no_table entries root level ipa table wanted low (omega arith) at none) in
+          ∙ ap (option_and_then (λ table. Some (entries table (entry_index (suc wanted) ipa)))) (no_table entries root level ipa table wanted low (omega arith) at none) in
           step_walk (rows_in entries root) ipa wanted None here
           ∙ walk_ends entries root level wanted ipa table inside (omega arith) (omega arith) at (inr none)
     ]

@@ -7,7 +7,7 @@ use Rattle.page_arena.specs.Word.{word_of_page, word_at, with_word}
 use Rattle.page_arena.specs.Words.{word_at-with_word_same, word_at-with_word_other}
 use Rattle.realm_model.specs.Rows.{Row}
 use Rattle.rtt.specs.Word.{entry_word, entry_of, IsEntry}
-use Rattle.rtt.specs.WordLaws.{entry_of-entry_word, entry_word_fits, IsEntry-entry_of}
+use Rattle.rtt.proofs.WordLaws.{entry_of-entry_word, entry_word_fits, IsEntry-entry_of}
 use Rattle.rtt.specs.Tables.{entries_of}
 
 -- a word is that of its entry

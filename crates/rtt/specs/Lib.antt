@@ -1,11 +1,8 @@
 pub mod Word
-pub mod WordLaws
 pub mod FiniteRows
-pub mod FiniteRowsLaws
 pub mod Tables
 pub mod Realm
-pub mod PlaceLaws
-pub mod FrameLaws
-pub mod Refusal
-pub mod Calls
 pub mod RowWords
+pub mod Found
+pub mod Answer
+pub mod Calls

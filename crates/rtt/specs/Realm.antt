@@ -1,6 +1,8 @@
 -- What always holds of a realm's tables, and what keeps them.
-use Rattle.std.specs.Prelude.{◌≡◌, ◌≢◌, ℕ, ◌/◌, ◌*◌, ◌<◌, ◌≤◌, ◌^◌, Bool, false, List, length, Some}
+use Rattle.std.specs.Prelude.{◌≡◌, ◌≢◌, ℕ, ◌/◌, ◌*◌, ◌<◌, ◌≤◌, Bool, false, List, length, Some}
 use Rattle.granule_addr.specs.Ipa.{covered_count}
+use Rattle.granule_addr.specs.Root.{space_of}
+use Rattle.granule_addr.specs.declared.root.Root.{Root}
 use Rattle.granule_table.specs.Granules.{granule_at, IsIn}
 use Rattle.granule_table.specs.declared.granule.Granule.{Granule}
 use Rattle.page_arena.specs.Page.{page_at, is_free}
@@ -15,44 +17,44 @@ pub record IsBacked (pages : List (List ℕ)) (flags : List Bool) (granules : Li
   pub as_many : length granules ≡ length pages
   pub taken : (granule : ℕ) → granule < length granules → (granule_at granules granule).state ≢ Undelegated → is_free flags granule ≡ false
 
--- the level of a table, and an IPA granule
-pub record IsInside (level ipa : ℕ) : Type 0 where
+-- the level of a table, and an IPA granule of an address space of that width
+pub record IsInside (width level ipa : ℕ) : Type 0 where
   pub least : 1 ≤ level
   pub most : level ≤ 3
-  pub below : ipa < 2 ^ 27
+  pub below : ipa < space_of width
 
 -- how many IPA granules a table of a level serves
 abbrev pub served_count : ℕ → ℕ
 served_count level = covered_count level * 512
 
 -- Tables are granules in RTT of the realm, pages of data are in DATA of the realm, and no granule is there twice.
-pub record HasGranules (entries : Entries) (granules : List Granule) (rd root : ℕ) : Type 0 where
-  pub tables : (level ipa table : ℕ) → IsInside level ipa → table_at entries root level ipa ≡ Some table → IsIn granules table Rtt (Some rd)
-  pub tables_once : (level ipa other_level other table : ℕ) → IsInside level ipa → IsInside other_level other
+pub record HasGranules (entries : Entries) (granules : List Granule) (rd : ℕ) (root : Root) : Type 0 where
+  pub tables : (level ipa table : ℕ) → IsInside root.width level ipa → table_at entries root level ipa ≡ Some table → IsIn granules table Rtt (Some rd)
+  pub tables_once : (level ipa other_level other table : ℕ) → IsInside root.width level ipa → IsInside root.width other_level other
       → table_at entries root level ipa ≡ Some table → table_at entries root other_level other ≡ Some table
       → (level ≡ other_level) × (ipa / served_count level ≡ other / served_count other_level)
-  pub «data» : (level ipa page : ℕ) → IsInside level ipa → data_at entries root level ipa ≡ Some page → IsIn granules page Data (Some rd)
-  pub data_once : (level ipa other_level other page : ℕ) → IsInside level ipa → IsInside other_level other
+  pub «data» : (level ipa page : ℕ) → IsInside root.width level ipa → data_at entries root level ipa ≡ Some page → IsIn granules page Data (Some rd)
+  pub data_once : (level ipa other_level other page : ℕ) → IsInside root.width level ipa → IsInside root.width other_level other
       → data_at entries root level ipa ≡ Some page → data_at entries root other_level other ≡ Some page
       → (level ≡ other_level) × (ipa / covered_count level ≡ other / covered_count other_level)
 
 -- each word of a realm's tables is the word of its entry
-abbrev pub AreWords : List (List ℕ) → ℕ → Type 0
-AreWords pages root = (level ipa table index : ℕ) → IsInside level ipa → table_at (entries_of pages) root level ipa ≡ Some table → index < 512
+abbrev pub AreWords : List (List ℕ) → Root → Type 0
+AreWords pages root = (level ipa table index : ℕ) → IsInside root.width level ipa → table_at (entries_of pages) root level ipa ≡ Some table → index < 512
     → word_at pages table index ≡ entry_word (entries_of pages table index)
 
 -- A realm's tables, in the pages of granules of its own. Rows have their shape and a TABLE row above
 -- them; each word is that of its entry.
-pub record HasTables (pages : List (List ℕ)) (granules : List Granule) (rd root : ℕ) : Type 0 where
+pub record HasTables (pages : List (List ℕ)) (granules : List Granule) (rd : ℕ) (root : Root) : Type 0 where
   pub own : HasGranules (entries_of pages) granules rd root
   pub words : AreWords pages root
-  pub sound : IsSoundRows (look (rows pages root))
+  pub sound : IsSoundRows root.width (look (rows pages root))
 
 -- a granule is one of the tables
-pub record IsTableOf (pages : List (List ℕ)) (root granule : ℕ) : Type 0 where
+pub record IsTableOf (pages : List (List ℕ)) (root : Root) (granule : ℕ) : Type 0 where
   pub level : ℕ
   pub ipa : ℕ
-  pub inside : IsInside level ipa
+  pub inside : IsInside root.width level ipa
   pub at : table_at (entries_of pages) root level ipa ≡ Some granule
 
 -- A realm's granules in RTT are left alone, pages and all, and those in DATA stay so.

@@ -1,11 +1,12 @@
 -- The rows that tables hold, over the entries in granules. RMM 1.0, Realm Translation Table.
-use Rattle.std.specs.Prelude.{ℕ, zero, suc, ◌&&◌, ◌==◌, Bool, cond, nat_lt, nat_le, List, Option, Some, None}
+use Rattle.std.specs.Prelude.{ℕ, zero, suc, ◌&&◌, ◌==◌, Bool, cond, nat_lt, nat_le, List, Option, Some, None, option_and_then, if◌then◌else◌}
 use Rattle.granule_addr.specs.Ipa.{first_covered, entry_index}
+use Rattle.granule_addr.specs.Root.{start_table, space_of}
+use Rattle.granule_addr.specs.declared.root.Root.{Root}
 use Rattle.page_arena.specs.Word.{word_at}
-use Rattle.realm_model.specs.declared.states.Hipas.TheVariants.{Unassigned, Assigned, Table}
-use Rattle.realm_model.specs.Rows.{Row, Rows}
+use Rattle.realm_model.specs.Rows.{Row, Rows, is_assigned, is_table}
 use Rattle.rtt.specs.Word.{entry_of}
-use Rattle.rtt.specs.FiniteRows.{ipa_count, rows_by}
+use Rattle.rtt.specs.FiniteRows.{rows_by}
 
 -- the entry of a granule at an index
 abbrev pub Entries : Type 0
@@ -15,44 +16,40 @@ Entries = ℕ → ℕ → Row
 unfoldable pub entries_of : List (List ℕ) → Entries
 entries_of pages granule index = entry_of (word_at pages granule index)
 
--- the granule that an entry of a kind leads to
+-- the granule of the table that an entry leads to, and that of the page of data
 abbrev pub table_of : Row → Option ℕ
-table_of row = elim row.hipas [ Unassigned ↦ None | Assigned ↦ None | Table ↦ row.granule ]
+table_of row = if is_table row then row.granule else None
 
 abbrev pub data_of : Row → Option ℕ
-data_of row = elim row.hipas [ Unassigned ↦ None | Assigned ↦ row.granule | Table ↦ None ]
+data_of row = if is_assigned row then row.granule else None
 
-abbrev pub in_table : {A : Type 0} → (ℕ → Option A) → Option ℕ → Option A
-in_table look None = None
-in_table look (Some table) = look table
-
--- The table of a level that serves an IPA granule: that of level 1 is the root, and any other is what the entry above it
--- leads to.
-unfoldable pub table_at : Entries → ℕ → ℕ → ℕ → Option ℕ
+-- The table of a level that serves an IPA granule: that of level 1 is a starting table, and any other is what the entry
+-- above it leads to.
+unfoldable pub table_at : Entries → Root → ℕ → ℕ → Option ℕ
 table_at entries root zero ipa = None
-table_at entries root (suc zero) ipa = Some root
+table_at entries root (suc zero) ipa = Some (start_table root ipa)
 table_at entries root (suc (suc level)) ipa =
-    in_table (λ table. table_of (entries table (entry_index (suc level) ipa))) (table_at entries root (suc level) ipa)
+    option_and_then (λ table. table_of (entries table (entry_index (suc level) ipa))) (table_at entries root (suc level) ipa)
 
 -- the entry of that table for the IPA granule
-abbrev pub entry_at : Entries → ℕ → ℕ → ℕ → Option Row
-entry_at entries root level ipa = in_table (λ table. Some (entries table (entry_index level ipa))) (table_at entries root level ipa)
+abbrev pub entry_at : Entries → Root → ℕ → ℕ → Option Row
+entry_at entries root level ipa = option_and_then (λ table. Some (entries table (entry_index level ipa))) (table_at entries root level ipa)
 
 -- the page of data that it leads to
-abbrev pub data_at : Entries → ℕ → ℕ → ℕ → Option ℕ
-data_at entries root level ipa = in_table (λ table. data_of (entries table (entry_index level ipa))) (table_at entries root level ipa)
+abbrev pub data_at : Entries → Root → ℕ → ℕ → Option ℕ
+data_at entries root level ipa = option_and_then (λ table. data_of (entries table (entry_index level ipa))) (table_at entries root level ipa)
 
--- a row of a level can begin at the IPA granule
-unfoldable pub is_place : ℕ → ℕ → Bool
-is_place level ipa = nat_le 1 level && nat_le level 3 && nat_lt ipa ipa_count && first_covered level ipa == ipa
+-- a row of a level can begin at the IPA granule, in an address space of that width
+unfoldable pub is_place : ℕ → ℕ → ℕ → Bool
+is_place width level ipa = nat_le 1 level && nat_le level 3 && nat_lt ipa (space_of width) && first_covered level ipa == ipa
 
 -- the row at a place
-unfoldable pub row_in : Entries → ℕ → ℕ → ℕ → Option Row
-row_in entries root level ipa = cond (is_place level ipa) (entry_at entries root level ipa) None
+unfoldable pub row_in : Entries → Root → ℕ → ℕ → Option Row
+row_in entries root level ipa = cond (is_place root.width level ipa) (entry_at entries root level ipa) None
 
-unfoldable pub rows_in : Entries → ℕ → Rows
-rows_in entries root = rows_by (row_in entries root)
+unfoldable pub rows_in : Entries → Root → Rows
+rows_in entries root = rows_by (space_of root.width) (row_in entries root)
 
--- A realm's rows: what its tables say, from the root on, in the words of pages.
-unfoldable pub rows : List (List ℕ) → ℕ → Rows
+-- A realm's rows: what its tables say, from the starting tables on, in the words of pages.
+unfoldable pub rows : List (List ℕ) → Root → Rows
 rows pages root = rows_in (entries_of pages) root

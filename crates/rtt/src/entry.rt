@@ -15,7 +15,7 @@ pub struct Entry {
     pub hipas: Hipas,
     pub ripas: Ripas,
     /// The granule that the entry leads to.
-    pub pa: Option<Gran>,
+    pub granule: Option<Gran>,
 }
 
 impl Model for Entry {
@@ -27,11 +27,11 @@ impl Model for Entry {
 
     ghost coded = { row_code };
 
-    ghost view = { λ e. record { hipas = e.hipas; ripas = e.ripas; granule = e.pa } };
+    ghost view = { λ e. record { hipas = e.hipas; ripas = e.ripas; granule = e.granule } };
 
-    ghost invariant = { λ e. IsSaid e.hipas e.ripas e.pa };
+    ghost invariant = { λ e. IsSaid e.hipas e.ripas e.granule };
 
-    ghost inverse = { λ row. record { hipas = row.hipas; ripas = row.ripas; pa = row.granule } };
+    ghost inverse = { λ row. record { hipas = row.hipas; ripas = row.ripas; granule = row.granule } };
 }
 
 impl Entry {
@@ -42,7 +42,7 @@ impl Entry {
         Entry {
             hipas: Hipas::Unassigned,
             ripas,
-            pa: None,
+            granule: None,
         }
     }
 
@@ -53,7 +53,7 @@ impl Entry {
         Entry {
             hipas: Hipas::Assigned,
             ripas,
-            pa: Some(page),
+            granule: Some(page),
         }
     }
 
@@ -64,7 +64,7 @@ impl Entry {
         Entry {
             hipas: Hipas::Table,
             ripas: Ripas::Empty,
-            pa: Some(table),
+            granule: Some(table),
         }
     }
 
@@ -91,7 +91,7 @@ impl Entry {
         ensures { result ≡ table_of self }
     {
         match self.hipas {
-            Hipas::Table => self.pa,
+            Hipas::Table => self.granule,
             _ => None,
         }
     }
@@ -101,7 +101,7 @@ impl Entry {
         ensures { result ≡ data_of self }
     {
         match self.hipas {
-            Hipas::Assigned => self.pa,
+            Hipas::Assigned => self.granule,
             _ => None,
         }
     }
@@ -120,7 +120,7 @@ impl Entry {
             Ripas::Ram => 1,
             Ripas::Destroyed => 2,
         };
-        let address = match self.pa {
+        let address = match self.granule {
             Some(granule) => granule.number() as u64 * 4096,
             None => 0,
         };

@@ -1,5 +1,6 @@
 //! Laws of tables, over the pages of a machine and the states of its granules.
 ghost use Rattle.std.specs.Prelude.{◌≡◌, ℕ, List, Some};
+ghost use Rattle.granule_addr.specs.declared.root.Root.{Root};
 ghost use Rattle.granule_table.specs.declared.granule.Granule.{Granule};
 ghost use Rattle.realm_model.specs.Rows.{Row, row_at};
 ghost use Rattle.rtt.specs.Word.{IsEntry};
@@ -9,17 +10,17 @@ ghost use Rattle.rtt.specs.RowWords.{AreRowWords};
 
 /// The page of a table has the words of the table's rows. RMM 1.0, RTT entry.
 pub fn tables_are_words()
-    ensures { (pages : List (List ℕ)) (granules : List Granule) (rd root : ℕ) → HasTables pages granules rd root → AreRowWords pages root }
+    ensures { (pages : List (List ℕ)) (granules : List Granule) (rd : ℕ) (root : Root) → HasTables pages granules rd root → AreRowWords pages root }
 {}
 
 /// A row is an entry: UNASSIGNED ones lead to nothing, others to a granule, and TABLE ones have no RIPAS.
 pub fn rows_are_entries()
-    ensures { (pages : List (List ℕ)) (root level ipa : ℕ) (row : Row) → row_at (rows pages root) level ipa ≡ Some row → IsEntry row }
+    ensures { (pages : List (List ℕ)) (root : Root) (level ipa : ℕ) (row : Row) → row_at (rows pages root) level ipa ≡ Some row → IsEntry row }
 {}
 
 /// Where a realm's tables and pages of data are left alone, it has the same rows and its tables still.
 pub fn tables_left_alone_stay()
-    ensures { (rd root : ℕ) (pages : List (List ℕ)) (granules : List Granule) (new_pages : List (List ℕ)) (new_granules : List Granule)
+    ensures { (rd : ℕ) (root : Root) (pages : List (List ℕ)) (granules : List Granule) (new_pages : List (List ℕ)) (new_granules : List Granule)
         → HasTables pages granules rd root → LeavesAlone rd pages granules new_pages new_granules
         → (rows new_pages root ≡ rows pages root) × HasTables new_pages new_granules rd root }
 {}

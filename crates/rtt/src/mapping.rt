@@ -1,13 +1,15 @@
 //! Pages of data, and RIPAS.
-ghost use Rattle.std.specs.Prelude.{◌≡◌, ℕ, ◌+◌, ◌-◌, ◌/◌, ◌≤◌, Some, None, OnOk, OnErr};
+ghost use Rattle.std.specs.Prelude.{◌≡◌, ℕ, ◌+◌, ◌-◌, ◌/◌, ◌<◌, ◌≤◌, Some, None, OnOk, OnErr};
 ghost use Rattle.granule_table.specs.Granules.{IsIn};
 ghost use Rattle.granule_addr.specs.Page.{zero_page};
+ghost use Rattle.granule_addr.specs.Root.{space_of};
 ghost use Rattle.page_arena.specs.Page.{page_at};
-ghost use Rattle.realm_model.specs.Rows.{assigned, put_row, with_ram, unmapped_ripas};
+ghost use Rattle.realm_model.specs.Rows.{with_ram, unmapped_ripas};
 ghost use Rattle.rtt.specs.Tables.{rows};
-ghost use Rattle.rtt.specs.Realm.{IsBacked, HasTables, LeavesOthers};
-ghost use Rattle.rtt.specs.Refusal.{IsRefused};
-ghost use Rattle.rtt.specs.Calls.{with_state, LeadsTo, ChangesTablesOnly, ChangesTablesAnd, LosesPage, map_refusal, unmap_refusal, ripas_refusal};
+ghost use Rattle.rtt.specs.Realm.{IsBacked, HasTables};
+ghost use Rattle.rtt.specs.Found.{with_free_page, with_mapped_page, with_free_pages};
+ghost use Rattle.rtt.specs.Answer.{Answers};
+ghost use Rattle.rtt.specs.Calls.{with_state, LeadsTo, ChangesTablesOnly, ChangesTablesAnd, GainsPage, LosesPage, Keeps};
 
 use crate::pages::{all_unassigned, fill_entries, write};
 use crate::tables::{Place, find};
@@ -18,9 +20,10 @@ use page_arena::PageStore;
 use realm_model::{GranuleState, Ripas};
 
 impl Tables {
-    /// Maps a DELEGATED granule at an IPA granule, as a page of data. Its bytes stay, and the entry gets `ripas`.
+    /// Maps a DELEGATED granule at an IPA granule, as a page of data. Its bytes stay. The entry gets that RIPAS, or keeps
+    /// its own where none is given.
     ///
-    /// RMM 1.0, RMI_DATA_CREATE, where that is RAM, and RMI_DATA_CREATE_UNKNOWN, where it is what the entry had.
+    /// RMM 1.0, RMI_DATA_CREATE, where it is RAM, and RMI_DATA_CREATE_UNKNOWN, where none is given.
     /// RMI_ERROR_RTT comes with the level where the walk ended, unless that is 3 and the entry there is UNASSIGNED. A
     /// refusal changes nothing.
     pub fn map<S: PageStore>(
@@ -29,23 +32,23 @@ impl Tables {
         granules: &mut GranuleTable,
         page: Gran,
         ipa: IpaGran,
-        ripas: Ripas,
+        ripas: Option<Ripas>,
     ) -> Result<(), Rtt>
         requires backed { IsBacked (S.page_bytes store.old) (S.free_flags store.old) granules.old }
         requires tables { HasTables (S.page_bytes store.old) granules.old self.now.rd self.now.root }
+        requires inside { ipa < space_of self.now.root.width }
         requires delegated { IsIn granules.old page GranuleState.Delegated None }
-        ensures answer { IsRefused result (map_refusal (rows (S.page_bytes store.old) self.now.root) ipa) }
-        ensures rows { OnOk result (rows (S.page_bytes store.new) self.now.root
-            ≡ put_row (rows (S.page_bytes store.old) self.now.root) 3 ipa (assigned ripas page)) }
+        ensures answer { Answers result (with_free_page (rows (S.page_bytes store.old) self.now.root) ipa) }
+        ensures rows { OnOk result (GainsPage (rows (S.page_bytes store.old) self.now.root) ipa page ripas
+            (rows (S.page_bytes store.new) self.now.root)) }
         ensures moved { OnOk result
             (granules.new ≡ with_state granules.old page GranuleState.Data (Some self.now.rd)) }
         ensures unchanged { OnErr result
             ((S.page_bytes store.new ≡ S.page_bytes store.old) × (granules.new ≡ granules.old)) }
-        ensures tables { HasTables (S.page_bytes store.new) granules.new self.now.rd self.now.root }
-        ensures backed { IsBacked (S.page_bytes store.new) (S.free_flags store.new) granules.new }
-        ensures flags { S.free_flags store.new ≡ S.free_flags store.old }
         ensures others { ChangesTablesOnly self.now.root (S.page_bytes store.old) (S.page_bytes store.new) }
-        ensures other_realms { LeavesOthers self.now.rd (S.page_bytes store.old) granules.old (S.page_bytes store.new) granules.new }
+        ensures keeps { Keeps self.now.rd self.now.root
+            (S.page_bytes store.old) (S.free_flags store.old) granules.old
+            (S.page_bytes store.new) (S.free_flags store.new) granules.new }
     {
         let realm = Some(self.rd);
         let Place {
@@ -56,6 +59,7 @@ impl Tables {
         if level.number() != 3 || !entry.is_unassigned() {
             return Err(Rtt { level });
         }
+        let ripas = ripas.unwrap_or(entry.ripas);
         write(
             store,
             table,
@@ -78,7 +82,8 @@ impl Tables {
     ) -> Result<(), Rtt>
         requires backed { IsBacked (S.page_bytes store.old) (S.free_flags store.old) granules.old }
         requires tables { HasTables (S.page_bytes store.old) granules.old self.now.rd self.now.root }
-        ensures answer { IsRefused result (unmap_refusal (rows (S.page_bytes store.old) self.now.root) ipa) }
+        requires inside { ipa < space_of self.now.root.width }
+        ensures answer { Answers result (with_mapped_page (rows (S.page_bytes store.old) self.now.root) ipa) }
         ensures rows { OnOk result
             (LosesPage (rows (S.page_bytes store.old) self.now.root) ipa (rows (S.page_bytes store.new) self.now.root)) }
         ensures moved { OnOk result
@@ -89,12 +94,11 @@ impl Tables {
             → page_at (S.page_bytes store.new) page ≡ zero_page) }
         ensures unchanged { OnErr result
             ((S.page_bytes store.new ≡ S.page_bytes store.old) × (granules.new ≡ granules.old)) }
-        ensures tables { HasTables (S.page_bytes store.new) granules.new self.now.rd self.now.root }
-        ensures backed { IsBacked (S.page_bytes store.new) (S.free_flags store.new) granules.new }
-        ensures flags { S.free_flags store.new ≡ S.free_flags store.old }
         ensures others { ChangesTablesAnd (LeadsTo (rows (S.page_bytes store.old) self.now.root) 3 ipa)
             self.now.root (S.page_bytes store.old) (S.page_bytes store.new) }
-        ensures other_realms { LeavesOthers self.now.rd (S.page_bytes store.old) granules.old (S.page_bytes store.new) granules.new }
+        ensures keeps { Keeps self.now.rd self.now.root
+            (S.page_bytes store.old) (S.free_flags store.old) granules.old
+            (S.page_bytes store.new) (S.free_flags store.new) granules.new }
     {
         let Place {
             table,
@@ -127,18 +131,18 @@ impl Tables {
     ) -> Result<(), Rtt>
         requires backed { IsBacked (S.page_bytes store.old) (S.free_flags store.old) granules.now }
         requires tables { HasTables (S.page_bytes store.old) granules.now self.now.rd self.now.root }
+        requires inside { ipa < space_of self.now.root.width }
         requires some { 1 ≤ count }
         requires few { count ≤ 512 }
         requires one_table { ipa / 512 ≡ (ipa + count - 1) / 512 }
-        ensures answer { IsRefused result (ripas_refusal (rows (S.page_bytes store.old) self.now.root) ipa count) }
+        ensures answer { Answers result (with_free_pages (rows (S.page_bytes store.old) self.now.root) ipa count) }
         ensures rows { OnOk result (rows (S.page_bytes store.new) self.now.root
             ≡ with_ram (rows (S.page_bytes store.old) self.now.root) ipa count) }
         ensures unchanged { OnErr result (S.page_bytes store.new ≡ S.page_bytes store.old) }
-        ensures tables { HasTables (S.page_bytes store.new) granules.now self.now.rd self.now.root }
-        ensures backed { IsBacked (S.page_bytes store.new) (S.free_flags store.new) granules.now }
-        ensures flags { S.free_flags store.new ≡ S.free_flags store.old }
         ensures others { ChangesTablesOnly self.now.root (S.page_bytes store.old) (S.page_bytes store.new) }
-        ensures other_realms { LeavesOthers self.now.rd (S.page_bytes store.old) granules.now (S.page_bytes store.new) granules.now }
+        ensures keeps { Keeps self.now.rd self.now.root
+            (S.page_bytes store.old) (S.free_flags store.old) granules.now
+            (S.page_bytes store.new) (S.free_flags store.new) granules.now }
     {
         let place = find(*self, store, granules, ipa, Level::last());
         if place.level.number() != 3 {

@@ -1,5 +1,9 @@
 //! Why a call on tables is refused.
+ghost use Rattle.std.specs.Prelude.{◌≡◌};
+ghost use Rattle.realm_model.specs.Command.Check.{error_rtt};
+
 use granule_addr::Level;
+use realm_model::{Rmi, Status};
 use thiserror::Error;
 
 /// A refusal: the level of the table whose entry is not what the call needs. RMM 1.0, RMI_ERROR_RTT.
@@ -7,4 +11,16 @@ use thiserror::Error;
 #[error("the entry at level {} is not what is needed", .level.number())]
 pub struct Rtt {
     pub level: Level,
+}
+
+/// The refusal as the monitor answers it.
+impl From<Rtt> for Rmi {
+    ghost from_gives = { λ refusal rmi. rmi ≡ error_rtt refusal.level };
+
+    fn from(refusal: Rtt) -> Rmi {
+        Rmi {
+            status: Status::Rtt,
+            index: refusal.level.number(),
+        }
+    }
 }

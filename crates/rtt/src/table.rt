@@ -1,13 +1,15 @@
 //! Tables below the root.
-ghost use Rattle.std.specs.Prelude.{◌≡◌, ℕ, ◌-◌, true, Some, None, OnOk, OnErr};
+ghost use Rattle.std.specs.Prelude.{◌≡◌, ℕ, ◌-◌, ◌<◌, true, Some, None, OnOk, OnErr};
 ghost use Rattle.granule_table.specs.Granules.{IsIn};
 ghost use Rattle.granule_addr.specs.Page.{zero_page};
+ghost use Rattle.granule_addr.specs.Root.{space_of};
 ghost use Rattle.page_arena.specs.Page.{page_at};
 ghost use Rattle.realm_model.specs.Rows.{is_table_place, without_table};
 ghost use Rattle.rtt.specs.Tables.{rows};
-ghost use Rattle.rtt.specs.Realm.{IsBacked, HasTables, LeavesOthers};
-ghost use Rattle.rtt.specs.Refusal.{IsRefused};
-ghost use Rattle.rtt.specs.Calls.{with_state, LeadsTo, ChangesTablesOnly, ChangesTablesAnd, GainsTable, create_refusal, destroy_refusal};
+ghost use Rattle.rtt.specs.Realm.{IsBacked, HasTables};
+ghost use Rattle.rtt.specs.Found.{with_room_for_table, with_unused_table};
+ghost use Rattle.rtt.specs.Answer.{Answers};
+ghost use Rattle.rtt.specs.Calls.{with_state, LeadsTo, ChangesTablesOnly, ChangesTablesAnd, GainsTable, Keeps};
 
 use crate::pages::{all_unassigned, fill_entries, write};
 use crate::tables::{Place, find};
@@ -33,20 +35,20 @@ impl Tables {
     ) -> Result<(), Rtt>
         requires backed { IsBacked (S.page_bytes store.old) (S.free_flags store.old) granules.old }
         requires tables { HasTables (S.page_bytes store.old) granules.old self.now.rd self.now.root }
+        requires inside { ipa < space_of self.now.root.width }
         requires delegated { IsIn granules.old table GranuleState.Delegated None }
         requires place { is_table_place ipa level ≡ true }
-        ensures answer { IsRefused result (create_refusal (rows (S.page_bytes store.old) self.now.root) ipa level) }
+        ensures answer { Answers result (with_room_for_table (rows (S.page_bytes store.old) self.now.root) ipa level) }
         ensures rows { OnOk result (GainsTable (rows (S.page_bytes store.old) self.now.root) level ipa table
             (rows (S.page_bytes store.new) self.now.root)) }
         ensures moved { OnOk result
             (granules.new ≡ with_state granules.old table GranuleState.Rtt (Some self.now.rd)) }
         ensures unchanged { OnErr result
             ((S.page_bytes store.new ≡ S.page_bytes store.old) × (granules.new ≡ granules.old)) }
-        ensures tables { HasTables (S.page_bytes store.new) granules.new self.now.rd self.now.root }
-        ensures backed { IsBacked (S.page_bytes store.new) (S.free_flags store.new) granules.new }
-        ensures flags { S.free_flags store.new ≡ S.free_flags store.old }
         ensures others { ChangesTablesAnd (λ granule. granule ≡ table) self.now.root (S.page_bytes store.old) (S.page_bytes store.new) }
-        ensures other_realms { LeavesOthers self.now.rd (S.page_bytes store.old) granules.old (S.page_bytes store.new) granules.new }
+        ensures keeps { Keeps self.now.rd self.now.root
+            (S.page_bytes store.old) (S.free_flags store.old) granules.old
+            (S.page_bytes store.new) (S.free_flags store.new) granules.new }
     {
         let realm = Some(self.rd);
         let wanted = level.above();
@@ -79,8 +81,9 @@ impl Tables {
     ) -> Result<(), Rtt>
         requires backed { IsBacked (S.page_bytes store.old) (S.free_flags store.old) granules.old }
         requires tables { HasTables (S.page_bytes store.old) granules.old self.now.rd self.now.root }
+        requires inside { ipa < space_of self.now.root.width }
         requires place { is_table_place ipa level ≡ true }
-        ensures answer { IsRefused result (destroy_refusal (rows (S.page_bytes store.old) self.now.root) ipa level) }
+        ensures answer { Answers result (with_unused_table (rows (S.page_bytes store.old) self.now.root) ipa level) }
         ensures rows { OnOk result (rows (S.page_bytes store.new) self.now.root
             ≡ without_table (rows (S.page_bytes store.old) self.now.root) level ipa) }
         ensures moved { OnOk result
@@ -91,11 +94,10 @@ impl Tables {
             → page_at (S.page_bytes store.new) table ≡ zero_page) }
         ensures unchanged { OnErr result
             ((S.page_bytes store.new ≡ S.page_bytes store.old) × (granules.new ≡ granules.old)) }
-        ensures tables { HasTables (S.page_bytes store.new) granules.new self.now.rd self.now.root }
-        ensures backed { IsBacked (S.page_bytes store.new) (S.free_flags store.new) granules.new }
-        ensures flags { S.free_flags store.new ≡ S.free_flags store.old }
         ensures others { ChangesTablesOnly self.now.root (S.page_bytes store.old) (S.page_bytes store.new) }
-        ensures other_realms { LeavesOthers self.now.rd (S.page_bytes store.old) granules.old (S.page_bytes store.new) granules.new }
+        ensures keeps { Keeps self.now.rd self.now.root
+            (S.page_bytes store.old) (S.free_flags store.old) granules.old
+            (S.page_bytes store.new) (S.free_flags store.new) granules.new }
     {
         let wanted = level.above();
         let Place {

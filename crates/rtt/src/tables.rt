@@ -1,25 +1,27 @@
 //! The tables of a realm, and walks.
 ghost use Rattle.std.specs.Prelude.{◌≡◌, ℕ, ◌<◌, ◌≤◌, length, Some};
 ghost use Rattle.granule_addr.specs.Ipa.{entry_index};
+ghost use Rattle.granule_addr.specs.Root.{space_of};
 ghost use Rattle.granule_table.specs.Granules.{IsIn};
 ghost use Rattle.realm_model.specs.declared.states.GranuleState.{GranuleState};
 ghost use Rattle.realm_model.specs.Rows.{walk};
 ghost use Rattle.rtt.specs.Tables.{entries_of, table_of, data_of, table_at, rows};
-ghost use Rattle.rtt.specs.Realm.{IsBacked, IsInside, HasTables};
+ghost use Rattle.rtt.specs.Realm.{IsInside, HasTables};
 
 use crate::pages::read;
+use crate::root::starting_table;
 use crate::{Entry, Walk};
-use granule_addr::{Gran, IpaGran, Level, index_at};
+use granule_addr::{Gran, IpaGran, Level, Root, index_at, start_table};
 use granule_table::GranuleTable;
 use page_arena::PageStore;
 
-/// The tables of a realm: its RD, and its root table. Nothing is kept beside their pages.
+/// The tables of a realm: its RD, and where its translation starts. Nothing is kept beside their pages.
 #[derive(Clone, Copy, Debug, PartialEq, Eq)]
 pub struct Tables {
     /// The granule of the realm's RD.
     pub rd: Gran,
-    /// The granule of the table of level 1.
-    pub root: Gran,
+    /// The starting tables, those of level 1.
+    pub root: Root,
 }
 
 // Where a walk ends, and in which table.
@@ -39,8 +41,9 @@ impl Tables {
         ipa: IpaGran,
         to: Level,
     ) -> Walk
-        requires backed { IsBacked (S.page_bytes store.now) (S.free_flags store.now) granules.now }
+        requires as_many { length granules.now ≡ length (S.page_bytes store.now) }
         requires tables { HasTables (S.page_bytes store.now) granules.now self.now.rd self.now.root }
+        requires inside { ipa < space_of self.now.root.width }
         ensures walk { walk (rows (S.page_bytes store.now) self.now.root) ipa to ≡ Some result }
         ensures page { (page : ℕ) → data_of result.row ≡ Some page
             → IsIn granules.now page GranuleState.Data (Some self.now.rd) }
@@ -61,8 +64,9 @@ pub fn find<S: PageStore>(
     ipa: IpaGran,
     to: Level,
 ) -> Place
-    requires backed { IsBacked (S.page_bytes store.now) (S.free_flags store.now) granules.now }
+    requires as_many { length granules.now ≡ length (S.page_bytes store.now) }
     requires tables { HasTables (S.page_bytes store.now) granules.now tables.rd tables.root }
+    requires inside { ipa < space_of tables.root.width }
     ensures walk { walk (rows (S.page_bytes store.now) tables.root) ipa to
         ≡ Some (record { level = result.level; row = result.entry }) }
     ensures table { table_at (entries_of (S.page_bytes store.now)) tables.root result.level ipa
@@ -74,13 +78,12 @@ pub fn find<S: PageStore>(
         → IsIn granules.now child GranuleState.Rtt (Some tables.rd) }
     ensures page { (page : ℕ) → data_of result.entry ≡ Some page
         → IsIn granules.now page GranuleState.Data (Some tables.rd) }
-    ensures inside { IsInside result.level ipa }
+    ensures inside { IsInside tables.root.width result.level ipa }
     ensures level { result.level ≤ to }
     ensures to { to ≤ 3 }
 {
-    let _below = ipa.number();
     let last = to.number();
-    let mut table = tables.root;
+    let mut table = starting_table(tables.root, start_table(ipa));
     let mut level = Level::start();
     let mut entry = read(store, table, index_at(ipa, level));
     'levels: while level.number() < last {

@@ -1,6 +1,6 @@
 use granule_addr::{
-    BuildId, Gran, IpaGran, Level, Order, PageOff, Vmid, align_down, buddy_of, index_at,
-    is_protected,
+    BuildId, Gran, IpaGran, IpaWidth, Level, Order, PageOff, Vmid, align_down, buddy_of, index_at,
+    is_protected, start_table,
 };
 use realm_model::{Ripas, Rmi, Status};
 use rtt::Entry;
@@ -22,6 +22,10 @@ fn ends_of_levels_and_addresses(rt: HostRuntime) {
     assert!(rt; Level::new(3).is_some() && Level::new(4).is_none());
     assert!(rt; IpaGran::new(134_217_727, 39).is_some());
     assert!(rt; IpaGran::new(134_217_728, 39).is_none());
+    assert!(rt; IpaGran::new(2_147_483_647, 43).is_some());
+    assert!(rt; IpaGran::new(2_147_483_648, 43).is_none());
+    assert!(rt; IpaGran::new(0, 38).is_none() && IpaGran::new(0, 44).is_none());
+    assert!(rt; IpaWidth::new(38).is_none() && IpaWidth::new(44).is_none());
 }
 
 #[test]
@@ -38,25 +42,53 @@ fn blocks(rt: HostRuntime) {
 #[test]
 fn entries(rt: HostRuntime) {
     let ipa = IpaGran::new(788_999, 39);
-    for (number, index, first) in [(1, 3, 786_432), (2, 5, 788_992), (3, 7, 788_999)] {
+    for (number, index) in [(1, 3), (2, 5), (3, 7)] {
         let level = Level::new(number);
         let (Some(ipa), Some(level)) = (ipa, level) else {
             assert!(rt; false);
             return;
         };
         assert_eq!(rt; index_at(ipa, level), index, "of level {number}");
-        assert_eq!(rt; ipa.first_at(level).number(), first, "of level {number}");
     }
 }
 
+// Of each width: how many starting tables there are, and the first IPA granule that is not protected.
 #[test]
-fn protected_addresses(rt: HostRuntime) {
-    for (number, want) in [(67_108_863, true), (67_108_864, false)] {
-        let Some(ipa) = IpaGran::new(number, 39) else {
-            assert!(rt; false);
+fn widths(rt: HostRuntime) {
+    for (number, tables, unprotected) in [
+        (39, 1, 67_108_864),
+        (40, 2, 134_217_728),
+        (41, 4, 268_435_456),
+        (42, 8, 536_870_912),
+        (43, 16, 1_073_741_824),
+    ] {
+        let Some(width) = IpaWidth::new(number) else {
+            assert!(rt; false, "width {number}");
             return;
         };
-        assert_eq!(rt; is_protected(ipa, 39), want, "{number}");
+        assert_eq!(rt; width.start_count(), tables);
+        let ipa = IpaGran::new(unprotected, number);
+        let before = IpaGran::new(unprotected - 1, number);
+        assert_eq!(rt; ipa.map(|ipa| is_protected(ipa, width)), Some(false));
+        assert_eq!(rt; before.map(|ipa| is_protected(ipa, width)), Some(true));
+    }
+}
+
+// The second starting table begins at IPA granule 2^27, which its entry 0 covers.
+#[test]
+fn starting_tables(rt: HostRuntime) {
+    for (number, table, entry) in [
+        (134_217_727, 0, 511),
+        (134_217_728, 1, 0),
+        (268_435_455, 1, 511),
+        (2_147_483_647, 15, 511),
+    ] {
+        let Some(ipa) = IpaGran::new(number, 43) else {
+            assert!(rt; false, "{number}");
+            return;
+        };
+        assert_eq!(rt; start_table(ipa), table, "of {number}");
+        assert_eq!(rt; index_at(ipa, Level::start()), entry, "of {number}");
     }
 }
 

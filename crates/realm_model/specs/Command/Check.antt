@@ -53,9 +53,9 @@ is_new realm = elim realm.state [ New ↦ true | Active ↦ false ]
 abbrev pub is_ready : RecRow → Bool
 is_ready rec = elim rec.state [ Ready ↦ true | Running ↦ false ]
 
--- an IPA granule of the protected half, of a realm whose IPAs have 39 bits
-abbrev pub is_protected : ℕ → Bool
-is_protected ipa = is_protected_at ipa 39
+-- an IPA granule of the protected half of the realm's address space
+abbrev pub is_protected : RealmRow → ℕ → Bool
+is_protected realm ipa = is_protected_at ipa realm.root.width
 
 -- ---- what is looked up
 
@@ -67,7 +67,7 @@ with_realm rd f = elim rd.cell.descriptor [ Some realm ↦ f realm | None ↦ Er
 unfoldable pub with_rec : RealmRow → ℕ → (RecRow → Outcome) → Outcome
 with_rec realm number f = elim (get realm.recs number) [ Some rec ↦ f rec | None ↦ Err error_input ]
 
--- where a walk towards a level ends
+-- Where a walk towards a level ends. That it ends nowhere never comes: in every world that a history leads to, it ends at a row.
 unfoldable pub with_end : Rows → ℕ → ℕ → (Walk → Outcome) → Outcome
 with_end rows ipa level f = elim (walk rows ipa level) [ Some end ↦ f end | None ↦ Err (error_rtt 0) ]
 
@@ -75,7 +75,7 @@ with_end rows ipa level f = elim (walk rows ipa level) [ Some end ↦ f end | No
 abbrev pub with_row : Rows → ℕ → ℕ → (Row → Outcome) → Outcome
 with_row rows ipa level f = with_end rows ipa level (λ end. check (end.level == level) (error_rtt end.level) (f end.row))
 
--- the granule that a row leads to
+-- The granule that a row leads to. That one which is ASSIGNED or TABLE has none never comes in such a world.
 unfoldable pub with_granule : Row → (ℕ → Outcome) → Outcome
 with_granule row f = elim row.granule [ Some granule ↦ f granule | None ↦ Err error_input ]
 

@@ -12,7 +12,7 @@ use Rattle.realm_model.specs.Command.Check.{check, error_input, error_realm, err
 abbrev pub data_create : Seen → Seen → ℕ → Seen → Outcome
 data_create rd g ipa source =
     with_realm rd (λ realm.
-    check (is_delegated g && is_undelegated source && is_protected ipa) error_input
+    check (is_delegated g && is_undelegated source && is_protected realm ipa) error_input
     (check (is_new realm) error_realm
     (with_row realm.rows ipa 3 (λ row.
     check (is_unassigned row) (error_rtt 3)
@@ -26,7 +26,7 @@ data_create rd g ipa source =
 abbrev pub data_create_unknown : Seen → Seen → ℕ → Outcome
 data_create_unknown rd g ipa =
     with_realm rd (λ realm.
-    check (is_delegated g && is_protected ipa) error_input
+    check (is_delegated g && is_protected realm ipa) error_input
     (with_row realm.rows ipa 3 (λ row.
     check (is_unassigned row) (error_rtt 3)
     (Ok (Put g.number (held Data rd.number)
@@ -36,7 +36,7 @@ data_create_unknown rd g ipa =
 abbrev pub data_destroy : Seen → ℕ → Outcome
 data_destroy rd ipa =
     with_realm rd (λ realm.
-    check (is_protected ipa) error_input
+    check (is_protected realm ipa) error_input
     (with_row realm.rows ipa 3 (λ row.
     check (is_assigned row) (error_rtt 3)
     (with_granule row (λ granule.

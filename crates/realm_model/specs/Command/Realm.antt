@@ -1,17 +1,21 @@
 -- Commands on realms.
-use Rattle.std.specs.Prelude.{ℕ, ◌==◌, nat_le, [], ◌∷◌, not, ◌&&◌, Some, Ok}
+use Rattle.std.specs.Prelude.{ℕ, ◌%◌, ◌==◌, nat_le, List, [], ◌∷◌, map, Bool, not, ◌&&◌, Some, Ok}
+use Rattle.std.specs.List.{list_all, list_any}
 use Rattle.std.specs.FinMap.{empty, len}
+use Rattle.granule_addr.specs.Ipa.{is_width}
+use Rattle.granule_addr.specs.Root.{start_count, starting_tables}
+use Rattle.granule_addr.specs.declared.root.Root.{Root}
 use Rattle.realm_model.specs.declared.states.GranuleState.TheVariants.{Rd, Rtt}
 use Rattle.realm_model.specs.declared.states.RealmState.TheVariants.{New, Active}
 use Rattle.realm_model.specs.Rows.{root_rows, has_root_table}
 use Rattle.realm_model.specs.Measurement.{zero_measurement}
 use Rattle.granule_addr.specs.Page.{zero_page}
-use Rattle.realm_model.specs.Machine.{Limits, RealmRow, Seen, left, held}
+use Rattle.realm_model.specs.Machine.{RealmRow, Seen, left, held}
 use Rattle.realm_model.specs.Update.{Outcome, Put}
 use Rattle.realm_model.specs.Command.Check.{check, error_input, error_realm, is_delegated, is_new, with_realm, put_realm}
 
 -- a realm that has just been made
-unfoldable pub new_realm : ℕ → ℕ → RealmRow
+unfoldable pub new_realm : ℕ → Root → RealmRow
 new_realm vmid root = record {
   state = New;
   vmid = vmid;
@@ -19,16 +23,22 @@ new_realm vmid root = record {
   next = 0;
   measurement = zero_measurement;
   recs = empty;
-  rows = root_rows;
+  rows = root_rows root.width;
 }
 
--- Two DELEGATED granules become the RD and the root table of a new realm. RMM 1.0, RMI_REALM_CREATE.
--- That no realm uses the VMID is an input check too, and stands with the step, since it looks at the whole machine.
-abbrev pub realm_create : Limits → Seen → Seen → ℕ → Outcome
-realm_create limits rd root vmid =
-    check (is_delegated rd && is_delegated root && not (rd.number == root.number) && nat_le 1 vmid && nat_le vmid limits.vmids) error_input
-    (Ok (Put rd.number (record { state = Rd; realm = Some rd.number; bytes = zero_page; descriptor = Some (new_realm vmid root.number) })
-    ∷ Put root.number (held Rtt rd.number) ∷ []))
+-- A granule can be a starting table beside that RD: it is DELEGATED, and another granule.
+abbrev pub is_start : Seen → Seen → Bool
+is_start rd table = is_delegated table && not (table.number == rd.number)
+
+-- DELEGATED granules become the RD and the starting tables of a new realm. RMM 1.0, RMI_REALM_CREATE.
+-- A realm may have that width, the first table is a multiple of their count, and the VMID is in range and none of those in use.
+abbrev pub realm_create : ℕ → List ℕ → Seen → List Seen → Root → ℕ → Outcome
+realm_create vmids used rd tables root vmid =
+    check (is_width root.width && root.first % start_count root.width == 0
+    && is_delegated rd && list_all (is_start rd) tables
+    && nat_le 1 vmid && nat_le vmid vmids && not (list_any (λ v. vmid == v) used)) error_input
+    (Ok (Put rd.number (record { state = Rd; realm = Some rd.number; bytes = zero_page; descriptor = Some (new_realm vmid root) })
+    ∷ map (λ t. Put t.number (held Rtt rd.number)) tables))
 
 -- A NEW realm becomes ACTIVE. RMM 1.0, RMI_REALM_ACTIVATE.
 abbrev pub realm_activate : Seen → Outcome
@@ -37,9 +47,10 @@ realm_activate rd =
     check (is_new realm) error_realm
     (Ok (put_realm rd (record realm { state = Active }) ∷ [])))
 
--- A realm with no REC and no table below its root is gone; its RD and root are DELEGATED. RMM 1.0, RMI_REALM_DESTROY.
+-- A realm with no REC and no table below its starting tables is gone; its RD and starting tables are DELEGATED.
+-- RMM 1.0, RMI_REALM_DESTROY.
 abbrev pub realm_destroy : Seen → Outcome
 realm_destroy rd =
     with_realm rd (λ realm.
-    check (len realm.recs == 0 && not (has_root_table realm.rows)) error_realm
-    (Ok (Put rd.number left ∷ Put realm.root left ∷ [])))
+    check (len realm.recs == 0 && not (has_root_table realm.root.width realm.rows)) error_realm
+    (Ok (Put rd.number left ∷ map (λ t. Put t left) (starting_tables realm.root))))

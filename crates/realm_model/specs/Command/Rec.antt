@@ -6,16 +6,16 @@ use Rattle.realm_model.specs.declared.states.GranuleState.TheVariants.{Rec as In
 use Rattle.realm_model.specs.declared.states.RecState.TheVariants.{Ready, Running}
 use Rattle.realm_model.specs.Rows.{is_assigned}
 use Rattle.realm_model.specs.Measurement.{measurement_after, rec_event}
-use Rattle.realm_model.specs.Machine.{Limits, Seen, left, held}
+use Rattle.realm_model.specs.Machine.{Seen, left, held}
 use Rattle.realm_model.specs.Update.{Outcome, Put, PutByte}
 use Rattle.realm_model.specs.Command.Check.{check, error_input, error_realm, error_rec, error_rtt, is_delegated, all_different, is_new, is_ready, is_protected, with_realm, with_rec, with_end, with_granule, put_realm, put_rec}
 
--- DELEGATED granules become a REC of a NEW realm and its auxiliaries. It gets the realm's next number.
+-- DELEGATED granules become a REC of a NEW realm and its auxiliaries, so many. It gets the realm's next number.
 -- RMM 1.0, RMI_REC_CREATE.
-abbrev pub rec_create : Limits → Seen → Seen → List Seen → Outcome
-rec_create limits rd g auxiliaries =
+abbrev pub rec_create : ℕ → Seen → Seen → List Seen → Outcome
+rec_create aux rd g auxiliaries =
     with_realm rd (λ realm.
-    check (list_all is_delegated (g ∷ auxiliaries) && all_different (g ∷ auxiliaries) && length auxiliaries == limits.aux) error_input
+    check (list_all is_delegated (g ∷ auxiliaries) && all_different (g ∷ auxiliaries) && length auxiliaries == aux) error_input
     (check (is_new realm) error_realm
     (Ok (Put g.number (held InRec rd.number)
     ∷ map (λ a. Put a.number (held RecAux rd.number)) auxiliaries
@@ -52,7 +52,7 @@ rec_destroy rd number =
 abbrev pub guest_write : Seen → ℕ → ℕ → ℕ → ℕ → Outcome
 guest_write rd number ipa offset value =
     with_realm rd (λ realm. with_rec realm number (λ rec.
-    check (is_protected ipa) error_input
+    check (is_protected realm ipa) error_input
     (check (not (is_ready rec)) error_rec
     (with_end realm.rows ipa 3 (λ end.
     check (is_assigned end.row) (error_rtt end.level)

@@ -11,7 +11,7 @@ use Rattle.realm_model.specs.Command.Check.{check, error_input, error_realm, err
 abbrev pub rtt_create : Seen → Seen → ℕ → ℕ → Outcome
 rtt_create rd g ipa level =
     with_realm rd (λ realm.
-    check (is_delegated g && is_table_place ipa level && is_protected ipa) error_input
+    check (is_delegated g && is_table_place ipa level && is_protected realm ipa) error_input
     (with_row realm.rows ipa (level - 1) (λ above.
     check (not (is_table above)) (error_rtt (level - 1))
     (Ok (Put g.number (held Rtt rd.number)
@@ -21,7 +21,7 @@ rtt_create rd g ipa level =
 abbrev pub rtt_destroy : Seen → ℕ → ℕ → Outcome
 rtt_destroy rd ipa level =
     with_realm rd (λ realm.
-    check (is_table_place ipa level && is_protected ipa) error_input
+    check (is_table_place ipa level && is_protected realm ipa) error_input
     (with_row realm.rows ipa (level - 1) (λ above.
     check (is_table above) (error_rtt (level - 1))
     (check (is_table_unused realm.rows level ipa) (error_rtt level)
@@ -33,7 +33,7 @@ rtt_destroy rd ipa level =
 abbrev pub rtt_init_ripas : Seen → ℕ → ℕ → Outcome
 rtt_init_ripas rd ipa count =
     with_realm rd (λ realm.
-    check (nat_le 1 count && nat_le count 512 && ipa / 512 == (ipa + count - 1) / 512 && is_protected ipa) error_input
+    check (nat_le 1 count && nat_le count 512 && ipa / 512 == (ipa + count - 1) / 512 && is_protected realm ipa) error_input
     (check (is_new realm) error_realm
     (with_row realm.rows ipa 3 (λ row.
     check (all_rows is_unassigned realm.rows 3 ipa count) (error_rtt 3)

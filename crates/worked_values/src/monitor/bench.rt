@@ -84,8 +84,8 @@ impl Bench {
         Ok(Bench { monitor })
     }
 
-    // Delegates the granules below that number.
-    fn delegate_below(&mut self, rt: &impl Abort, end: u16) {
+    /// Delegates the granules below that number.
+    pub fn delegate_below(&mut self, rt: &impl Abort, end: u16) {
         for number in 0..end {
             equal(rt, "delegate", self.delegate(number), 0);
         }
@@ -137,11 +137,17 @@ impl Bench {
     }
 
     #[tactic(auto, using(crate::proofs::Taken::all_taken_after))]
-    pub fn create(&mut self, rd: u16, root: u16, vmid: u8) -> u64 {
+    pub fn create_wide(&mut self, rd: u16, root: u16, vmid: u8, width: u8) -> u64 {
+        let (rd, root) = (granule(rd), granule(root));
         match Vmid::new(vmid) {
-            Some(vmid) => word(self.monitor.realm_create(granule(rd), granule(root), vmid)),
+            Some(vmid) => word(self.monitor.realm_create(rd, root, vmid, width)),
             None => Rmi::INPUT.word(),
         }
+    }
+
+    /// With one starting table.
+    pub fn create(&mut self, rd: u16, root: u16, vmid: u8) -> u64 {
+        self.create_wide(rd, root, vmid, 39)
     }
 
     #[tactic(auto, using(crate::proofs::Taken::all_taken_after))]

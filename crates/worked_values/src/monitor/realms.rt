@@ -29,3 +29,29 @@ fn a_realm_is_made_once_and_goes(rt: HostRuntime) -> Result<(), Fail> {
     equal(&rt, "the VMID is free again", bench.create(1, 0, 1), 0);
     Ok(())
 }
+
+// Four starting tables: the second one serves IPA granules from 2^27 on, and IPA granule 2^28 is the first unprotected one.
+#[test]
+fn wide_realms(rt: HostRuntime) -> Result<(), Fail> {
+    let mut bench = Bench::new(&rt, rt.alloc(), 0)?;
+    bench.delegate_below(&rt, 8);
+    equal(&rt, "no width", bench.create_wide(0, 1, 1, 44), 1);
+    equal(&rt, "no multiple of 4", bench.create_wide(0, 2, 1, 41), 1);
+    equal(&rt, "the RD is a starting table", bench.create_wide(4, 4, 1, 41), 1);
+    equal(&rt, "a realm", bench.create_wide(0, 4, 1, 41), 0);
+    equal(&rt, "level 2", bench.rtt_create(0, 1, 134_217_728, 2), 0);
+    equal(&rt, "level 3", bench.rtt_create(0, 2, 134_217_728, 3), 0);
+    equal(&rt, "the second table leads to level 2", bench.word(5, 0), 4098);
+    equal(&rt, "unprotected", bench.unknown(0, 3, 268_435_456), 1);
+    equal(&rt, "no level 2", bench.unknown(0, 3, 268_435_455), 260);
+    equal(&rt, "a page", bench.unknown(0, 3, 134_217_728), 0);
+    equal(&rt, "the page goes", bench.data_destroy(0, 134_217_728), 0);
+    equal(&rt, "a table is below", bench.destroy(0), 2);
+    equal(&rt, "level 3 goes", bench.rtt_destroy(0, 134_217_728, 3), 0);
+    equal(&rt, "level 2 goes", bench.rtt_destroy(0, 134_217_728, 2), 0);
+    equal(&rt, "the realm goes", bench.destroy(0), 0);
+    for number in 0..8 {
+        holds(&rt, "as before", bench.is_in(number, Delegated, 0));
+    }
+    Ok(())
+}

@@ -1,4 +1,4 @@
-use Rattle.rtt.specs.FrameLaws.{rows-alone, HasTables-alone}
+use Rattle.rtt.proofs.FrameLaws.{rows-alone, HasTables-alone}
 use Rattle.rtt.proofs.law.tables_left_alone_stay.Goals as goal
 
 pub returns : goal.returns

@@ -1,47 +1,43 @@
-use Rattle.std.proofs.Common.{ℕ, ◌<◌, set, Some, Err, refl, sym, ap, subst, ◌∙◌, None}
+use Rattle.std.proofs.Common.{◌≡◌, ◌<◌, set, Some, None, Err, refl, sym, ap, ◌∙◌, subst}
 use Rattle.std.specs.FinMap.{empty}
-use Rattle.realm_model.specs.declared.rmi.Rmi.{Rmi}
-use Rattle.realm_model.specs.Measurement.{measurement_after}
-use Rattle.realm_model.specs.Command.Check.{error_input, error_realm, is_protected}
-use Rattle.realm_model.specs.Rows.{root_rows}
+use Rattle.realm_model.specs.Command.Check.{error_input, error_realm, error_rtt}
 use Rattle.realm_model.specs.Command.Data.{data_create}
-use Rattle.rtt.specs.Tables.{rows}
-use Rattle.rtt.specs.Calls.{map_refusal}
-use Rattle.rmi_monitor.specs.View.{seen_in, after_command}
-use Rattle.rmi_monitor.proofs.Granules.{in_granules}
-use Rattle.rmi_monitor.proofs.Outcomes.{answers_err, answers_ok, after_err}
+use Rattle.rmi_monitor.specs.View.{seen_in}
+use Rattle.rmi_monitor.specs.Inside.{fields_of}
+use Rattle.rmi_monitor.proofs.DataCreates.{create_no_realm, create_unprotected, create_not_delegated, create_not_undelegated, create_not_new, create_refused, create_done}
 use Rattle.rmi_monitor.proofs.DataMaps.{still_inside, written_inside}
-use Rattle.rmi_monitor.proofs.DataCreates.{create_no_realm, create_unprotected, create_not_delegated, create_not_undelegated, create_not_new, create_refused, create_done, create_whole, create_seen}
-use Rattle.rmi_monitor.proofs.Comparisons.{protected_found, test_failed}
-use Rattle.rmi_monitor.proofs.Refusals.{refused_with, not_refused}
-use Rattle.rmi_monitor.proofs.RealmFound.{realm_place, realm_read, realm_rooted}
-use Rattle.rmi_monitor.proofs.RealmCommands.{seen_unmoved}
+use Rattle.rmi_monitor.proofs.Granules.{in_granules, in_delegated}
+use Rattle.rmi_monitor.proofs.Located.{located, unprotected, located_tables, located_inside}
+use Rattle.rmi_monitor.proofs.Outcomes.{answers_err, answers_refused, after_err}
+use Rattle.rmi_monitor.proofs.RealmCommands.{Done, seen_unmoved}
+use Rattle.rmi_monitor.proofs.RealmFound.{realm_place, realm_read}
+use Rattle.rmi_monitor.proofs.monitor.Monitor.data_create.Given.{Over}
 use Rattle.rmi_monitor.proofs.monitor.Monitor.data_create.Goals as goal
 
 pub index_mut-requires : goal.index_mut-requires
 index_mut-requires g c =
-    subst (λ (n : ℕ). c.number.result < n) (sym c.self.inside.realms.ok.0)
+    subst (λ n. c.number.result < n) (sym c.self.inside.realms.ok.0)
     (realm_place c.args.self.now _ c.self.view_is c.self.invariant c.args.rd c.requires.rd_taken.inside c.number.result c.number.ensures.value)
+
+-- ---- what is refused
 
 pub returns-in_default : goal.returns-in_default
 returns-in_default g c =
-    let refused =
-    create_no_realm c.args.self.now _ c.self.view_is c.self.invariant c.args.rd c.requires.rd_taken c.args.page c.requires.page_taken c.args.source c.requires.source_taken c.args.ipa
-    (realm_read c.args.self.now _ c.self.view_is c.self.invariant c.args.rd c.requires.rd_taken.inside c.number.result c.index_mut.result.now _ c.number.ensures.value c.index_mut.ensures.value c.in_default.is) in
+    let none = create_no_realm c.args.self.now _ c.self.view_is c.self.invariant c.args.rd c.requires.rd_taken c.args.page c.requires.page_taken c.args.source c.requires.source_taken c.args.ipa (realm_read c.args.self.now _ c.self.view_is c.self.invariant c.args.rd c.requires.rd_taken.inside c.number.result c.index_mut.result.now None c.number.ensures.value c.index_mut.ensures.value c.in_default.is) in
     record {
-      answer = answers_err (Unit {0}) error_input _ refused;
-      machine = seen_unmoved c.args.self.now _ c.self.view_is _ _ _ refl refl refl c.number.result c.index_mut.result.now _ c.index_mut.ensures.value refl ∙ after_err c.args.self.now error_input _ refused;
+      answer = answers_err (Unit {0}) error_input _ none;
+      machine = seen_unmoved c.args.self.now _ c.self.view_is _ _ _ refl refl refl c.number.result c.index_mut.result.now _ c.index_mut.ensures.value refl ∙ after_err c.args.self.now error_input _ none;
     }
 
 pub returns-in_default-protected : goal.returns-in_default-protected
 returns-in_default-protected g c =
-    let refused =
+    let outside =
     create_unprotected c.args.self.now _ c.self.view_is c.self.invariant c.args.rd c.requires.rd_taken c.args.page c.requires.page_taken c.args.source c.requires.source_taken c.args.ipa c.in-Some.realm
-    (realm_read c.args.self.now _ c.self.view_is c.self.invariant c.args.rd c.requires.rd_taken.inside c.number.result c.index_mut.result.now _ c.number.ensures.value c.index_mut.ensures.value c.in-Some.is)
-    (test_failed (is_protected c.args.ipa) c.args.ipa None (sym c.in_default-protected.is ∙ c.protected.ensures) refl) in
+    (realm_read c.args.self.now _ c.self.view_is c.self.invariant c.args.rd c.requires.rd_taken.inside c.number.result c.index_mut.result.now (Some c.in-Some.realm) c.number.ensures.value c.index_mut.ensures.value c.in-Some.is)
+    (unprotected c.in-Some.realm c.args.ipa c.root.result c.root.ensures c.protected.result c.protected.ensures c.in_default-protected.is) in
     record {
-      answer = answers_err (Unit {0}) error_input _ refused;
-      machine = seen_unmoved c.args.self.now _ c.self.view_is _ _ _ refl refl refl c.number.result c.index_mut.result.now _ c.index_mut.ensures.value c.in-Some.is ∙ after_err c.args.self.now error_input _ refused;
+      answer = answers_err (Unit {0}) error_input _ outside;
+      machine = seen_unmoved c.args.self.now _ c.self.view_is _ _ _ refl refl refl c.number.result c.index_mut.result.now _ c.index_mut.ensures.value c.in-Some.is ∙ after_err c.args.self.now error_input _ outside;
     }
 
 pub is_delegated-requires : goal.is_delegated-requires
@@ -49,13 +45,13 @@ is_delegated-requires g c = in_granules c.args.self.now _ c.self.view_is c.self.
 
 pub returns-then-not-is_delegated : goal.returns-then-not-is_delegated
 returns-then-not-is_delegated g c =
-    let refused =
+    let taken =
     create_not_delegated c.args.self.now _ c.self.view_is c.self.invariant c.args.rd c.requires.rd_taken c.args.page c.requires.page_taken c.args.source c.requires.source_taken c.args.ipa c.in-Some.realm
-    (realm_read c.args.self.now _ c.self.view_is c.self.invariant c.args.rd c.requires.rd_taken.inside c.number.result c.index_mut.result.now _ c.number.ensures.value c.index_mut.ensures.value c.in-Some.is)
-    (sym c.if-not-is_delegated.ensures) in
+    (realm_read c.args.self.now _ c.self.view_is c.self.invariant c.args.rd c.requires.rd_taken.inside c.number.result c.index_mut.result.now (Some c.in-Some.realm) c.number.ensures.value c.index_mut.ensures.value c.in-Some.is)
+    (sym c.is_delegated.ensures ∙ c.if-not-is_delegated.true) in
     record {
-      answer = answers_err (Unit {0}) error_input _ refused;
-      machine = seen_unmoved c.args.self.now _ c.self.view_is _ _ _ refl refl refl c.number.result c.index_mut.result.now _ c.index_mut.ensures.value c.in-Some.is ∙ after_err c.args.self.now error_input _ refused;
+      answer = answers_err (Unit {0}) error_input _ taken;
+      machine = seen_unmoved c.args.self.now _ c.self.view_is _ _ _ refl refl refl c.number.result c.index_mut.result.now _ c.index_mut.ensures.value c.in-Some.is ∙ after_err c.args.self.now error_input _ taken;
     }
 
 pub is_undelegated-requires : goal.is_undelegated-requires
@@ -63,90 +59,95 @@ is_undelegated-requires g c = in_granules c.args.self.now _ c.self.view_is c.sel
 
 pub returns-then-not-is_undelegated : goal.returns-then-not-is_undelegated
 returns-then-not-is_undelegated g c =
-    let refused =
+    let delegated =
     create_not_undelegated c.args.self.now _ c.self.view_is c.self.invariant c.args.rd c.requires.rd_taken c.args.page c.requires.page_taken c.args.source c.requires.source_taken c.args.ipa c.in-Some.realm
-    (realm_read c.args.self.now _ c.self.view_is c.self.invariant c.args.rd c.requires.rd_taken.inside c.number.result c.index_mut.result.now _ c.number.ensures.value c.index_mut.ensures.value c.in-Some.is)
-    (sym c.if-not-is_undelegated.ensures) in
+    (realm_read c.args.self.now _ c.self.view_is c.self.invariant c.args.rd c.requires.rd_taken.inside c.number.result c.index_mut.result.now (Some c.in-Some.realm) c.number.ensures.value c.index_mut.ensures.value c.in-Some.is)
+    (sym c.is_undelegated.ensures ∙ c.if-not-is_undelegated.true) in
     record {
-      answer = answers_err (Unit {0}) error_input _ refused;
-      machine = seen_unmoved c.args.self.now _ c.self.view_is _ _ _ refl refl refl c.number.result c.index_mut.result.now _ c.index_mut.ensures.value c.in-Some.is ∙ after_err c.args.self.now error_input _ refused;
+      answer = answers_err (Unit {0}) error_input _ delegated;
+      machine = seen_unmoved c.args.self.now _ c.self.view_is _ _ _ refl refl refl c.number.result c.index_mut.result.now _ c.index_mut.ensures.value c.in-Some.is ∙ after_err c.args.self.now error_input _ delegated;
     }
+
+located_there : (g : Over) (c : goal.After-self-then-not-is_new-1 g) → data_create (seen_in c.args.self.now c.args.rd) (seen_in c.args.self.now c.args.page) c.args.ipa (seen_in c.args.self.now c.args.source) ≡ Err error_realm
+located_there g c =
+    create_not_new c.args.self.now _ c.self.view_is c.self.invariant c.args.rd c.requires.rd_taken c.args.page c.requires.page_taken c.args.source c.requires.source_taken c.args.ipa c.in-Some.realm
+    (realm_read c.args.self.now _ c.self.view_is c.self.invariant c.args.rd c.requires.rd_taken.inside c.number.result c.index_mut.result.now (Some c.in-Some.realm) c.number.ensures.value c.index_mut.ensures.value c.in-Some.is)
+    (record { rd = c.args.rd; root = c.in-Some.realm.root }) c.in-Some-protected.ipa
+    (located c.in-Some.realm c.args.ipa c.root.result c.root.ensures c.protected.result c.protected.ensures c.args.rd _ refl c.in-Some-protected.ipa c.in-Some-protected.is)
+    (sym c.is_delegated.ensures ∙ c.if-not-is_delegated.false) (sym c.is_undelegated.ensures ∙ c.if-not-is_undelegated.false) (sym (c.is_new.ensures empty empty) ∙ c.if-not-is_new.true)
 
 pub returns-then-not-is_new : goal.returns-then-not-is_new
 returns-then-not-is_new g c =
-    let told = protected_found c.args.ipa c.in-Some-protected.ipa c.in-Some-protected.ensures in
-    let refused =
-    create_not_new c.args.self.now _ c.self.view_is c.self.invariant c.args.rd c.requires.rd_taken c.args.page c.requires.page_taken c.args.source c.requires.source_taken c.args.ipa c.in-Some.realm
-    (realm_read c.args.self.now _ c.self.view_is c.self.invariant c.args.rd c.requires.rd_taken.inside c.number.result c.index_mut.result.now _ c.number.ensures.value c.index_mut.ensures.value c.in-Some.is)
-    (ap is_protected (sym told.1) ∙ told.0) (sym c.if-not-is_delegated.ensures) (sym c.if-not-is_undelegated.ensures) (sym (c.if-not-is_new.ensures empty root_rows)) in
     record {
-      answer = answers_err (Unit {0}) error_realm _ refused;
-      machine = seen_unmoved c.args.self.now _ c.self.view_is _ _ _ refl refl refl c.number.result c.index_mut.result.now _ c.index_mut.ensures.value c.in-Some.is ∙ after_err c.args.self.now error_realm _ refused;
+      answer = answers_err (Unit {0}) error_realm _ (located_there g c);
+      machine = seen_unmoved c.args.self.now _ c.self.view_is _ _ _ refl refl refl c.number.result c.index_mut.result.now _ c.index_mut.ensures.value c.in-Some.is ∙ after_err c.args.self.now error_realm _ (located_there g c);
     }
+
+-- ---- the call
 
 pub map-requires-clause-tables : goal.map-requires-clause-tables
 map-requires-clause-tables g c =
-    c.self.invariant.tables c.args.rd (record c.in-Some.realm { root = c.root.result })
-    (realm_rooted c.args.self.now _ c.self.view_is c.self.invariant c.args.rd c.requires.rd_taken.inside c.number.result c.index_mut.result.now c.in-Some.realm c.root.result c.number.ensures.value c.index_mut.ensures.value c.in-Some.is c.root.ensures)
+    located_tables c.in-Some.realm c.args.rd c.args.ipa c.tables_of.result c.in-Some-protected.ipa
+    (located c.in-Some.realm c.args.ipa c.root.result c.root.ensures c.protected.result c.protected.ensures c.args.rd c.tables_of.result c.tables_of.ensures c.in-Some-protected.ipa c.in-Some-protected.is) _ c.self.invariant
+    (realm_read c.args.self.now _ c.self.view_is c.self.invariant c.args.rd c.requires.rd_taken.inside c.number.result c.index_mut.result.now (Some c.in-Some.realm) c.number.ensures.value c.index_mut.ensures.value c.in-Some.is)
 
-pub returns-in-Err : goal.returns-in-Err
-returns-in-Err g c =
-    let told = protected_found c.args.ipa c.in-Some-protected.ipa c.in-Some-protected.ensures in
-    let refused =
-    ap (λ (ipa : ℕ). data_create (seen_in c.args.self.now c.args.rd) (seen_in c.args.self.now c.args.page) ipa (seen_in c.args.self.now c.args.source)) (sym told.1)
-    ∙ create_refused c.args.self.now _ c.self.view_is c.self.invariant c.args.rd c.requires.rd_taken c.args.page c.requires.page_taken c.args.source c.requires.source_taken c.in-Some-protected.ipa (record c.in-Some.realm { root = c.root.result })
-    (realm_rooted c.args.self.now _ c.self.view_is c.self.invariant c.args.rd c.requires.rd_taken.inside c.number.result c.index_mut.result.now c.in-Some.realm c.root.result c.number.ensures.value c.index_mut.ensures.value c.in-Some.is c.root.ensures)
-    told.0 (sym c.if-not-is_delegated.ensures) (sym c.if-not-is_undelegated.ensures) (sym (c.if-not-is_new.ensures empty root_rows))
-    c.in-Err.refusal.level (refused_with (Unit {0}) c.in-Err.refusal (map_refusal (rows (g.S.PageStore.page_bytes c.self.inside.store) c.root.result) c.in-Some-protected.ipa) c.in-Err.ensures.answer)
-    ∙ ap (λ (rmi : Rmi). Err rmi) (sym c.rtt_refusal.ensures) in
-    record {
-      answer = answers_err (Unit {0}) c.rtt_refusal.result _ refused;
-      machine =
-          seen_unmoved c.args.self.now _ c.self.view_is _ _ _ c.in-Err.ensures.unchanged.1 c.in-Err.ensures.unchanged.0 c.in-Err.ensures.flags
-          c.number.result c.index_mut.result.now _ c.index_mut.ensures.value c.in-Some.is
-          ∙ after_err c.args.self.now c.rtt_refusal.result _ refused;
-    }
+pub map-requires-clause-inside : goal.map-requires-clause-inside
+map-requires-clause-inside g c =
+    located_inside c.in-Some.realm c.args.rd c.args.ipa c.tables_of.result c.in-Some-protected.ipa
+    (located c.in-Some.realm c.args.ipa c.root.result c.root.ensures c.protected.result c.protected.ensures c.args.rd c.tables_of.result c.tables_of.ensures c.in-Some-protected.ipa c.in-Some-protected.is)
+
+pub map-requires-clause-delegated : goal.map-requires-clause-delegated
+map-requires-clause-delegated g c = in_delegated c.args.self.now _ c.self.view_is c.self.invariant c.args.page c.requires.page_taken (sym c.is_delegated.ensures ∙ c.if-not-is_delegated.false)
+
+refused : (g : Over) (c : goal.After-from_residual g) → data_create (seen_in c.args.self.now c.args.rd) (seen_in c.args.self.now c.args.page) c.args.ipa (seen_in c.args.self.now c.args.source) ≡ Err (error_rtt c.in_err-map.field-0.0.level)
+refused g c =
+    create_refused c.args.self.now _ c.self.view_is c.self.invariant c.args.rd c.requires.rd_taken c.args.page c.requires.page_taken c.args.source c.requires.source_taken c.args.ipa c.in-Some.realm
+    (realm_read c.args.self.now _ c.self.view_is c.self.invariant c.args.rd c.requires.rd_taken.inside c.number.result c.index_mut.result.now (Some c.in-Some.realm) c.number.ensures.value c.index_mut.ensures.value c.in-Some.is)
+    c.tables_of.result c.in-Some-protected.ipa
+    (located c.in-Some.realm c.args.ipa c.root.result c.root.ensures c.protected.result c.protected.ensures c.args.rd c.tables_of.result c.tables_of.ensures c.in-Some-protected.ipa c.in-Some-protected.is)
+    (sym c.is_delegated.ensures ∙ c.if-not-is_delegated.false) (sym c.is_undelegated.ensures ∙ c.if-not-is_undelegated.false) (sym (c.is_new.ensures empty empty) ∙ c.if-not-is_new.false)
+    c.in_err-map.field-0.0.level c.in_err-map.ensures.answer
+
+pub returns-in_err-map : goal.returns-in_err-map
+returns-in_err-map g c = record {
+  answer = answers_refused c.from_residual.result (error_rtt c.in_err-map.field-0.0.level) _ c.from_residual.ensures.1 (refused g c);
+  machine =
+      seen_unmoved c.args.self.now _ c.self.view_is _ _ _ c.in_err-map.ensures.unchanged.1 c.in_err-map.ensures.unchanged.0 c.in_err-map.ensures.keeps.rest.flags c.number.result c.index_mut.result.now _ c.index_mut.ensures.value c.in-Some.is
+      ∙ after_err c.args.self.now (error_rtt c.in_err-map.field-0.0.level) _ (refused g c);
+}
+
+-- ---- the page is written, and the realm is measured
 
 pub copy-requires-clause-source_inside : goal.copy-requires-clause-source_inside
 copy-requires-clause-source_inside g c =
-    still_inside _ _ c.args.page _ _ _ c.in_default-map.ensures.moved c.in_default-map.ensures.backed c.args.source (in_granules c.args.self.now _ c.self.view_is c.self.invariant c.args.source c.requires.source_taken)
+    still_inside _ _ c.args.page _ _ _ c.in_ok-map.ensures.moved c.in_ok-map.ensures.keeps.rest.backed c.args.source (in_granules c.args.self.now _ c.self.view_is c.self.invariant c.args.source c.requires.source_taken)
 
 pub bytes-requires : goal.bytes-requires
 bytes-requires g c =
     written_inside _ _ c.args.page _ c.copy.ensures.copied c.args.source
-    (still_inside _ _ c.args.page _ _ _ c.in_default-map.ensures.moved c.in_default-map.ensures.backed c.args.source (in_granules c.args.self.now _ c.self.view_is c.self.invariant c.args.source c.requires.source_taken))
+    (still_inside _ _ c.args.page _ _ _ c.in_ok-map.ensures.moved c.in_ok-map.ensures.keeps.rest.backed c.args.source (in_granules c.args.self.now _ c.self.view_is c.self.invariant c.args.source c.requires.source_taken))
+
+done : (g : Over) (c : goal.After-self-2-1 g) → Done c.args.self.now (data_create (seen_in c.args.self.now c.args.rd) (seen_in c.args.self.now c.args.page) c.args.ipa (seen_in c.args.self.now c.args.source))
+    (fields_of c.self.inside.vmids c.self.inside.aux c.self.inside.used c.map.new.granules (g.S.PageStore.page_bytes c.copy.new.self)
+    (g.S.PageStore.free_flags c.copy.new.self) (set c.self.inside.realms.items c.number.result (Some c.measure.new.self)) c.self.inside.rec_counts.items c.self.inside.recs.items)
+done g c =
+    create_done c.args.self.now _ c.self.view_is c.self.invariant c.args.rd c.requires.rd_taken c.args.page c.requires.page_taken c.args.source c.requires.source_taken c.args.ipa c.in-Some.realm
+    (realm_read c.args.self.now _ c.self.view_is c.self.invariant c.args.rd c.requires.rd_taken.inside c.number.result c.index_mut.result.now (Some c.in-Some.realm) c.number.ensures.value c.index_mut.ensures.value c.in-Some.is)
+    c.tables_of.result c.in-Some-protected.ipa
+    (located c.in-Some.realm c.args.ipa c.root.result c.root.ensures c.protected.result c.protected.ensures c.args.rd c.tables_of.result c.tables_of.ensures c.in-Some-protected.ipa c.in-Some-protected.is)
+    (sym c.is_delegated.ensures ∙ c.if-not-is_delegated.false) (sym c.is_undelegated.ensures ∙ c.if-not-is_undelegated.false) (sym (c.is_new.ensures empty empty) ∙ c.if-not-is_new.false)
+    _ _ _ (record {
+      answer = c.in_ok-map.ensures.answer;
+      gains = c.in_ok-map.ensures.rows;
+      moved = c.in_ok-map.ensures.moved;
+      others = c.in_ok-map.ensures.others;
+      keeps = c.in_ok-map.ensures.keeps;
+    })
+    _ c.copy.ensures.copied _ c.copy.ensures.flags c.measure.new.self c.data_event.result c.bytes.result.now c.bytes.ensures.value c.data_event.ensures c.measure.ensures
+    _ (ap (λ n. set c.self.inside.realms.items n (Some c.measure.new.self)) c.number.ensures.value)
 
 pub invariant_of-self-2 : goal.invariant_of-self-2
-invariant_of-self-2 g c =
-    let told = protected_found c.args.ipa c.in-Some-protected.ipa c.in-Some-protected.ensures in
-    create_whole c.args.self.now _ c.self.view_is c.self.invariant c.args.rd c.requires.rd_taken c.args.page c.requires.page_taken c.args.source c.requires.source_taken c.in-Some-protected.ipa (record c.in-Some.realm { root = c.root.result })
-    (realm_rooted c.args.self.now _ c.self.view_is c.self.invariant c.args.rd c.requires.rd_taken.inside c.number.result c.index_mut.result.now c.in-Some.realm c.root.result c.number.ensures.value c.index_mut.ensures.value c.in-Some.is c.root.ensures)
-    told.0 (sym c.if-not-is_delegated.ensures) (sym c.if-not-is_undelegated.ensures) (sym (c.if-not-is_new.ensures empty root_rows))
-    (not_refused {A = Unit {0}} tt (map_refusal (rows (g.S.PageStore.page_bytes c.self.inside.store) c.root.result) c.in-Some-protected.ipa) c.in_default-map.ensures.answer)
-    _ _ _ c.in_default-map.ensures.rows c.in_default-map.ensures.moved c.in_default-map.ensures.tables c.in_default-map.ensures.backed c.in_default-map.ensures.flags c.in_default-map.ensures.others c.in_default-map.ensures.other_realms
-    _ c.copy.ensures.copied _ c.copy.ensures.flags c.measure.new.self c.data_event.result c.bytes.result.now c.bytes.ensures.value c.data_event.ensures
-    (c.measure.ensures ∙ (λ i. record c.in-Some.realm { measurement = measurement_after c.in-Some.realm.measurement c.data_event.result; root = sym c.root.ensures i }))
-    _ (ap (λ (n : ℕ). set c.self.inside.realms.items n (Some c.measure.new.self)) c.number.ensures.value)
+invariant_of-self-2 g c = (done g c).whole
 
-pub returns-clause-answer : goal.returns-clause-answer
-returns-clause-answer g c =
-    let told = protected_found c.args.ipa c.in-Some-protected.ipa c.in-Some-protected.ensures in
-    let done =
-    create_done c.args.self.now _ c.self.view_is c.self.invariant c.args.rd c.requires.rd_taken c.args.page c.requires.page_taken c.args.source c.requires.source_taken c.in-Some-protected.ipa (record c.in-Some.realm { root = c.root.result })
-    (realm_rooted c.args.self.now _ c.self.view_is c.self.invariant c.args.rd c.requires.rd_taken.inside c.number.result c.index_mut.result.now c.in-Some.realm c.root.result c.number.ensures.value c.index_mut.ensures.value c.in-Some.is c.root.ensures)
-    told.0 (sym c.if-not-is_delegated.ensures) (sym c.if-not-is_undelegated.ensures) (sym (c.if-not-is_new.ensures empty root_rows))
-    (not_refused {A = Unit {0}} tt (map_refusal (rows (g.S.PageStore.page_bytes c.self.inside.store) c.root.result) c.in-Some-protected.ipa) c.in_default-map.ensures.answer) in
-    answers_ok {A = Unit {0}} tt done.0 _ (ap (λ (ipa : ℕ). data_create (seen_in c.args.self.now c.args.rd) (seen_in c.args.self.now c.args.page) ipa (seen_in c.args.self.now c.args.source)) (sym told.1) ∙ done.1)
-
-pub returns-clause-machine : goal.returns-clause-machine
-returns-clause-machine g c =
-    let told = protected_found c.args.ipa c.in-Some-protected.ipa c.in-Some-protected.ensures in
-    create_seen c.args.self.now _ c.self.view_is c.self.invariant c.args.rd c.requires.rd_taken c.args.page c.requires.page_taken c.args.source c.requires.source_taken c.in-Some-protected.ipa (record c.in-Some.realm { root = c.root.result })
-    (realm_rooted c.args.self.now _ c.self.view_is c.self.invariant c.args.rd c.requires.rd_taken.inside c.number.result c.index_mut.result.now c.in-Some.realm c.root.result c.number.ensures.value c.index_mut.ensures.value c.in-Some.is c.root.ensures)
-    told.0 (sym c.if-not-is_delegated.ensures) (sym c.if-not-is_undelegated.ensures) (sym (c.if-not-is_new.ensures empty root_rows))
-    (not_refused {A = Unit {0}} tt (map_refusal (rows (g.S.PageStore.page_bytes c.self.inside.store) c.root.result) c.in-Some-protected.ipa) c.in_default-map.ensures.answer)
-    _ _ _ c.in_default-map.ensures.rows c.in_default-map.ensures.moved c.in_default-map.ensures.tables c.in_default-map.ensures.backed c.in_default-map.ensures.flags c.in_default-map.ensures.others c.in_default-map.ensures.other_realms
-    _ c.copy.ensures.copied _ c.copy.ensures.flags c.measure.new.self c.data_event.result c.bytes.result.now c.bytes.ensures.value c.data_event.ensures
-    (c.measure.ensures ∙ (λ i. record c.in-Some.realm { measurement = measurement_after c.in-Some.realm.measurement c.data_event.result; root = sym c.root.ensures i }))
-    _ (ap (λ (n : ℕ). set c.self.inside.realms.items n (Some c.measure.new.self)) c.number.ensures.value)
-    ∙ ap (λ (ipa : ℕ). after_command (data_create (seen_in c.args.self.now c.args.rd) (seen_in c.args.self.now c.args.page) ipa (seen_in c.args.self.now c.args.source)) c.args.self.now) told.1
+pub returns : goal.returns
+returns g c = record { answer = (done g c).answers; machine = (done g c).seen }

@@ -1,43 +1,44 @@
 use Rattle.std.proofs.Common.{sym, ap, ◌∙◌}
-use Rattle.std.specs.List.{list_any}
 use Rattle.realm_model.specs.Command.Check.{error_input}
 use Rattle.realm_objects.specs.Attributes.{RealmAttributes}
-use Rattle.rmi_monitor.specs.Places.{is_realm_with}
+use Rattle.rmi_monitor.specs.View.{after_command}
 use Rattle.rmi_monitor.proofs.Granules.{in_granules}
-use Rattle.rmi_monitor.proofs.Creates.{create_used, create_unfit, create_done, create_shifted, create_delegated, whole_after_create, seen_after_create}
+use Rattle.rmi_monitor.proofs.Creates.{create_no_width, is_given, by_width, create_used, create_unfit, create_done, create_shifted, create_delegated, create_backed, whole_after_create, seen_after_create}
 use Rattle.rmi_monitor.proofs.Outcomes.{answers_err, answers_ok, after_err}
 use Rattle.rmi_monitor.proofs.monitor.Monitor.realm_create.Goals as goal
 
-pub returns-then-is_used-clause-answer : goal.returns-then-is_used-clause-answer
-returns-then-is_used-clause-answer g c = answers_err (Unit {0}) error_input _ (create_used c.args.self.now _ c.self.view_is c.self.invariant c.args.rd c.args.root c.args.vmid c.requires.rd_taken c.requires.root_taken (ap (list_any (is_realm_with c.args.vmid)) (sym c.deref.ensures.value) ∙ sym c.if-is_used.ensures))
+pub returns-in_default-clause-answer : goal.returns-in_default-clause-answer
+returns-in_default-clause-answer g c = answers_err (Unit {0}) error_input _ (create_no_width c.args.self.now c.args.rd c.args.root c.args.width c.args.vmid c.new.result c.new.ensures c.in_default.is)
 
-pub returns-then-is_used-clause-machine : goal.returns-then-is_used-clause-machine
-returns-then-is_used-clause-machine g c = after_err c.args.self.now error_input _ (create_used c.args.self.now _ c.self.view_is c.self.invariant c.args.rd c.args.root c.args.vmid c.requires.rd_taken c.requires.root_taken (ap (list_any (is_realm_with c.args.vmid)) (sym c.deref.ensures.value) ∙ sym c.if-is_used.ensures))
+pub returns-in_default-clause-machine : goal.returns-in_default-clause-machine
+returns-in_default-clause-machine g c = after_err c.args.self.now error_input _ (create_no_width c.args.self.now c.args.rd c.args.root c.args.width c.args.vmid c.new.result c.new.ensures c.in_default.is)
 
-pub are_fit-requires-clause-rd : goal.are_fit-requires-clause-rd
-are_fit-requires-clause-rd g c = in_granules c.args.self.now _ c.self.view_is c.self.invariant c.args.rd c.requires.rd_taken
+pub returns-then-contains-clause-answer : goal.returns-then-contains-clause-answer
+returns-then-contains-clause-answer g c = answers_err (Unit {0}) error_input _ (sym (by_width c.args.self.now c.args.rd c.args.root c.args.vmid c.in-Some.width c.args.width (is_given c.args.width c.in-Some.width c.new.result c.new.ensures c.in-Some.is).1) ∙ create_used c.args.self.now _ c.self.view_is c.self.invariant c.args.rd (record { first = c.args.root; width = c.in-Some.width }) c.args.vmid c.requires (is_given c.args.width c.in-Some.width c.new.result c.new.ensures c.in-Some.is).0 (sym c.if-contains.ensures))
 
-pub are_fit-requires-clause-root : goal.are_fit-requires-clause-root
-are_fit-requires-clause-root g c = in_granules c.args.self.now _ c.self.view_is c.self.invariant c.args.root c.requires.root_taken
+pub returns-then-contains-clause-machine : goal.returns-then-contains-clause-machine
+returns-then-contains-clause-machine g c = after_err c.args.self.now error_input _ (sym (by_width c.args.self.now c.args.rd c.args.root c.args.vmid c.in-Some.width c.args.width (is_given c.args.width c.in-Some.width c.new.result c.new.ensures c.in-Some.is).1) ∙ create_used c.args.self.now _ c.self.view_is c.self.invariant c.args.rd (record { first = c.args.root; width = c.in-Some.width }) c.args.vmid c.requires (is_given c.args.width c.in-Some.width c.new.result c.new.ensures c.in-Some.is).0 (sym c.if-contains.ensures))
 
-pub returns-then-not-are_fit-clause-answer : goal.returns-then-not-are_fit-clause-answer
-returns-then-not-are_fit-clause-answer g c = answers_err (Unit {0}) error_input _ (create_unfit c.args.self.now _ c.self.view_is c.self.invariant c.args.rd c.args.root c.args.vmid c.requires.rd_taken c.requires.root_taken (ap (list_any (is_realm_with c.args.vmid)) (sym c.deref.ensures.value) ∙ sym c.if-is_used.ensures) (sym c.if-not-are_fit.ensures))
+pub can_be_realm-requires : goal.can_be_realm-requires
+can_be_realm-requires g c = in_granules c.args.self.now _ c.self.view_is c.self.invariant c.args.rd c.requires
 
-pub returns-then-not-are_fit-clause-machine : goal.returns-then-not-are_fit-clause-machine
-returns-then-not-are_fit-clause-machine g c = after_err c.args.self.now error_input _ (create_unfit c.args.self.now _ c.self.view_is c.self.invariant c.args.rd c.args.root c.args.vmid c.requires.rd_taken c.requires.root_taken (ap (list_any (is_realm_with c.args.vmid)) (sym c.deref.ensures.value) ∙ sym c.if-is_used.ensures) (sym c.if-not-are_fit.ensures))
+pub returns-then-not-can_be_realm-clause-answer : goal.returns-then-not-can_be_realm-clause-answer
+returns-then-not-can_be_realm-clause-answer g c = answers_err (Unit {0}) error_input _ (sym (by_width c.args.self.now c.args.rd c.args.root c.args.vmid c.in-Some.width c.args.width (is_given c.args.width c.in-Some.width c.new.result c.new.ensures c.in-Some.is).1) ∙ create_unfit c.args.self.now _ c.self.view_is c.self.invariant c.args.rd (record { first = c.args.root; width = c.in-Some.width }) c.args.vmid c.requires (is_given c.args.width c.in-Some.width c.new.result c.new.ensures c.in-Some.is).0 (sym c.if-contains.ensures) (sym c.if-not-can_be_realm.ensures))
+
+pub returns-then-not-can_be_realm-clause-machine : goal.returns-then-not-can_be_realm-clause-machine
+returns-then-not-can_be_realm-clause-machine g c = after_err c.args.self.now error_input _ (sym (by_width c.args.self.now c.args.rd c.args.root c.args.vmid c.in-Some.width c.args.width (is_given c.args.width c.in-Some.width c.new.result c.new.ensures c.in-Some.is).1) ∙ create_unfit c.args.self.now _ c.self.view_is c.self.invariant c.args.rd (record { first = c.args.root; width = c.in-Some.width }) c.args.vmid c.requires (is_given c.args.width c.in-Some.width c.new.result c.new.ensures c.in-Some.is).0 (sym c.if-contains.ensures) (sym c.if-not-can_be_realm.ensures))
 
 pub open_root-requires-clause-delegated : goal.open_root-requires-clause-delegated
-open_root-requires-clause-delegated g c = create_delegated c.args.self.now _ c.self.view_is c.self.invariant c.args.rd c.args.root c.args.vmid c.requires.rd_taken c.requires.root_taken (ap (list_any (is_realm_with c.args.vmid)) (sym c.deref.ensures.value) ∙ sym c.if-is_used.ensures) (sym c.if-not-are_fit.ensures) _ (create_shifted c.args.self.now _ c.self.view_is c.self.invariant c.args.rd c.args.root c.args.vmid c.requires.rd_taken c.requires.root_taken (ap (list_any (is_realm_with c.args.vmid)) (sym c.deref.ensures.value) ∙ sym c.if-is_used.ensures) (sym c.if-not-are_fit.ensures) c.shift.result _ c.shift.ensures.answer c.shift.ensures.shifted)
+open_root-requires-clause-delegated g c = create_delegated c.args.self.now _ c.self.view_is c.self.invariant c.args.rd (record { first = c.args.root; width = c.in-Some.width }) c.args.vmid c.requires (is_given c.args.width c.in-Some.width c.new.result c.new.ensures c.in-Some.is).0 (sym c.if-contains.ensures) (sym c.if-not-can_be_realm.ensures) _ (create_shifted c.args.self.now _ c.self.view_is c.self.invariant c.args.rd (record { first = c.args.root; width = c.in-Some.width }) c.args.vmid c.requires (is_given c.args.width c.in-Some.width c.new.result c.new.ensures c.in-Some.is).0 (sym c.if-contains.ensures) (sym c.if-not-can_be_realm.ensures) c.shift.result _ c.shift.ensures.answer c.shift.ensures.shifted)
 
 pub invariant_of-self : goal.invariant_of-self
 invariant_of-self g c =
-    whole_after_create c.args.self.now _ c.self.view_is c.self.invariant c.args.rd c.args.root c.args.vmid c.requires.rd_taken c.requires.root_taken (ap (list_any (is_realm_with c.args.vmid)) (sym c.deref.ensures.value) ∙ sym c.if-is_used.ensures) (sym c.if-not-are_fit.ensures) _ (create_shifted c.args.self.now _ c.self.view_is c.self.invariant c.args.rd c.args.root c.args.vmid c.requires.rd_taken c.requires.root_taken (ap (list_any (is_realm_with c.args.vmid)) (sym c.deref.ensures.value) ∙ sym c.if-is_used.ensures) (sym c.if-not-are_fit.ensures) c.shift.result _ c.shift.ensures.answer c.shift.ensures.shifted) c.new.result (ap (λ (r : RealmAttributes). r.vmid) c.new.ensures.attributes) (ap (λ (r : RealmAttributes). r.root) c.new.ensures.attributes) c.new.ensures.row _ _ _ c.open_root.ensures.moved c.open_root.ensures.flags
-    c.open_root.ensures.backed c.open_root.ensures.tables c.open_root.ensures.rows c.open_root.ensures.others c.open_root.ensures.other_realms c.number.result c.number.ensures.value
+    whole_after_create c.args.self.now _ c.self.view_is c.self.invariant c.args.rd (record { first = c.args.root; width = c.in-Some.width }) c.args.vmid c.requires (is_given c.args.width c.in-Some.width c.new.result c.new.ensures c.in-Some.is).0 (sym c.if-contains.ensures) (sym c.if-not-can_be_realm.ensures) _ (create_shifted c.args.self.now _ c.self.view_is c.self.invariant c.args.rd (record { first = c.args.root; width = c.in-Some.width }) c.args.vmid c.requires (is_given c.args.width c.in-Some.width c.new.result c.new.ensures c.in-Some.is).0 (sym c.if-contains.ensures) (sym c.if-not-can_be_realm.ensures) c.shift.result _ c.shift.ensures.answer c.shift.ensures.shifted) c.new-realm.result (ap (λ (r : RealmAttributes). r.vmid) c.new-realm.ensures.attributes) (ap (λ (r : RealmAttributes). r.root) c.new-realm.ensures.attributes) c.new-realm.ensures.row _ _ _ c.open_root.ensures.moved c.open_root.ensures.cleared c.open_root.ensures.rows c.open_root.ensures.keeps c.insert.new.self c.insert.ensures c.number.result c.number.ensures.value
 
 pub returns-clause-answer : goal.returns-clause-answer
-returns-clause-answer g c = answers_ok {A = Unit {0}} tt _ _ (create_done c.args.self.now _ c.self.view_is c.self.invariant c.args.rd c.args.root c.args.vmid c.requires.rd_taken c.requires.root_taken (ap (list_any (is_realm_with c.args.vmid)) (sym c.deref.ensures.value) ∙ sym c.if-is_used.ensures) (sym c.if-not-are_fit.ensures))
+returns-clause-answer g c = answers_ok {A = Unit {0}} tt _ _ (sym (by_width c.args.self.now c.args.rd c.args.root c.args.vmid c.in-Some.width c.args.width (is_given c.args.width c.in-Some.width c.new.result c.new.ensures c.in-Some.is).1) ∙ create_done c.args.self.now _ c.self.view_is c.self.invariant c.args.rd (record { first = c.args.root; width = c.in-Some.width }) c.args.vmid c.requires (is_given c.args.width c.in-Some.width c.new.result c.new.ensures c.in-Some.is).0 (sym c.if-contains.ensures) (sym c.if-not-can_be_realm.ensures))
 
 pub returns-clause-machine : goal.returns-clause-machine
 returns-clause-machine g c =
-    seen_after_create c.args.self.now _ c.self.view_is c.self.invariant c.args.rd c.args.root c.args.vmid c.requires.rd_taken c.requires.root_taken (ap (list_any (is_realm_with c.args.vmid)) (sym c.deref.ensures.value) ∙ sym c.if-is_used.ensures) (sym c.if-not-are_fit.ensures) _ (create_shifted c.args.self.now _ c.self.view_is c.self.invariant c.args.rd c.args.root c.args.vmid c.requires.rd_taken c.requires.root_taken (ap (list_any (is_realm_with c.args.vmid)) (sym c.deref.ensures.value) ∙ sym c.if-is_used.ensures) (sym c.if-not-are_fit.ensures) c.shift.result _ c.shift.ensures.answer c.shift.ensures.shifted) c.new.result (ap (λ (r : RealmAttributes). r.vmid) c.new.ensures.attributes) (ap (λ (r : RealmAttributes). r.root) c.new.ensures.attributes) c.new.ensures.row _ _ _ c.open_root.ensures.moved c.open_root.ensures.flags
-    c.open_root.ensures.backed c.open_root.ensures.tables c.open_root.ensures.rows c.open_root.ensures.others c.open_root.ensures.other_realms c.number.result c.number.ensures.value
+    seen_after_create c.args.self.now _ c.self.view_is c.self.invariant c.args.rd (record { first = c.args.root; width = c.in-Some.width }) c.args.vmid c.requires (is_given c.args.width c.in-Some.width c.new.result c.new.ensures c.in-Some.is).0 (sym c.if-contains.ensures) (sym c.if-not-can_be_realm.ensures) _ (create_shifted c.args.self.now _ c.self.view_is c.self.invariant c.args.rd (record { first = c.args.root; width = c.in-Some.width }) c.args.vmid c.requires (is_given c.args.width c.in-Some.width c.new.result c.new.ensures c.in-Some.is).0 (sym c.if-contains.ensures) (sym c.if-not-can_be_realm.ensures) c.shift.result _ c.shift.ensures.answer c.shift.ensures.shifted) c.new-realm.result (ap (λ (r : RealmAttributes). r.vmid) c.new-realm.ensures.attributes) (ap (λ (r : RealmAttributes). r.root) c.new-realm.ensures.attributes) c.new-realm.ensures.row _ _ _ c.open_root.ensures.moved c.open_root.ensures.cleared c.open_root.ensures.rows c.open_root.ensures.keeps c.insert.new.self c.insert.ensures c.number.result c.number.ensures.value
+    ∙ ap (λ outcome. after_command outcome c.args.self.now) (by_width c.args.self.now c.args.rd c.args.root c.args.vmid c.in-Some.width c.args.width (is_given c.args.width c.in-Some.width c.new.result c.new.ensures c.in-Some.is).1)

@@ -1,8 +1,10 @@
-use Rattle.std.proofs.Common.{Some, None, ◌<◌, length, refl, sym, ap, subst, arith}
+use Rattle.std.proofs.Common.{Some, None, ◌<◌, length, refl, sym, ap, subst, ◌∙◌, arith}
 use Rattle.realm_model.specs.Command.Rec.{rec_destroy}
 use Rattle.rmi_monitor.specs.Inside.{seen_as, IsWhole}
 use Rattle.rmi_monitor.proofs.RecDestroys.{rec_page, rec_stands, aux_distinct, aux_stand, aux_pages, gone_by, not_ready, ready}
-use Rattle.rmi_monitor.proofs.RecReads.{rec_place, rec_read}
+use Rattle.rmi_monitor.proofs.Granules.{in_granules}
+use Rattle.rmi_monitor.proofs.RealmPlaces.{realm_inside}
+use Rattle.rmi_monitor.proofs.RecReads.{rec_place, rec_read, no_rd, its_realm, kept_by, count_place, count_read, some_recs}
 use Rattle.rmi_monitor.proofs.RecFound.{on_none, kept_at}
 use Rattle.rmi_monitor.proofs.RecGoneAfter.{whole_gone}
 use Rattle.rmi_monitor.proofs.monitor.Monitor.rec_destroy.Goals as goal
@@ -15,12 +17,20 @@ index-requires g c =
 pub returns-in_default : goal.returns-in_default
 returns-in_default g c =
     let at = rec_read c.args.self.now _ c.self.view_is c.self.invariant c.args.rec c.requires c.number.result c.number.ensures.value c.index.result.now None c.index.ensures c.in_default.is in
-    on_none c.args.self.now _ c.self.view_is c.self.invariant rec_destroy c.args.rec c.requires {A = Unit {0}} _ at refl
+    on_none c.args.self.now _ c.self.view_is c.self.invariant rec_destroy c.args.rec {A = Unit {0}} _ at refl
 
 pub returns-then-not-is_ready : goal.returns-then-not-is_ready
 returns-then-not-is_ready g c =
     let at = rec_read c.args.self.now _ c.self.view_is c.self.invariant c.args.rec c.requires c.number.result c.number.ensures.value c.index.result.now (Some c.in-Some.kept) c.index.ensures c.in-Some.is in
-    not_ready c.args.self.now _ c.self.view_is c.self.invariant c.args.rec c.requires c.in-Some.kept _ _ (kept_at _ c.self.invariant c.args.rec c.in-Some.kept at) c.is_ready.result _ c.is_ready.ensures c.if-not-is_ready.true refl
+    not_ready c.args.self.now _ c.self.view_is c.self.invariant c.args.rec c.in-Some.kept _ _ (kept_at _ c.self.invariant c.args.rec c.in-Some.kept at) c.is_ready.result _ c.is_ready.ensures c.if-not-is_ready.true refl
+
+pub realm_of-requires : goal.realm_of-requires
+realm_of-requires g c = in_granules c.args.self.now _ c.self.view_is c.self.invariant c.args.rec c.requires
+
+pub unreachable-requires : goal.unreachable-requires
+unreachable-requires g c =
+    let at = rec_read c.args.self.now _ c.self.view_is c.self.invariant c.args.rec c.requires c.number.result c.number.ensures.value c.index.result.now (Some c.in-Some.kept) c.index.ensures c.in-Some.is in
+    no_rd _ c.self.invariant c.args.rec c.in-Some.kept at (sym c.realm_of.ensures ∙ c.in_default-realm_of.is)
 
 pub release-requires-clause-page : goal.release-requires-clause-page
 release-requires-clause-page g c =
@@ -52,16 +62,41 @@ index_mut-requires g c =
     let inside : c.number-2.result < length c.self.inside.recs.items = rec_place c.args.self.now _ c.self.view_is c.self.invariant c.args.rec c.requires c.number-2.result c.number-2.ensures.value in
     omega (arith, inside)
 
+pub index_mut-requires-2 : goal.index_mut-requires-2
+index_mut-requires-2 g c =
+    let at = rec_read c.args.self.now _ c.self.view_is c.self.invariant c.args.rec c.requires c.number.result c.number.ensures.value c.index.result.now (Some c.in-Some.kept) c.index.ensures c.in-Some.is in
+    let of = sym c.realm_of.ensures ∙ c.in-Some-realm_of.is in
+    let inside = realm_inside _ c.self.invariant c.in-Some-realm_of.rd _ (its_realm _ c.self.invariant c.args.rec c.in-Some.kept at c.in-Some-realm_of.rd of) in
+    let place : c.number-3.result < length c.self.inside.rec_counts.items = count_place _ c.self.invariant c.in-Some-realm_of.rd inside c.number-3.result c.number-3.ensures.value in
+    omega (arith, place)
+
+pub overflow_sub-index_mut : goal.overflow_sub-index_mut
+overflow_sub-index_mut g c =
+    let at = rec_read c.args.self.now _ c.self.view_is c.self.invariant c.args.rec c.requires c.number.result c.number.ensures.value c.index.result.now (Some c.in-Some.kept) c.index.ensures c.in-Some.is in
+    let of = sym c.realm_of.ensures ∙ c.in-Some-realm_of.is in
+    let inside = realm_inside _ c.self.invariant c.in-Some-realm_of.rd _ (its_realm _ c.self.invariant c.args.rec c.in-Some.kept at c.in-Some-realm_of.rd of) in
+    let read = count_read _ c.self.invariant c.in-Some-realm_of.rd inside c.number-3.result c.number-3.ensures.value c.index_mut-2.result.now c.index_mut-2.ensures.value in
+    let some = some_recs _ c.self.invariant c.args.rec c.in-Some.kept c.in-Some-realm_of.rd _ (kept_by _ c.self.invariant c.args.rec c.in-Some.kept at c.in-Some-realm_of.rd of) in
+    omega (arith, read, some)
+
 pub invariant_of-self : goal.invariant_of-self
 invariant_of-self g c =
     let at = rec_read c.args.self.now _ c.self.view_is c.self.invariant c.args.rec c.requires c.number.result c.number.ensures.value c.index.result.now (Some c.in-Some.kept) c.index.ensures c.in-Some.is in
-    subst IsWhole (sym (gone_by _ c.self.invariant c.args.rec c.in-Some.kept at c.release_all.new.granules c.release.new.granules _ _ _ _ c.auxiliaries.result.now c.number-2.result
-    c.auxiliaries.ensures.value c.number-2.ensures.value c.release.ensures.shifted c.release_all.ensures.shifted c.release.ensures.cleared c.release_all.ensures.cleared c.release.ensures.flags c.release_all.ensures.flags))
-    (whole_gone _ c.self.invariant _ c.args.rec c.in-Some.kept _ (kept_at _ c.self.invariant c.args.rec c.in-Some.kept at))
+    let of = sym c.realm_of.ensures ∙ c.in-Some-realm_of.is in
+    let inside = realm_inside _ c.self.invariant c.in-Some-realm_of.rd _ (its_realm _ c.self.invariant c.args.rec c.in-Some.kept at c.in-Some-realm_of.rd of) in
+    let read = count_read _ c.self.invariant c.in-Some-realm_of.rd inside c.number-3.result c.number-3.ensures.value c.index_mut-2.result.now c.index_mut-2.ensures.value in
+    subst IsWhole (sym (gone_by _ c.self.invariant c.args.rec c.in-Some.kept at c.in-Some-realm_of.rd c.release_all.new.granules c.release.new.granules _ _ _ _ c.auxiliaries.result.now c.number-2.result c.number-3.result c.index_mut-2.result.now
+    c.auxiliaries.ensures.value c.number-2.ensures.value c.release.ensures.shifted c.release_all.ensures.shifted c.release.ensures.cleared c.release_all.ensures.cleared c.release.ensures.flags c.release_all.ensures.flags
+    c.number-3.ensures.value read))
+    (whole_gone _ c.self.invariant _ c.args.rec c.in-Some.kept _ (kept_by _ c.self.invariant c.args.rec c.in-Some.kept at c.in-Some-realm_of.rd of))
 
 pub returns : goal.returns
 returns g c =
     let at = rec_read c.args.self.now _ c.self.view_is c.self.invariant c.args.rec c.requires c.number.result c.number.ensures.value c.index.result.now (Some c.in-Some.kept) c.index.ensures c.in-Some.is in
-    ready c.args.self.now _ c.self.view_is c.self.invariant c.args.rec c.requires c.in-Some.kept _ _ (kept_at _ c.self.invariant c.args.rec c.in-Some.kept at) c.is_ready.result _ c.is_ready.ensures c.if-not-is_ready.false
-    (ap seen_as (gone_by _ c.self.invariant c.args.rec c.in-Some.kept at c.release_all.new.granules c.release.new.granules _ _ _ _ c.auxiliaries.result.now c.number-2.result
-    c.auxiliaries.ensures.value c.number-2.ensures.value c.release.ensures.shifted c.release_all.ensures.shifted c.release.ensures.cleared c.release_all.ensures.cleared c.release.ensures.flags c.release_all.ensures.flags))
+    let of = sym c.realm_of.ensures ∙ c.in-Some-realm_of.is in
+    let inside = realm_inside _ c.self.invariant c.in-Some-realm_of.rd _ (its_realm _ c.self.invariant c.args.rec c.in-Some.kept at c.in-Some-realm_of.rd of) in
+    let read = count_read _ c.self.invariant c.in-Some-realm_of.rd inside c.number-3.result c.number-3.ensures.value c.index_mut-2.result.now c.index_mut-2.ensures.value in
+    ready c.args.self.now _ c.self.view_is c.self.invariant c.args.rec c.in-Some.kept _ _ (kept_by _ c.self.invariant c.args.rec c.in-Some.kept at c.in-Some-realm_of.rd of) c.is_ready.result _ c.is_ready.ensures c.if-not-is_ready.false
+    (ap seen_as (gone_by _ c.self.invariant c.args.rec c.in-Some.kept at c.in-Some-realm_of.rd c.release_all.new.granules c.release.new.granules _ _ _ _ c.auxiliaries.result.now c.number-2.result c.number-3.result c.index_mut-2.result.now
+    c.auxiliaries.ensures.value c.number-2.ensures.value c.release.ensures.shifted c.release_all.ensures.shifted c.release.ensures.cleared c.release_all.ensures.cleared c.release.ensures.flags c.release_all.ensures.flags
+    c.number-3.ensures.value read))

@@ -14,15 +14,15 @@ index_mut-requires g c =
 
 pub returns-in_default : goal.returns-in_default
 returns-in_default g c =
-    refused_none c.args.self.now _ c.self.view_is c.self.invariant c.args.rec c.requires _ rec_enter
+    refused_none c.args.self.now _ c.self.view_is c.self.invariant c.args.rec _ rec_enter
     (rec_read c.args.self.now _ c.self.view_is c.self.invariant c.args.rec c.requires c.number.result c.number.ensures.value _ None c.index_mut.ensures.value c.in_default.is)
     (λ i. slice_set c.self.inside.recs.items (c.number.ensures.value i) (c.in_default.is i))
 
 pub realm_of-requires : goal.realm_of-requires
 realm_of-requires g c = in_granules c.args.self.now _ c.self.view_is c.self.invariant c.args.rec c.requires
 
-pub returns-in_default-realm_of : goal.returns-in_default-realm_of
-returns-in_default-realm_of g c =
+pub unreachable-requires : goal.unreachable-requires
+unreachable-requires g c =
     let at = rec_read c.args.self.now _ c.self.view_is c.self.invariant c.args.rec c.requires c.number.result c.number.ensures.value _ (Some c.in-Some.kept) c.index_mut.ensures.value c.in-Some.is in
     no_rd _ c.self.invariant c.args.rec c.in-Some.kept at (sym c.realm_of.ensures ∙ c.in_default-realm_of.is)
 
@@ -32,8 +32,8 @@ index-requires g c =
     let place = realm_place _ c.self.invariant c.args.rec c.in-Some.kept at c.in-Some-realm_of.rd (sym c.realm_of.ensures ∙ c.in-Some-realm_of.is) c.number-2.result c.number-2.ensures.value in
     omega arith
 
-pub returns-in_default-index : goal.returns-in_default-index
-returns-in_default-index g c =
+pub unreachable-requires-in_default-index : goal.unreachable-requires-in_default-index
+unreachable-requires-in_default-index g c =
     let at = rec_read c.args.self.now _ c.self.view_is c.self.invariant c.args.rec c.requires c.number.result c.number.ensures.value _ (Some c.in-Some.kept) c.index_mut.ensures.value c.in-Some.is in
     let of = sym c.realm_of.ensures ∙ c.in-Some-realm_of.is in
     no_realm _ c.self.invariant c.args.rec c.in-Some.kept at c.in-Some-realm_of.rd of
@@ -44,7 +44,7 @@ returns-then-is_new g c =
     let at = rec_read c.args.self.now _ c.self.view_is c.self.invariant c.args.rec c.requires c.number.result c.number.ensures.value _ (Some c.in-Some.kept) c.index_mut.ensures.value c.in-Some.is in
     let kept = kept_there _ c.self.invariant c.args.rec c.in-Some.kept at c.in-Some-realm_of.rd (sym c.realm_of.ensures ∙ c.in-Some-realm_of.is)
     c.number-2.result c.number-2.ensures.value _ c.in-Some-index.realm c.index.ensures c.in-Some-index.is in
-    enter_new c.args.self.now _ c.self.view_is c.self.invariant c.args.rec c.requires _ c.in-Some.kept c.in-Some-realm_of.rd c.in-Some-index.realm kept
+    enter_new c.args.self.now _ c.self.view_is c.self.invariant c.args.rec _ c.in-Some.kept c.in-Some-realm_of.rd c.in-Some-index.realm kept
     c.is_new.result c.is_new.ensures c.if-is_new.true
     (λ i. slice_set c.self.inside.recs.items (c.number.ensures.value i) (Some c.in-Some.kept))
 
@@ -53,7 +53,7 @@ returns-then-not-is_ready g c =
     let at = rec_read c.args.self.now _ c.self.view_is c.self.invariant c.args.rec c.requires c.number.result c.number.ensures.value _ (Some c.in-Some.kept) c.index_mut.ensures.value c.in-Some.is in
     let kept = kept_there _ c.self.invariant c.args.rec c.in-Some.kept at c.in-Some-realm_of.rd (sym c.realm_of.ensures ∙ c.in-Some-realm_of.is)
     c.number-2.result c.number-2.ensures.value _ c.in-Some-index.realm c.index.ensures c.in-Some-index.is in
-    enter_running c.args.self.now _ c.self.view_is c.self.invariant c.args.rec c.requires _ c.in-Some.kept c.in-Some-realm_of.rd c.in-Some-index.realm kept
+    enter_running c.args.self.now _ c.self.view_is c.self.invariant c.args.rec _ c.in-Some.kept c.in-Some-realm_of.rd c.in-Some-index.realm kept
     c.is_new.result c.is_new.ensures c.if-is_new.false (sym (c.is_ready.ensures c.args.rec) ∙ c.if-not-is_ready.true)
     (λ i. slice_set c.self.inside.recs.items (c.number.ensures.value i) (Some c.in-Some.kept))
 
@@ -70,6 +70,6 @@ returns g c =
     let at = rec_read c.args.self.now _ c.self.view_is c.self.invariant c.args.rec c.requires c.number.result c.number.ensures.value _ (Some c.in-Some.kept) c.index_mut.ensures.value c.in-Some.is in
     let kept = kept_there _ c.self.invariant c.args.rec c.in-Some.kept at c.in-Some-realm_of.rd (sym c.realm_of.ensures ∙ c.in-Some-realm_of.is)
     c.number-2.result c.number-2.ensures.value _ c.in-Some-index.realm c.index.ensures c.in-Some-index.is in
-    enter_done c.args.self.now _ c.self.view_is c.self.invariant c.args.rec c.requires _ c.in-Some.kept c.in-Some-realm_of.rd c.in-Some-index.realm kept
+    enter_done c.args.self.now _ c.self.view_is c.self.invariant c.args.rec _ c.in-Some.kept c.in-Some-realm_of.rd c.in-Some-index.realm kept
     c.is_new.result c.is_new.ensures c.if-is_new.false (sym (c.is_ready.ensures c.args.rec) ∙ c.if-not-is_ready.false)
     (λ i. slice_set c.self.inside.recs.items (c.number.ensures.value i) (Some (c.enter.ensures i)))

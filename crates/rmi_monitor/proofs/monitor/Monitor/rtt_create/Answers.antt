@@ -1,18 +1,16 @@
-use Rattle.std.proofs.Common.{◌≡◌, ◌<◌, length, Some, None, Err, sym, ap, subst, ◌∙◌, arith, refl}
+use Rattle.std.proofs.Common.{◌≡◌, ◌<◌, length, Some, None, Err, ap, ◌∙◌, arith, refl, sym}
 use Rattle.realm_model.specs.Rows.{is_table_place}
-use Rattle.realm_model.specs.Command.Check.{error_input, is_protected}
+use Rattle.realm_model.specs.Command.Check.{error_input, error_rtt}
 use Rattle.realm_model.specs.Command.Table.{rtt_create}
-use Rattle.rtt.specs.Tables.{rows}
-use Rattle.rtt.specs.Realm.{HasTables}
-use Rattle.rtt.specs.Calls.{create_refusal}
 use Rattle.rmi_monitor.specs.View.{seen_in}
-use Rattle.rmi_monitor.specs.Inside.{fields_of, seen_as}
-use Rattle.rmi_monitor.proofs.Granules.{in_granules}
-use Rattle.rmi_monitor.proofs.Refusals.{refused_with, not_refused}
-use Rattle.rmi_monitor.proofs.TableCreates.{CreateCall, create_call_at, create_nowhere, create_misplaced, create_unprotected, create_undelegated, create_refused, create_answers, whole_created, create_done}
+use Rattle.rmi_monitor.specs.Inside.{fields_of}
 use Rattle.rmi_monitor.proofs.Comparisons.{test_held, test_failed}
-use Rattle.rmi_monitor.proofs.Outcomes.{answers_err, after_err}
+use Rattle.rmi_monitor.proofs.Granules.{in_granules}
+use Rattle.rmi_monitor.proofs.Located.{located, unprotected, located_tables, located_inside}
+use Rattle.rmi_monitor.proofs.Outcomes.{answers_err, answers_refused, after_err}
+use Rattle.rmi_monitor.proofs.RealmCommands.{Done, seen_refused}
 use Rattle.rmi_monitor.proofs.RealmFound.{realm_place, realm_read}
+use Rattle.rmi_monitor.proofs.TableCreates.{create_nowhere, create_misplaced, create_unprotected, create_undelegated, create_refused, create_done}
 use Rattle.rmi_monitor.proofs.monitor.Monitor.rtt_create.Given.{Over}
 use Rattle.rmi_monitor.proofs.monitor.Monitor.rtt_create.Goals as goal
 use Rattle.rmi_monitor.proofs.monitor.Monitor.rtt_create.Goals.{in_default-2-via-in-Some+in_default, in_default-2-via-in_default}
@@ -26,16 +24,12 @@ index-requires g c =
 
 -- ---- no realm
 
-no_realm : (g : Over) (c : goal.In_default g) → rtt_create (seen_in c.args.self.now c.args.rd) (seen_in c.args.self.now c.args.table) c.args.ipa c.args.level ≡ Err error_input
-no_realm g c =
+pub returns-in_default : goal.returns-in_default
+returns-in_default g c =
+    let none =
     create_nowhere c.args.self.now _ c.self.view_is c.self.invariant c.args.rd c.args.table c.args.ipa c.args.level c.requires.rd_taken c.requires.table_taken
-    (realm_read c.args.self.now _ c.self.view_is c.self.invariant c.args.rd c.requires.rd_taken.inside c.number.result c.index.result.now None c.number.ensures.value c.index.ensures c.in_default.is)
-
-pub returns-in_default-clause-answer : goal.returns-in_default-clause-answer
-returns-in_default-clause-answer g c = answers_err (Unit {0}) error_input _ (no_realm g c)
-
-pub returns-in_default-clause-machine : goal.returns-in_default-clause-machine
-returns-in_default-clause-machine g c = after_err c.args.self.now error_input _ (no_realm g c)
+    (realm_read c.args.self.now _ c.self.view_is c.self.invariant c.args.rd c.requires.rd_taken.inside c.number.result c.index.result.now None c.number.ensures.value c.index.ensures c.in_default.is) in
+    record { answer = answers_err (Unit {0}) error_input _ none; machine = after_err c.args.self.now error_input _ none }
 
 -- ---- no place of a table
 
@@ -45,107 +39,82 @@ no_place g c =
     elim c.in_default-2.branch [
       | in_default-2-via-in-Some+in_default w ↦
           create_unprotected c.args.self.now _ c.self.view_is c.self.invariant c.args.rd c.args.table c.args.ipa c.args.level c.requires.rd_taken c.requires.table_taken c.in-Some.realm there
-          (test_failed (is_protected c.args.ipa) c.args.ipa c.protected.result c.protected.ensures w.in_default-2.is-1)
+          (unprotected c.in-Some.realm c.args.ipa c.root.result c.root.ensures c.protected.result c.protected.ensures w.in_default-2.is-1)
       | in_default-2-via-in_default w ↦
           create_misplaced c.args.self.now _ c.self.view_is c.self.invariant c.args.rd c.args.table c.args.ipa c.args.level c.requires.rd_taken c.requires.table_taken c.in-Some.realm there
           (test_failed (is_table_place c.args.ipa c.args.level) c.args.level c.table_level.result c.table_level.ensures w.in_default-2.is-0)
     ]
 
-pub returns-in_default-2-clause-answer : goal.returns-in_default-2-clause-answer
-returns-in_default-2-clause-answer g c = answers_err (Unit {0}) error_input _ (no_place g c)
+pub returns-in_default-2 : goal.returns-in_default-2
+returns-in_default-2 g c = record { answer = answers_err (Unit {0}) error_input _ (no_place g c); machine = after_err c.args.self.now error_input _ (no_place g c) }
 
-pub returns-in_default-2-clause-machine : goal.returns-in_default-2-clause-machine
-returns-in_default-2-clause-machine g c = after_err c.args.self.now error_input _ (no_place g c)
-
--- ---- no DELEGATED granule
+-- ---- the granule is not DELEGATED
 
 pub is_delegated-requires : goal.is_delegated-requires
 is_delegated-requires g c = in_granules c.args.self.now _ c.self.view_is c.self.invariant c.args.table c.requires.table_taken
 
-not_delegated : (g : Over) (c : goal.Then-not-is_delegated g) → rtt_create (seen_in c.args.self.now c.args.rd) (seen_in c.args.self.now c.args.table) c.args.ipa c.args.level ≡ Err error_input
-not_delegated g c =
+pub returns-then-not-is_delegated : goal.returns-then-not-is_delegated
+returns-then-not-is_delegated g c =
+    let undelegated =
     create_undelegated c.args.self.now _ c.self.view_is c.self.invariant c.args.rd c.args.table c.args.ipa c.args.level c.requires.rd_taken c.requires.table_taken c.in-Some.realm
     (realm_read c.args.self.now _ c.self.view_is c.self.invariant c.args.rd c.requires.rd_taken.inside c.number.result c.index.result.now (Some c.in-Some.realm) c.number.ensures.value c.index.ensures c.in-Some.is)
-    (sym c.is_delegated.ensures ∙ c.if-not-is_delegated.true)
-
-pub returns-then-not-is_delegated-clause-answer : goal.returns-then-not-is_delegated-clause-answer
-returns-then-not-is_delegated-clause-answer g c = answers_err (Unit {0}) error_input _ (not_delegated g c)
-
-pub returns-then-not-is_delegated-clause-machine : goal.returns-then-not-is_delegated-clause-machine
-returns-then-not-is_delegated-clause-machine g c = after_err c.args.self.now error_input _ (not_delegated g c)
+    (sym c.is_delegated.ensures ∙ c.if-not-is_delegated.true) in
+    record { answer = answers_err (Unit {0}) error_input _ undelegated; machine = after_err c.args.self.now error_input _ undelegated }
 
 -- ---- the call
 
 pub create_table-requires-clause-tables : goal.create_table-requires-clause-tables
 create_table-requires-clause-tables g c =
-    subst (λ root. HasTables (g.S.PageStore.page_bytes c.self.inside.store) c.self.inside.granules c.args.rd root) (sym c.root.ensures)
-    (c.self.invariant.tables c.args.rd c.in-Some.realm
-    (realm_read c.args.self.now _ c.self.view_is c.self.invariant c.args.rd c.requires.rd_taken.inside c.number.result c.index.result.now (Some c.in-Some.realm) c.number.ensures.value c.index.ensures c.in-Some.is))
+    located_tables c.in-Some.realm c.args.rd c.args.ipa c.tables_of.result c.in-Some-Some.ipa
+    (located c.in-Some.realm c.args.ipa c.root.result c.root.ensures c.protected.result c.protected.ensures c.args.rd c.tables_of.result c.tables_of.ensures c.in-Some-Some.ipa c.in-Some-Some.is-1) _ c.self.invariant
+    (realm_read c.args.self.now _ c.self.view_is c.self.invariant c.args.rd c.requires.rd_taken.inside c.number.result c.index.result.now (Some c.in-Some.realm) c.number.ensures.value c.index.ensures c.in-Some.is)
 
-refused : (g : Over) (c : goal.After-rtt_refusal g) → rtt_create (seen_in c.args.self.now c.args.rd) (seen_in c.args.self.now c.args.table) c.args.ipa c.args.level ≡ Err c.rtt_refusal.result
+pub create_table-requires-clause-inside : goal.create_table-requires-clause-inside
+create_table-requires-clause-inside g c =
+    located_inside c.in-Some.realm c.args.rd c.args.ipa c.tables_of.result c.in-Some-Some.ipa
+    (located c.in-Some.realm c.args.ipa c.root.result c.root.ensures c.protected.result c.protected.ensures c.args.rd c.tables_of.result c.tables_of.ensures c.in-Some-Some.ipa c.in-Some-Some.is-1)
+
+refused : (g : Over) (c : goal.After-from_residual g)
+    → rtt_create (seen_in c.args.self.now c.args.rd) (seen_in c.args.self.now c.args.table) c.args.ipa c.args.level ≡ Err (error_rtt c.in_err-create_table.field-0.0.level)
 refused g c =
     let level = test_held (is_table_place c.args.ipa c.args.level) c.args.level c.in-Some-Some.level c.table_level.result c.table_level.ensures c.in-Some-Some.is-0 in
-    let ipa = test_held (is_protected c.args.ipa) c.args.ipa c.in-Some-Some.ipa c.protected.result c.protected.ensures c.in-Some-Some.is-1 in
     create_refused c.args.self.now _ c.self.view_is c.self.invariant c.args.rd c.args.table c.args.ipa c.args.level c.requires.rd_taken c.requires.table_taken c.in-Some.realm
     (realm_read c.args.self.now _ c.self.view_is c.self.invariant c.args.rd c.requires.rd_taken.inside c.number.result c.index.result.now (Some c.in-Some.realm) c.number.ensures.value c.index.ensures c.in-Some.is)
-    level.0 ipa.0 (sym c.is_delegated.ensures ∙ c.if-not-is_delegated.false) c.in-Err.refusal.level
-    ((λ k. create_refusal (rows (g.S.PageStore.page_bytes c.self.inside.store) (sym c.root.ensures k)) (sym ipa.1 k) (sym level.1 k)) ∙ refused_with (Unit {0}) c.in-Err.refusal _ c.in-Err.ensures.answer)
-    ∙ ap (λ rmi. Err rmi) (sym c.rtt_refusal.ensures)
+    c.tables_of.result c.in-Some-Some.ipa c.in-Some-Some.level
+    (located c.in-Some.realm c.args.ipa c.root.result c.root.ensures c.protected.result c.protected.ensures c.args.rd c.tables_of.result c.tables_of.ensures c.in-Some-Some.ipa c.in-Some-Some.is-1)
+    level.1 level.0 (sym c.is_delegated.ensures ∙ c.if-not-is_delegated.false)
+    c.in_err-create_table.field-0.0.level c.in_err-create_table.ensures.answer
 
-pub returns-in-Err-clause-answer : goal.returns-in-Err-clause-answer
-returns-in-Err-clause-answer g c = answers_err (Unit {0}) c.rtt_refusal.result _ (refused g c)
+pub returns-in_err-create_table : goal.returns-in_err-create_table
+returns-in_err-create_table g c = record {
+  answer = answers_refused c.from_residual.result (error_rtt c.in_err-create_table.field-0.0.level) _ c.from_residual.ensures.1 (refused g c);
+  machine =
+      seen_refused c.args.self.now _ c.self.view_is _ _ _ c.in_err-create_table.ensures.unchanged.1 c.in_err-create_table.ensures.unchanged.0 c.in_err-create_table.ensures.keeps.rest.flags
+      (error_rtt c.in_err-create_table.field-0.0.level) _ (refused g c);
+}
 
-pub returns-in-Err-clause-machine : goal.returns-in-Err-clause-machine
-returns-in-Err-clause-machine g c =
-    (λ i. seen_as (fields_of c.self.inside.vmids c.self.inside.aux (c.in-Err.ensures.unchanged.1 i) (c.in-Err.ensures.unchanged.0 i) (c.create_table.ensures.flags i) c.self.inside.realms.items c.self.inside.recs.items))
-    ∙ c.self.view_is ∙ after_err c.args.self.now c.rtt_refusal.result _ (refused g c)
+-- ---- the table is there
 
--- ---- the granule is a table
-
-call : (g : Over) (c : goal.In_default-create_table g)
-    → CreateCall c.args.rd c.args.table (g.S.PageStore.page_bytes c.self.inside.store) (g.S.PageStore.free_flags c.self.inside.store) c.self.inside.granules
-    (g.S.PageStore.page_bytes c.create_table.new.store) (g.S.PageStore.free_flags c.create_table.new.store) c.create_table.new.granules c.in-Some.realm.root c.args.ipa c.args.level
-call g c =
-    create_call_at c.root.ensures
-    (test_held (is_protected c.args.ipa) c.args.ipa c.in-Some-Some.ipa c.protected.result c.protected.ensures c.in-Some-Some.is-1).1
-    (test_held (is_table_place c.args.ipa c.args.level) c.args.level c.in-Some-Some.level c.table_level.result c.table_level.ensures c.in-Some-Some.is-0).1
-    (record {
-      gains = c.in_default-create_table.ensures.rows;
-      moved = c.in_default-create_table.ensures.moved;
-      tables = c.create_table.ensures.tables;
-      backed = c.create_table.ensures.backed;
-      flags = c.create_table.ensures.flags;
-      others = c.create_table.ensures.others;
-      other_realms = c.create_table.ensures.other_realms;
-    })
-
-accepted : (g : Over) (c : goal.In_default-create_table g) → create_refusal (rows (g.S.PageStore.page_bytes c.self.inside.store) c.in-Some.realm.root) c.args.ipa c.args.level ≡ None
-accepted g c =
+done : (g : Over) (c : goal.In_ok-create_table g)
+    → Done c.args.self.now (rtt_create (seen_in c.args.self.now c.args.rd) (seen_in c.args.self.now c.args.table) c.args.ipa c.args.level)
+    (fields_of c.self.inside.vmids c.self.inside.aux c.self.inside.used c.create_table.new.granules (g.S.PageStore.page_bytes c.create_table.new.store)
+    (g.S.PageStore.free_flags c.create_table.new.store) c.self.inside.realms.items c.self.inside.rec_counts.items c.self.inside.recs.items)
+done g c =
     let level = test_held (is_table_place c.args.ipa c.args.level) c.args.level c.in-Some-Some.level c.table_level.result c.table_level.ensures c.in-Some-Some.is-0 in
-    let ipa = test_held (is_protected c.args.ipa) c.args.ipa c.in-Some-Some.ipa c.protected.result c.protected.ensures c.in-Some-Some.is-1 in
-    (λ k. create_refusal (rows (g.S.PageStore.page_bytes c.self.inside.store) (sym c.root.ensures k)) (sym ipa.1 k) (sym level.1 k))
-    ∙ not_refused c.in_default-create_table.field-0 _ c.in_default-create_table.ensures.answer
-
-pub invariant_of-self-2 : goal.invariant_of-self-2
-invariant_of-self-2 g c =
-    whole_created c.args.self.now _ c.self.view_is c.self.invariant c.args.rd c.args.table c.args.ipa c.args.level c.requires.rd_taken c.requires.table_taken c.in-Some.realm
-    (realm_read c.args.self.now _ c.self.view_is c.self.invariant c.args.rd c.requires.rd_taken.inside c.number.result c.index.result.now (Some c.in-Some.realm) c.number.ensures.value c.index.ensures c.in-Some.is)
-    (test_held (is_table_place c.args.ipa c.args.level) c.args.level c.in-Some-Some.level c.table_level.result c.table_level.ensures c.in-Some-Some.is-0).0
-    (test_held (is_protected c.args.ipa) c.args.ipa c.in-Some-Some.ipa c.protected.result c.protected.ensures c.in-Some-Some.is-1).0
-    (sym c.is_delegated.ensures ∙ c.if-not-is_delegated.false) (accepted g c) _ _ _ (call g c)
-
-pub returns-clause-answer : goal.returns-clause-answer
-returns-clause-answer g c =
-    create_answers c.args.self.now _ c.self.view_is c.self.invariant c.args.rd c.args.table c.args.ipa c.args.level c.requires.rd_taken c.requires.table_taken c.in-Some.realm
-    (realm_read c.args.self.now _ c.self.view_is c.self.invariant c.args.rd c.requires.rd_taken.inside c.number.result c.index.result.now (Some c.in-Some.realm) c.number.ensures.value c.index.ensures c.in-Some.is)
-    (test_held (is_table_place c.args.ipa c.args.level) c.args.level c.in-Some-Some.level c.table_level.result c.table_level.ensures c.in-Some-Some.is-0).0
-    (test_held (is_protected c.args.ipa) c.args.ipa c.in-Some-Some.ipa c.protected.result c.protected.ensures c.in-Some-Some.is-1).0
-    (sym c.is_delegated.ensures ∙ c.if-not-is_delegated.false) (accepted g c) {A = Unit {0}} tt
-
-pub returns-clause-machine : goal.returns-clause-machine
-returns-clause-machine g c =
     create_done c.args.self.now _ c.self.view_is c.self.invariant c.args.rd c.args.table c.args.ipa c.args.level c.requires.rd_taken c.requires.table_taken c.in-Some.realm
     (realm_read c.args.self.now _ c.self.view_is c.self.invariant c.args.rd c.requires.rd_taken.inside c.number.result c.index.result.now (Some c.in-Some.realm) c.number.ensures.value c.index.ensures c.in-Some.is)
-    (test_held (is_table_place c.args.ipa c.args.level) c.args.level c.in-Some-Some.level c.table_level.result c.table_level.ensures c.in-Some-Some.is-0).0
-    (test_held (is_protected c.args.ipa) c.args.ipa c.in-Some-Some.ipa c.protected.result c.protected.ensures c.in-Some-Some.is-1).0
-    (sym c.is_delegated.ensures ∙ c.if-not-is_delegated.false) (accepted g c) _ _ _ (call g c)
+    c.tables_of.result c.in-Some-Some.ipa c.in-Some-Some.level
+    (located c.in-Some.realm c.args.ipa c.root.result c.root.ensures c.protected.result c.protected.ensures c.args.rd c.tables_of.result c.tables_of.ensures c.in-Some-Some.ipa c.in-Some-Some.is-1)
+    level.1 level.0 (sym c.is_delegated.ensures ∙ c.if-not-is_delegated.false) _ _ _ (record {
+      answer = c.in_ok-create_table.ensures.answer;
+      gains = c.in_ok-create_table.ensures.rows;
+      moved = c.in_ok-create_table.ensures.moved;
+      others = c.in_ok-create_table.ensures.others;
+      keeps = c.in_ok-create_table.ensures.keeps;
+    })
+
+pub invariant_of-self-2 : goal.invariant_of-self-2
+invariant_of-self-2 g c = (done g c).whole
+
+pub returns : goal.returns
+returns g c = record { answer = (done g c).answers; machine = (done g c).seen }

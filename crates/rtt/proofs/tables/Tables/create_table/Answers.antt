@@ -1,11 +1,14 @@
-use Rattle.std.proofs.Common.{◌≡◌, false, Some, set, sym, ap, arith, rules}
+use Rattle.std.proofs.Common.{◌≡◌, false, Some, set, sym, ap, arith, rules, ◌-◌, inl, inr, not}
 use Rattle.granule_table.specs.Granules.{granule_at}
 use Rattle.granule_table.specs.declared.granule.Granule.{Granule}
 use Rattle.realm_model.specs.declared.states.GranuleState.TheVariants.{Delegated, Rtt as InRtt}
 use Rattle.realm_model.specs.Rows.{Row, is_table}
 use Rattle.rtt.proofs.NewTables.{Created, created}
+use Rattle.rtt.specs.Tables.{rows}
+use Rattle.rtt.proofs.FoundRows.{row_passed, row_refused}
 use Rattle.rtt.proofs.tables.Tables.create_table.Given.{Over}
 use Rattle.rtt.proofs.tables.Tables.create_table.Goals as goal
+use Rattle.rtt.proofs.tables.Tables.create_table.Goals.{then-number-via-then-number, then-number-via-else-number+then-is_table}
 
 done : (g : Over) (c : goal.After-shift g) → Created (g.S.PageStore.page_bytes c.args.store.now) (g.S.PageStore.page_bytes c.write.new.store) c.args.granules.now c.shift.new.self c.args.self.now.rd c.args.self.now.root c.args.level c.args.ipa c.args.table
 done g c =
@@ -22,11 +25,23 @@ done g c =
 pub returns-clause-rows : goal.returns-clause-rows
 returns-clause-rows g c = (done g c).rows_are
 
-pub returns-clause-tables : goal.returns-clause-tables
-returns-clause-tables g c = (done g c).tables
-
 pub returns-clause-others : goal.returns-clause-others
 returns-clause-others g c = (done g c).others
 
-pub returns-clause-other_realms : goal.returns-clause-other_realms
-returns-clause-other_realms g c = (done g c).other_realms
+pub returns-clause-keeps : goal.returns-clause-keeps
+returns-clause-keeps g c = record {
+  tables = (done g c).tables;
+  rest = record { backed = search rules; flags = search rules; other_realms = (done g c).other_realms };
+}
+
+pub returns-then-number-clause-answer : goal.returns-then-number-clause-answer
+returns-then-number-clause-answer g c =
+    row_refused (rows (g.S.PageStore.page_bytes c.args.store.now) c.args.self.now.root) c.args.ipa (c.args.level - 1) c.above-wanted.result c.find-upper.result.level c.find-upper.result.entry (omega arith) c.find-upper.ensures.walk (λ row. not (is_table row))
+    (elim c.then-number.branch [ then-number-via-then-number w ↦ inl (omega arith) | then-number-via-else-number+then-is_table w ↦ inr (ap not (sym w.if-is_table.ensures)) ])
+
+pub returns-clause-answer : goal.returns-clause-answer
+returns-clause-answer g c = (
+  c.find-upper.result.entry,
+  row_passed (rows (g.S.PageStore.page_bytes c.args.store.now) c.args.self.now.root) c.args.ipa (c.args.level - 1) c.above-wanted.result c.find-upper.result.level c.find-upper.result.entry (omega arith) c.find-upper.ensures.walk (λ row. not (is_table row))
+      (omega arith) (ap not (sym c.if-is_table.ensures)),
+)

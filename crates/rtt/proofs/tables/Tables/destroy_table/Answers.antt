@@ -1,10 +1,14 @@
-use Rattle.std.proofs.Common.{◌≡◌, true, false, Some, None, set, refl, sym, ap, arith, rules}
+use Rattle.std.proofs.Common.{◌≡◌, true, false, Some, None, set, refl, sym, ap, arith, rules, inl, inr, subst, ◌∙◌}
 use Rattle.granule_table.specs.Granules.{granule_at, IsIn}
 use Rattle.granule_table.specs.declared.granule.Granule.{Granule}
 use Rattle.realm_model.specs.declared.states.GranuleState.TheVariants.{Delegated, Rtt as InRtt}
 use Rattle.rtt.specs.Tables.{rows}
-use Rattle.rtt.proofs.Refusals.{refused, accepted, destroy_refusal-is}
-use Rattle.rtt.proofs.OldTables.{is_table-leads, is_unused, Gone, gone}
+use Rattle.rtt.proofs.EntryKinds.{table_of-leads, table_of-none}
+use Rattle.rtt.proofs.OldTables.{is_unused, Gone, gone}
+use Rattle.granule_addr.specs.Ipa.{entry_index}
+use Rattle.rtt.specs.Word.{IsEntry}
+use Rattle.rtt.proofs.FoundRows.{table_missed, table_passed, table_refused}
+use Rattle.rtt.proofs.Written.{IsEntry-entries_of}
 use Rattle.rtt.proofs.tables.Tables.destroy_table.Given.{Over}
 use Rattle.rtt.proofs.tables.Tables.destroy_table.Goals as goal
 
@@ -13,15 +17,6 @@ all_unassigned-requires-clause-inside g c =
     let lies = (c.find-upper.ensures.child c.in-Some.table (omega arith) (sym c.in-Some.ensures)).inside in
     let as_many = c.requires.backed.as_many in omega arith
 
-pub returns-then-not-all_unassigned-clause-answer : goal.returns-then-not-all_unassigned-clause-answer
-returns-then-not-all_unassigned-clause-answer g c =
-    let pages = g.S.PageStore.page_bytes c.args.store.now in
-    refused c.args.level _
-    (destroy_refusal-is (rows pages c.args.self.now.root) c.args.ipa c.args.level c.find-upper.result.level c.above-wanted.result c.find-upper.result.entry c.find-upper.ensures.walk (omega arith) false (omega arith)
-    (is_table-leads c.find-upper.result.entry c.in-Some.table (sym c.in-Some.ensures))
-    (is_unused pages c.args.self.now.root c.args.level c.above-wanted.result c.find-upper.result.level c.args.ipa c.find-upper.result.table c.in-Some.table c.find-upper.result.entry false
-    c.above-wanted.ensures c.requires.place c.find-upper.ensures.inside (omega arith) c.find-upper.ensures.table c.find-upper.ensures.entry c.in-Some.ensures c.if-not-all_unassigned.ensures))
-
 pub fill-requires-clause-inside : goal.fill-requires-clause-inside
 fill-requires-clause-inside g c =
     let lies = (c.find-upper.ensures.child c.in-Some.table (omega arith) (sym c.in-Some.ensures)).inside in
@@ -29,15 +24,6 @@ fill-requires-clause-inside g c =
 
 pub shift-requires : goal.shift-requires
 shift-requires g c = (c.find-upper.ensures.child c.in-Some.table (omega arith) (sym c.in-Some.ensures)).inside
-
-pub returns-clause-answer : goal.returns-clause-answer
-returns-clause-answer g c =
-    let pages = g.S.PageStore.page_bytes c.args.store.now in
-    accepted _
-    (destroy_refusal-is (rows pages c.args.self.now.root) c.args.ipa c.args.level c.find-upper.result.level c.above-wanted.result c.find-upper.result.entry c.find-upper.ensures.walk (omega arith) true (omega arith)
-    (is_table-leads c.find-upper.result.entry c.in-Some.table (sym c.in-Some.ensures))
-    (is_unused pages c.args.self.now.root c.args.level c.above-wanted.result c.find-upper.result.level c.args.ipa c.find-upper.result.table c.in-Some.table c.find-upper.result.entry true
-    c.above-wanted.ensures c.requires.place c.find-upper.ensures.inside (omega arith) c.find-upper.ensures.table c.find-upper.ensures.entry c.in-Some.ensures c.if-not-all_unassigned.ensures))
 
 done : (g : Over) (c : goal.After-shift g) → Gone (g.S.PageStore.page_bytes c.args.store.now) (g.S.PageStore.page_bytes c.write.new.store) c.args.granules.now c.shift.new.self c.args.self.now.rd c.args.self.now.root c.args.level c.args.ipa
 done g c =
@@ -62,11 +48,37 @@ returns-clause-moved g c = (done g c).moved
 pub returns-clause-cleared : goal.returns-clause-cleared
 returns-clause-cleared g c = (done g c).cleared
 
-pub returns-clause-tables : goal.returns-clause-tables
-returns-clause-tables g c = (done g c).tables
-
 pub returns-clause-others : goal.returns-clause-others
 returns-clause-others g c = (done g c).others
 
-pub returns-clause-other_realms : goal.returns-clause-other_realms
-returns-clause-other_realms g c = (done g c).other_realms
+pub returns-clause-keeps : goal.returns-clause-keeps
+returns-clause-keeps g c = record {
+  tables = (done g c).tables;
+  rest = record { backed = search rules; flags = search rules; other_realms = (done g c).other_realms };
+}
+
+pub returns-then-not-all_unassigned-clause-answer : goal.returns-then-not-all_unassigned-clause-answer
+returns-then-not-all_unassigned-clause-answer g c =
+    table_refused (rows (g.S.PageStore.page_bytes c.args.store.now) c.args.self.now.root) c.args.ipa c.args.level c.above-wanted.result c.find-upper.result.level c.find-upper.result.entry (omega arith) c.find-upper.ensures.walk (omega arith)
+    (table_of-leads c.find-upper.result.entry c.in-Some.table (sym c.in-Some.ensures)).0
+    (is_unused (g.S.PageStore.page_bytes c.args.store.now) c.args.self.now.root c.args.level c.above-wanted.result c.find-upper.result.level c.args.ipa c.find-upper.result.table c.in-Some.table c.find-upper.result.entry false
+    c.above-wanted.ensures c.requires.place c.find-upper.ensures.inside (omega arith) c.find-upper.ensures.table c.find-upper.ensures.entry c.in-Some.ensures c.if-not-all_unassigned.ensures)
+
+pub returns-clause-answer : goal.returns-clause-answer
+returns-clause-answer g c = (
+  c.find-upper.result.entry,
+  table_passed (rows (g.S.PageStore.page_bytes c.args.store.now) c.args.self.now.root) c.args.ipa c.args.level c.above-wanted.result c.find-upper.result.level c.find-upper.result.entry (omega arith) c.find-upper.ensures.walk (omega arith)
+      (table_of-leads c.find-upper.result.entry c.in-Some.table (sym c.in-Some.ensures)).0
+      (is_unused (g.S.PageStore.page_bytes c.args.store.now) c.args.self.now.root c.args.level c.above-wanted.result c.find-upper.result.level c.args.ipa c.find-upper.result.table c.in-Some.table c.find-upper.result.entry true
+      c.above-wanted.ensures c.requires.place c.find-upper.ensures.inside (omega arith) c.find-upper.ensures.table c.find-upper.ensures.entry c.in-Some.ensures c.if-not-all_unassigned.ensures),
+)
+
+pub returns-then-number-clause-answer : goal.returns-then-number-clause-answer
+returns-then-number-clause-answer g c =
+    table_missed (rows (g.S.PageStore.page_bytes c.args.store.now) c.args.self.now.root) c.args.ipa c.args.level c.above-wanted.result c.find-upper.result.level c.find-upper.result.entry (omega arith) c.find-upper.ensures.walk (inl (omega arith))
+
+pub returns-in_default-clause-answer : goal.returns-in_default-clause-answer
+returns-in_default-clause-answer g c =
+    table_missed (rows (g.S.PageStore.page_bytes c.args.store.now) c.args.self.now.root) c.args.ipa c.args.level c.above-wanted.result c.find-upper.result.level c.find-upper.result.entry (omega arith) c.find-upper.ensures.walk
+    (inr (table_of-none c.find-upper.result.entry (subst IsEntry (sym c.find-upper.ensures.entry) (IsEntry-entries_of (g.S.PageStore.page_bytes c.args.store.now) c.find-upper.result.table (entry_index c.find-upper.result.level c.args.ipa)))
+    (sym c.child.ensures ∙ c.in_default.is)))

@@ -1,9 +1,15 @@
-use Rattle.std.proofs.Common.{◌≡◌, None, set, sym, ap, ◌∙◌, arith, rules}
+use Rattle.std.proofs.Common.{◌≡◌, None, set, sym, ap, ◌∙◌, arith, rules, inl, inr, subst}
 use Rattle.granule_table.specs.Granules.{granule_at}
 use Rattle.granule_table.specs.declared.granule.Granule.{Granule}
 use Rattle.realm_model.specs.declared.states.GranuleState.TheVariants.{Undelegated, Delegated, Data as InData}
-use Rattle.realm_model.specs.Rows.{Row, unmapped_ripas}
+use Rattle.realm_model.specs.Rows.{Row, is_assigned, unmapped_ripas}
 use Rattle.rtt.proofs.DataPages.{Unmapped, unmapped}
+use Rattle.granule_addr.specs.Ipa.{entry_index}
+use Rattle.rtt.specs.Word.{IsEntry}
+use Rattle.rtt.specs.Tables.{rows}
+use Rattle.rtt.proofs.EntryKinds.{data_of-none, data_of-leads}
+use Rattle.rtt.proofs.FoundRows.{row_passed, row_refused}
+use Rattle.rtt.proofs.Written.{IsEntry-entries_of}
 use Rattle.rtt.proofs.tables.Tables.unmap.Given.{Over}
 use Rattle.rtt.proofs.tables.Tables.unmap.Goals as goal
 
@@ -39,11 +45,28 @@ returns-clause-moved g c = (done g c).moved
 pub returns-clause-cleared : goal.returns-clause-cleared
 returns-clause-cleared g c = (done g c).cleared
 
-pub returns-clause-tables : goal.returns-clause-tables
-returns-clause-tables g c = (done g c).tables
-
 pub returns-clause-others : goal.returns-clause-others
 returns-clause-others g c = (done g c).others
 
-pub returns-clause-other_realms : goal.returns-clause-other_realms
-returns-clause-other_realms g c = (done g c).other_realms
+pub returns-clause-keeps : goal.returns-clause-keeps
+returns-clause-keeps g c = record {
+  tables = (done g c).tables;
+  rest = record { backed = search rules; flags = search rules; other_realms = (done g c).other_realms };
+}
+
+pub returns-then-number-ne3-clause-answer : goal.returns-then-number-ne3-clause-answer
+returns-then-number-ne3-clause-answer g c =
+    row_refused (rows (g.S.PageStore.page_bytes c.args.store.now) c.args.self.now.root) c.args.ipa 3 c.last.result c.find-table.result.level c.find-table.result.entry c.last.ensures c.find-table.ensures.walk is_assigned (inl (omega arith))
+
+pub returns-in_default-clause-answer : goal.returns-in_default-clause-answer
+returns-in_default-clause-answer g c =
+    row_refused (rows (g.S.PageStore.page_bytes c.args.store.now) c.args.self.now.root) c.args.ipa 3 c.last.result c.find-table.result.level c.find-table.result.entry c.last.ensures c.find-table.ensures.walk is_assigned
+    (inr (data_of-none c.find-table.result.entry (subst IsEntry (sym c.find-table.ensures.entry) (IsEntry-entries_of (g.S.PageStore.page_bytes c.args.store.now) c.find-table.result.table (entry_index c.find-table.result.level c.args.ipa)))
+    (sym c.page.ensures ∙ c.in_default.is)))
+
+pub returns-clause-answer : goal.returns-clause-answer
+returns-clause-answer g c = (
+  c.find-table.result.entry,
+  row_passed (rows (g.S.PageStore.page_bytes c.args.store.now) c.args.self.now.root) c.args.ipa 3 c.last.result c.find-table.result.level c.find-table.result.entry c.last.ensures c.find-table.ensures.walk is_assigned
+      (omega arith) (ap is_assigned (data_of-leads c.find-table.result.entry c.in-Some.page (sym c.in-Some.ensures))),
+)

@@ -1,0 +1,21 @@
+-- The starting tables of a realm. RMM 1.0, Realm attributes: RTT base address, number of starting-level RTTs.
+use Rattle.std.specs.Prelude.{ℕ, ◌+◌, ◌-◌, ◌*◌, ◌^◌, List}
+use Rattle.std.specs.List.{range_with_len}
+use Rattle.granule_addr.specs.Ipa.{start_index}
+use Rattle.granule_addr.specs.declared.root.Root.{Root}
+
+-- how many starting tables an address space of that width needs: 1, 2, 4, 8 or 16
+abbrev pub start_count : ℕ → ℕ
+start_count width = 2 ^ (width - 39)
+
+-- how many IPA granules they cover, 2^27 each: all of the address space
+abbrev pub space_of : ℕ → ℕ
+space_of width = start_count width * 2 ^ 27
+
+-- the starting tables: adjacent granules, from the first on
+unfoldable pub starting_tables : Root → List ℕ
+starting_tables root = range_with_len root.first (start_count root.width)
+
+-- the starting table that covers an IPA granule
+abbrev pub start_table : Root → ℕ → ℕ
+start_table root ipa = root.first + start_index ipa

@@ -1,0 +1,59 @@
+//! Widths of realms' address spaces.
+ghost use Rattle.std.specs.Prelude.{◌≡◌, ◌-◌, ◌^◌, ◌<◌, ◌≤◌, Some, None, if◌then◌else◌};
+ghost use Rattle.granule_addr.specs.Ipa.{is_width};
+ghost use Rattle.granule_addr.specs.Root.{start_count};
+
+use std::marker::Model;
+
+/// The IPA width of a realm, 39 to 43 bits. RMM 1.0, Realm attributes; which widths there are is this profile's own.
+#[derive(Clone, Copy, Debug, PartialEq, Eq, PartialOrd, Ord)]
+pub struct IpaWidth(u8);
+
+impl Model for IpaWidth {
+    ghost use Rattle.std.specs.Prelude.{ℕ, ◌≤◌};
+
+    ghost Value = { ℕ };
+
+    ghost view = { λ w. w.0 };
+
+    ghost invariant = { λ w. (39 ≤ w.0) × (w.0 ≤ 43) };
+
+    ghost inverse = { λ n. record { 0 = n } };
+}
+
+impl IpaWidth {
+    pub fn new(width: u8) -> Option<IpaWidth>
+        ensures { result ≡ (if is_width width then Some width else None) }
+    {
+        if 39 <= width && width <= 43 {
+            Some(IpaWidth(width))
+        } else {
+            None
+        }
+    }
+
+    /// The least width, with one starting table.
+    pub fn least() -> IpaWidth
+        ensures { result ≡ 39 }
+    {
+        IpaWidth(39)
+    }
+
+    /// The width in bits.
+    pub fn number(self) -> u8
+        ensures value { result ≡ self }
+        ensures at_least { 39 ≤ result }
+        ensures at_most { result ≤ 43 }
+    {
+        self.0
+    }
+
+    /// How many starting tables an address space of this width needs: 1, 2, 4, 8 or 16.
+    pub fn start_count(self) -> u16
+        ensures value { result ≡ start_count self }
+        ensures some { 0 < result }
+        ensures at_most { result ≤ 16 }
+    {
+        1u16 << (self.0 - 39)
+    }
+}

@@ -1,0 +1,188 @@
+-- A table is made and is gone, and its rows with it.
+use Rattle.std.proofs.Common.{◌≡◌, ℕ, ◌+◌, ◌*◌, true, false, Some, None, Err, List, [], ◌∷◌, ◌++◌, refl, ap, ◌∙◌, arith, lit≤}
+use Rattle.std.specs.FinMap.{get, empty, get-insert, get-empty}
+use Rattle.std.specs.Option.{option_eq}
+use Rattle.std.specs.Prelude.{nat_eq, is_some, option_and_then}
+use Rattle.granule_addr.specs.Page.{zero_page}
+use Rattle.realm_model.specs.declared.act.Act.TheVariants.{Rtt, UnRtt, Data}
+use Rattle.realm_model.specs.declared.rmi.Status.TheVariants.{Rtt as OfRtt}
+use Rattle.realm_model.specs.declared.states.Hipas.TheVariants.{Unassigned, Table}
+use Rattle.realm_model.specs.declared.states.Ripas.{Ripas}
+use Rattle.realm_model.specs.declared.states.Ripas.TheVariants.{Empty, Destroyed}
+use Rattle.realm_model.specs.Rows.{Row, Rows, place_cmp, walk, root_rows, put_row, drop_rows, with_table, without_table, is_unassigned, is_table_unused, unassigned, table}
+use Rattle.realm_model.specs.Ownership.{mapping_of_row}
+use Rattle.realm_model.specs.declared.act.Event.{Event}
+use Rattle.realm_model.specs.Machine.{Cell}
+use Rattle.realm_model.specs.Act.{named, reverse_of, is_reverse}
+use Rattle.realm_model.specs.Command.Check.{check, with_realm, with_granule}
+use Rattle.realm_model.specs.Outcome.{outcome_of, fits}
+use Rattle.realm_model.specs.World.{World, realm_from, updated_all, opening}
+use Rattle.realm_model.specs.Step.{step, outcome_in}
+use Rattle.realm_model.specs.History.{after, replay, open_entries, IsLegal}
+use Rattle.realm_model.specs.Undoing.{by}
+use Rattle.realm_model.proofs.Booleans.{false_from}
+use Rattle.realm_model.proofs.HistoryParts.{after_append}
+use Rattle.realm_model.proofs.Maps.{place_total, same_place}
+use Rattle.realm_model.proofs.Outcomes.{check_true, end_there}
+use Rattle.realm_model.proofs.RowKinds.{Vacant, kind_unassigned}
+use Rattle.realm_model.proofs.Rows.{differs, get-put_rows, get-put_rows_other, get-drop_rows, put_there, all_rows_from}
+use Rattle.realm_model.proofs.Walks.{walk_there, walk_above}
+use Rattle.realm_model.proofs.Examples.Worlds.{machine_of, page, delegated, rd, table_page, start_rows, fresh, world_of, step_by, and_then, at_end, forward, joined}
+use Rattle.realm_model.proofs.Examples.Realms.{on_four, on_four-world}
+
+-- rows as they are written down
+abbrev pub vacant : Ripas → Row
+vacant ripas = record { hipas = Unassigned; ripas = ripas; granule = None }
+
+abbrev pub leads : ℕ → Row
+leads granule = record { hipas = Table; ripas = Empty; granule = Some granule }
+
+-- places of one level with other IPA granules
+pub apart : (level i k : ℕ) → (i ≡ k → ⊥) → differs (level, i) (level, k)
+apart level i k other = false_from _ (λ e. other (ap (λ (p : ℕ × ℕ). p.1) (same_place (level, i) (level, k) e)))
+
+-- ---- the rows of a new realm: 512 of level 1
+
+root-first : get start_rows (1, 0) ≡ Some (vacant Empty)
+unfolding root_rows
+root-first = get-put_rows (λ _. unassigned Empty) empty 1 0 512 0 (lit≤ tt)
+
+root-second : get start_rows (1, 262144) ≡ Some (vacant Empty)
+unfolding root_rows
+root-second = get-put_rows (λ _. unassigned Empty) empty 1 0 512 1 (lit≤ tt)
+
+root-last : get start_rows (1, 133955584) ≡ Some (vacant Empty)
+unfolding root_rows
+root-last = get-put_rows (λ _. unassigned Empty) empty 1 0 512 511 (lit≤ tt)
+
+root-past : get start_rows (1, 134217728) ≡ None
+unfolding root_rows
+root-past = get-put_rows_other (λ _. unassigned Empty) empty 1 0 512 (1, 134217728) (λ k less. apart 1 134217728 (0 + k * 262144) (λ e. omega arith))
+    ∙ get-empty place_cmp (1, 134217728)
+
+root-two : get start_rows (2, 0) ≡ None
+unfolding root_rows
+root-two = get-put_rows_other (λ _. unassigned Empty) empty 1 0 512 (2, 0) (λ k less. refl) ∙ get-empty place_cmp (2, 0)
+
+root-three : get start_rows (3, 0) ≡ None
+unfolding root_rows
+root-three = get-put_rows_other (λ _. unassigned Empty) empty 1 0 512 (3, 0) (λ k less. refl) ∙ get-empty place_cmp (3, 0)
+
+pub root-walk : walk start_rows 0 1 ≡ Some (record { level = 1; row = vacant Empty })
+root-walk = walk_there start_rows 0 1 (vacant Empty) (lit≤ tt) root-first
+
+-- ---- a realm of four pages, with a DELEGATED granule, or a table, as the third
+
+abbrev world : Rows → Cell → World
+world rows third = world_of (rd (record fresh { rows = rows }) ∷ table_page ∷ third ∷ page zero_page ∷ [])
+
+-- without tables a page of data is refused at level 1
+data-refused : outcome_in (machine_of 4) (world start_rows delegated) (by 0 (Data 2 0 3)) ≡ Err (record { status = OfRtt; index = 1 })
+unfolding named outcome_of check realm_from with_realm
+data-refused =
+    end_there start_rows 0 3 _ (record { level = 1; row = vacant Empty })
+    (walk_above start_rows 0 2 root-three ∙ walk_above start_rows 0 1 root-two ∙ root-walk)
+
+-- ---- a table of level 2
+
+abbrev pub tabled : Rows
+tabled = with_table start_rows 2 0 2 Empty
+
+tabled-above : get tabled (1, 0) ≡ Some (leads 2)
+unfolding with_table
+tabled-above =
+    get-put_rows_other (λ _. unassigned Empty) (put_row start_rows 1 0 (table 2)) 2 0 512 (1, 0) (λ k less. refl)
+    ∙ get-insert place_total start_rows (1, 0) (table 2) (1, 0)
+
+tabled-beside : get tabled (1, 262144) ≡ Some (vacant Empty)
+unfolding with_table
+tabled-beside =
+    get-put_rows_other (λ _. unassigned Empty) (put_row start_rows 1 0 (table 2)) 2 0 512 (1, 262144) (λ k less. refl)
+    ∙ get-insert place_total start_rows (1, 0) (table 2) (1, 262144) ∙ root-second
+
+pub tabled-first : get tabled (2, 0) ≡ Some (vacant Empty)
+unfolding with_table
+tabled-first = get-put_rows (λ _. unassigned Empty) (put_row start_rows 1 0 (table 2)) 2 0 512 0 (lit≤ tt)
+
+tabled-last : get tabled (2, 261632) ≡ Some (vacant Empty)
+unfolding with_table
+tabled-last = get-put_rows (λ _. unassigned Empty) (put_row start_rows 1 0 (table 2)) 2 0 512 511 (lit≤ tt)
+
+tabled-past : get tabled (2, 262144) ≡ None
+unfolding with_table root_rows
+tabled-past =
+    get-put_rows_other (λ _. unassigned Empty) (put_row start_rows 1 0 (table 2)) 2 0 512 (2, 262144) (λ k less. apart 2 262144 (0 + k * 512) (λ e. omega arith))
+    ∙ get-insert place_total start_rows (1, 0) (table 2) (2, 262144)
+    ∙ get-put_rows_other (λ _. unassigned Empty) empty 1 0 512 (2, 262144) (λ k less. refl) ∙ get-empty place_cmp (2, 262144)
+
+made : step (machine_of 4) (world start_rows delegated) (by 0 (Rtt 2 0 2)) ≡ Some (world tabled table_page)
+unfolding named outcome_of fits updated_all check realm_from with_realm
+made = step_by (machine_of 4) _ _ (by 0 (Rtt 2 0 2)) _ refl (end_there start_rows 0 1 _ _ root-walk) refl
+
+-- ---- it is gone
+
+abbrev untabled : Rows
+untabled = without_table tabled 2 0
+
+untabled-above : get untabled (1, 0) ≡ Some (vacant Destroyed)
+unfolding without_table
+untabled-above = get-insert place_total (drop_rows tabled 2 0 262144) (1, 0) (unassigned Destroyed) (1, 0)
+
+untabled-beside : get untabled (1, 262144) ≡ Some (vacant Empty)
+unfolding without_table
+untabled-beside =
+    get-insert place_total (drop_rows tabled 2 0 262144) (1, 0) (unassigned Destroyed) (1, 262144)
+    ∙ get-drop_rows tabled 2 0 262144 (1, 262144) ∙ tabled-beside
+
+untabled-first : get untabled (2, 0) ≡ None
+unfolding without_table
+untabled-first = get-insert place_total (drop_rows tabled 2 0 262144) (1, 0) (unassigned Destroyed) (2, 0) ∙ get-drop_rows tabled 2 0 262144 (2, 0)
+
+untabled-last : get untabled (2, 261632) ≡ None
+unfolding without_table
+untabled-last = get-insert place_total (drop_rows tabled 2 0 262144) (1, 0) (unassigned Destroyed) (2, 261632) ∙ get-drop_rows tabled 2 0 262144 (2, 261632)
+
+unused : is_table_unused tabled 2 0 ≡ true
+unfolding is_table_unused with_table
+unused = all_rows_from is_unassigned passes tabled 2 0 512 (λ k less. put_there (unassigned Empty) (put_row start_rows 1 0 (table 2)) 2 0 512 k less)
+  where
+    passes : (row : Row) → mapping_of_row row ≡ Vacant → is_unassigned row ≡ true
+    passes row e = ap kind_unassigned e
+
+gone : step (machine_of 4) (world tabled table_page) (by 0 (UnRtt 2 0 2)) ≡ Some (world untabled delegated)
+unfolding named outcome_of fits updated_all realm_from with_realm with_granule
+gone = step_by (machine_of 4) _ _ (by 0 (UnRtt 2 0 2)) _
+    (ap (λ o. elim o [ Some r ↦ option_eq nat_eq r.granule (Some 2) | None ↦ false ]) tabled-above)
+    (check_true _ _ _ refl ∙ end_there tabled 0 1 _ _ (walk_there tabled 0 1 (leads 2) (lit≤ tt) tabled-above) ∙ check_true _ _ _ refl ∙ check_true _ _ _ refl ∙ check_true _ _ _ unused)
+    refl
+
+-- ---- and made again: its rows have the RIPAS that is above
+
+again : step (machine_of 4) (world untabled delegated) (by 0 (Rtt 2 0 2)) ≡ Some (world (with_table untabled 2 0 2 Destroyed) table_page)
+unfolding named outcome_of fits updated_all check realm_from with_realm
+again = step_by (machine_of 4) _ _ (by 0 (Rtt 2 0 2)) _ refl (end_there untabled 0 1 _ _ (walk_there untabled 0 1 (vacant Destroyed) (lit≤ tt) untabled-above)) refl
+
+again-above : get (with_table untabled 2 0 2 Destroyed) (1, 0) ≡ Some (leads 2)
+unfolding with_table
+again-above =
+    get-put_rows_other (λ _. unassigned Destroyed) (put_row untabled 1 0 (table 2)) 2 0 512 (1, 0) (λ k less. refl)
+    ∙ get-insert place_total untabled (1, 0) (table 2) (1, 0)
+
+again-first : get (with_table untabled 2 0 2 Destroyed) (2, 0) ≡ Some (vacant Destroyed)
+unfolding with_table
+again-first = get-put_rows (λ _. unassigned Destroyed) (put_row untabled 1 0 (table 2)) 2 0 512 0 (lit≤ tt)
+
+abbrev then : List Event
+then = by 0 (Rtt 2 0 2) ∷ by 0 (UnRtt 2 0 2) ∷ by 0 (Rtt 2 0 2) ∷ []
+
+then-world : replay (machine_of 4) (on_four ++ then) ≡ Some (world (with_table untabled 2 0 2 Destroyed) table_page)
+then-world =
+    after_append (machine_of 4) on_four then (opening (machine_of 4)) ∙ ap (option_and_then (after (machine_of 4) then)) on_four-world
+    ∙ and_then (machine_of 4) _ _ _ _ _ made (and_then (machine_of 4) _ _ _ _ _ gone (and_then (machine_of 4) _ _ _ _ _ again (at_end (machine_of 4) _)))
+
+then-legal : IsLegal (machine_of 4) (on_four ++ then)
+unfolding is_reverse open_entries reverse_of
+then-legal = record {
+  steps = ap is_some then-world;
+  in_turn = joined [] on_four then (forward [] on_four refl) (λ r. cc, (λ r. refl, (λ r. cc, tt)));
+}

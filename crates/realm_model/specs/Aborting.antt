@@ -1,0 +1,38 @@
+-- The abort of a build while other builds go on.
+use Rattle.std.specs.Prelude.{◌≡◌, ℕ, List, [], ◌++◌, reverse, IsTrue, None, Some}
+use Rattle.std.specs.List.{last_or, All}
+use Rattle.realm_model.specs.declared.act.Act.{Act}
+use Rattle.realm_model.specs.declared.act.Event.{Event}
+use Rattle.realm_model.specs.Machine.{Limits}
+use Rattle.realm_model.specs.Act.{is_reverse}
+use Rattle.realm_model.specs.World.{World, realm_of}
+use Rattle.realm_model.specs.Step.{step}
+use Rattle.realm_model.specs.Running.{IsAtRest}
+use Rattle.realm_model.specs.History.{erase, acts_of, open_entries, replay}
+use Rattle.realm_model.specs.Undoing.{reverses, IsUndoneNext}
+
+-- an event of another build, or a reverse: what may come while a build is undone
+abbrev pub IsOthersOrReverse : ℕ → Event → Type 0
+IsOthersOrReverse build event = event.build ≡ build → IsTrue (is_reverse event.act)
+
+-- a build at rest stays so
+abbrev pub StaysAtRest : Limits → World → ℕ → Event → World → Type 0
+StaysAtRest limits world build event next =
+    IsAtRest (realm_of build world) → IsOthersOrReverse build event → step limits world event ≡ Some next → IsAtRest (realm_of build next)
+
+-- After a history in which an abort of the build began, and what came later:
+pub record IsAborting (limits : Limits) (history later : List Event) (build : ℕ) (world : World) : Type 0 where
+  -- the build is at rest;
+  pub rest : IsAtRest (realm_of build world)
+  -- the newest act that it has open can be undone next;
+  pub next : (act : Act) → last_or None (open_entries build (history ++ later)) ≡ Some act → IsUndoneNext limits (history ++ later) build act
+  -- its events since, and then the reverses of what is open, are the reverses of all that was open, the newest first;
+  pub undone : acts_of build later ++ reverses (reverse (open_entries build (history ++ later))) ≡ reverses (reverse (open_entries build history))
+  -- and with nothing open, the world is that of what others did, before and since.
+  pub others : erase build (history ++ later) ≡ erase build history ++ erase build later
+  pub no_trace : open_entries build (history ++ later) ≡ [] → replay limits (erase build history ++ erase build later) ≡ Some world
+
+-- where the build is at rest when its abort begins, so it goes on
+abbrev pub AbortGoesOn : Limits → List Event → List Event → ℕ → World → World → Type 0
+AbortGoesOn limits history later build begun world =
+    IsAtRest (realm_of build begun) → All (IsOthersOrReverse build) later → IsAborting limits history later build world

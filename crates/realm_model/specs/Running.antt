@@ -1,0 +1,42 @@
+-- RECs that run. RMM 1.0, REC attributes: the state of a REC.
+use Rattle.std.specs.Prelude.{◌≡◌, ◌↔◌, ℕ, filter, length, Bool, false, not, Option, Some, None}
+use Rattle.std.specs.List.{range_with_len}
+use Rattle.std.specs.FinMap.{get}
+use Rattle.realm_model.specs.declared.act.Act.{Act}
+use Rattle.realm_model.specs.declared.act.Act.TheVariants.{Rec}
+use Rattle.realm_model.specs.Machine.{Seen, RecRow}
+use Rattle.realm_model.specs.Command.Check.{is_ready}
+use Rattle.realm_model.specs.Outcome.{realm_is}
+use Rattle.realm_model.specs.World.{World, realm_of}
+
+-- the REC is there, and RUNNING
+abbrev pub is_rec_running : Option RecRow → Bool
+is_rec_running None = false
+is_rec_running (Some rec) = not (is_ready rec)
+
+-- in the realm of a build, the REC of a number runs
+abbrev pub rec_runs : Option Seen → ℕ → Bool
+rec_runs realm number = realm_is realm (λ rd row. is_rec_running (get row.recs number))
+
+-- the REC that an act made runs
+abbrev pub is_running : Option Seen → Act → Bool
+is_running realm (Rec granule auxiliaries number) = rec_runs realm number
+is_running realm _ = false
+
+-- the number of a realm's next REC
+abbrev pub next_number : Option Seen → ℕ
+next_number None = 0
+next_number (Some rd) = elim rd.cell.descriptor [ Some realm ↦ realm.next | None ↦ 0 ]
+
+-- how many RECs of a build's realm run: all numbers are below the next
+unfoldable pub running_count : Option Seen → ℕ
+running_count realm = length (filter (rec_runs realm) (range_with_len 0 (next_number realm)))
+
+-- no REC of the realm runs
+abbrev pub IsAtRest : Option Seen → Type 0
+IsAtRest realm = running_count realm ≡ 0
+
+-- and so none does by any number
+abbrev pub RestIsOfAll : World → ℕ → Type 0
+RestIsOfAll world build =
+    IsAtRest (realm_of build world) ↔ ((number : ℕ) → rec_runs (realm_of build world) number ≡ false)

@@ -1,0 +1,11 @@
+-- Sets of VMIDs: of each number, whether it is used. RMM 1.0, VMID.
+use Rattle.std.specs.Prelude.{◌≡◌, ◌≢◌, ℕ, Bool, false, List, slice_index_or}
+
+-- whether a VMID is used; a number that has no flag is not
+abbrev pub is_used : List Bool → ℕ → Bool
+is_used flags vmid = slice_index_or flags vmid false
+
+-- one VMID is used, or not, from now on, and the others are as they were
+pub record IsMarked (old new : List Bool) (vmid : ℕ) (used : Bool) : Type 0 where
+  pub one : is_used new vmid ≡ used
+  pub others : (other : ℕ) → other ≢ vmid → is_used new other ≡ is_used old other

@@ -1,0 +1,52 @@
+//! The VMIDs that realms have.
+ghost use Rattle.std.specs.Prelude.{◌≡◌, ℕ, true, false};
+ghost use Rattle.rmi_monitor.specs.Vmids.{is_used, IsMarked};
+
+use granule_addr::Vmid;
+use std::marker::Model;
+
+/// A set of VMIDs: a flag for each number.
+#[derive(Drop)]
+pub struct VmidSet {
+    flags: [bool; 256],
+}
+
+impl Model for VmidSet {
+    ghost use Rattle.std.specs.Prelude.{Bool, List};
+
+    ghost Value = { List Bool };
+
+    ghost view = { λ set. set.flags };
+}
+
+impl VmidSet {
+    /// The set that has none.
+    pub fn new() -> VmidSet
+        ensures { (vmid : ℕ) → is_used result vmid ≡ false }
+    {
+        VmidSet {
+            flags: [false; 256],
+        }
+    }
+
+    /// Whether the set has the VMID.
+    pub fn contains(&self, vmid: Vmid) -> bool
+        ensures { result ≡ is_used self.now vmid }
+    {
+        self.flags[vmid.number() as usize]
+    }
+
+    /// The set has the VMID from now on.
+    pub fn insert(&mut self, vmid: Vmid)
+        ensures { IsMarked self.old self.new vmid true }
+    {
+        self.flags[vmid.number() as usize] = true;
+    }
+
+    /// The set has the VMID no more.
+    pub fn remove(&mut self, vmid: Vmid)
+        ensures { IsMarked self.old self.new vmid false }
+    {
+        self.flags[vmid.number() as usize] = false;
+    }
+}

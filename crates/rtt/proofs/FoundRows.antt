@@ -1,0 +1,64 @@
+-- What a command finds in the tables, by where its walk ends.
+use Rattle.std.proofs.Common.{◌≡◌, ◌≢◌, ℕ, ◌-◌, Bool, true, false, cond, Some, None, Err, ◌⊎◌, ⊎_elim, sym, ap, ◌∙◌}
+use Rattle.std.specs.Prelude.{◌==◌}
+use Rattle.std.proofs.lemmas.Bool.{cases_eq, eq-eqb, ne_eqb}
+use Rattle.realm_model.specs.declared.rmi.Rmi.{Rmi}
+use Rattle.realm_model.specs.Rows.{Row, Rows, walk, is_table, is_table_unused}
+use Rattle.realm_model.specs.Update.{Outcome}
+use Rattle.realm_model.specs.Command.Check.{check, error_rtt, with_row, with_end}
+use Rattle.rtt.specs.Found.{with_unused_table}
+
+check_true : (t : Bool) (rmi : Rmi) (rest : Outcome) → t ≡ true → check t rmi rest ≡ rest
+unfolding check
+check_true t rmi rest holds = ap (λ b. cond b rest (Err rmi)) holds
+
+check_false : (t : Bool) (rmi : Rmi) (rest : Outcome) → t ≡ false → check t rmi rest ≡ Err rmi
+unfolding check
+check_false t rmi rest fails = ap (λ b. cond b rest (Err rmi)) fails
+
+module _ (rows : Rows) (ipa level wanted ended : ℕ) (row : Row) (at : wanted ≡ level) (ends : walk rows ipa wanted ≡ Some (record { level = ended; row = row })) where
+  -- the walk towards the level wanted
+  ended_so : (f : Row → Outcome) → with_row rows ipa level f ≡ check (ended == level) (error_rtt ended) (f row)
+  unfolding with_end
+  ended_so f = ap (λ o. elim o [ Some end ↦ check (end.level == level) (error_rtt end.level) (f end.row) | None ↦ Err (error_rtt 0) ]) (ap (walk rows ipa) (sym at) ∙ ends)
+
+  ended_there : ended ≡ wanted → (f : Row → Outcome) → with_row rows ipa level f ≡ f row
+  ended_there there f = ended_so f ∙ check_true (ended == level) (error_rtt ended) (f row) (eq-eqb ended level (there ∙ at))
+
+  module _ (passes : Row → Bool) where
+    -- A command goes on with the row where its walk ended, if that is at the level wanted and the row passes.
+    pub row_passed : ended ≡ wanted → passes row ≡ true → (f : Row → Outcome) → with_row rows ipa level (λ r. check (passes r) (error_rtt level) (f r)) ≡ f row
+    row_passed there holds f = ended_there there (λ r. check (passes r) (error_rtt level) (f r)) ∙ check_true (passes row) (error_rtt level) (f row) holds
+
+    -- Else it is refused with the level where the walk ended.
+    pub row_refused : (ended ≢ wanted) ⊎ (passes row ≡ false) → (f : Row → Outcome) → with_row rows ipa level (λ r. check (passes r) (error_rtt level) (f r)) ≡ Err (error_rtt ended)
+    row_refused fails f =
+        ⊎_elim
+        (λ (there : ended ≡ wanted).
+        ended_there there (λ r. check (passes r) (error_rtt level) (f r))
+        ∙ check_false (passes row) (error_rtt level) (f row) (⊎_elim (λ (away : ended ≢ wanted). absurd (away there)) (λ failed. failed) fails)
+        ∙ ap (λ (l : ℕ). Err (error_rtt l)) (sym (there ∙ at)))
+        (λ (away : ended ≢ wanted).
+        ended_so (λ r. check (passes r) (error_rtt level) (f r))
+        ∙ check_false (ended == level) (error_rtt ended) (check (passes row) (error_rtt level) (f row)) (ne_eqb ended level (λ e. away (e ∙ sym at))))
+        (cases_eq ended wanted)
+
+-- ---- a table that is to go
+
+module _ (rows : Rows) (ipa level wanted ended : ℕ) (row : Row) (at : wanted ≡ level - 1) (ends : walk rows ipa wanted ≡ Some (record { level = ended; row = row })) where
+  on_table : (Row → Outcome) → Row → Outcome
+  on_table f above = check (is_table_unused rows level ipa) (error_rtt level) (f above)
+
+  pub table_missed : (ended ≢ wanted) ⊎ (is_table row ≡ false) → (f : Row → Outcome) → with_unused_table rows ipa level f ≡ Err (error_rtt ended)
+  unfolding on_table
+  table_missed fails f = row_refused rows ipa (level - 1) wanted ended row at ends is_table fails (on_table f)
+
+  pub table_passed : ended ≡ wanted → is_table row ≡ true → is_table_unused rows level ipa ≡ true → (f : Row → Outcome) → with_unused_table rows ipa level f ≡ f row
+  unfolding on_table
+  table_passed there leads unused f =
+      row_passed rows ipa (level - 1) wanted ended row at ends is_table there leads (on_table f) ∙ check_true (is_table_unused rows level ipa) (error_rtt level) (f row) unused
+
+  pub table_refused : ended ≡ wanted → is_table row ≡ true → is_table_unused rows level ipa ≡ false → (f : Row → Outcome) → with_unused_table rows ipa level f ≡ Err (error_rtt level)
+  unfolding on_table
+  table_refused there leads used f =
+      row_passed rows ipa (level - 1) wanted ended row at ends is_table there leads (on_table f) ∙ check_false (is_table_unused rows level ipa) (error_rtt level) (f row) used
