@@ -19,14 +19,14 @@ module _ (monitor : MonitorView) (fields : Fields) (view_is : seen_as fields ≡
   row_there : (rec : RecAttributes) (rd : ℕ) (realm : RealmAttributes) → IsKept fields granule rec rd realm → rec_in monitor.machine rd rec.number ≡ Some (rec_row granule rec)
   row_there rec rd realm kept =
       ap (option_and_then (λ (r : RealmRow). get r.recs rec.number)) (descriptor_there monitor fields view_is whole rd realm kept.there)
-      ∙ row_found monitor fields view_is whole granule rec rd realm kept
+      ∙ row_found fields whole granule rec rd realm kept
 
   is_rec : (rec : RecAttributes) (rd : ℕ) (realm : RealmAttributes) → IsKept fields granule rec rd realm → IsRec monitor.machine rd rec.number granule
   is_rec rec rd realm kept = record {
     realm = row_of fields rd realm;
     there = descriptor_there monitor fields view_is whole rd realm kept.there;
     rec = rec_row granule rec;
-    numbered = row_found monitor fields view_is whole granule rec rd realm kept;
+    numbered = row_found fields whole granule rec rd realm kept;
     is = refl;
   }
 
@@ -58,4 +58,4 @@ module _ (monitor : MonitorView) (fields : Fields) (view_is : seen_as fields ≡
 
     pub rec_read : (x y : Option RecAttributes) → i ≡ granule → x ≡ get_or fields.recs i x → x ≡ y → rec_at fields granule ≡ y
     rec_read x y same read is =
-        read_at fields.recs i granule x y same (subst (λ k. k < length fields.recs) same (rec_place same)) read is
+        read_at fields.recs i granule None x y same (subst (λ k. k < length fields.recs) same (rec_place same)) read is
