@@ -1,0 +1,4 @@
+pub mod Taken
+pub mod Calls
+pub mod RecCalls
+pub mod Opens
