@@ -117,9 +117,8 @@ answers_unchecked {A} t fails result outcome refused =
 
 -- ---- a VMID that no realm has
 
-fifth_false : (a b c d t rest : Bool) → t ≡ false → (a && b && c && d && t && rest) ≡ false
-fifth_false a b c d t rest h =
-    ap (λ s. a && b && c && d && s && rest) h ∙ ap (λ s. a && b && c && s) (no d) ∙ ap (λ s. a && b && s) (no c) ∙ ap (λ s. a && s) (no b) ∙ no a
+third_last_false : (before t u v : Bool) → t ≡ false → (before && t && u && v) ≡ false
+third_last_false before t u v h = ap (λ s. before && s && u && v) h ∙ ap (λ s. s && u && v) (no before)
 
 pub no_vmid : (monitor : MonitorView) (rd : ℕ) (root : Root) (vmid : ℕ) → nat_le 1 vmid ≡ false → make_realm monitor rd root vmid ≡ Err error_input
-no_vmid monitor rd root vmid h = check_false _ error_input _ (fifth_false _ _ _ _ (nat_le 1 vmid) _ h)
+no_vmid monitor rd root vmid h = check_false _ error_input _ (third_last_false _ (nat_le 1 vmid) _ _ h)

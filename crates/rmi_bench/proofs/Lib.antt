@@ -2,3 +2,5 @@ pub mod Taken
 pub mod Calls
 pub mod RecCalls
 pub mod Opens
+pub mod Words
+pub mod Numbers

@@ -1,13 +1,18 @@
 //! What is read of granules.
-ghost use Rattle.std.specs.Prelude.{◌≡◌, sum, option_map};
+ghost use Rattle.std.specs.Prelude.{◌≡◌, ◌&&◌, nat_lt, false, sum, option_map, IfSome, IfNone};
 ghost use Rattle.std.specs.Option.{option_copied};
 ghost use Rattle.realm_model.specs.Machine.{cell_at};
 ghost use Rattle.rmi_monitor.specs.View.{attributes_of};
-ghost use Rattle.rmi_bench.specs.Readings.{reading, rec_reading};
+ghost use Rattle.rmi_bench.specs.Readings.{reading, rec_reading, IsWordOf};
+ghost use Rattle.rmi_bench.specs.Calls.{is_inside};
 
 use crate::Bench;
+use page_arena::PageStore;
 use realm_model::GranuleState;
 use realm_objects::{RealmDesc, Rec};
+
+// How many words a page has.
+const WORDS: u16 = 512;
 
 impl Bench {
     /// The state of a granule; `None` comes exactly where the machine has not got it.
@@ -24,6 +29,19 @@ impl Bench {
     {
         let granule = self.granule(granule).ok()?;
         Some(self.monitor.byte_sum(granule))
+    }
+
+    /// The word at 8 * `index` of a granule's page, little endian: of a table, the entry word. `None` comes exactly where the
+    /// machine has not got the granule, and for an index above 511.
+    pub fn word(&self, granule: u16, index: u16) -> Option<u64>
+        ensures some { IfSome result (IsWordOf self.now granule index) }
+        ensures none { IfNone result ((is_inside self.now granule && nat_lt index 512) ≡ false) }
+    {
+        let granule = self.granule(granule).ok()?;
+        if index >= WORDS {
+            return None;
+        }
+        Some(self.monitor.store().word(granule, index))
     }
 
     /// The realm whose RD a granule is: state, VMID, starting tables, the number of its next REC, and measurement; `None`
