@@ -18,7 +18,7 @@ use Rattle.rmi_bench.specs.Calls.{is_inside, naming, on_rec, Does}
 
 -- ---- which granules are inside
 
-no : (t : Bool) → (t && false) ≡ false
+pub no : (t : Bool) → (t && false) ≡ false
 no true = refl
 no false = refl
 

@@ -4,3 +4,4 @@ pub mod RecCalls
 pub mod Opens
 pub mod Words
 pub mod Numbers
+pub mod RecMakes
