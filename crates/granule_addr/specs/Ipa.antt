@@ -25,10 +25,14 @@ first_covered level ipa = ipa / covered_count level * covered_count level
 abbrev pub entry_index : ℕ → ℕ → ℕ
 entry_index level ipa = ipa / covered_count level % 512
 
--- which of the starting tables covers the IPA granule: each has 512 entries of level 1, so it covers 2^27
-abbrev pub start_index : ℕ → ℕ
-start_index ipa = ipa / 2 ^ 27
+-- how many IPA granules a table of a level serves, by its 512 entries
+abbrev pub served_count : ℕ → ℕ
+served_count level = covered_count level * 512
 
--- how many IPA granules the widest realm has
+-- which of the starting tables, of level 1, covers the IPA granule
+abbrev pub start_index : ℕ → ℕ
+start_index ipa = ipa / served_count 1
+
+-- how many IPA granules the widest address space has
 abbrev pub widest_space : ℕ
 widest_space = 2 ^ 31

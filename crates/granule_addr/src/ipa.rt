@@ -1,6 +1,6 @@
 //! Granules of a realm's address space.
-ghost use Rattle.std.specs.Prelude.{◌≡◌, ◌↔◌, ◌^◌, ◌<◌, ◌&&◌, IsTrue, Some, None, if◌then◌else◌};
-ghost use Rattle.granule_addr.specs.Ipa.{is_width, is_in_space, is_protected_at, entry_index, start_index};
+ghost use Rattle.std.specs.Prelude.{◌≡◌, ◌↔◌, ◌<◌, ◌&&◌, IsTrue, Some, None, if◌then◌else◌};
+ghost use Rattle.granule_addr.specs.Ipa.{is_width, is_in_space, is_protected_at, entry_index, start_index, widest_space};
 
 use crate::{IpaWidth, Level};
 use std::marker::Model;
@@ -10,13 +10,14 @@ use std::marker::Model;
 pub struct IpaGran(u32);
 
 impl Model for IpaGran {
-    ghost use Rattle.std.specs.Prelude.{ℕ, ◌<◌, ◌^◌};
+    ghost use Rattle.std.specs.Prelude.{ℕ, ◌<◌};
+    ghost use Rattle.granule_addr.specs.Ipa.{widest_space};
 
     ghost Value = { ℕ };
 
     ghost view = { λ i. i.0 };
 
-    ghost invariant = { λ i. i.0 < 2 ^ 31 };
+    ghost invariant = { λ i. i.0 < widest_space };
 
     ghost inverse = { λ n. record { 0 = n } };
 }
@@ -36,7 +37,7 @@ impl IpaGran {
 
     pub fn number(self) -> u32
         ensures value { result ≡ self }
-        ensures below { result < 2 ^ 31 }
+        ensures below { result < widest_space }
     {
         self.0
     }

@@ -8,7 +8,9 @@
 mod build_error;
 mod plain;
 mod store;
+mod words;
 
 pub use build_error::BuildError;
 pub use plain::PlainStore;
 pub use store::PageStore;
+pub use words::{set_word_in, word_in};

@@ -5,14 +5,13 @@ ghost use Rattle.page_arena.specs.Page.{IsSized};
 
 mod flags;
 mod pages;
-mod words;
 
+use crate::words::{set_word_in, word_in};
 use crate::{BuildError, PageStore};
 use flags::{find_block, is_run_free, set_run};
 use granule_addr::{Gran, MOST_PAGES, Order, PageOff};
 use pages::{clear_run, copy_page, fill_page, zero_pages};
 use std::alloc::Global;
-use words::{set_word_in, word_in};
 
 /// A store that keeps pages and flags each in a vector, and looks for a free block from the lowest page on.
 #[derive(Drop)]

@@ -15,11 +15,11 @@ use Rattle.realm_model.specs.declared.act.Event.{Event}
 use Rattle.realm_model.specs.Act.{block}
 use Rattle.realm_model.specs.Stack.{pushed}
 use Rattle.realm_model.specs.History.{acts_of, open_entries, pages_of, IsInTurn}
+use Rattle.realm_model.specs.Undoing.{by}
 use Rattle.realm_model.proofs.Lists.{slice_get-set}
 use Rattle.realm_model.proofs.Growth.{open_entries-own, open_entries-other}
 use Rattle.realm_model.proofs.Pages.{pages_of-take, pages_of-untake, pages_of-same, pages_of-other}
 use Rattle.realm_host.specs.declared.build.Build.{Build}
-use Rattle.realm_host.specs.View.{event_by}
 use Rattle.realm_host.specs.Books.{BooksView, with_entry, build_after, pages_after, CanFollow, HasRoom, FitsMachine, IsKept}
 use Rattle.realm_host.proofs.Totals.{acts_of-own, acts_of-other, length-le_rooms}
 
@@ -35,32 +35,32 @@ untaken pages left order first e =
     let count : length pages - 2 ^ order ≡ length left = omega arith in
     sym (take-append_seam left (block order first)) ∙ (λ i. take (sym count i) (sym e i))
 
-pub pages_grow : (build : ℕ) (history : List Event) (act : Act) → IsInTurn history (event_by build act)
-    → pages_of build (history ++ event_by build act ∷ []) ≡ pages_after (pages_of build history) act
+pub pages_grow : (build : ℕ) (history : List Event) (act : Act) → IsInTurn history (by build act)
+    → pages_of build (history ++ by build act ∷ []) ≡ pages_after (pages_of build history) act
 pages_grow build history (Take order first) turn = pages_of-take build history order first
 pages_grow build history (UnTake order first) turn =
     untaken (pages_of build history) _ order first (pages_of-untake build history order first turn)
 pages_grow build history act turn = pages_of-same build history act refl turn
 
 pub can_follow : (history : List Event) (leases : Stacks) (build : ℕ) (act : Act) → stack_of leases build ≡ pages_of build history → FitsMachine act
-    → IsInTurn history (event_by build act) → length (pages_of build (history ++ event_by build act ∷ [])) ≤ leases.room → CanFollow leases build act
+    → IsInTurn history (by build act) → length (pages_of build (history ++ by build act ∷ [])) ≤ leases.room → CanFollow leases build act
 can_follow history leases build (Take order first) stack machine turn room =
     let long = ap length (pages_of-take build history order first) ∙ length-append (pages_of build history) (block order first) in
     let size = length-block order first in
     let same = ap length stack in
     (omega arith, machine)
 can_follow history leases build (UnTake order first) stack machine turn room =
-    let long = ap length (pages_of-untake build history order first turn) ∙ length-append (pages_of build (history ++ event_by build (UnTake order first) ∷ [])) (block order first) in
+    let long = ap length (pages_of-untake build history order first turn) ∙ length-append (pages_of build (history ++ by build (UnTake order first) ∷ [])) (block order first) in
     let size = length-block order first in
     let same = ap length stack in
     omega arith
 can_follow history leases build act stack machine turn room = tt
 
 module _ (books : BooksView) (builds : List Build) (leases : Stacks) (events : Vec Event) (kept : IsKept books builds leases events)
-    (build : ℕ) (act : Act) (there : build < books.builds) (turn : IsInTurn books.history (event_by build act))
-    (room : HasRoom books (books.history ++ event_by build act ∷ []) build) where
+    (build : ℕ) (act : Act) (there : build < books.builds) (turn : IsInTurn books.history (by build act))
+    (room : HasRoom books (books.history ++ by build act ∷ []) build) where
   abbrev event : Event
-  event = event_by build act
+  event = by build act
 
   abbrev grown : List Event
   grown = books.history ++ event ∷ []

@@ -16,12 +16,13 @@ use Rattle.realm_model.specs.Outcome.{outcome_of, fits}
 use Rattle.realm_model.specs.World.{World}
 use Rattle.realm_model.specs.Step.{step}
 use Rattle.realm_model.specs.History.{IsInTurn}
+use Rattle.realm_model.specs.Undoing.{by}
 use Rattle.realm_model.proofs.StepSays.{step_says}
 use Rattle.rmi_monitor.specs.View.{MonitorView, Answers, seen_in, after_command}
 use Rattle.realm_host.specs.declared.refusal.Refusal.TheVariants.{Rmi}
 use Rattle.realm_host.specs.declared.step.Cmd.TheVariants as cmd
 use Rattle.realm_host.specs.declared.step.Step.TheVariants.{Ask}
-use Rattle.realm_host.specs.View.{HostView, world_of, granule_of_page, event_by}
+use Rattle.realm_host.specs.View.{HostView, world_of, granule_of_page}
 use Rattle.realm_host.specs.Books.{BooksView, CanRecord, with_entry}
 use Rattle.realm_host.specs.Whole.{host_of, is_served, IsWhole}
 use Rattle.realm_host.specs.Refusals.{checked, no_build, history_full, refusal_of}
@@ -77,16 +78,17 @@ module _ (monitor : MonitorView) (books : BooksView) (old : HostView) (view_is :
         let told = done_with {A = Unit {0}} tt outcome answer in
         told.outcome_is ∙ ap Ok (sym (check_done (is_undelegated (seen_in monitor granule)) error_input (Put granule cell ∷ []) told.updates told.outcome_is))
 
-    pub turn : IsInTurn books.history (event_by build act)
+    pub turn : IsInTurn books.history (by build act)
     turn = in_turn books.history build act (forward granule value)
 
-    stepped : step host.limits world (event_by build act) ≡ Some (record { machine = machine_after_command outcome monitor.machine; leases = world.leases })
+    stepped : step host.limits world (by build act) ≡ Some (record { machine = machine_after_command outcome monitor.machine; leases = world.leases })
     unfolding named fits outcome_of
-    stepped = (step_says host.limits world (event_by build act) tt _).1 (record {
+    stepped = (step_says host.limits world (by build act) tt _).1 (record {
       build = there monitor books old view_is whole build page granule there_ok some_old;
       granules = All-cons (λ g. slice_get world.leases g ≡ Some (Some build)) granule []
           (is_leased monitor books old view_is whole build page granule there_ok some_old) (All-nil (λ g. slice_get world.leases g ≡ Some (Some build)));
-      fields = lt-ltb value 256 is_byte;
+      in_range = lt-ltb value 256 is_byte;
+      fitting = refl;
       updates = Put granule cell ∷ [];
       outcome = ap (λ g. host_fill g value) (sym (seen_same monitor books old view_is whole build page granule there_ok some_old)) ∙ done;
       machine = ap (λ o. machine_after_command o monitor.machine) done ∙ ap (machine_after_all (Put granule cell ∷ [])) whole.machine;

@@ -11,10 +11,11 @@ use Rattle.realm_model.specs.Step.{step}
 use Rattle.realm_model.specs.Act.{is_paired, is_reverse}
 use Rattle.realm_model.specs.Stack.{pushed}
 use Rattle.realm_model.specs.History.{replay, open_entries, pages_of, IsInTurn, IsLegal}
+use Rattle.realm_model.specs.Undoing.{by}
 use Rattle.realm_model.proofs.Growth.{Grows, grows, open_entries-own, open_entries-other}
 use Rattle.realm_model.proofs.Pages.{pages_are_leased}
 use Rattle.rmi_monitor.specs.View.{MonitorView}
-use Rattle.realm_host.specs.View.{HostView, world_of, event_by, with_event}
+use Rattle.realm_host.specs.View.{HostView, world_of, with_event}
 use Rattle.realm_host.specs.Books.{BooksView, with_entry}
 use Rattle.realm_host.specs.Whole.{host_of, is_served, IsWhole}
 use Rattle.realm_host.proofs.Worlds.{world_is}
@@ -39,25 +40,25 @@ unfolding world_of
 world_of-replay host world e = ap (λ o. unwrap_or o (opening host.limits)) e
 
 module _ (monitor : MonitorView) (books : BooksView) (whole : IsWhole monitor books) (build : ℕ) (act : Act)
-    (new : MonitorView) (leases : List (Option ℕ)) (turn : IsInTurn books.history (event_by build act))
-    (stepped : step (host_of monitor books).limits (world_of (host_of monitor books)) (event_by build act) ≡ Some (record { machine = new.machine; leases = leases })) where
+    (new : MonitorView) (leases : List (Option ℕ)) (turn : IsInTurn books.history (by build act))
+    (stepped : step (host_of monitor books).limits (world_of (host_of monitor books)) (by build act) ≡ Some (record { machine = new.machine; leases = leases })) where
   abbrev host : HostView
   host = host_of monitor books
 
   abbrev next : World
   next = record { machine = new.machine; leases = leases }
 
-  grown : Grows host.limits books.history (event_by build act) next
-  grown = grows host.limits books.history (event_by build act) (world_of host) next whole.legal (world_is host whole.legal) stepped turn
+  grown : Grows host.limits books.history (by build act) next
+  grown = grows host.limits books.history (by build act) (world_of host) next whole.legal (world_is host whole.legal) stepped turn
 
-  pub legal_after : IsLegal host.limits (books.history ++ event_by build act ∷ [])
+  pub legal_after : IsLegal host.limits (books.history ++ by build act ∷ [])
   legal_after = grown.legal
 
   -- no build has more pages than the machine
-  pub pages_fit : (b : ℕ) → length (pages_of b (books.history ++ event_by build act ∷ [])) ≤ books.pages
+  pub pages_fit : (b : ℕ) → length (pages_of b (books.history ++ by build act ∷ [])) ≤ books.pages
   pages_fit b =
-      let pages = pages_are_leased host.limits b (books.history ++ event_by build act ∷ []) next grown.legal grown.world_is in
-      subst (λ n. length (pages_of b (books.history ++ event_by build act ∷ [])) ≤ n) (sym whole.pages) pages.count
+      let pages = pages_are_leased host.limits b (books.history ++ by build act ∷ []) next grown.legal grown.world_is in
+      subst (λ n. length (pages_of b (books.history ++ by build act ∷ [])) ≤ n) (sym whole.pages) pages.count
 
   module _ (vmids : new.vmids ≡ monitor.vmids) (aux : new.aux ≡ monitor.aux) (long : length new.machine ≡ length monitor.machine) where
     abbrev after : HostView
@@ -67,7 +68,7 @@ module _ (monitor : MonitorView) (books : BooksView) (whole : IsWhole monitor bo
     host_grows = λ i. record {
       limits = record { pages = long i; vmids = vmids i; aux = aux i; builds = books.builds };
       capacity = books.capacity;
-      history = books.history ++ event_by build act ∷ [];
+      history = books.history ++ by build act ∷ [];
     }
 
     world_after : world_of after ≡ next
@@ -84,9 +85,9 @@ module _ (monitor : MonitorView) (books : BooksView) (whole : IsWhole monitor bo
       free = free ∙ ap (λ (w : World). map is_none w.leases) (sym world_after);
       no_realm = no_realm;
       served = λ b. ⊎_elim
-          (λ same. subst (λ n. All served (open_entries n (books.history ++ event_by build act ∷ []))) (sym same)
-          (subst (All served) (sym (open_entries-own books.history (event_by build act)))
+          (λ same. subst (λ n. All served (open_entries n (books.history ++ by build act ∷ []))) (sym same)
+          (subst (All served) (sym (open_entries-own books.history (by build act)))
           (served_pushed (open_entries build books.history) act serves (whole.served build))))
-          (λ other. subst (All served) (sym (open_entries-other b books.history (event_by build act) (λ e. other (sym e)))) (whole.served b))
+          (λ other. subst (All served) (sym (open_entries-other b books.history (by build act) (λ e. other (sym e)))) (whole.served b))
           (cases_eq b build);
     }

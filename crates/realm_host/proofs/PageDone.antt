@@ -15,11 +15,12 @@ use Rattle.realm_model.specs.Act.{is_paired}
 use Rattle.realm_model.specs.World.{World}
 use Rattle.realm_model.specs.Step.{step}
 use Rattle.realm_model.specs.History.{pages_of, IsInTurn, IsLegal}
+use Rattle.realm_model.specs.Undoing.{by}
 use Rattle.realm_model.proofs.Leases.{leased}
 use Rattle.realm_model.proofs.Lists.{is_in_at}
 use Rattle.realm_model.proofs.Pages.{is_in-pages_of}
 use Rattle.rmi_monitor.specs.View.{MonitorView, IsTaken, seen_in, after_command}
-use Rattle.realm_host.specs.View.{HostView, world_of, granule_of_page, event_by, with_event}
+use Rattle.realm_host.specs.View.{HostView, world_of, granule_of_page, with_event}
 use Rattle.realm_host.specs.Books.{BooksView, with_entry}
 use Rattle.realm_host.specs.Whole.{host_of, is_served, IsWhole}
 use Rattle.realm_host.specs.Refusals.{checked, no_build}
@@ -73,9 +74,9 @@ module _ (monitor : MonitorView) (books : BooksView) (old : HostView) (view_is :
 
   -- ---- one cell is put
 
-  module _ (act : Act) (turn : IsInTurn books.history (event_by build act)) (serves : is_paired act ≡ true → is_served act ≡ true)
+  module _ (act : Act) (turn : IsInTurn books.history (by build act)) (serves : is_paired act ≡ true → is_served act ≡ true)
       (cell : Cell) (bare : cell.descriptor ≡ None) (outcome : Outcome) (done : outcome ≡ Ok (Put granule cell ∷ []))
-      (stepped : step host.limits world (event_by build act) ≡ Some (record { machine = machine_after_command outcome monitor.machine; leases = world.leases })) where
+      (stepped : step host.limits world (by build act) ≡ Some (record { machine = machine_after_command outcome monitor.machine; leases = world.leases })) where
     put_is : machine_after_command outcome monitor.machine ≡ set monitor.machine granule cell
     unfolding machine_after_all
     put_is = ap (λ o. machine_after_command o monitor.machine) done
@@ -83,7 +84,7 @@ module _ (monitor : MonitorView) (books : BooksView) (old : HostView) (view_is :
     abbrev after : MonitorView
     after = after_command outcome monitor
 
-    pub pages_fit_after : length (pages_of build (books.history ++ event_by build act ∷ [])) ≤ books.pages
+    pub pages_fit_after : length (pages_of build (books.history ++ by build act ∷ [])) ≤ books.pages
     pages_fit_after = pages_fit monitor books whole build act after world.leases turn stepped build
 
     long : length after.machine ≡ length monitor.machine
@@ -97,9 +98,9 @@ module _ (monitor : MonitorView) (books : BooksView) (old : HostView) (view_is :
           (whole_after monitor books whole build act after world.leases turn stepped refl refl long whole.free
           (subst (All no_rd) (sym put_is) (All-set no_rd monitor.machine granule cell bare whole.no_realm)) serves))
 
-      pub legal_put : IsLegal old.limits (old.history ++ event_by build act ∷ [])
+      pub legal_put : IsLegal old.limits (old.history ++ by build act ∷ [])
       legal_put =
-          subst (λ (h : HostView). IsLegal h.limits (h.history ++ event_by build act ∷ [])) view_is
+          subst (λ (h : HostView). IsLegal h.limits (h.history ++ by build act ∷ [])) view_is
           (legal_after monitor books whole build act after world.leases turn stepped)
 
       pub grows_put : host_of new new_books ≡ with_event old build act

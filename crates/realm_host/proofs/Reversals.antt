@@ -23,12 +23,13 @@ use Rattle.realm_model.specs.Outcome.{outcome_of, fits, is_block_start}
 use Rattle.realm_model.specs.World.{World}
 use Rattle.realm_model.specs.Step.{step}
 use Rattle.realm_model.specs.StepLaw.{set_each, IsStep}
+use Rattle.realm_model.specs.Undoing.{by}
 use Rattle.realm_model.proofs.Blocks.{step-untake}
 use Rattle.realm_model.proofs.StepSays.{step_is}
 use Rattle.realm_model.proofs.Lists.{is_in, Contains-from_in}
 use Rattle.realm_model.proofs.Reached.{sized_reached}
 use Rattle.rmi_monitor.specs.View.{MonitorView, Answers, seen_in}
-use Rattle.realm_host.specs.View.{HostView, world_of, event_by}
+use Rattle.realm_host.specs.View.{HostView, world_of}
 use Rattle.realm_host.specs.Books.{BooksView}
 use Rattle.realm_host.specs.Whole.{host_of, IsWhole}
 use Rattle.realm_host.specs.Reversal.{CanReverse, reversed_monitor}
@@ -70,7 +71,7 @@ bare_run machine first count all =
 pub record IsReversed (monitor : MonitorView) (books : BooksView) (build : ℕ) (back : Act) : Type 0 where
   pub leases : List (Option ℕ)
   pub can : CanReverse monitor back
-  pub stepped : step (host_of monitor books).limits (world_of (host_of monitor books)) (event_by build back)
+  pub stepped : step (host_of monitor books).limits (world_of (host_of monitor books)) (by build back)
       ≡ Some (record { machine = (reversed_monitor monitor back).machine; leases = leases })
   pub free : (reversed_monitor monitor back).free ≡ map is_none leases
   pub long : length (reversed_monitor monitor back).machine ≡ length monitor.machine
@@ -85,9 +86,9 @@ module _ (monitor : MonitorView) (books : BooksView) (whole : IsWhole monitor bo
   abbrev world : World
   world = world_of host
 
-  module _ (granule : ℕ) (next : World) (step_to : step host.limits world (event_by build (Undelegate granule)) ≡ Some next) where
-    is : IsStep host.limits world (event_by build (Undelegate granule)) next
-    is = step_is host.limits world next (event_by build (Undelegate granule)) step_to
+  module _ (granule : ℕ) (next : World) (step_to : step host.limits world (by build (Undelegate granule)) ≡ Some next) where
+    is : IsStep host.limits world (by build (Undelegate granule)) next
+    is = step_is host.limits world next (by build (Undelegate granule)) step_to
 
     is_leased : slice_get world.leases granule ≡ Some (Some build)
     unfolding named
@@ -138,22 +139,22 @@ module _ (monitor : MonitorView) (books : BooksView) (whole : IsWhole monitor bo
       aux = refl;
     }
 
-  module _ (order first : ℕ) (next : World) (step_to : step host.limits world (event_by build (UnTake order first)) ≡ Some next) where
+  module _ (order first : ℕ) (next : World) (step_to : step host.limits world (by build (UnTake order first)) ≡ Some next) where
     abbrev is_held : ℕ → Type 0
     is_held g = slice_get world.leases g ≡ Some (Some build)
 
     abbrev is_blank_state : ℕ → Type 0
     is_blank_state g = (cell_at world.machine g).state ≡ Undelegated
 
-    untakes : IsStep host.limits world (event_by build (UnTake order first)) next
-    untakes = step_is host.limits world next (event_by build (UnTake order first)) step_to
+    untakes : IsStep host.limits world (by build (UnTake order first)) next
+    untakes = step_is host.limits world next (by build (UnTake order first)) step_to
 
-    fit : (is_block_start order first && list_all is_undelegated (map (seen world.machine) (block order first))) ≡ true
+    fit : list_all is_undelegated (map (seen world.machine) (block order first)) ≡ true
     unfolding named fits
-    fit = untakes.fields
+    fit = untakes.fitting
 
     start : is_block_start order first ≡ true
-    start = (and_parts _ _ fit).0
+    start = untakes.in_range
 
     all_held : All is_held (block order first)
     unfolding named
@@ -166,7 +167,7 @@ module _ (monitor : MonitorView) (books : BooksView) (whole : IsWhole monitor bo
         All-cons is_blank_state g gs (undelegated_state (cell_at world.machine g).state parts.0) (all_states gs parts.1)
 
     states : All is_blank_state (block order first)
-    states = all_states (block order first) (and_parts _ _ fit).1
+    states = all_states (block order first) fit
 
     each_held : (g : ℕ) → first ≤ g → g < first + 2 ^ order → is_held g
     each_held g low high = All-in is_held (block order first) g all_held (in_range_from first (2 ^ order) g low high)

@@ -7,11 +7,12 @@ use Rattle.realm_model.specs.declared.act.Act.{Act}
 use Rattle.realm_model.specs.declared.act.Act.TheVariants.{Take}
 use Rattle.realm_model.specs.World.{World}
 use Rattle.realm_model.specs.History.{pages_of, IsInTurn, IsLegal}
+use Rattle.realm_model.specs.Undoing.{by}
 use Rattle.rmi_monitor.specs.View.{MonitorView, with_block}
 use Rattle.realm_host.specs.declared.refusal.Refusal.TheVariants.{NoBlock}
 use Rattle.realm_host.specs.declared.step.Cmd.TheVariants as cmd
 use Rattle.realm_host.specs.declared.step.Step.TheVariants.{Ask}
-use Rattle.realm_host.specs.View.{HostView, world_of, event_by, with_event}
+use Rattle.realm_host.specs.View.{HostView, world_of, with_event}
 use Rattle.realm_host.specs.Books.{BooksView, CanRecord, with_entry}
 use Rattle.realm_host.specs.Whole.{host_of, IsWhole}
 use Rattle.realm_host.specs.Refusals.{checked, no_build, journal_full, history_full, no_block, is_free_block, refusal_of}
@@ -56,10 +57,10 @@ module _ (monitor : MonitorView) (books : BooksView) (old : HostView) (view_is :
     abbrev act : Act
     act = Take order first
 
-    pub turn : IsInTurn books.history (event_by build act)
+    pub turn : IsInTurn books.history (by build act)
     turn = in_turn books.history build act (take_is_forward order first)
 
-    pages : length (pages_of build (books.history ++ event_by build act ∷ [])) ≤ books.pages
+    pages : length (pages_of build (books.history ++ by build act ∷ [])) ≤ books.pages
     pages =
         pages_fit monitor books whole build act (with_block monitor order first) (leases_after monitor books whole build there order first low free) turn
         (taken monitor books whole build there order first low free) build
@@ -93,7 +94,7 @@ module _ (monitor : MonitorView) (books : BooksView) (old : HostView) (view_is :
             (ap not (some_block world order first low (subst (λ flags. IsFreeBlock flags order first) whole.free free)))));
         act = act;
         act_of = (first, ap (λ o. Take o first) same);
-        legal = subst (λ (h : HostView). IsLegal h.limits (h.history ++ event_by build act ∷ [])) view_is
+        legal = subst (λ (h : HostView). IsLegal h.limits (h.history ++ by build act ∷ [])) view_is
             (legal_after monitor books whole build act (with_block monitor order first) (leases_after monitor books whole build there order first low free) turn
             (taken monitor books whole build there order first low free));
         grows =

@@ -9,11 +9,12 @@ use Rattle.realm_model.specs.Act.{block, is_paired, is_reverse, reverse_of}
 use Rattle.realm_model.specs.World.{World}
 use Rattle.realm_model.specs.Step.{step}
 use Rattle.realm_model.specs.StepLaw.{set_each}
+use Rattle.realm_model.specs.Undoing.{by}
 use Rattle.realm_model.proofs.Blocks.{step-take}
 use Rattle.realm_model.proofs.Leases.{all_leased}
 use Rattle.realm_model.proofs.Reached.{sized_reached}
 use Rattle.rmi_monitor.specs.View.{MonitorView, with_block}
-use Rattle.realm_host.specs.View.{HostView, world_of, event_by}
+use Rattle.realm_host.specs.View.{HostView, world_of}
 use Rattle.realm_host.specs.Books.{BooksView}
 use Rattle.realm_host.specs.Whole.{host_of, IsWhole}
 use Rattle.std.proofs.lemmas.List.{length-map}
@@ -47,7 +48,7 @@ module _ (monitor : MonitorView) (books : BooksView) (whole : IsWhole monitor bo
   abbrev pub leases_after : List (Option ℕ)
   leases_after = set_each (Some build) (block order first) world.leases
 
-  pub taken : step host.limits world (event_by build (Take order first)) ≡ Some (record { machine = (with_block monitor order first).machine; leases = leases_after })
+  pub taken : step host.limits world (by build (Take order first)) ≡ Some (record { machine = (with_block monitor order first).machine; leases = leases_after })
   taken =
       let parts = and_parts _ _ is_block in
       step-take host.limits world build order first there parts.0 (all_leased None world.leases (block order first) parts.1)

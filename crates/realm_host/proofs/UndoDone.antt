@@ -13,10 +13,11 @@ use Rattle.realm_model.specs.World.{World, realm_of}
 use Rattle.realm_model.specs.Step.{step}
 use Rattle.realm_model.specs.History.{open_entries, IsInTurn, IsLegal}
 use Rattle.realm_model.specs.Running.{is_running}
+use Rattle.realm_model.specs.Undoing.{by}
 use Rattle.realm_model.proofs.Progress.{undoable}
 use Rattle.rmi_monitor.specs.View.{MonitorView}
 use Rattle.realm_host.specs.declared.step.Step.TheVariants.{Undo}
-use Rattle.realm_host.specs.View.{HostView, world_of, open_of, event_by, with_event}
+use Rattle.realm_host.specs.View.{HostView, world_of, open_of, with_event}
 use Rattle.realm_host.specs.Books.{BooksView, CanRecord, FitsMachine, with_entry}
 use Rattle.realm_host.specs.Whole.{host_of, is_served, IsWhole}
 use Rattle.realm_host.specs.Refusals.{checked, no_build}
@@ -70,7 +71,7 @@ is_back _ back s e = cc
 
 module _ (monitor : MonitorView) (books : BooksView) (whole : IsWhole monitor books) (build : ℕ) where
   abbrev at_step : Act → World → Type 0
-  at_step back next = step (host_of monitor books).limits (world_of (host_of monitor books)) (event_by build back) ≡ Some next
+  at_step back next = step (host_of monitor books).limits (world_of (host_of monitor books)) (by build back) ≡ Some next
 
   reversed_by : (act back : Act) → is_served act ≡ true → reverse_of act ≡ Some back → (next : World) → at_step back next → IsReversed monitor books build back
   unfolding reverse_of
@@ -95,7 +96,7 @@ module _ (monitor : MonitorView) (books : BooksView) (old : HostView) (view_is :
   facts : IsBack back
   facts = is_back act back is_served_act back_is
 
-  pub turn : IsInTurn books.history (event_by build back)
+  pub turn : IsInTurn books.history (by build back)
   turn = λ _. ap (option_and_then reverse_of) (sym newest) ∙ back_is
 
   reversed : IsReversed monitor books build back
@@ -134,7 +135,7 @@ module _ (monitor : MonitorView) (books : BooksView) (old : HostView) (view_is :
       not_refused = not_refused old build there_ok act newest_old;
       act = back;
       act_of = ap (option_and_then reverse_of) (sym newest_old) ∙ back_is;
-      legal = subst (λ (h : HostView). IsLegal h.limits (h.history ++ event_by build back ∷ [])) view_is
+      legal = subst (λ (h : HostView). IsLegal h.limits (h.history ++ by build back ∷ [])) view_is
           (legal_after monitor books whole build back (reversed_monitor monitor back) reversed.leases turn reversed.stepped);
       grows =
           (λ i. host_of (new_is i) (recorded i))

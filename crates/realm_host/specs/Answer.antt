@@ -6,6 +6,7 @@ use Rattle.realm_model.specs.declared.act.Act.{Act}
 use Rattle.realm_model.specs.declared.act.Act.TheVariants as acts
 use Rattle.realm_model.specs.Act.{reverse_of}
 use Rattle.realm_model.specs.History.{IsLegal}
+use Rattle.realm_model.specs.Undoing.{by}
 use Rattle.realm_host.specs.declared.refusal.Refusal.{Refusal}
 use Rattle.realm_host.specs.declared.reply.Answer.{Answer}
 use Rattle.realm_host.specs.declared.reply.Answer.TheVariants.{Replied, Undone as WasUndone, Refused}
@@ -16,7 +17,7 @@ use Rattle.realm_host.specs.declared.step.Cmd.{Cmd}
 use Rattle.realm_host.specs.declared.step.Cmd.TheVariants.{Take, Fill, Delegate}
 use Rattle.realm_host.specs.declared.step.Step.{Step}
 use Rattle.realm_host.specs.declared.step.Step.TheVariants.{Ask, Undo}
-use Rattle.realm_host.specs.View.{HostView, open_of, pages_of_build, granule_of_page, event_by, with_event}
+use Rattle.realm_host.specs.View.{HostView, open_of, pages_of_build, granule_of_page, with_event}
 use Rattle.realm_host.specs.Refusals.{refusal_of}
 
 -- The act is that of the step, its page numbers turned into granules by the build's pages. The block of a Take is any.
@@ -45,7 +46,7 @@ pub record IsAccepted (host : HostView) (build : ℕ) (step : Step) (new : HostV
   pub not_refused : refusal_of host build step ≡ None
   pub act : Act
   pub act_of : IsActOf host build step act
-  pub legal : IsLegal host.limits (host.history ++ event_by build act ∷ [])
+  pub legal : IsLegal host.limits (host.history ++ by build act ∷ [])
   pub grows : new ≡ with_event host build act
 
 -- A step gets the refusal that holds, and nothing changes; or the reply, and its one event is recorded.

@@ -10,8 +10,8 @@ use Rattle.realm_model.specs.declared.act.Act.TheVariants.{Take, UnTake}
 use Rattle.realm_model.specs.declared.act.Event.{Event}
 use Rattle.realm_model.specs.Act.{block, is_paired, is_reverse}
 use Rattle.realm_model.specs.History.{acts_of, open_entries, pages_of}
+use Rattle.realm_model.specs.Undoing.{by}
 use Rattle.realm_host.specs.declared.build.Build.{Build}
-use Rattle.realm_host.specs.View.{event_by}
 
 -- How many builds and pages there are, how many events each build may have, and the history.
 pub record BooksView : Type 0 where
@@ -26,7 +26,7 @@ books_code = code_by (ℕ × (ℕ × (ℕ × List Event))) (coded× coded_ℕ (c
 
 -- the books with one more event
 abbrev pub with_entry : BooksView → ℕ → Act → BooksView
-with_entry books build act = record books { history = books.history ++ event_by build act ∷ [] }
+with_entry books build act = record books { history = books.history ++ by build act ∷ [] }
 
 -- what is kept of a build that has no events
 abbrev pub new_build : Build
@@ -50,9 +50,9 @@ pub record HasRoom (books : BooksView) (history : List Event) (build : ℕ) : Ty
 -- then; where it has a reverse, for one more entry; and for the pages.
 pub record CanRecord (books : BooksView) (build : ℕ) (act : Act) : Type 0 where
   pub events : is_reverse act ≡ false
-      → length (acts_of build (books.history ++ event_by build act ∷ [])) + length (open_entries build (books.history ++ event_by build act ∷ [])) ≤ books.capacity
+      → length (acts_of build (books.history ++ by build act ∷ [])) + length (open_entries build (books.history ++ by build act ∷ [])) ≤ books.capacity
   pub entries : is_paired act ≡ true → length (open_entries build books.history) < 512
-  pub pages : length (pages_of build (books.history ++ event_by build act ∷ [])) ≤ books.pages
+  pub pages : length (pages_of build (books.history ++ by build act ∷ [])) ≤ books.pages
 
 -- the pages of a build after an act: those of a block that is taken come last, those of one given back are gone
 abbrev pub pages_after : List ℕ → Act → List ℕ

@@ -7,6 +7,7 @@ use Rattle.realm_model.specs.Machine.{Limits}
 use Rattle.realm_model.specs.World.{World, opening}
 use Rattle.realm_model.specs.History.{replay, open_entries, pages_of}
 use Rattle.realm_model.specs.Room.{used_room}
+use Rattle.realm_model.specs.Undoing.{by}
 
 -- The limits of the machine, how many events each build may have in the history, and the history.
 pub record HostView : Type 0 where
@@ -34,12 +35,9 @@ granule_of_page host build page = slice_get (pages_of_build host build) page
 abbrev pub used : HostView → ℕ → ℕ
 used host build = used_room build host.history (world_of host)
 
-abbrev pub event_by : ℕ → Act → Event
-event_by build act = record { build = build; act = act }
-
 -- the host with one more event
 abbrev pub with_event : HostView → ℕ → Act → HostView
-with_event host build act = record host { history = host.history ++ event_by build act ∷ [] }
+with_event host build act = record host { history = host.history ++ by build act ∷ [] }
 
 -- a host that has just been booted over so many pages
 abbrev pub booted : Settings → ℕ → HostView

@@ -3,8 +3,8 @@ ghost use Rattle.std.specs.Prelude.{◌≡◌, ◌+◌, ◌<◌, ◌≤◌, [], 
 ghost use Rattle.std.specs.Bool.{OnFalse};
 ghost use Rattle.std.specs.List.{last_or};
 ghost use Rattle.realm_model.specs.History.{acts_of, open_entries, pages_of, IsInTurn};
-ghost use Rattle.realm_host.specs.View.{event_by};
 ghost use Rattle.realm_model.specs.Act.{is_paired};
+ghost use Rattle.realm_model.specs.Undoing.{by};
 ghost use Rattle.leases.specs.Stacks.{stack_of, with_stack};
 ghost use Rattle.realm_host.specs.Books.{with_entry, new_build, pages_after, CanFollow, CanRecord, FitsMachine};
 
@@ -162,7 +162,7 @@ impl Books {
     /// Records an act of a build as the last event. No memory is taken.
     pub(crate) fn record(&mut self, build: BuildId, act: Act)
         requires there { build < self.old.builds }
-        requires in_turn { IsInTurn self.old.history (event_by build act) }
+        requires in_turn { IsInTurn self.old.history (by build act) }
         requires room { CanRecord self.old build act }
         requires machine { FitsMachine act }
         ensures { self.new ≡ with_entry self.old build act }

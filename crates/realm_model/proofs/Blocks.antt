@@ -37,7 +37,8 @@ module _ (limits : Limits) (w : World) (b order first : ℕ) (below : b < limits
   step-take free = (step_says limits w (by b (Take order first)) tt _).1 (record {
     build = below;
     granules = free;
-    fields = start;
+    in_range = start;
+    fitting = refl;
     updates = takes (block order first);
     outcome = ap Ok (seen_takes w.machine (block order first));
     machine = sym (machine_after_all-takes (block order first) w.machine);
@@ -51,7 +52,8 @@ module _ (limits : Limits) (w : World) (b order first : ℕ) (below : b < limits
   step-untake held host = (step_says limits w (by b (UnTake order first)) tt _).1 (record {
     build = below;
     granules = held;
-    fields = and_from _ _ start (all_undelegated (block order first) host);
+    in_range = start;
+    fitting = all_undelegated (block order first) host;
     updates = frees (block order first);
     outcome = ap Ok (seen_frees w.machine (block order first));
     machine = sym (machine_after_all-frees (block order first) w.machine);

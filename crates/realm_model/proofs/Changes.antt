@@ -17,7 +17,7 @@ use Rattle.realm_model.specs.declared.states.GranuleState.TheVariants.{RecAux, R
 use Rattle.realm_model.specs.Machine.{Limits, Seen, seen, RecRow, RealmRow, Cell, cell_at, held as held_cell, left}
 use Rattle.realm_model.specs.Update.{Update, Put, PutByte, Lease, Free, granule_of, lease_before, lease_after, machine_after, machine_after_all}
 use Rattle.realm_model.specs.Act.{named, holder}
-use Rattle.realm_model.specs.Outcome.{outcome_of, fits, leads_to, realm_is, is_root}
+use Rattle.realm_model.specs.Outcome.{outcome_of, is_in_range, fits, leads_to, realm_is, is_root}
 use Rattle.realm_model.specs.World.{World, is_leased_to, realm_of, updated, updated_all}
 use Rattle.realm_model.specs.Step.{step, is_allowed, used_vmids, after_outcome}
 use Rattle.realm_model.specs.Rows.{Rows, Walk, walk, row_at, is_assigned}
@@ -58,14 +58,14 @@ updated_all-changes build (u ∷ us) w h =
 -- the command of an act is not refused: then the step is made
 pub step-command : (limits : Limits) (w : World) (build : ℕ) (act : Act) (us : List Update) → build < limits.builds
     → list_all (is_leased_to (holder build act) w.leases) (named act) ≡ true
-    → fits act (realm_of build w) (map (seen w.machine) (named act)) ≡ true
+    → is_in_range act ≡ true → fits act (realm_of build w) (map (seen w.machine) (named act)) ≡ true
     → outcome_of limits (used_vmids w.machine) act (realm_of build w) (map (seen w.machine) (named act)) ≡ Ok us
     → list_all (is_change build w.leases) us ≡ true
     → step limits w (record { build = build; act = act }) ≡ Some (record { machine = machine_after_all us w.machine; leases = w.leases })
 unfolding step
-step-command limits w build act us below leases fit planned changes =
+step-command limits w build act us below leases range fit planned changes =
     ap (λ t. cond t (after_outcome build (outcome_of limits (used_vmids w.machine) act (realm_of build w) (map (seen w.machine) (named act))) w) None)
-    (and_from _ _ (and_from _ _ (lt-ltb build limits.builds below) leases) fit)
+    (and_from _ _ (and_from _ _ (and_from _ _ (lt-ltb build limits.builds below) leases) range) fit)
     ∙ ap (λ o. after_outcome build o w) planned
     ∙ updated_all-changes build us w changes
 
@@ -193,7 +193,8 @@ pub step_exact : (limits : Limits) (w : World) (build : ℕ) (act : Act) (us : L
     → step limits w (record { build = build; act = act }) ≡ Some (record { machine = machine_after_all us w.machine; leases = w.leases })
 step_exact limits w build act us k reach opened planned =
     let outer = and_parts _ _ opened in
-    let first = and_parts _ _ outer.0 in
+    let ranged = and_parts _ _ outer.0 in
+    let first = and_parts _ _ ranged.0 in
     let mine : list_all (is_leased_to (Some build) w.leases) (named act) ≡ true = ap (λ l. list_all (is_leased_to l w.leases) (named act)) (sym (holder_is build act k)) ∙ first.1 in
-    step-command limits w build act us (ltb-true build limits.builds first.0) first.1 outer.1 planned
+    step-command limits w build act us (ltb-true build limits.builds first.0) first.1 ranged.1 outer.1 planned
     ((changes limits build w act (realm_of build w) k reach mine (IsAt-realm_of build w) (IsHeld-realm_of build w) outer.1).where_ok us planned)

@@ -14,7 +14,7 @@ use Rattle.realm_model.specs.Sound.{HasEmptyRows}
 use Rattle.realm_model.proofs.Booleans.{false_from, guarded, true_false}
 use Rattle.realm_model.proofs.Maps.{place_total, same_place}
 use Rattle.realm_model.proofs.Rows.{is_place, put_cases, get-drop_rows, is_among, all_rows_at}
-use Rattle.realm_model.proofs.RowKinds.{kind_of_table, plain_unassigned}
+use Rattle.realm_model.proofs.RowKinds.{plain_unassigned}
 use Rattle.realm_model.proofs.TablePlaces.{IsTablePlace}
 use Rattle.realm_model.proofs.FullRows.{above_covers}
 
@@ -147,4 +147,4 @@ module _ {width : ℕ} (rows : Rows) (ipa : ℕ) (known : is_width width ≡ tru
       plain : (k : ℕ) → k < n → is_table (as_ram (get rows (3, ipa + k * 1))) ≡ false
       plain k less =
           let there = all_rows_at is_unassigned rows 3 ipa n k all less in
-          ap (λ o. is_table (as_ram o)) there.1 ∙ sym (kind_of_table there.0) ∙ plain_unassigned there.0 there.2
+          ap (λ o. is_table (as_ram o)) there.1 ∙ plain_unassigned there.0 there.2

@@ -7,7 +7,7 @@ use Rattle.std.proofs.lemmas.Bool.{eqb-true, eqb-false, eq-eqb, ne_eqb}
 use Rattle.std.proofs.lemmas.Option.{slice_get-map, slice_get_within}
 use Rattle.realm_model.specs.declared.act.Event.{Event}
 use Rattle.realm_model.specs.Machine.{Limits, Cell, Machine, blank}
-use Rattle.realm_model.specs.World.{World, is_lease, is_leased_to, free_set, each, hidden, unleased, is_of, is_of_other, part_of, without}
+use Rattle.realm_model.specs.World.{World, same_lease, is_leased_to, free_set, each, hidden, unleased, is_of, is_of_other, part_of, without}
 use Rattle.realm_model.specs.History.{pages_of, replay, IsLegal}
 use Rattle.realm_model.proofs.Lists.{is_in, Contains-from_in, in_from_Contains}
 use Rattle.realm_model.proofs.Leases.{leased}
@@ -58,12 +58,12 @@ is_in-free_set w g =
 
 -- without a build, what it leased is free too
 free_without : (b : ℕ) (w : World) (g : ℕ) → is_leased_to None (without w b).leases g ≡ (is_leased_to None w.leases g || is_leased_to (Some b) w.leases g)
-free_without b w g = ap (λ o. option_eq is_lease o (Some None)) (slice_get-map (unleased (is_of b)) w.leases g) ∙ of_lease (slice_get w.leases g)
+free_without b w g = ap (λ o. option_eq same_lease o (Some None)) (slice_get-map (unleased (is_of b)) w.leases g) ∙ of_lease (slice_get w.leases g)
   where
-    of_lease : (o : Option (Option ℕ)) → option_eq is_lease (option_map (unleased (is_of b)) o) (Some None) ≡ (option_eq is_lease o (Some None) || option_eq is_lease o (Some (Some b)))
+    of_lease : (o : Option (Option ℕ)) → option_eq same_lease (option_map (unleased (is_of b)) o) (Some None) ≡ (option_eq same_lease o (Some None) || option_eq same_lease o (Some (Some b)))
     of_lease None = refl
     of_lease (Some None) = refl
-    of_lease (Some (Some c)) = elim (c == b) as (λ t. is_lease (cond t None (Some c)) None ≡ t) [ true ↦ refl | false ↦ refl ]
+    of_lease (Some (Some c)) = elim (c == b) as (λ t. same_lease (cond t None (Some c)) None ≡ t) [ true ↦ refl | false ↦ refl ]
 
 pub free_set-without : (limits : Limits) (b : ℕ) (history : List Event) (w : World) → IsLegal limits history → replay limits history ≡ Some w → (g : ℕ)
     → Contains (free_set (without w b)) g ↔ (Contains (free_set w) g ⊎ Contains (pages_of b history) g)

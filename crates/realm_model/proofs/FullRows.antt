@@ -3,21 +3,18 @@ use Rattle.std.proofs.Common.{◌/◌, ◌≡◌, ◌≢◌, ℕ, zero, suc, ◌
 use Rattle.std.specs.Prelude.{option_map, is_some, ◌==◌}
 use Rattle.std.specs.FinMap.{get, insert, empty, get-empty}
 use Rattle.std.proofs.lemmas.Bool.{and_parts, eqb-true, eqb-false}
-use Rattle.std.proofs.lemmas.Option.{same_Some}
 use Rattle.granule_addr.specs.Ipa.{covered_count, first_covered}
 use Rattle.granule_addr.specs.Root.{start_count, space_of}
-use Rattle.realm_model.specs.declared.states.Hipas.TheVariants.{Unassigned}
+use Rattle.realm_model.specs.declared.states.EntryState.TheVariants.{Unassigned}
 use Rattle.realm_model.specs.declared.states.Ripas.{Ripas}
 use Rattle.realm_model.specs.declared.states.Ripas.TheVariants.{Empty, Destroyed}
-use Rattle.realm_model.specs.Rows.{Row, Rows, Walk, place_cmp, row_at, walk, put_rows, drop_rows, put_row, with_table, without_table, with_ram, root_rows, unassigned, table, is_table, is_unassigned, all_rows}
-use Rattle.realm_model.specs.Ownership.{mapping_of_row}
+use Rattle.realm_model.specs.Rows.{Row, Rows, Walk, place_cmp, row_at, walk, put_rows, drop_rows, put_row, with_table, without_table, with_ram, root_rows, unassigned, table, is_unassigned, all_rows}
+use Rattle.realm_model.specs.Ownership.{mapping_of_row, mapping}
 use Rattle.realm_model.specs.Sound.{look, is_table_kind, IsFull}
 use Rattle.realm_model.proofs.Maps.{same_place}
 use Rattle.realm_model.proofs.Rows.{is_among, is_place, place_self, look-insert, put_kinds, put_there, get-drop_rows, same_rows}
 use Rattle.realm_model.proofs.TablePlaces.{IsTablePlace}
-use Rattle.realm_model.proofs.Walks.{walk_end}
 use Rattle.realm_model.proofs.Booleans.{true_false}
-use Rattle.realm_model.proofs.RowKinds.{kind_of_table}
 
 pub root_full : (width : ℕ) → IsFull width (look (root_rows width))
 unfolding root_rows
@@ -174,7 +171,7 @@ module _ {width : ℕ} (rows : Rows) (level ipa : ℕ) (at : IsTablePlace ipa le
 
   -- a table then was one, and is not the one that is gone
   left_table : (q : ℕ × ℕ) → is_table_kind (look left_rows q) ≡ true → (is_place q up ≡ false) × (is_table_kind (look rows q) ≡ true)
-  left_table q h = elim (is_place q up) as (λ t. is_table_kind (cond t (Some (Unassigned, None)) (look dropped q)) ≡ true → (t ≡ false) × (is_table_kind (look rows q) ≡ true)) [
+  left_table q h = elim (is_place q up) as (λ t. is_table_kind (cond t (Some (mapping Unassigned None)) (look dropped q)) ≡ true → (t ≡ false) × (is_table_kind (look rows q) ≡ true)) [
     | true ↦ λ h. cc
     | false ↦ λ h. (refl, dropped_table q h)
   ] (ap is_table_kind (sym (look-insert dropped up q (unassigned Destroyed))) ∙ h)
@@ -210,26 +207,3 @@ walk_ends rows full ipa (suc (suc level)) inside low =
       | Some row ↦ refl
       | None ↦ walk_ends rows full ipa (suc level) inside (omega arith)
     ]
-
--- one that ends above its level ends at a row that is no table
-pub walk_ends_above : {width : ℕ} (rows : Rows) → IsFull width (look rows) → (ipa level : ℕ) (end : Walk) → walk rows ipa level ≡ Some end → end.level < level → is_table end.row ≡ false
-unfolding walk
-walk_ends_above rows full ipa zero end e above = absurd (omega arith)
-walk_ends_above rows full ipa (suc level) end e above =
-    elim (row_at rows (suc level) ipa) as (λ o. row_at rows (suc level) ipa ≡ o → elim o [ Some row ↦ Some (record { level = suc level; row = row }) | None ↦ walk rows ipa level ] ≡ Some end → is_table end.row ≡ false) [
-      | Some row ↦ λ there e. let same : suc level ≡ end.level = ap (λ (x : Walk). x.level) (same_Some _ _ e) in absurd (omega arith)
-      | None ↦ λ none e. elim (end.level == level) as (λ t. (end.level == level) ≡ t → is_table end.row ≡ false) [
-        | true ↦ λ last. plain none e (eqb-true end.level level last)
-        | false ↦ λ more. let other : end.level ≢ level = eqb-false end.level level more in walk_ends_above rows full ipa level end e (omega arith)
-      ] refl
-    ] refl e
-  where
-    -- a table would have a row of the next level there
-    plain : row_at rows (suc level) ipa ≡ None → walk rows ipa level ≡ Some end → end.level ≡ level → is_table end.row ≡ false
-    plain none e last = elim (is_table end.row) as (λ t. is_table end.row ≡ t → t ≡ false) [
-      | true ↦ λ table.
-          let next : end.level + 1 ≡ suc level = omega arith in
-          let found = full.tables end.level ipa (ap (λ o. is_table_kind (option_map mapping_of_row o)) (walk_end rows ipa level end e) ∙ kind_of_table end.row ∙ table) in
-          absurd (true_false _ found (ap (λ n. is_some (look rows (n, first_covered n ipa))) next ∙ ap (λ o. is_some (option_map mapping_of_row o)) none))
-      | false ↦ λ other. refl
-    ] refl

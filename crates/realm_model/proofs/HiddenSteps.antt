@@ -12,7 +12,7 @@ use Rattle.realm_model.specs.Machine.{Cell, Machine, Limits, Seen, blank, cell_a
 use Rattle.realm_model.specs.Update.{Update, Outcome}
 use Rattle.realm_model.specs.Act.{named, holder}
 use Rattle.realm_model.specs.Outcome.{outcome_of, fits}
-use Rattle.realm_model.specs.World.{World, is_lease, is_leased_to, each, masked, without, part_of, is_of, is_of_other, hidden, unleased, realm_from, realm_of}
+use Rattle.realm_model.specs.World.{World, same_lease, is_leased_to, each, masked, without, part_of, is_of, is_of_other, hidden, unleased, realm_from, realm_of}
 use Rattle.realm_model.specs.Step.{step, after_outcome, is_allowed, used_vmids}
 use Rattle.realm_model.proofs.Booleans.{guarded, false_from, true_false}
 use Rattle.realm_model.proofs.Leases.{leased-map, lease_is, leased, cell_at-each}
@@ -54,12 +54,12 @@ module _ (p : Option ℕ → Bool) (lease : Option ℕ) (apart : IsShown p lease
 
 -- the realm of a build that is not hidden is where it was
 abbrev realm_or : ℕ → ℕ → Option ℕ → Cell → Option Seen → Option Seen
-realm_or c n lease cell rest = cond (is_lease lease (Some c) && is_some cell.descriptor) (Some (record { number = n; cell = cell })) rest
+realm_or c n lease cell rest = cond (same_lease lease (Some c) && is_some cell.descriptor) (Some (record { number = n; cell = cell })) rest
 
 realm_or_kept : (p : Option ℕ → Bool) (c n : ℕ) → p (Some c) ≡ false → (lease : Option ℕ) (cell : Cell) (rest : Option Seen) → realm_or c n (unleased p lease) (hidden p lease cell) rest ≡ realm_or c n lease cell rest
 realm_or_kept p c n other lease cell rest =
     elim (p lease) as (λ t. p lease ≡ t → realm_or c n (cond t None lease) (cond t blank cell) rest ≡ realm_or c n lease cell rest) [
-      | true ↦ λ h. let not_c : is_lease lease (Some c) ≡ false = false_from _ (λ e. true_false (p lease) h (ap p (lease_is lease (Some c) e) ∙ other)) in
+      | true ↦ λ h. let not_c : same_lease lease (Some c) ≡ false = false_from _ (λ e. true_false (p lease) h (ap p (lease_is lease (Some c) e) ∙ other)) in
           sym (ap (λ t. cond (t && is_some cell.descriptor) (Some (record { number = n; cell = cell })) rest) not_c)
       | false ↦ λ h. refl
     ] refl
@@ -99,13 +99,14 @@ module _ (limits : Limits) (p : Option ℕ → Bool) (free : p None ≡ false) (
       let c = e.build in
       let both = guarded (is_allowed limits w e) _ v s in
       let outer = and_parts _ _ both.0 in
-      let first = and_parts _ _ outer.0 in
+      let ranged = and_parts _ _ outer.0 in
+      let first = and_parts _ _ ranged.0 in
       let elsewhere : IsShown p (holder c e.act) = holder_shown p c e.act free other in
       let realm : realm_of c (masked p w) ≡ realm_of c w = realm_kept p c 0 other w.leases w.machine in
       let granules : map (seen (masked p w).machine) (named e.act) ≡ map (seen w.machine) (named e.act) =
       named_seen p (holder c e.act) elsewhere w.leases w.machine (named e.act) first.1 in
       let open_too : is_allowed limits (masked p w) e ≡ true =
-      and_from _ _ (and_from _ _ first.0 (named_leased p (holder c e.act) elsewhere w.leases (named e.act) first.1))
+      and_from _ _ (and_from _ _ (and_from _ _ first.0 (named_leased p (holder c e.act) elsewhere w.leases (named e.act) first.1)) ranged.1)
       ((λ i. fits e.act (realm i) (granules i)) ∙ outer.1) in
       let used : List ℕ = used_vmids w.machine in
       let fewer : List ℕ = used_vmids (masked p w).machine in
@@ -137,9 +138,9 @@ module _ (limits : Limits) (b : ℕ) (w v : World) (e : Event) where
 
 -- whether the build leases a granule is seen in its part
 pub leased_in_part : (b : ℕ) (w : World) (g : ℕ) → is_leased_to (Some b) (part_of w b).leases g ≡ is_leased_to (Some b) w.leases g
-leased_in_part b w g = ap (λ o. option_eq is_lease o (Some (Some b))) (slice_get-map (unleased (is_of_other b)) w.leases g) ∙ of_lease (slice_get w.leases g)
+leased_in_part b w g = ap (λ o. option_eq same_lease o (Some (Some b))) (slice_get-map (unleased (is_of_other b)) w.leases g) ∙ of_lease (slice_get w.leases g)
   where
-    of_lease : (o : Option (Option ℕ)) → option_eq is_lease (option_map (unleased (is_of_other b)) o) (Some (Some b)) ≡ option_eq is_lease o (Some (Some b))
+    of_lease : (o : Option (Option ℕ)) → option_eq same_lease (option_map (unleased (is_of_other b)) o) (Some (Some b)) ≡ option_eq same_lease o (Some (Some b))
     of_lease None = refl
     of_lease (Some None) = refl
-    of_lease (Some (Some c)) = elim (c == b) as (λ t. (c == b) ≡ t → is_lease (cond (not t) None (Some c)) (Some b) ≡ is_lease (Some c) (Some b)) [ true ↦ λ e. refl | false ↦ λ e. sym e ] refl
+    of_lease (Some (Some c)) = elim (c == b) as (λ t. (c == b) ≡ t → same_lease (cond (not t) None (Some c)) (Some b) ≡ same_lease (Some c) (Some b)) [ true ↦ λ e. refl | false ↦ λ e. sym e ] refl

@@ -8,21 +8,21 @@ use Rattle.std.proofs.lemmas.Option.{slice_get-map, get_or_from_slice_get}
 use Rattle.std.proofs.lemmas.List.{set-get_or}
 use Rattle.std.proofs.lemmas.List.Elements.{All-nil, All-cons, All-head, All-tail}
 use Rattle.realm_model.specs.Machine.{Cell, Machine, blank, cell_at}
-use Rattle.realm_model.specs.World.{is_lease, is_leased_to, each}
+use Rattle.realm_model.specs.World.{same_lease, is_leased_to, each}
 use Rattle.realm_model.proofs.Lists.{is_in}
 
-pub lease_is : (a b : Option ℕ) → is_lease a b ≡ true → a ≡ b
+pub lease_is : (a b : Option ℕ) → same_lease a b ≡ true → a ≡ b
 lease_is None None e = refl
 lease_is None (Some y) e = cc
 lease_is (Some x) None e = cc
 lease_is (Some x) (Some y) e = ap Some (eqb-true x y e)
 
-pub lease_same : (a : Option ℕ) → is_lease a a ≡ true
+pub lease_same : (a : Option ℕ) → same_lease a a ≡ true
 lease_same None = refl
 lease_same (Some x) = eq-eqb x x refl
 
 -- who leases the granule, if the test says so
-leased_there : (o : Option (Option ℕ)) (lease : Option ℕ) → option_eq is_lease o (Some lease) ≡ true → o ≡ Some lease
+leased_there : (o : Option (Option ℕ)) (lease : Option ℕ) → option_eq same_lease o (Some lease) ≡ true → o ≡ Some lease
 leased_there None lease e = cc
 leased_there (Some l) lease e = ap Some (lease_is l lease e)
 
@@ -30,7 +30,7 @@ pub leased : (lease : Option ℕ) (leases : List (Option ℕ)) (g : ℕ) → is_
 leased lease leases g e = leased_there (slice_get leases g) lease e
 
 pub leased_from : (lease : Option ℕ) (leases : List (Option ℕ)) (g : ℕ) → slice_get leases g ≡ Some lease → is_leased_to lease leases g ≡ true
-leased_from lease leases g e = ap (λ o. option_eq is_lease o (Some lease)) e ∙ lease_same lease
+leased_from lease leases g e = ap (λ o. option_eq same_lease o (Some lease)) e ∙ lease_same lease
 
 -- a lease that a change keeps is there after it
 pub leased-map : (f : Option ℕ → Option ℕ) (lease : Option ℕ) (leases : List (Option ℕ)) (g : ℕ) → f lease ≡ lease

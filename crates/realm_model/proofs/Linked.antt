@@ -1,7 +1,6 @@
 -- Every reached world keeps realms and the granules that they name linked.
-use Rattle.std.proofs.Common.{◌<◌, ◌++◌, arith, ◌≡◌, ℕ, ◌+◌, ◌-◌, true, false, cond, ◌||◌, inl, inr, List, [], ◌∷◌, ◌++◌, map, Option, Some, None, refl, sym, ap, ◌∙◌, subst, arith}
+use Rattle.std.proofs.Common.{◌<◌, ◌++◌, arith, ◌≡◌, ℕ, ◌+◌, ◌-◌, true, false, cond, inl, inr, List, [], ◌∷◌, ◌++◌, map, Option, Some, None, refl, sym, ap, ◌∙◌, subst, arith}
 use Rattle.std.specs.Prelude.{option_map, is_some, ◌==◌}
-use Rattle.std.specs.List.{list_any}
 use Rattle.std.specs.Ordering.{nat_cmp, eq_by_cmp}
 use Rattle.std.specs.Cmp.{nat_cmp_total}
 use Rattle.std.specs.FinMap.{get, insert, empty, get-empty, get-insert, get-remove, FinMap, len, empty_of_len}
@@ -16,9 +15,9 @@ use Rattle.realm_model.specs.declared.act.Act.{Act}
 use Rattle.realm_model.specs.declared.act.Act.TheVariants.{Take, UnTake, Fill, Peek, Delegate, Undelegate, Realm, UnRealm, Activate, Rtt, UnRtt, Ripas as ToRam, Data, Unknown, UnData, Rec, UnRec, Enter, Exit, Poke}
 use Rattle.realm_model.specs.declared.act.Event.{Event}
 use Rattle.realm_model.specs.Rows.{Row, unassigned, assigned, put_row, with_table, without_table, with_ram, unmapped_ripas, is_unassigned}
-use Rattle.realm_model.specs.Machine.{Limits, RecRow, RealmRow, Cell, Seen, left, held, cell_at, seen}
+use Rattle.realm_model.specs.Machine.{Limits, RecRow, RealmRow, Cell, Seen, numbers_of, left, held, cell_at, seen}
 use Rattle.realm_model.specs.Update.{Update, Put}
-use Rattle.realm_model.specs.Command.Check.{is_delegated, all_different}
+use Rattle.realm_model.specs.Command.Check.{is_delegated, are_distinct}
 use Rattle.realm_model.specs.Measurement.{measurement_after, data_event, rec_event}
 use Rattle.realm_model.specs.Act.{named, block}
 use Rattle.realm_model.specs.Outcome.{outcome_of, fits}
@@ -38,7 +37,7 @@ use Rattle.realm_model.proofs.RealmOf.{IsAt-realm_of, realm_of-part_of, IsAt, no
 use Rattle.realm_model.proofs.SoundParts.{IsSound-opening, IsSquare-part_of, IsSound, IsSound-step}
 use Rattle.realm_model.proofs.Booleans.{not_true, none_is, true_false}
 use Rattle.realm_model.proofs.LeftOut.{each-replicate}
-use Rattle.realm_model.proofs.Lists.{is_in, AllDistinct}
+use Rattle.realm_model.proofs.Lists.{AllDistinct, AllDistinct-from_test}
 use Rattle.realm_model.proofs.Rows.{place_self, same_rows}
 use Rattle.realm_model.proofs.HiddenSteps.{part_of-other_step, step-part_of}
 use Rattle.realm_model.proofs.Reversal.{seen_numbers}
@@ -74,22 +73,15 @@ module _ (limits : Limits) (w : World) (sound : IsSoundPart w) (old : IsLinked (
   realm_sound : (rd : Seen) (d : RealmRow) → now rd.number ≡ rd.cell → rd.cell.descriptor ≡ Some d → IsSoundRealm d
   realm_sound rd d at is = (subst (IsSoundCell sound.rd rd.number) at (sound.cells rd.number)).row d is
 
-  apart_list : (gs : List ℕ) → all_different (map (seen w.machine) gs) ≡ true → AllDistinct gs
-  apart_list [] h = tt
-  apart_list (g ∷ gs) h =
-      let parts = and_parts _ _ h in
-      (sym (any_seen g gs) ∙ not_true _ parts.0, apart_list gs parts.1)
-    where
-      any_seen : (g : ℕ) (gs : List ℕ) → list_any (λ (h : Seen). g == h.number) (map (seen w.machine) gs) ≡ is_in g gs
-      any_seen g [] = refl
-      any_seen g (x ∷ gs) = ap (λ t. (g == x) || t) (any_seen g gs)
+  apart_list : (gs : List ℕ) → are_distinct (numbers_of (map (seen w.machine) gs)) ≡ true → AllDistinct gs
+  apart_list gs h = AllDistinct-from_test gs (sym (ap are_distinct (seen_numbers w.machine gs)) ∙ h)
 
   data_linked : (rd : Seen) (d : RealmRow) → now rd.number ≡ rd.cell → rd.cell.descriptor ≡ Some d → (g : ℕ) (c : Cell) (ripas : Ripas) (ipa : ℕ) (m : List ℕ) (row : Row)
       → is_delegated (seen w.machine g) ≡ true → c.descriptor ≡ None → c.state ≡ InData → c.realm ≡ Some rd.number → get d.rows (3, first_covered 3 ipa) ≡ Some row → is_unassigned row ≡ true
       → R (Put g c ∷ Put rd.number (record rd.cell { descriptor = Some (record d { rows = put_row d.rows 3 ipa (assigned ripas g); measurement = m }) }) ∷ [])
   data_linked rd d at is g c ripas ipa m row free bare state mine there plain =
       let place : ℕ × ℕ = (3, first_covered 3 ipa) in
-      let nowhere : row_target (look d.rows place) ≡ None = ap (λ o. row_target (option_map mapping_of_row o)) there ∙ unassigned_target row.hipas row.granule plain in
+      let nowhere : row_target (look d.rows place) ≡ None = ap (λ o. row_target (option_map mapping_of_row o)) there ∙ unassigned_target row.state row.granule plain in
       row_more w sound old rd d (record d { rows = put_row d.rows 3 ipa (assigned ripas g); measurement = m }) at is refl refl g c place free bare mine
       (leaf_target d.rows place (assigned ripas g) ∙ (λ i. Some (g, sym state i)))
       (λ q to h. elim (leaf_new d.rows place (assigned ripas g) q to h) [ inl same ↦ inl same | inr new ↦ inr new.0 ])
@@ -103,7 +95,7 @@ module _ (limits : Limits) (w : World) (sound : IsSoundPart w) (old : IsLinked (
   unfolding outcome_of named fits with_ram
   linked (Take order first) realm at none fit = Yields-Ok R _ (subst R (sym (seen_takes w.machine (block order first))) (subst IsLinked (λ i k. sym (put_takes (block order first) k (now k)) i) old))
   linked (UnTake order first) realm at none fit = Yields-Ok R _ (subst R (sym (seen_frees w.machine (block order first)))
-      (subst IsLinked (λ i k. sym (put_frees (block order first) k (now k)) i) (freed w sound old (block order first) (and_parts _ _ fit).1)))
+      (subst IsLinked (λ i k. sym (put_frees (block order first) k (now k)) i) (freed w sound old (block order first) fit)))
   linked (Fill g v) realm at none fit = Yields-check R _ _ _ (λ host. Yields-Ok R _ (let h = undelegated_host w sound g host in host_put w sound old g _ h h (host_bare w sound g h)))
   linked (Peek g o v) realm at none fit = Yields-check R _ _ _ (λ _. Yields-Ok R _ old)
   linked (Delegate g) realm at none fit = Yields-check R _ _ _ (λ host. Yields-Ok R _ (host_put w sound old g left (undelegated_host w sound g host) refl refl))
@@ -145,7 +137,7 @@ module _ (limits : Limits) (w : World) (sound : IsSoundPart w) (old : IsLinked (
       let up : ℕ × ℕ = (level - 1, first_covered (level - 1) ipa) in
       let cases = without_table_cases d.rows level ipa end.row rows (table_place ipa level (and_parts _ _ place).0) there unused in
       Yields-Ok R _ (row_less w sound old rd d (record d { rows = without_table d.rows level ipa }) at is refl refl pa up InRtt
-      (ap (λ o. row_target (option_map mapping_of_row o)) there ∙ table_target end.row.hipas end.row.granule pa table to)
+      (ap (λ o. row_target (option_map mapping_of_row o)) there ∙ table_target end.row.state end.row.granule pa table to)
       (λ q t h. elim (cases q) [
         | inl empty ↦ absurd (true_false _ (ap is_some h) (ap (λ o. is_some (row_target o)) empty.1))
         | inr rest ↦ elim rest [ inl gone ↦ absurd (true_false _ (ap is_some h) (ap (λ o. is_some (row_target o)) gone.0)) | inr same ↦ ap row_target (sym same.0) ∙ h ]
@@ -175,7 +167,7 @@ module _ (limits : Limits) (w : World) (sound : IsSoundPart w) (old : IsLinked (
       let place : ℕ × ℕ = (3, first_covered 3 ipa) in
       let row : Row = unassigned (unmapped_ripas end.row.ripas) in
       Yields-Ok R _ (row_less w sound old rd d (record d { rows = put_row d.rows 3 ipa row }) at is refl refl pa place InData
-      (ap (λ o. row_target (option_map mapping_of_row o)) there ∙ assigned_target end.row.hipas end.row.granule pa used to)
+      (ap (λ o. row_target (option_map mapping_of_row o)) there ∙ assigned_target end.row.state end.row.granule pa used to)
       (λ q t h. elim (leaf_new d.rows place row q t h) [ inl same ↦ same | inr new ↦ absurd (true_false _ (ap is_some new.1) refl) ])
       (leaf_target d.rows place row)
       (λ q t h. leaf_old d.rows place row q t h))))))))
@@ -183,13 +175,13 @@ module _ (limits : Limits) (w : World) (sound : IsSoundPart w) (old : IsLinked (
   linked (Rec g aux m) (Some rd) at none fit = Yields-with_realm R _ _ (λ d is. Yields-check R _ _ _ (λ all. Yields-check R _ _ _ (λ _.
       let parts = and_parts _ _ (and_parts _ _ all).0 in
       let more : RealmRow = record d {
-        recs = insert d.recs d.next (record { granule = g; auxiliaries = map (λ (a : Seen). a.number) (map (seen w.machine) aux.items); state = Ready });
+        recs = insert d.recs d.next (record { granule = g; auxiliaries = numbers_of (map (seen w.machine) aux.items); state = Ready });
         next = d.next + 1;
         measurement = measurement_after d.measurement (rec_event d.next);
       } in
       Yields-Ok R _ (subst R (λ i. (Put g (held InRec rd.number) ∷ sym (seen-each_put w.machine (held RecAux rd.number) aux.items) i) ++ Put rd.number (record rd.cell { descriptor = Some more }) ∷ [])
       (rec_more w sound old rd d _ at is refl refl g aux.items d.next parts.0 (apart_list (g ∷ aux.items) parts.1) (ap (option_map granules_of_rec) (unused_number d (realm_sound rd d at is))) (λ q.
-      let rec1 : RecRow = record { granule = g; auxiliaries = map (λ (a : Seen). a.number) (map (seen w.machine) aux.items); state = Ready } in
+      let rec1 : RecRow = record { granule = g; auxiliaries = numbers_of (map (seen w.machine) aux.items); state = Ready } in
       ap (option_map granules_of_rec) (get-insert nat_cmp_total d.recs d.next rec1 q)
       ∙ elim (eq_by_cmp nat_cmp q d.next) as (λ t. option_map granules_of_rec (cond t (Some rec1) (get d.recs q)) ≡ cond t (Some (g, aux.items)) (option_map granules_of_rec (get d.recs q))) [
         | true ↦ λ i. Some (g, seen_numbers w.machine aux.items i)

@@ -10,7 +10,8 @@ use Rattle.std.proofs.lemmas.Bool.Decides.{Decides-eqb}
 use Rattle.std.proofs.lemmas.Map.Made.{IsDistinct-from_AllPairs}
 use Rattle.std.proofs.lemmas.Map.Steps.{length-le_from_distinct_below}
 use native.Mathlib.Numerals.{unary_clauses}
-use Rattle.realm_model.proofs.Booleans.{or_parts, true_false}
+use Rattle.realm_model.specs.Command.Check.{are_distinct}
+use Rattle.realm_model.proofs.Booleans.{or_parts, true_false, not_true}
 
 -- ---- the last element and the rest
 
@@ -182,6 +183,11 @@ AllDistinct_parts (x ∷ xs) ys h =
         | false ↦ λ other. rest.1 k e
       ] refl,
     )
+
+-- in the words of a command
+pub AllDistinct-from_test : (xs : List ℕ) → are_distinct xs ≡ true → AllDistinct xs
+AllDistinct-from_test [] h = tt
+AllDistinct-from_test (x ∷ xs) h = let parts = and_parts _ _ h in (not_true _ parts.0, AllDistinct-from_test xs parts.1)
 
 -- in the words of std
 pub AllPairs-from_distinct : (xs : List ℕ) → AllDistinct xs → AllPairs (λ a b. a ≢ b) xs

@@ -104,7 +104,8 @@ module _ (limits : Limits) (b : ℕ) (base y x : World) (back : IsBack b base y 
       let is : IsStep limits x e x' = record {
         build = s.build;
         granules = all_leased lease x.leases gs held_x;
-        fields = (λ i. fits e.act (realm i) (cells i)) ∙ s.fields;
+        in_range = s.in_range;
+        fitting = (λ i. fits e.act (realm i) (cells i)) ∙ s.fitting;
         updates = s.updates;
         outcome = outcome_of-fewer limits (used_vmids y.machine) (used_vmids x.machine) (used_there sound_x.square) e.act (realm_of e.build x) (map (seen x.machine) gs) s.updates
             ((λ i. outcome_of limits (used_vmids y.machine) e.act (realm i) (cells i)) ∙ s.outcome);

@@ -17,12 +17,12 @@ use Rattle.realm_model.specs.declared.act.Act.{Act}
 use Rattle.realm_model.specs.declared.act.Act.TheVariants.{Take, UnTake, Fill, Peek, Delegate, Undelegate, Realm, UnRealm, Activate, Rtt, UnRtt, Ripas as ToRam, Data, Unknown, UnData, Rec, UnRec, Enter, Exit, Poke}
 use Rattle.realm_model.specs.declared.act.Event.{Event}
 use Rattle.realm_model.specs.Rows.{Rows, assigned, unassigned, unmapped_ripas, Walk, walk}
-use Rattle.realm_model.specs.Machine.{Limits, RecRow, RealmRow, Machine, Seen, left, held, cell_at, seen}
+use Rattle.realm_model.specs.Machine.{Limits, RecRow, RealmRow, Machine, Seen, numbers_of, left, held, cell_at, seen}
 use Rattle.realm_model.specs.Update.{Outcome}
 use Rattle.realm_model.specs.Command.Check.{put_realm}
 use Rattle.realm_model.specs.Act.{block, named, reverse_of, is_paired, is_reverse}
 use Rattle.realm_model.specs.Outcome.{outcome_of, fits}
-use Rattle.realm_model.specs.World.{World, is_lease, realm_from, realm_of}
+use Rattle.realm_model.specs.World.{World, same_lease, realm_from, realm_of}
 use Rattle.realm_model.specs.Step.{used_vmids}
 use Rattle.realm_model.specs.History.{replay}
 use Rattle.realm_model.specs.Ownership.{SameRealm, SameDescriptor, SameCell, OwnsSame, granules_of_rec, mapping_of_row}
@@ -64,10 +64,10 @@ realm_from_twins b n (l ∷ leases) [] [] long same = tt
 realm_from_twins b n (l ∷ leases) [] (d ∷ ns) long same = absurd (omega arith)
 realm_from_twins b n (l ∷ leases) (c ∷ ms) [] long same = absurd (omega arith)
 realm_from_twins b n (l ∷ leases) (c ∷ ms) (d ∷ ns) long same =
-    let here : Bool = is_lease l (Some b) && is_some c.descriptor in
+    let here : Bool = same_lease l (Some b) && is_some c.descriptor in
     let r : Option Seen = realm_from b (suc n) leases ms in
     let s : Option Seen = realm_from b (suc n) leases ns in
-    subst (λ t. AreTwins (cond here (Some (record { number = n; cell = c })) r) (cond (is_lease l (Some b) && t) (Some (record { number = n; cell = d })) s)) (rows_both c.descriptor d.descriptor (same 0).descriptor)
+    subst (λ t. AreTwins (cond here (Some (record { number = n; cell = c })) r) (cond (same_lease l (Some b) && t) (Some (record { number = n; cell = d })) s)) (rows_both c.descriptor d.descriptor (same 0).descriptor)
     (elim here as (λ t. AreTwins (cond t (Some (record { number = n; cell = c })) r) (cond t (Some (record { number = n; cell = d })) s)) [
       | true ↦ record { number = refl; cell = same 0 }
       | false ↦ realm_from_twins b (suc n) leases ms ns (ap pred long) (λ g. same (suc g))
@@ -97,7 +97,7 @@ module _ (r s : Rows) (same : LookSame r s) (ipa level : ℕ) (a b : Walk) (ra :
       ∙ ap (option_map mapping_of_row) (walk_at s ipa level b sb (eqb-true b.level level at_b)))
 
   granule_same : (g h : ℕ) → a.row.granule ≡ Some g → b.row.granule ≡ Some h → g ≡ h
-  granule_same g h is ish = same_Some _ _ (sym is ∙ (λ i. (end_same i).1) ∙ ish)
+  granule_same g h is ish = same_Some _ _ (sym is ∙ (λ i. (end_same i).granule) ∙ ish)
 
 -- ---- acts
 
@@ -186,9 +186,9 @@ module _ (limits : Limits) (w v : World) (cells : (g : ℕ) → SameCell (cell_a
         ))))
       where
         made : Machine → ℕ → List ℕ → RecRow
-        made m g items = record { granule = g; auxiliaries = map (λ (a : Seen). a.number) (map (seen m) items); state = Ready }
+        made m g items = record { granule = g; auxiliaries = numbers_of (map (seen m) items); state = Ready }
 
-        numbers : (items : List ℕ) → map (λ (a : Seen). a.number) (map (seen w.machine) items) ≡ map (λ (a : Seen). a.number) (map (seen v.machine) items)
+        numbers : (items : List ℕ) → numbers_of (map (seen w.machine) items) ≡ numbers_of (map (seen v.machine) items)
         numbers items = seen_numbers w.machine items ∙ sym (seen_numbers v.machine items)
 
     unrec_follows : (g : ℕ) (aux : ArrayVec ℕ 16 (Unit {0})) (n : ℕ) → Follows (UnRec g aux n) (Some rd) (Some sd)

@@ -12,7 +12,7 @@ use Rattle.realm_model.specs.declared.act.Act.TheVariants.{Take, UnTake, Delegat
 use Rattle.realm_model.specs.declared.act.Event.{Event}
 use Rattle.realm_model.specs.Machine.{Limits}
 use Rattle.realm_model.specs.Act.{block, named, reverse_of, is_reverse}
-use Rattle.realm_model.specs.World.{World, is_lease, is_leased_to}
+use Rattle.realm_model.specs.World.{World, same_lease, is_leased_to}
 use Rattle.realm_model.specs.Step.{step}
 use Rattle.realm_model.specs.StepLaw.{leases_after, IsStep}
 use Rattle.realm_model.specs.History.{open_entries, pages_held, pages_of, IsInTurn, replay, IsLegal}
@@ -98,7 +98,7 @@ abbrev nobody : Option ℕ
 nobody = None
 
 abbrev is_of_build : ℕ → Option (Option ℕ) → Bool
-is_of_build b o = option_eq is_lease o (Some (Some b))
+is_of_build b o = option_eq same_lease o (Some (Some b))
 
 record Paged (b : ℕ) (history : List Event) (w : World) : Type 0 where
   pub same : (g : ℕ) → is_in g (pages_of b history) ≡ is_leased_to (Some b) w.leases g

@@ -8,7 +8,7 @@ use Rattle.std.proofs.lemmas.Option.{same_Some}
 use Rattle.realm_model.specs.declared.states.GranuleState.{GranuleState}
 use Rattle.realm_model.specs.declared.states.GranuleState.TheVariants.{Rd}
 use Rattle.realm_model.specs.Machine.{Limits, RealmRow, Cell, Machine, Seen, cell_at, seen}
-use Rattle.realm_model.specs.World.{World, opening, is_lease, realm_from, realm_of, hidden, is_of_other, part_of}
+use Rattle.realm_model.specs.World.{World, opening, same_lease, realm_from, realm_of, hidden, is_of_other, part_of}
 use Rattle.realm_model.specs.Running.{is_rec_running, running_count}
 use Rattle.realm_model.specs.Sound.{is_host_state, is_rd_state}
 use Rattle.realm_model.proofs.Booleans.{some_is}
@@ -24,7 +24,7 @@ unfolding realm_from
 realm_from_some b n [] machine rd e = cc
 realm_from_some b n (l ∷ leases) [] rd e = cc
 realm_from_some b n (l ∷ leases) (c ∷ machine) rd e =
-    elim (is_lease l (Some b) && is_some c.descriptor) as (λ t. (is_lease l (Some b) && is_some c.descriptor) ≡ t
+    elim (same_lease l (Some b) && is_some c.descriptor) as (λ t. (same_lease l (Some b) && is_some c.descriptor) ≡ t
     → cond t (Some (record { number = n; cell = c })) (realm_from b (suc n) leases machine) ≡ Some rd → is_some rd.cell.descriptor ≡ true) [
       | true ↦ λ test e. ap (λ (s : Seen). is_some s.cell.descriptor) (sym (same_Some _ _ e)) ∙ (and_parts _ _ test).1
       | false ↦ λ test e. realm_from_some b (suc n) leases machine rd e

@@ -11,7 +11,7 @@ use Rattle.realm_model.specs.Machine.{Limits, Cell, Seen, cell_at, seen}
 use Rattle.realm_model.specs.Update.{Free}
 use Rattle.realm_model.specs.Command.Check.{is_undelegated}
 use Rattle.realm_model.specs.Act.{named, holder, reverse_of, is_reverse, is_paired}
-use Rattle.realm_model.specs.Outcome.{outcome_of, fits}
+use Rattle.realm_model.specs.Outcome.{outcome_of, is_in_range, fits}
 use Rattle.realm_model.specs.World.{World, is_leased_to, realm_of, updated_all, part_of, is_of_other}
 use Rattle.realm_model.specs.Step.{step, is_allowed, used_vmids}
 use Rattle.realm_model.specs.History.{open_entries, IsInTurn, replay, IsLegal}
@@ -86,6 +86,17 @@ reverses limits b w (Unknown g ipa) p = record { reach = tt; holds = refl; backw
 reverses limits b w (Rec g aux n) p = record { reach = tt; holds = refl; backward = (refl, refl) }
 reverses limits b w _ p = cc
 
+range_back : (act : Act) → is_paired act ≡ true → is_in_range act ≡ true → is_in_range (rev act) ≡ true
+unfolding reverse_of
+range_back (Take order first) p h = h
+range_back (Delegate g) p h = refl
+range_back (Realm rd root v) p h = refl
+range_back (Rtt g ipa level) p h = refl
+range_back (Data g ipa source) p h = refl
+range_back (Unknown g ipa) p h = refl
+range_back (Rec g aux n) p h = refl
+range_back _ p h = cc
+
 module _ (limits : Limits) (b : ℕ) (u v w : World) (act : Act) (su : IsSound b u) (sw : IsSound b w)
     (p : is_paired act ≡ true) (stepped : step limits u (by b act) ≡ Some v) (same : OwnsSame (part_of v b) (part_of w b)) where
   abbrev U : World
@@ -117,7 +128,7 @@ module _ (limits : Limits) (b : ℕ) (u v w : World) (act : Act) (su : IsSound b
       let planned : outcome_of limits used r (realm_of b w) (map (seen w.machine) (named r)) ≡ Ok back.updates =
       (λ i. outcome_of limits used r (sym realm i) (sym granules i)) ∙ back.planned used ∙ check_true back.ready back.refusal (Ok back.updates) ready in
       let opened : is_allowed limits w (by b r) ≡ true =
-      and_from _ _ (and_from _ _ a.below (ap (λ l. list_all (is_leased_to l w.leases) (named r)) info.holds ∙ named_here))
+      and_from _ _ (and_from _ _ (and_from _ _ a.below (ap (λ l. list_all (is_leased_to l w.leases) (named r)) info.holds ∙ named_here)) (range_back act p a.range))
       ((λ i. fits r (sym realm i) (sym granules i)) ∙ back.fitting) in
       (_, step_exact limits w b r back.updates (back_of_block limits b U (part_of v b) W act su.part sw.part (IsSquare-part_of u b su.square) k p part_stepped same act k) info.reach opened planned)
 
@@ -160,7 +171,7 @@ module _ (limits : Limits) (b : ℕ) (u v w : World) (order first : ℕ) (su : I
       let gone = row_goes b (Some b) None (λ g. Free g) (λ g. refl) (λ g. refl) (λ g. refl) first (2 ^ order) w block_held in (
         gone.0,
         ap (λ t. cond t (updated_all b (map (λ (g : Seen). Free g.number) (map (seen w.machine) block)) w) None)
-            (and_from _ _ (and_from _ _ a.below block_held) (and_from _ _ a.fit (ap (list_all is_undelegated) (sym granules) ∙ block_blank)))
+            (and_from _ _ (and_from _ _ (and_from _ _ a.below block_held) a.range) (ap (list_all is_undelegated) (sym granules) ∙ block_blank))
             ∙ ap (λ us. updated_all b us w) (seen_frees w.machine block) ∙ gone.1,
       )
 

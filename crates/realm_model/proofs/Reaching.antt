@@ -47,7 +47,7 @@ reaches_own limits b w act sound linked = subst (ReachesOwn limits b w act) (rea
         let there = walk_end d.rows ipa 3 end e in
         let row : (cell_at (part_of w b).machine rd.number).descriptor ≡ Some d = ap (λ (c : Cell). c.descriptor) at ∙ is in
         let found = linked.names rd.number d row (AtRow (end.level, first_covered end.level ipa)) (pa, _)
-        (ap (λ o. row_target (option_map mapping_of_row o)) there ∙ assigned_target end.row.hipas end.row.granule pa assigned to) in
+        (ap (λ o. row_target (option_map mapping_of_row o)) there ∙ assigned_target end.row.state end.row.granule pa assigned to) in
         part_leased b w pa (leased_from (Some b) (part_of w b).leases pa (state_leased b w.leases w.machine sound.clean pa (ap is_host_state found.0)))
     by_act (Poke n ipa o v) None at = tt
     by_act _ realm at = tt

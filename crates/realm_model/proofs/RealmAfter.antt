@@ -46,10 +46,10 @@ module _ (limits : Limits) (w : World) (sound : IsSoundPart w) (T : RealmRow →
   abbrev pub Allows : Act → Type 0
   Allows (Realm rd root v) = Unit {0}
   Allows (UnRealm rd root v) = ⊥
-  Allows (Rec g aux n) = (d : RealmRow) (rec : RecRow) (m : List ℕ) → is_ready rec ≡ true → T d (record d { recs = insert d.recs d.next rec; next = d.next + 1; measurement = m })
-  Allows (UnRec g aux n) = (d : RealmRow) (rec : RecRow) → get d.recs n ≡ Some rec → is_ready rec ≡ true → T d (record d { recs = remove d.recs n })
-  Allows (Enter n) = (d : RealmRow) (rec : RecRow) → IsSoundRealm d → get d.recs n ≡ Some rec → is_ready rec ≡ true → T d (record d { recs = insert d.recs n (record rec { state = Running }) })
-  Allows (Exit n) = (d : RealmRow) (rec : RecRow) → IsSoundRealm d → get d.recs n ≡ Some rec → is_ready rec ≡ false → T d (record d { recs = insert d.recs n (record rec { state = Ready }) })
+  Allows (Rec g aux n) = (d : RealmRow) (rec : RecRow) (m : List ℕ) → is_ready rec.state ≡ true → T d (record d { recs = insert d.recs d.next rec; next = d.next + 1; measurement = m })
+  Allows (UnRec g aux n) = (d : RealmRow) (rec : RecRow) → get d.recs n ≡ Some rec → is_ready rec.state ≡ true → T d (record d { recs = remove d.recs n })
+  Allows (Enter n) = (d : RealmRow) (rec : RecRow) → IsSoundRealm d → get d.recs n ≡ Some rec → is_ready rec.state ≡ true → T d (record d { recs = insert d.recs n (record rec { state = Running }) })
+  Allows (Exit n) = (d : RealmRow) (rec : RecRow) → IsSoundRealm d → get d.recs n ≡ Some rec → is_ready rec.state ≡ false → T d (record d { recs = insert d.recs n (record rec { state = Ready }) })
   Allows _ = (d e : RealmRow) → e ≡ record d { state = e.state; measurement = e.measurement; rows = e.rows } → T d e
 
   -- the last update is the realm's
@@ -95,7 +95,7 @@ module _ (limits : Limits) (w : World) (sound : IsSoundPart w) (T : RealmRow →
       → Yields S (outcome_of limits (used_vmids w.machine) act realm (map (seen w.machine) (named act)))
   unfolding outcome_of named fits
   turns (Take order first) realm allows at none fit = Yields-Ok S _ (subst S (sym (seen_takes w.machine (block order first))) (taken (λ d. allows d d refl) (block order first)))
-  turns (UnTake order first) realm allows at none fit = Yields-Ok S _ (subst S (sym (seen_frees w.machine (block order first))) (freed (λ d. allows d d refl) (block order first) (and_parts _ _ fit).1))
+  turns (UnTake order first) realm allows at none fit = Yields-Ok S _ (subst S (sym (seen_frees w.machine (block order first))) (freed (λ d. allows d d refl) (block order first) fit))
   turns (Fill g v) realm allows at none fit = Yields-check S _ _ _ (λ host. Yields-Ok S _ (host_put (λ d. allows d d refl) g _ (undelegated_host w sound g host)))
   turns (Peek g o v) realm allows at none fit = Yields-check S _ _ _ (λ _. Yields-Ok S _ (as_it_was (λ d. allows d d refl) [] (λ k d there. there)))
   turns (Delegate g) realm allows at none fit = Yields-check S _ _ _ (λ host. Yields-Ok S _ (host_put (λ d. allows d d refl) g _ (undelegated_host w sound g host)))

@@ -6,7 +6,7 @@ use Rattle.std.proofs.lemmas.Option.{same_Some}
 use Rattle.std.proofs.lemmas.List.{get_or_at, length-append, append_assoc}
 use Rattle.realm_model.specs.declared.act.Event.{Event}
 use Rattle.realm_model.specs.Machine.{Limits, RealmRow, Cell, Machine, Seen, blank, cell_at, seen}
-use Rattle.realm_model.specs.World.{World, is_leased_to, is_lease, realm_from, realm_of, each, hidden, is_of_other, part_of}
+use Rattle.realm_model.specs.World.{World, is_leased_to, same_lease, realm_from, realm_of, each, hidden, is_of_other, part_of}
 use Rattle.realm_model.specs.Outcome.{realm_is}
 use Rattle.realm_model.specs.Step.{step}
 use Rattle.realm_model.proofs.Leases.{lease_same, leased_from, lease_is, leased}
@@ -25,7 +25,7 @@ unfolding realm_from
 IsAt-realm_from b [] front machine = tt
 IsAt-realm_from b (l ∷ leases) front [] = tt
 IsAt-realm_from b (l ∷ leases) front (c ∷ machine) =
-    elim (is_lease l (Some b) && is_some c.descriptor) as (λ t. IsAt (front ++ c ∷ machine) (cond t (Some (record { number = length front; cell = c })) (realm_from b (suc (length front)) leases machine))) [
+    elim (same_lease l (Some b) && is_some c.descriptor) as (λ t. IsAt (front ++ c ∷ machine) (cond t (Some (record { number = length front; cell = c })) (realm_from b (suc (length front)) leases machine))) [
       | true ↦ get_or_at front c machine blank (length front) refl
       | false ↦
           let long : length (front ++ c ∷ []) ≡ suc (length front) = simp length-append (omega arith) in
@@ -49,7 +49,7 @@ unfolding realm_from
 IsHeld-realm_from b front [] machine = tt
 IsHeld-realm_from b front (l ∷ leases) [] = tt
 IsHeld-realm_from b front (l ∷ leases) (c ∷ machine) =
-    elim (is_lease l (Some b) && is_some c.descriptor) as (λ t. (is_lease l (Some b) && is_some c.descriptor) ≡ t → IsHeld b (front ++ l ∷ leases) (cond t (Some (record { number = length front; cell = c })) (realm_from b (suc (length front)) leases machine))) [
+    elim (same_lease l (Some b) && is_some c.descriptor) as (λ t. (same_lease l (Some b) && is_some c.descriptor) ≡ t → IsHeld b (front ++ l ∷ leases) (cond t (Some (record { number = length front; cell = c })) (realm_from b (suc (length front)) leases machine))) [
       | true ↦ λ e. leased_from (Some b) (front ++ l ∷ leases) (length front) (slice_get_at front l leases ∙ ap Some (lease_is l (Some b) (and_parts _ _ e).0))
       | false ↦ λ e.
           let long : length (front ++ l ∷ []) ≡ suc (length front) = simp length-append (omega arith) in
@@ -66,7 +66,7 @@ realm_test rd d test fit is = sym (ap (λ o. elim o [ Some realm ↦ test rd rea
 
 -- ---- a build with no realm
 
-no_row_here : (b : ℕ) (l : Option ℕ) (c : Cell) → scrubbed l c ≡ c → (is_lease l (Some b) && is_some c.descriptor) ≡ false → (hidden (is_of_other b) l c).descriptor ≡ None
+no_row_here : (b : ℕ) (l : Option ℕ) (c : Cell) → scrubbed l c ≡ c → (same_lease l (Some b) && is_some c.descriptor) ≡ false → (hidden (is_of_other b) l c).descriptor ≡ None
 no_row_here b None c clean none = sym (ap (λ (x : Cell). x.descriptor) clean)
 no_row_here b (Some o) c clean none = by_test (o == b) none
   where
@@ -99,14 +99,14 @@ unfolding realm_from
 realm_from_there b n g [] machine leased row alone = cc
 realm_from_there b n g (l ∷ leases) [] leased row alone = cc
 realm_from_there b n zero (l ∷ leases) (c ∷ machine) leased row alone =
-    let test : (is_lease l (Some b) && is_some c.descriptor) ≡ true = and_from _ _ (ap (λ x. is_lease x (Some b)) (same_Some _ _ leased) ∙ lease_same (Some b)) row in
+    let test : (same_lease l (Some b) && is_some c.descriptor) ≡ true = and_from _ _ (ap (λ x. same_lease x (Some b)) (same_Some _ _ leased) ∙ lease_same (Some b)) row in
     ap (λ t. cond t (Some (record { number = n; cell = c })) (realm_from b (suc n) leases machine)) test
     ∙ (λ i. Some (record { number = zero_more n i; cell = c }))
   where
     zero_more : (n : ℕ) → n ≡ n + 0
     zero_more n = omega arith
 realm_from_there b n (suc g) (l ∷ leases) (c ∷ machine) leased row alone =
-    let test : (is_lease l (Some b) && is_some c.descriptor) ≡ false = no_row_first (is_lease l (Some b)) (is_some c.descriptor) (λ some. let same : 0 ≡ suc g = alone 0 some in omega arith) in
+    let test : (same_lease l (Some b) && is_some c.descriptor) ≡ false = no_row_first (same_lease l (Some b)) (is_some c.descriptor) (λ some. let same : 0 ≡ suc g = alone 0 some in omega arith) in
     ap (λ t. cond t (Some (record { number = n; cell = c })) (realm_from b (suc n) leases machine)) test
     ∙ realm_from_there b (suc n) g leases machine leased row (λ h some. ap pred (alone (suc h) some))
     ∙ (λ i. Some (record { number = one_more n g i; cell = cell_at machine g }))

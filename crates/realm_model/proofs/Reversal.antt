@@ -19,15 +19,14 @@ use Rattle.granule_addr.specs.declared.root.Root.{Root}
 use Rattle.realm_model.specs.declared.states.GranuleState.{GranuleState}
 use Rattle.realm_model.specs.declared.states.GranuleState.TheVariants.{Undelegated, Delegated, Rec as InRec, RecAux, Data as InData, Rtt as InRtt}
 use Rattle.realm_model.specs.declared.states.RecState.TheVariants.{Ready}
-use Rattle.realm_model.specs.declared.states.Hipas.{Hipas}
-use Rattle.realm_model.specs.declared.states.Hipas.TheVariants.{Assigned, Table}
+use Rattle.realm_model.specs.declared.states.EntryState.TheVariants.{Assigned, Table}
 use Rattle.realm_model.specs.declared.states.Ripas.{Ripas}
 use Rattle.realm_model.specs.declared.states.Ripas.TheVariants.{Ram, Empty}
 use Rattle.realm_model.specs.declared.rmi.Rmi.{Rmi}
 use Rattle.realm_model.specs.declared.act.Act.{Act}
 use Rattle.realm_model.specs.declared.act.Act.TheVariants.{Take, UnTake, Fill, Peek, Delegate, Undelegate, Realm, UnRealm, Activate, Rtt, UnRtt, Ripas as ToRam, Data, Unknown, UnData, Rec, UnRec, Enter, Exit, Poke}
-use Rattle.realm_model.specs.Rows.{Row, row_at, put_row, assigned, unassigned, unmapped_ripas, with_table, without_table, root_rows, is_unassigned, is_assigned, is_table, is_table_unused, place_cmp, is_table_place, has_root_table}
-use Rattle.realm_model.specs.Machine.{Limits, RecRow, RealmRow, Cell, Machine, Seen, left, held, held as held_cell, cell_at, seen}
+use Rattle.realm_model.specs.Rows.{Row, row_at, put_row, assigned, unassigned, unmapped_ripas, with_table, without_table, root_rows, is_unassigned, is_assigned, is_table, is_table_unused, place_cmp, is_table_place, has_root_table, is_unassigned_state, is_assigned_state, is_table_state}
+use Rattle.realm_model.specs.Machine.{Limits, RecRow, RealmRow, Cell, Machine, Seen, numbers_of, left, held, held as held_cell, cell_at, seen}
 use Rattle.realm_model.specs.Update.{Update, Put, granule_of}
 use Rattle.realm_model.specs.Command.Check.{error_input, check, is_undelegated, is_delegated, is_ready, is_protected, error_rec}
 use Rattle.realm_model.specs.Measurement.{measurement_after, data_event, rec_event}
@@ -36,7 +35,7 @@ use Rattle.realm_model.specs.Act.{named, reverse_of, is_paired}
 use Rattle.realm_model.specs.Outcome.{outcome_of, fits, leads_to, realm_is, is_root}
 use Rattle.realm_model.specs.World.{World, is_leased_to, realm_of}
 use Rattle.realm_model.specs.Step.{used_vmids}
-use Rattle.realm_model.specs.Ownership.{mapping_of_row, granules_of_rec, SameRealm, SameDescriptor, SameCell}
+use Rattle.realm_model.specs.Ownership.{mapping_of_row, granules_of_rec, SameRealm, SameDescriptor, SameCell, Mapping, mapping}
 use Rattle.realm_model.specs.Sound.{look, is_host_state, is_rd_state}
 use Rattle.realm_model.specs.Running.{is_running}
 use Rattle.realm_model.proofs.Written.{lefts, put_more, put_at, put_at-each_put, granules-each_put, put_other, put_last}
@@ -55,7 +54,7 @@ use Rattle.realm_model.proofs.TableBack.{table_back}
 use Rattle.realm_model.proofs.TablePlaces.{IsTablePlace, table_place}
 use Rattle.realm_model.proofs.Puts.{is_of_block}
 use Rattle.realm_model.proofs.Walks.{walk_at, walk_there}
-use Rattle.realm_model.proofs.RowKinds.{kind_unassigned, kind_assigned, kind_table, free_unassigned, free_above, shape_of, Vacant, look_get}
+use Rattle.realm_model.proofs.RowKinds.{free_unassigned, free_above, shape_of, Vacant, look_get}
 use Rattle.realm_model.proofs.Parts.{IsSoundRealm, IsSoundCell, IsSoundPart}
 
 pub record Reversal (limits : Limits) (b : ℕ) (u w : World) (act r : Act) : Type 0 where
@@ -115,7 +114,7 @@ delegated_leaves o u g sound e =
 pub no_recs : (m : FinMap nat_cmp RecRow) → ((n : ℕ) → get m n ≡ None) → len m ≡ 0
 no_recs m h = ap len (same_map nat_cmp_total nat_cmp-IsAntisymmetric m empty (λ n. h n ∙ sym (get-empty nat_cmp n))) ∙ len-empty nat_cmp RecRow
 
-pub seen_numbers : (m : Machine) (gs : List ℕ) → map (λ (a : Seen). a.number) (map (seen m) gs) ≡ gs
+pub seen_numbers : (m : Machine) (gs : List ℕ) → numbers_of (map (seen m) gs) ≡ gs
 seen_numbers m [] = refl
 seen_numbers m (g ∷ gs) = ap (λ r. g ∷ r) (seen_numbers m gs)
 
@@ -212,7 +211,7 @@ module _ (limits : Limits) (b : ℕ) (u w : World) (su : IsSoundPart u) (sw : Is
   ] refl e
 
   no_table_free : (row : Row) → mapping_of_row row ≡ Vacant → not (is_table row) ≡ true
-  no_table_free row e = ap (λ p. not (kind_table p)) e
+  no_table_free row e = ap (λ (p : Mapping). not (is_table_state p.state)) e
 
   new_rows_free : (v : ℕ) (root : Root) (d2 : RealmRow) → SameRealm (new_realm v root) d2 → not (has_root_table d2.root.width d2.rows) ≡ true
   unfolding new_realm root_rows
@@ -289,19 +288,19 @@ module _ (limits : Limits) (b : ℕ) (u w : World) (su : IsSoundPart u) (sw : Is
       let spot : IsTablePlace ipa level = table_place ipa level place in
       let sound : IsSoundRealm d = (subst (IsSoundCell su.rd n) at (su.cells n)).row d is in
       let up : ℕ × ℕ = (level - 1, first_covered (level - 1) ipa) in
-      let row = look_get (get d2.rows up) (Table, Some g) (sym (both.same.rows up) ∙ look-with_table d.rows level ipa above sound.rows spot there g above.ripas plain) in
-      let unused : is_table_unused d2.rows level ipa ≡ true = all_rows_from is_unassigned (λ r e. ap kind_unassigned e) d2.rows level ipa 512
+      let row = look_get (get d2.rows up) (mapping Table (Some g)) (sym (both.same.rows up) ∙ look-with_table d.rows level ipa above sound.rows spot there g above.ripas plain) in
+      let unused : is_table_unused d2.rows level ipa ≡ true = all_rows_from is_unassigned (λ r e. ap (λ (p : Mapping). is_unassigned_state p.state) e) d2.rows level ipa 512
       (λ k less. sym (both.same.rows (level, ipa + k * covered_count level)) ∙ look-with_table_below d.rows level ipa above sound.rows spot there g above.ripas k less) in
       let d3 : RealmRow = record d2 { rows = without_table d2.rows level ipa } in
       let tail : List Update = Put n (record (cell_at w.machine n) { descriptor = Some d3 }) ∷ [] in
-      let was_free : mapping_of_row above ≡ Vacant = free_above (level - 1) above.hipas above.granule spot.low.1 (shape_of d.rows up above sound.rows there) plain in
+      let was_free : mapping_of_row above ≡ Vacant = free_above (level - 1) above.state above.granule spot.low.1 (shape_of d.rows up above sound.rows there) plain in
       let rows_back : (q : ℕ × ℕ) → look d.rows q ≡ look d3.rows q = table_back d.rows d2.rows level ipa g above.ripas above there was_free (none_among d.rows level ipa above sound.rows spot there plain) both.same.rows in
-      let granule : row.0.granule ≡ Some g = ap (λ (p : Hipas × Option ℕ). p.1) row.2 in
+      let granule : row.0.granule ≡ Some g = ap (λ (p : Mapping). p.granule) row.2 in
       record {
         ready = true;
         refusal = error_input;
         updates = lefts (g ∷ []) ++ tail;
-        planned = λ used. planned_rtt used d2 n ipa g level row.0 both.there row.1 (ap kind_table row.2) granule place (protected_too both ipa protected) spot.low.0 unused both.found;
+        planned = λ used. planned_rtt used d2 n ipa g level row.0 both.there row.1 (ap (λ (p : Mapping). is_table_state p.state) row.2) granule place (protected_too both ipa protected) spot.low.0 unused both.found;
         fitting = ap (λ o. realm_is o (λ x y. leads_to (row_at y.rows (level - 1) ipa) g)) both.found
             ∙ ap (λ o. elim o [ Some y ↦ leads_to (row_at y.rows (level - 1) ipa) g | None ↦ false ]) both.there
             ∙ ap (λ o. leads_to o g) row.1 ∙ ap (λ o. option_eq nat_eq o (Some g)) granule ∙ eq-eqb g g refl;
@@ -341,23 +340,23 @@ module _ (limits : Limits) (b : ℕ) (u w : World) (su : IsSoundPart u) (sw : Is
       let both = in_both n z d1 refl held_rd at_n in
       let d2 : RealmRow = both.realm in
       let place : ℕ × ℕ = (3, first_covered 3 ipa) in
-      let now_there : look d1.rows place ≡ Some (Assigned, Some g) = look-insert d.rows place place (assigned ripas g) ∙ ap (λ t. cond t (Some (mapping_of_row (assigned ripas g))) (look d.rows place)) (place_self place) in
-      let row = look_get (get d2.rows place) (Assigned, Some g) (sym (both.same.rows place) ∙ now_there) in
+      let now_there : look d1.rows place ≡ Some (mapping Assigned (Some g)) = look-insert d.rows place place (assigned ripas g) ∙ ap (λ t. cond t (Some (mapping_of_row (assigned ripas g))) (look d.rows place)) (place_self place) in
+      let row = look_get (get d2.rows place) (mapping Assigned (Some g)) (sym (both.same.rows place) ∙ now_there) in
       let d3 : RealmRow = record d2 { rows = put_row d2.rows 3 ipa (unassigned (unmapped_ripas row.0.ripas)) } in
       let tail : List Update = Put n (record (cell_at w.machine n) { descriptor = Some d3 }) ∷ [] in
       let sound : IsSoundRealm d = (subst (IsSoundCell su.rd n) at (su.cells n)).row d is in
-      let was_free : mapping_of_row old ≡ Vacant = free_unassigned 3 old.hipas old.granule (shape_of d.rows place old sound.rows there) free in
+      let was_free : mapping_of_row old ≡ Vacant = free_unassigned 3 old.state old.granule (shape_of d.rows place old sound.rows there) free in
       let rows_back : (q : ℕ × ℕ) → look d.rows q ≡ look d3.rows q = λ q.
       elim (eq_by_cmp place_cmp q place) as (λ t. eq_by_cmp place_cmp q place ≡ t → look d.rows q ≡ cond t (Some Vacant) (look d2.rows q)) [
         | true ↦ λ e. ap (look d.rows) (same_place q place e) ∙ ap (option_map mapping_of_row) there ∙ ap Some was_free
         | false ↦ λ e. sym (look-insert d.rows place q (assigned ripas g) ∙ ap (λ t. cond t (Some (mapping_of_row (assigned ripas g))) (look d.rows q)) e) ∙ both.same.rows q
       ] refl ∙ sym (look-insert d2.rows place q (unassigned (unmapped_ripas row.0.ripas))) in
-      let granule : row.0.granule ≡ Some g = ap (λ (p : Hipas × Option ℕ). p.1) row.2 in
+      let granule : row.0.granule ≡ Some g = ap (λ (p : Mapping). p.granule) row.2 in
       record {
         ready = true;
         refusal = error_input;
         updates = lefts (g ∷ []) ++ tail;
-        planned = λ used. planned_data used d2 (cell_at w.machine n) n ipa g row.0 both.there row.1 (ap kind_assigned row.2) granule (protected_too both ipa protected) both.found;
+        planned = λ used. planned_data used d2 (cell_at w.machine n) n ipa g row.0 both.there row.1 (ap (λ (p : Mapping). is_assigned_state p.state) row.2) granule (protected_too both ipa protected) both.found;
         fitting = ap (λ o. realm_is o (λ x y. leads_to (row_at y.rows 3 ipa) g)) both.found
             ∙ ap (λ o. elim o [ Some y ↦ leads_to (row_at y.rows 3 ipa) g | None ↦ false ]) both.there
             ∙ ap (λ o. leads_to o g) row.1 ∙ ap (λ o. option_eq nat_eq o (Some g)) granule ∙ eq-eqb g g refl;
@@ -384,17 +383,17 @@ module _ (limits : Limits) (b : ℕ) (u w : World) (su : IsSoundPart u) (sw : Is
 
   planned_rec : (used : List ℕ) (d2 : RealmRow) (k g : ℕ) (aux : ArrayVec ℕ 16 (Unit {0})) (n : ℕ) (rec : RecRow) → (cell_at w.machine k).descriptor ≡ Some d2 → get d2.recs n ≡ Some rec → granules_of_rec rec ≡ (g, aux.items) → realm_of b w ≡ Some (seen w.machine k)
       → outcome_of limits used (UnRec g aux n) (realm_of b w) (map (seen w.machine) (named (UnRec g aux n)))
-      ≡ check (is_ready rec) error_rec (Ok (lefts (g ∷ aux.items) ++ Put k (record (cell_at w.machine k) { descriptor = Some (record d2 { recs = remove d2.recs n }) }) ∷ []))
+      ≡ check (is_ready rec.state) error_rec (Ok (lefts (g ∷ aux.items) ++ Put k (record (cell_at w.machine k) { descriptor = Some (record d2 { recs = remove d2.recs n }) }) ∷ []))
   unfolding outcome_of named
   planned_rec used d2 k g aux n rec there at own found =
       ap (λ o. outcome_of limits used (UnRec g aux n) o (map (seen w.machine) (named (UnRec g aux n)))) found
       ∙ realm_there (seen w.machine k) _ d2 there
       ∙ rec_there d2 n _ rec at
-      ∙ ap (λ (p : ℕ × List ℕ). check (is_ready rec) error_rec (Ok (lefts (p.0 ∷ p.1) ++ Put k (record (cell_at w.machine k) { descriptor = Some (record d2 { recs = remove d2.recs n }) }) ∷ []))) own
+      ∙ ap (λ (p : ℕ × List ℕ). check (is_ready rec.state) error_rec (Ok (lefts (p.0 ∷ p.1) ++ Put k (record (cell_at w.machine k) { descriptor = Some (record d2 { recs = remove d2.recs n }) }) ∷ []))) own
 
   abbrev runs : Option RecRow → Bool
   runs None = false
-  runs (Some rec) = not (is_ready rec)
+  runs (Some rec) = not (is_ready rec.state)
 
   abbrev fits_rec : ℕ → List ℕ → Option RecRow → Bool
   fits_rec g items None = false
@@ -406,7 +405,7 @@ module _ (limits : Limits) (b : ℕ) (u w : World) (su : IsSoundPart u) (sw : Is
       → Leads ((Put g (held InRec rd.number) ∷ auxes rd.number aux.items)
       ++ Put rd.number (record rd.cell {
         descriptor = Some (record d {
-          recs = insert d.recs d.next (record { granule = g; auxiliaries = map (λ (a : Seen). a.number) (map (seen u.machine) aux.items); state = Ready });
+          recs = insert d.recs d.next (record { granule = g; auxiliaries = numbers_of (map (seen u.machine) aux.items); state = Ready });
           next = d.next + 1;
           measurement = m;
         });
@@ -415,7 +414,7 @@ module _ (limits : Limits) (b : ℕ) (u w : World) (su : IsSoundPart u) (sw : Is
   unfolding outcome_of named fits
   undone_rec rd d m g aux n at is held_rd frees number leads =
       let k = rd.number in
-      let rec1 : RecRow = record { granule = g; auxiliaries = map (λ (a : Seen). a.number) (map (seen u.machine) aux.items); state = Ready } in
+      let rec1 : RecRow = record { granule = g; auxiliaries = numbers_of (map (seen u.machine) aux.items); state = Ready } in
       let d1 : RealmRow = record d { recs = insert d.recs d.next rec1; next = d.next + 1; measurement = m } in
       let z : Cell = record rd.cell { descriptor = Some d1 } in
       let us : List Update = Put g (held InRec k) ∷ auxes k aux.items in
@@ -434,7 +433,7 @@ module _ (limits : Limits) (b : ℕ) (u w : World) (su : IsSoundPart u) (sw : Is
         | false ↦ λ e. sym (ap (option_map granules_of_rec) (get-insert nat_cmp_total d.recs d.next rec1 q ∙ ap (λ t. cond t (Some rec1) (get d.recs q)) (ap (eq_by_cmp nat_cmp q) (sym number) ∙ e))) ∙ both.same.recs q
       ] refl ∙ sym (ap (option_map granules_of_rec) (get-remove nat_cmp_total d2.recs n q)) in
       record {
-        ready = is_ready rec.0;
+        ready = is_ready rec.0.state;
         refusal = error_rec;
         updates = lefts (g ∷ aux.items) ++ tail;
         planned = λ used. planned_rec used d2 k g aux n rec.0 both.there there rec.2 both.found;
@@ -444,7 +443,7 @@ module _ (limits : Limits) (b : ℕ) (u w : World) (su : IsSoundPart u) (sw : Is
             ∙ and_from _ _ (eq-eqb rec.0.granule g (ap (λ (p : ℕ × List ℕ). p.0) rec.2)) ((bytes_decides rec.0.auxiliaries aux.items).1 (ap (λ (p : ℕ × List ℕ). p.1) rec.2));
         back = back_left u w (us ++ Put k z ∷ []) tail (g ∷ aux.items) (rec_granules g k (held InRec k) z aux.items) (in_all (g ∷ aux.items) frees)
             (tail_one u k _ (realm_tail rd d d1 d3 at is at_k (record { vmid = both.same.vmid; root = both.same.root; recs = recs_back; rows = both.same.rows }))) leads;
-        ready_if = λ r. not_false (is_ready rec.0)
+        ready_if = λ r. not_false (is_ready rec.0.state)
             (sym (ap (λ o. realm_is o (λ x y. runs (get y.recs n))) both.found ∙ ap (λ o. elim o [ Some y ↦ runs (get y.recs n) | None ↦ false ]) both.there ∙ ap runs there) ∙ r);
       }
     where

@@ -6,10 +6,10 @@ use Rattle.std.proofs.lemmas.Option.{same_Some}
 use Rattle.granule_addr.specs.Root.{starting_tables}
 use Rattle.realm_model.specs.declared.states.GranuleState.{GranuleState}
 use Rattle.realm_model.specs.declared.states.GranuleState.TheVariants.{Undelegated, Delegated, Rd, Rec as InRec, RecAux, Data as InData, Rtt as InRtt}
-use Rattle.realm_model.specs.declared.states.Hipas.{Hipas}
-use Rattle.realm_model.specs.declared.states.Hipas.TheVariants.{Unassigned, Assigned, Table}
+use Rattle.realm_model.specs.declared.states.EntryState.{EntryState}
+use Rattle.realm_model.specs.declared.states.EntryState.TheVariants.{Unassigned, Assigned, Table}
 use Rattle.realm_model.specs.Machine.{RealmRow, Cell}
-use Rattle.realm_model.specs.Ownership.{granules_of_rec}
+use Rattle.realm_model.specs.Ownership.{granules_of_rec, Mapping}
 use Rattle.realm_model.specs.Sound.{look, is_host_state, is_rd_state}
 use Rattle.realm_model.specs.Roles.{Role, AsStart, AtRow, AsRec, AsAux, kind_target, row_target, aux_target, target, is_role_state, HasRole}
 use Rattle.realm_model.proofs.Booleans.{true_false}
@@ -53,14 +53,14 @@ one_state : (s : GranuleState) → is_role_state s ≡ true → (o : Option ℕ)
 one_state s h None to e = cc
 one_state s h (Some g) to e = state_of g s to e h
 
-kind_state : (h : Hipas) (g : Option ℕ) (to : ℕ × GranuleState) → kind_target h g ≡ Some to → is_role_state to.1 ≡ true
+kind_state : (h : EntryState) (g : Option ℕ) (to : ℕ × GranuleState) → kind_target h g ≡ Some to → is_role_state to.1 ≡ true
 kind_state Unassigned g to e = cc
 kind_state Assigned g to e = one_state InData refl g to e
 kind_state Table g to e = one_state InRtt refl g to e
 
-row_state : (o : Option (Hipas × Option ℕ)) (to : ℕ × GranuleState) → row_target o ≡ Some to → is_role_state to.1 ≡ true
+row_state : (o : Option Mapping) (to : ℕ × GranuleState) → row_target o ≡ Some to → is_role_state to.1 ≡ true
 row_state None to e = cc
-row_state (Some row) to e = kind_state row.0 row.1 to e
+row_state (Some row) to e = kind_state row.state row.granule to e
 
 rec_state : (o : Option (ℕ × List ℕ)) (to : ℕ × GranuleState) → rec_target o ≡ Some to → is_role_state to.1 ≡ true
 rec_state None to e = cc

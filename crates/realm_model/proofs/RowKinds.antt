@@ -1,76 +1,64 @@
 -- Rows by their kind, and what they lead to.
-use Rattle.std.proofs.Common.{◌≡◌, ℕ, ◌≤◌, Bool, true, false, Option, Some, None, refl, ap, subst, arith}
+use Rattle.std.proofs.Common.{◌≡◌, ℕ, ◌≤◌, true, false, Option, Some, None, refl, ap, subst, arith}
 use Rattle.std.specs.Prelude.{option_map}
 use Rattle.std.specs.FinMap.{get}
 use Rattle.std.proofs.lemmas.Option.{same_Some}
 use Rattle.realm_model.specs.declared.states.GranuleState.TheVariants.{Data as InData, Rtt as InRtt}
-use Rattle.realm_model.specs.declared.states.Hipas.{Hipas}
-use Rattle.realm_model.specs.declared.states.Hipas.TheVariants.{Unassigned, Assigned, Table}
-use Rattle.realm_model.specs.Rows.{Row, Rows, is_unassigned, is_assigned, is_table}
-use Rattle.realm_model.specs.Ownership.{mapping_of_row}
+use Rattle.realm_model.specs.declared.states.EntryState.{EntryState}
+use Rattle.realm_model.specs.declared.states.EntryState.TheVariants.{Unassigned, Assigned, Table}
+use Rattle.realm_model.specs.Rows.{Row, Rows, is_unassigned, is_assigned, is_unassigned_state, is_assigned_state, is_table_state}
+use Rattle.realm_model.specs.Ownership.{mapping_of_row, Mapping, mapping}
 use Rattle.realm_model.specs.Sound.{look, IsKind, IsShaped, is_table_kind, IsSoundRows}
 use Rattle.realm_model.specs.Roles.{kind_target}
 
-abbrev pub Vacant : Hipas × Option ℕ
-Vacant = (Unassigned, None)
+abbrev pub Vacant : Mapping
+Vacant = mapping Unassigned None
 
-pub look_get : (o : Option Row) (p : Hipas × Option ℕ) → option_map mapping_of_row o ≡ Some p → (row : Row) × (o ≡ Some row) × (mapping_of_row row ≡ p)
+pub look_get : (o : Option Row) (p : Mapping) → option_map mapping_of_row o ≡ Some p → (row : Row) × (o ≡ Some row) × (mapping_of_row row ≡ p)
 look_get None p e = cc
 look_get (Some row) p e = (row, refl, same_Some _ _ e)
 
-abbrev pub kind_unassigned : Hipas × Option ℕ → Bool
-kind_unassigned p = elim p.0 [ Unassigned ↦ true | Assigned ↦ false | Table ↦ false ]
-
-abbrev pub kind_assigned : Hipas × Option ℕ → Bool
-kind_assigned p = elim p.0 [ Unassigned ↦ false | Assigned ↦ true | Table ↦ false ]
-
-abbrev pub kind_table : Hipas × Option ℕ → Bool
-kind_table p = elim p.0 [ Unassigned ↦ false | Assigned ↦ false | Table ↦ true ]
-
-pub free_unassigned : (level : ℕ) (h : Hipas) (g : Option ℕ) → IsKind level h g → kind_unassigned (h, g) ≡ true → ◌≡◌ {A = Hipas × Option ℕ} (h, g) Vacant
-free_unassigned level Unassigned g k e = λ i. (Unassigned, k i)
+pub free_unassigned : (level : ℕ) (h : EntryState) (g : Option ℕ) → IsKind level h g → is_unassigned_state h ≡ true → mapping h g ≡ Vacant
+free_unassigned level Unassigned g k e = ap (mapping Unassigned) k
 free_unassigned level Assigned g k e = cc
 free_unassigned level Table g k e = cc
 
-pub free_above : (level : ℕ) (h : Hipas) (g : Option ℕ) → level ≤ 2 → IsKind level h g → kind_table (h, g) ≡ false → ◌≡◌ {A = Hipas × Option ℕ} (h, g) Vacant
-free_above level Unassigned g low k e = λ i. (Unassigned, k i)
+pub free_above : (level : ℕ) (h : EntryState) (g : Option ℕ) → level ≤ 2 → IsKind level h g → is_table_state h ≡ false → mapping h g ≡ Vacant
+free_above level Unassigned g low k e = ap (mapping Unassigned) k
 free_above level Assigned g low k e = let three : level ≡ 3 = k.0 in absurd (omega arith)
 free_above level Table g low k e = cc
 
 -- the row at a place of sound rows
-pub shape_of : {width : ℕ} (rows : Rows) (place : ℕ × ℕ) (row : Row) → IsSoundRows width (look rows) → get rows place ≡ Some row → IsKind place.0 row.hipas row.granule
+pub shape_of : {width : ℕ} (rows : Rows) (place : ℕ × ℕ) (row : Row) → IsSoundRows width (look rows) → get rows place ≡ Some row → IsKind place.0 row.state row.granule
 shape_of rows place row sound there = subst (IsShaped place.0) (ap (option_map mapping_of_row) there) (sound.shaped place)
 
 -- ---- tables
 
-pub kind_of_table : (row : Row) → is_table_kind (Some (mapping_of_row row)) ≡ is_table row
-kind_of_table row = elim row.hipas as (λ h. is_table_kind (Some (h, row.granule)) ≡ elim h [ Unassigned ↦ false | Assigned ↦ false | Table ↦ true ]) [ Unassigned ↦ refl | Assigned ↦ refl | Table ↦ refl ]
-
 pub plain_unassigned : (row : Row) → is_unassigned row ≡ true → is_table_kind (Some (mapping_of_row row)) ≡ false
-plain_unassigned row h = elim row.hipas as (λ x. elim x [ Unassigned ↦ true | Assigned ↦ false | Table ↦ false ] ≡ true → is_table_kind (Some (x, row.granule)) ≡ false) [ Unassigned ↦ λ h. refl | Assigned ↦ λ h. cc | Table ↦ λ h. cc ] h
+plain_unassigned row h = elim row.state as (λ x. is_unassigned_state x ≡ true → is_table_kind (Some (mapping x row.granule)) ≡ false) [ Unassigned ↦ λ h. refl | Assigned ↦ λ h. cc | Table ↦ λ h. cc ] h
 
 pub plain_assigned : (row : Row) → is_assigned row ≡ true → is_table_kind (Some (mapping_of_row row)) ≡ false
-plain_assigned row h = elim row.hipas as (λ x. elim x [ Unassigned ↦ false | Assigned ↦ true | Table ↦ false ] ≡ true → is_table_kind (Some (x, row.granule)) ≡ false) [ Unassigned ↦ λ h. cc | Assigned ↦ λ h. refl | Table ↦ λ h. cc ] h
+plain_assigned row h = elim row.state as (λ x. is_assigned_state x ≡ true → is_table_kind (Some (mapping x row.granule)) ≡ false) [ Unassigned ↦ λ h. cc | Assigned ↦ λ h. refl | Table ↦ λ h. cc ] h
 
 -- ---- what rows lead to
 
-pub table_target : (h : Hipas) (g : Option ℕ) (pa : ℕ) → kind_table (h, g) ≡ true → g ≡ Some pa → kind_target h g ≡ Some (pa, InRtt)
+pub table_target : (h : EntryState) (g : Option ℕ) (pa : ℕ) → is_table_state h ≡ true → g ≡ Some pa → kind_target h g ≡ Some (pa, InRtt)
 table_target Unassigned g pa t e = cc
 table_target Assigned g pa t e = cc
 table_target Table g pa t e = ap (option_map (λ n. (n, InRtt))) e
 
-pub assigned_target : (h : Hipas) (g : Option ℕ) (pa : ℕ) → kind_assigned (h, g) ≡ true → g ≡ Some pa → kind_target h g ≡ Some (pa, InData)
+pub assigned_target : (h : EntryState) (g : Option ℕ) (pa : ℕ) → is_assigned_state h ≡ true → g ≡ Some pa → kind_target h g ≡ Some (pa, InData)
 assigned_target Unassigned g pa t e = cc
 assigned_target Assigned g pa t e = ap (option_map (λ n. (n, InData))) e
 assigned_target Table g pa t e = cc
 
-pub unassigned_target : (h : Hipas) (g : Option ℕ) → kind_unassigned (h, g) ≡ true → kind_target h g ≡ None
+pub unassigned_target : (h : EntryState) (g : Option ℕ) → is_unassigned_state h ≡ true → kind_target h g ≡ None
 unassigned_target Unassigned g t = refl
 unassigned_target Assigned g t = cc
 unassigned_target Table g t = cc
 
 -- above the last level a row that is no table leads nowhere
-pub above_target : (level : ℕ) (h : Hipas) (g : Option ℕ) → level ≤ 2 → IsKind level h g → kind_table (h, g) ≡ false → kind_target h g ≡ None
+pub above_target : (level : ℕ) (h : EntryState) (g : Option ℕ) → level ≤ 2 → IsKind level h g → is_table_state h ≡ false → kind_target h g ≡ None
 above_target level Unassigned g low k t = refl
 above_target level Assigned g low k t = let three : level ≡ 3 = k.0 in absurd (omega arith)
 above_target level Table g low k t = cc

@@ -26,19 +26,19 @@ use Rattle.realm_model.proofs.Parts.{IsSoundPart, IsLinked}
 -- ---- a row in place of another that led nowhere
 
 module _ (rows : Rows) (place : ℕ × ℕ) (row : Row) where
-  leaf_cases : (q : ℕ × ℕ) → ((q ≡ place) × (row_target (look (insert rows place row) q) ≡ kind_target row.hipas row.granule)) ⊎ (look (insert rows place row) q ≡ look rows q)
+  leaf_cases : (q : ℕ × ℕ) → ((q ≡ place) × (row_target (look (insert rows place row) q) ≡ kind_target row.state row.granule)) ⊎ (look (insert rows place row) q ≡ look rows q)
   leaf_cases q = elim (eq_by_cmp place_cmp q place) as (λ t. eq_by_cmp place_cmp q place ≡ t → look (insert rows place row) q ≡ cond t (Some (mapping_of_row row)) (look rows q)
-      → ((q ≡ place) × (row_target (look (insert rows place row) q) ≡ kind_target row.hipas row.granule)) ⊎ (look (insert rows place row) q ≡ look rows q)) [
+      → ((q ≡ place) × (row_target (look (insert rows place row) q) ≡ kind_target row.state row.granule)) ⊎ (look (insert rows place row) q ≡ look rows q)) [
         | true ↦ λ e is. inl (same_place q place e, ap row_target is)
         | false ↦ λ e is. inr is
       ] refl (look-insert rows place q row)
 
-  pub leaf_target : row_target (look (insert rows place row) place) ≡ kind_target row.hipas row.granule
+  pub leaf_target : row_target (look (insert rows place row) place) ≡ kind_target row.state row.granule
   leaf_target = ap row_target (look-insert rows place place row ∙ ap (λ t. cond t (Some (mapping_of_row row)) (look rows place)) (place_self place))
 
   -- what a row leads to then: what it led to, or what the new row leads to
   pub leaf_new : (q : ℕ × ℕ) (to : ℕ × GranuleState) → row_target (look (insert rows place row) q) ≡ Some to
-      → (row_target (look rows q) ≡ Some to) ⊎ ((q ≡ place) × (kind_target row.hipas row.granule ≡ Some to))
+      → (row_target (look rows q) ≡ Some to) ⊎ ((q ≡ place) × (kind_target row.state row.granule ≡ Some to))
   leaf_new q to h = elim (leaf_cases q) [ inl new ↦ inr (new.0, sym new.1 ∙ h) | inr same ↦ inl (ap row_target (sym same) ∙ h) ]
 
   pub leaf_old : (q : ℕ × ℕ) (to : ℕ × GranuleState) → row_target (look rows q) ≡ Some to → (row_target (look (insert rows place row) q) ≡ Some to) ⊎ (q ≡ place)

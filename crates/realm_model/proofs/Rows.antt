@@ -7,9 +7,8 @@ use Rattle.std.specs.Cmp.{eq_by_cmp_equiv}
 use Rattle.std.proofs.lemmas.Bool.{and_parts, and_from, eq-eqb, lt-ltb, le-leb, eqb-true, eqb-false}
 use Rattle.std.proofs.Math.Nat.{mul-le-mul_left}
 use Rattle.granule_addr.specs.Ipa.{covered_count}
-use Rattle.realm_model.specs.declared.states.Hipas.{Hipas}
 use Rattle.realm_model.specs.Rows.{Row, Rows, place_cmp, put_rows, drop_rows, is_unassigned, all_rows, as_ram}
-use Rattle.realm_model.specs.Ownership.{mapping_of_row}
+use Rattle.realm_model.specs.Ownership.{mapping_of_row, Mapping}
 use Rattle.realm_model.specs.Sound.{look}
 use Rattle.realm_model.proofs.Maps.{place_total, same_place, same_insert, place_cmp-IsAntisymmetric}
 use Rattle.realm_model.proofs.Booleans.{true_false}
@@ -99,7 +98,7 @@ among_put level first n k h =
 -- ---- a row by its kind and granule
 
 abbrev pub Look : Type 0
-Look = ℕ × ℕ → Option (Hipas × Option ℕ)
+Look = ℕ × ℕ → Option Mapping
 
 pub look-insert : (rows : Rows) (k q : ℕ × ℕ) (row : Row) → look (insert rows k row) q ≡ cond (is_place q k) (Some (mapping_of_row row)) (look rows q)
 look-insert rows k q row = ap (option_map mapping_of_row) (get-insert place_total rows k row q)

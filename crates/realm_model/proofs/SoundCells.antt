@@ -39,7 +39,7 @@ use Rattle.realm_model.proofs.Maps.{nat_place}
 use Rattle.realm_model.proofs.Written.{set_cases, put_seen, each_in_front, each_alone}
 use Rattle.realm_model.proofs.NewRealms.{can_be_made}
 use Rattle.realm_model.proofs.TablePlaces.{table_place}
-use Rattle.realm_model.proofs.RowKinds.{kind_of_table, plain_unassigned, plain_assigned}
+use Rattle.realm_model.proofs.RowKinds.{plain_unassigned, plain_assigned}
 use Rattle.realm_model.proofs.Parts.{IsSoundRealm, IsSoundCell}
 
 abbrev pub IsGood : ℕ → Update → Type 0
@@ -180,7 +180,7 @@ module _ (limits : Limits) (w : World) (o : ℕ) (sound : AllCells o w) where
       let place : ℕ × ℕ = (3, first_covered 3 ipa) in
       let sound = put_sound d.rows place new h.rows (ap (λ o. is_some (option_map mapping_of_row o)) there) (ap (λ o. is_table_kind (option_map mapping_of_row o)) there ∙ plain) shaped in
       rows_put d (insert d.rows place new) m h sound (put_full d.rows place new h.full leaf)
-      (put_empty d.rows 3 ipa new h.width h.empty protected (λ table. absurd (true_false _ (kind_of_table new ∙ table) leaf)))
+      (put_empty d.rows 3 ipa new h.width h.empty protected (λ table. absurd (true_false _ table leaf)))
 
   abbrev G : List Update → Type 0
   G = AllGood o

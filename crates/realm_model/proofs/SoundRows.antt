@@ -5,19 +5,19 @@ use Rattle.std.specs.FinMap.{get, insert, empty, get-empty}
 use Rattle.std.proofs.lemmas.Bool.{and_parts, eqb-true, ne_eqb, eqb-false}
 use Rattle.granule_addr.specs.Ipa.{covered_count, first_covered}
 use Rattle.granule_addr.specs.Root.{start_count, space_of}
-use Rattle.realm_model.specs.declared.states.Hipas.TheVariants.{Unassigned, Assigned, Table}
+use Rattle.realm_model.specs.declared.states.EntryState.TheVariants.{Unassigned, Assigned, Table}
 use Rattle.realm_model.specs.declared.states.Ripas.{Ripas}
 use Rattle.realm_model.specs.declared.states.Ripas.TheVariants.{Empty, Destroyed}
-use Rattle.realm_model.specs.declared.states.Hipas.{Hipas}
-use Rattle.realm_model.specs.Rows.{Row, Rows, place_cmp, put_rows, drop_rows, put_row, with_table, without_table, with_ram, root_rows, unassigned, table, is_table, is_unassigned, is_table_unused, all_rows, has_root_table}
-use Rattle.realm_model.specs.Ownership.{mapping_of_row}
+use Rattle.realm_model.specs.declared.states.EntryState.{EntryState}
+use Rattle.realm_model.specs.Rows.{Row, Rows, place_cmp, put_rows, drop_rows, put_row, with_table, without_table, with_ram, root_rows, unassigned, table, is_table, is_unassigned, is_table_unused, all_rows, has_root_table, is_table_state}
+use Rattle.realm_model.specs.Ownership.{mapping_of_row, Mapping, mapping}
 use Rattle.realm_model.specs.Sound.{look, IsShaped, is_table_kind, has_table, IsSoundRows, IsPlace}
 use Rattle.realm_model.specs.Roles.{row_target}
 use Rattle.realm_model.proofs.Maps.{same_place}
 use Rattle.realm_model.proofs.Rows.{is_among, put_there, get-drop_rows, look-insert, same_rows, put_kinds, place_self, Look, is_place, all_rows_at}
 use Rattle.realm_model.proofs.TablePlaces.{IsTablePlace}
 use Rattle.realm_model.proofs.Booleans.{true_false, not_false, not_true}
-use Rattle.realm_model.proofs.RowKinds.{kind_of_table, plain_unassigned, unassigned_target, above_target, kind_table}
+use Rattle.realm_model.proofs.RowKinds.{plain_unassigned, unassigned_target, above_target}
 
 pub sound_same : {width : ℕ} (f g : Look) → IsSoundRows width f → ((q : ℕ × ℕ) → f q ≡ g q) → IsSoundRows width g
 sound_same {width} f g sound same = subst (IsSoundRows width) (λ i q. same q i) sound
@@ -113,7 +113,7 @@ module _ {width : ℕ} (old : Rows) (level ipa : ℕ) (above : Row) (sound : IsS
       (λ i. same i == 1 || is_table_kind (look old (same i - 1, first_covered (same i - 1) q.1)))
       ∙ ap (λ t. t || is_table_kind (look old (level - 1, first_covered (level - 1) q.1))) not_first
       ∙ ap (λ n. is_table_kind (look old (level - 1, n))) (under ∙ sym at.first) in
-      true_false _ (sym at_level ∙ parent) (ap is_table_kind up_is ∙ kind_of_table above ∙ plain))
+      true_false _ (sym at_level ∙ parent) (ap is_table_kind up_is ∙ plain))
 
   pub none_among : is_table above ≡ false → (q : ℕ × ℕ) → is_among level ipa (512 * covered_count level) q ≡ true → get old q ≡ None
   none_among plain q e =
@@ -131,14 +131,14 @@ module _ {width : ℕ} (old : Rows) (level ipa : ℕ) (above : Row) (sound : IsS
     abbrev made : Rows
     made = put_rows (λ _. unassigned ripas) topped level ipa 512
 
-    new_up : (q : ℕ × ℕ) → is_place q up ≡ true → look topped q ≡ Some (Table, Some granule)
+    new_up : (q : ℕ × ℕ) → is_place q up ≡ true → look topped q ≡ Some (mapping Table (Some granule))
     new_up q e = look-insert old up q (table granule) ∙ ap (λ t. cond t (Some (mapping_of_row (table granule))) (look old q)) e
 
     not_up : (q : ℕ × ℕ) → is_place q up ≡ false → look topped q ≡ look old q
     not_up q e = look-insert old up q (table granule) ∙ ap (λ t. cond t (Some (mapping_of_row (table granule))) (look old q)) e
 
     abbrev Fresh : ℕ × ℕ → Type 0
-    Fresh q = (look made q ≡ Some (Unassigned, None)) × (k : ℕ) × (k < 512) × (q ≡ (level, ipa + k * covered_count level))
+    Fresh q = (look made q ≡ Some (mapping Unassigned None)) × (k : ℕ) × (k < 512) × (q ≡ (level, ipa + k * covered_count level))
 
     fresh_under : (q : ℕ × ℕ) → Fresh q → (q.0 ≡ level) × (first_covered (level - 1) q.1 ≡ ipa)
     fresh_under q f = (ap (λ (p : ℕ × ℕ). p.0) f.3, ap (λ (p : ℕ × ℕ). first_covered (level - 1) p.1) f.3 ∙ at.below f.1 f.2)
@@ -152,7 +152,7 @@ module _ {width : ℕ} (old : Rows) (level ipa : ℕ) (above : Row) (sound : IsS
       | inr new ↦ let under = fresh_under q new in absurd (true_false _ h (ap is_table_kind (none_under no_table q under.0 under.1)))
     ]
 
-    up_look : look made up ≡ Some (Table, Some granule)
+    up_look : look made up ≡ Some (mapping Table (Some granule))
     up_look = elim (put_kinds (unassigned ripas) topped level ipa 512 up) [
       | inl same ↦ same ∙ new_up up (place_self up)
       | inr new ↦ let l = at.low in let e : level - 1 ≡ level = (fresh_under up new).0 in absurd (omega (arith, l, e))
@@ -202,16 +202,16 @@ module _ {width : ℕ} (old : Rows) (level ipa : ℕ) (above : Row) (sound : IsS
 
   -- each row then: the table where a row led nowhere, a free row where there was none, or as before
   pub with_table_cases : (granule : ℕ) (ripas : Ripas) (q : ℕ × ℕ) → is_table above ≡ false
-      → ((q ≡ up) × (look (with_table old level ipa granule ripas) q ≡ Some (Table, Some granule)) × (row_target (look old q) ≡ None))
-      ⊎ ((look (with_table old level ipa granule ripas) q ≡ Some (Unassigned, None)) × (look old q ≡ None)) ⊎ (look (with_table old level ipa granule ripas) q ≡ look old q)
+      → ((q ≡ up) × (look (with_table old level ipa granule ripas) q ≡ Some (mapping Table (Some granule))) × (row_target (look old q) ≡ None))
+      ⊎ ((look (with_table old level ipa granule ripas) q ≡ Some (mapping Unassigned None)) × (look old q ≡ None)) ⊎ (look (with_table old level ipa granule ripas) q ≡ look old q)
   unfolding with_table
   with_table_cases granule ripas q plain = elim (put_kinds (unassigned ripas) (topped granule ripas plain) level ipa 512 q) [
-    | inl same ↦ elim (is_place q up) as (λ t. is_place q up ≡ t → ((q ≡ up) × (look (made granule ripas plain) q ≡ Some (Table, Some granule)) × (row_target (look old q) ≡ None))
-        ⊎ ((look (made granule ripas plain) q ≡ Some (Unassigned, None)) × (look old q ≡ None)) ⊎ (look (made granule ripas plain) q ≡ look old q)) [
+    | inl same ↦ elim (is_place q up) as (λ t. is_place q up ≡ t → ((q ≡ up) × (look (made granule ripas plain) q ≡ Some (mapping Table (Some granule))) × (row_target (look old q) ≡ None))
+        ⊎ ((look (made granule ripas plain) q ≡ Some (mapping Unassigned None)) × (look old q ≡ None)) ⊎ (look (made granule ripas plain) q ≡ look old q)) [
           | true ↦ λ e. inl (
             same_place q up e,
             same ∙ new_up granule ripas plain q e,
-            ap (λ p. row_target (look old p)) (same_place q up e) ∙ ap row_target up_is ∙ above_target (level - 1) above.hipas above.granule at.low.1 (subst (IsShaped (level - 1)) up_is (sound.shaped up)) plain,
+            ap (λ p. row_target (look old p)) (same_place q up e) ∙ ap row_target up_is ∙ above_target (level - 1) above.state above.granule at.low.1 (subst (IsShaped (level - 1)) up_is (sound.shaped up)) plain,
           )
           | false ↦ λ e. inr (inr (same ∙ not_up granule ripas plain q e))
         ] refl
@@ -219,11 +219,11 @@ module _ {width : ℕ} (old : Rows) (level ipa : ℕ) (above : Row) (sound : IsS
   ]
 
   -- the row above is the table then, and the rows below are free
-  pub look-with_table : (granule : ℕ) (ripas : Ripas) → is_table above ≡ false → look (with_table old level ipa granule ripas) up ≡ Some (Table, Some granule)
+  pub look-with_table : (granule : ℕ) (ripas : Ripas) → is_table above ≡ false → look (with_table old level ipa granule ripas) up ≡ Some (mapping Table (Some granule))
   unfolding with_table
   look-with_table granule ripas plain = up_look granule ripas plain
 
-  pub look-with_table_below : (granule : ℕ) (ripas : Ripas) (k : ℕ) → k < 512 → look (with_table old level ipa granule ripas) (level, ipa + k * covered_count level) ≡ Some (Unassigned, None)
+  pub look-with_table_below : (granule : ℕ) (ripas : Ripas) (k : ℕ) → k < 512 → look (with_table old level ipa granule ripas) (level, ipa + k * covered_count level) ≡ Some (mapping Unassigned None)
   unfolding with_table
   look-with_table_below granule ripas k less = put_there (unassigned ripas) (put_row old (level - 1) ipa (table granule)) level ipa 512 k less
 
@@ -253,14 +253,14 @@ module _ {width : ℕ} (old : Rows) (level ipa : ℕ) (above : Row) (sound : IsS
     look-dropped q = ap (option_map mapping_of_row) (get-drop_rows old level ipa (512 * covered_count level) q)
         ∙ elim (under q) as (λ t. option_map mapping_of_row (cond (not t) (get old q) None) ≡ cond (not t) (look old q) None) [ true ↦ refl | false ↦ refl ]
 
-    left_up : (q : ℕ × ℕ) → is_place q up ≡ true → look left_rows q ≡ Some (Unassigned, None)
-    left_up q e = look-insert dropped up q (unassigned Destroyed) ∙ ap (λ t. cond t (Some (Unassigned, None)) (look dropped q)) e
+    left_up : (q : ℕ × ℕ) → is_place q up ≡ true → look left_rows q ≡ Some (mapping Unassigned None)
+    left_up q e = look-insert dropped up q (unassigned Destroyed) ∙ ap (λ t. cond t (Some (mapping Unassigned None)) (look dropped q)) e
 
     left_under : (q : ℕ × ℕ) → is_place q up ≡ false → under q ≡ true → look left_rows q ≡ None
-    left_under q e u = look-insert dropped up q (unassigned Destroyed) ∙ ap (λ t. cond t (Some (Unassigned, None)) (look dropped q)) e ∙ look-dropped q ∙ ap (λ t. cond (not t) (look old q) None) u
+    left_under q e u = look-insert dropped up q (unassigned Destroyed) ∙ ap (λ t. cond t (Some (mapping Unassigned None)) (look dropped q)) e ∙ look-dropped q ∙ ap (λ t. cond (not t) (look old q) None) u
 
     left_other : (q : ℕ × ℕ) → is_place q up ≡ false → under q ≡ false → look left_rows q ≡ look old q
-    left_other q e u = look-insert dropped up q (unassigned Destroyed) ∙ ap (λ t. cond t (Some (Unassigned, None)) (look dropped q)) e ∙ look-dropped q ∙ ap (λ t. cond (not t) (look old q) None) u
+    left_other q e u = look-insert dropped up q (unassigned Destroyed) ∙ ap (λ t. cond t (Some (mapping Unassigned None)) (look dropped q)) e ∙ look-dropped q ∙ ap (λ t. cond (not t) (look old q) None) u
 
     under_level : (q : ℕ × ℕ) → under q ≡ true → q.0 ≡ level
     under_level q u = eqb-true q.0 level (and_parts _ _ (and_parts _ _ u).0).0
@@ -272,7 +272,7 @@ module _ {width : ℕ} (old : Rows) (level ipa : ℕ) (above : Row) (sound : IsS
     under_target : (q : ℕ × ℕ) → under q ≡ true → row_target (look old q) ≡ None
     under_target q u = of_look (look old q) refl
       where
-        of_look : (o : Option (Hipas × Option ℕ)) → look old q ≡ o → row_target o ≡ None
+        of_look : (o : Option Mapping) → look old q ≡ o → row_target o ≡ None
         of_look None e = refl
         of_look (Some row) e =
             let placed : IsPlace width q = sound.placed q (ap is_some e) in
@@ -280,7 +280,7 @@ module _ {width : ℕ} (old : Rows) (level ipa : ℕ) (above : Row) (sound : IsS
             let k = at.aligned q.1 (ap (first_covered (level - 1)) whole ∙ under_up q u) in
             let found = unused_row k.0 k.1 in
             let same : q ≡ (level, ipa + k.0 * covered_count level) = λ i. (under_level q u i, (sym whole ∙ k.2) i) in
-            ap row_target (sym e ∙ ap (look old) same ∙ ap (option_map mapping_of_row) found.1) ∙ unassigned_target found.0.hipas found.0.granule found.2
+            ap row_target (sym e ∙ ap (look old) same ∙ ap (option_map mapping_of_row) found.1) ∙ unassigned_target found.0.state found.0.granule found.2
 
     from_under : (q : ℕ × ℕ) → q.0 ≡ level → first_covered (level - 1) q.1 ≡ ipa → under q ≡ true
     from_under q same h = subst (λ l. is_among level ipa (512 * covered_count level) (l, q.1) ≡ true) (sym same) (at.among q.1 h)
@@ -345,13 +345,13 @@ module _ {width : ℕ} (old : Rows) (level ipa : ℕ) (above : Row) (sound : IsS
   without_table_sound unused = left_sound unused
 
   -- each row then: free above the table, none where none led anywhere, or as before
-  pub without_table_cases : is_table_unused old level ipa ≡ true → (q : ℕ × ℕ) → ((q ≡ up) × (look (without_table old level ipa) q ≡ Some (Unassigned, None)))
+  pub without_table_cases : is_table_unused old level ipa ≡ true → (q : ℕ × ℕ) → ((q ≡ up) × (look (without_table old level ipa) q ≡ Some (mapping Unassigned None)))
       ⊎ ((look (without_table old level ipa) q ≡ None) × (row_target (look old q) ≡ None)) ⊎ ((look (without_table old level ipa) q ≡ look old q) × (is_place q up ≡ false))
   unfolding without_table
-  without_table_cases unused q = elim (is_place q up) as (λ t. is_place q up ≡ t → ((q ≡ up) × (look (left_rows unused) q ≡ Some (Unassigned, None)))
+  without_table_cases unused q = elim (is_place q up) as (λ t. is_place q up ≡ t → ((q ≡ up) × (look (left_rows unused) q ≡ Some (mapping Unassigned None)))
       ⊎ ((look (left_rows unused) q ≡ None) × (row_target (look old q) ≡ None)) ⊎ ((look (left_rows unused) q ≡ look old q) × (t ≡ false))) [
         | true ↦ λ e. inl (same_place q up e, left_up unused q e)
-        | false ↦ λ e. elim (under unused q) as (λ t. under unused q ≡ t → ((q ≡ up) × (look (left_rows unused) q ≡ Some (Unassigned, None)))
+        | false ↦ λ e. elim (under unused q) as (λ t. under unused q ≡ t → ((q ≡ up) × (look (left_rows unused) q ≡ Some (mapping Unassigned None)))
             ⊎ ((look (left_rows unused) q ≡ None) × (row_target (look old q) ≡ None)) ⊎ ((look (left_rows unused) q ≡ look old q) × (false ≡ false))) [
               | true ↦ λ u. inr (inl (left_under unused q e u, under_target unused q u))
               | false ↦ λ u. inr (inr (left_other unused q e u, refl))
@@ -372,13 +372,13 @@ module _ {width : ℕ} (rows : Rows) (sound : IsSoundRows width (look rows)) (pl
       row_of : (tables i : ℕ) → i / 262144 * 262144 ≡ i → i < tables * 134217728 → (k : ℕ) × (k < 512 * tables) × (i ≡ 0 + k * 262144)
       row_of tables i first inside = (i / 262144, omega arith, omega arith)
 
-      of_look : (o : Option (Hipas × Option ℕ)) → look rows (1, i) ≡ o → is_table_kind o ≡ false
+      of_look : (o : Option Mapping) → look rows (1, i) ≡ o → is_table_kind o ≡ false
       of_look None e = refl
       of_look (Some row) e =
           let placed : IsPlace width (1, i) = sound.placed (1, i) (ap is_some e) in
           let k = row_of (start_count width) i placed.first placed.inside in
           let found = all_rows_at (λ row. not (is_table row)) rows 1 0 (512 * start_count width) k.0 no_root_table k.1 in
-          ap is_table_kind (sym e ∙ ap (λ n. look rows (1, n)) k.2 ∙ ap (option_map mapping_of_row) found.1) ∙ kind_of_table found.0 ∙ not_true _ found.2
+          ap is_table_kind (sym e ∙ ap (λ n. look rows (1, n)) k.2 ∙ ap (option_map mapping_of_row) found.1) ∙ not_true _ found.2
 
   -- a row below it would stand below a table
   no_second : (i : ℕ) → look rows (2, i) ≡ None
@@ -390,17 +390,17 @@ module _ {width : ℕ} (rows : Rows) (sound : IsSoundRows width (look rows)) (pl
   pub leads_nowhere : (q : ℕ × ℕ) → row_target (look rows q) ≡ None
   leads_nowhere q = of_look (look rows q) refl
     where
-      first_of : (l : ℕ) → l ≡ 1 → (row : Hipas × Option ℕ) → look rows (l, q.1) ≡ Some row → row_target (Some row) ≡ None
+      first_of : (l : ℕ) → l ≡ 1 → (row : Mapping) → look rows (l, q.1) ≡ Some row → row_target (Some row) ≡ None
       first_of l one row e =
           let there : look rows (1, q.1) ≡ Some row = ap (λ l. look rows (l, q.1)) (sym one) ∙ e in
-          above_target 1 row.0 row.1 (lit≤ tt) (subst (IsShaped 1) there (sound.shaped (1, q.1))) (by_kind row.0 row.1 (ap is_table_kind (sym there) ∙ first_plain q.1))
+          above_target 1 row.state row.granule (lit≤ tt) (subst (IsShaped 1) there (sound.shaped (1, q.1))) (by_kind row.state row.granule (ap is_table_kind (sym there) ∙ first_plain q.1))
         where
-          by_kind : (h : Hipas) (g : Option ℕ) → is_table_kind (Some (h, g)) ≡ false → kind_table (h, g) ≡ false
+          by_kind : (h : EntryState) (g : Option ℕ) → is_table_kind (Some (mapping h g)) ≡ false → is_table_state h ≡ false
           by_kind Unassigned g e = refl
           by_kind Assigned g e = refl
           by_kind Table g e = cc
 
-      of_look : (o : Option (Hipas × Option ℕ)) → look rows q ≡ o → row_target o ≡ None
+      of_look : (o : Option Mapping) → look rows q ≡ o → row_target o ≡ None
       of_look None e = refl
       of_look (Some row) e =
           let placed : IsPlace width q = sound.placed q (ap is_some e) in

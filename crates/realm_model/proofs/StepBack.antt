@@ -7,7 +7,7 @@ use Rattle.realm_model.specs.declared.act.Act.{Act}
 use Rattle.realm_model.specs.Machine.{Limits, seen}
 use Rattle.realm_model.specs.Update.{Outcome, Update}
 use Rattle.realm_model.specs.Act.{named, holder}
-use Rattle.realm_model.specs.Outcome.{outcome_of, fits}
+use Rattle.realm_model.specs.Outcome.{outcome_of, is_in_range, fits}
 use Rattle.realm_model.specs.World.{World, is_leased_to, realm_of, updated_all}
 use Rattle.realm_model.specs.Step.{step, after_outcome, is_allowed, used_vmids}
 use Rattle.realm_model.specs.Undoing.{by}
@@ -18,14 +18,16 @@ use Rattle.realm_model.proofs.Outcomes.{Yields}
 pub record Asked (limits : Limits) (b : ℕ) (w : World) (act : Act) : Type 0 where
   pub below : nat_lt b limits.builds ≡ true
   pub leases : list_all (is_leased_to (holder b act) w.leases) (named act) ≡ true
+  pub range : is_in_range act ≡ true
   pub fit : fits act (realm_of b w) (map (seen w.machine) (named act)) ≡ true
 
 pub asked : (limits : Limits) (b : ℕ) (w v : World) (act : Act) → step limits w (by b act) ≡ Some v → Asked limits b w act
 unfolding step
 asked limits b w v act s =
     let outer = and_parts _ _ (guarded (is_allowed limits w (by b act)) _ v s).0 in
-    let first = and_parts _ _ outer.0 in
-    record { below = first.0; leases = first.1; fit = outer.1 }
+    let ranged = and_parts _ _ outer.0 in
+    let first = and_parts _ _ ranged.0 in
+    record { below = first.0; leases = first.1; range = ranged.1; fit = outer.1 }
 
 -- what a step did, where its command yields P
 pub done : (limits : Limits) (b : ℕ) (w v : World) (act : Act) (P : List Update → Type 0)

@@ -10,7 +10,7 @@ use Rattle.realm_model.specs.declared.act.Event.{Event}
 use Rattle.realm_model.specs.Machine.{Limits, Seen, seen}
 use Rattle.realm_model.specs.Update.{Update, Outcome, Lease, Free, granule_of, lease_before, lease_after, machine_after_all}
 use Rattle.realm_model.specs.Act.{block, named, holder}
-use Rattle.realm_model.specs.Outcome.{outcome_of, fits}
+use Rattle.realm_model.specs.Outcome.{outcome_of, is_in_range, fits}
 use Rattle.realm_model.specs.World.{World, is_leased_to, realm_of, updated, updated_all}
 use Rattle.realm_model.specs.Step.{step, is_allowed, used_vmids, after_outcome, named_cells, outcome_in}
 use Rattle.realm_model.specs.StepLaw.{set_each, leases_after, IsStep, StepIsWhatItSays}
@@ -63,23 +63,25 @@ unfolding step
 step_is limits w v event s =
     let both = guarded (is_allowed limits w event) _ v s in
     let outer = and_parts _ _ both.0 in
-    let first = and_parts _ _ outer.0 in
+    let ranged = and_parts _ _ outer.0 in
+    let first = and_parts _ _ ranged.0 in
     of_outcome (outcome_in limits w event) refl both.1 (ltb-true event.build limits.builds first.0)
-    (all_leased (holder event.build event.act) w.leases (named event.act) first.1) outer.1
+    (all_leased (holder event.build event.act) w.leases (named event.act) first.1) ranged.1 outer.1
   where
     of_outcome : (o : Outcome) → outcome_in limits w event ≡ o → after_outcome event.build o w ≡ Some v → event.build < limits.builds
         → All (λ granule. slice_get w.leases granule ≡ Some (holder event.build event.act)) (named event.act)
-        → fits event.act (realm_of event.build w) (named_cells w event.act) ≡ true → IsStep limits w event v
-    of_outcome (Ok us) is done below granules fit = record {
+        → is_in_range event.act ≡ true → fits event.act (realm_of event.build w) (named_cells w event.act) ≡ true → IsStep limits w event v
+    of_outcome (Ok us) is done below granules range fit = record {
       build = below;
       granules = granules;
-      fields = fit;
+      in_range = range;
+      fitting = fit;
       updates = us;
       outcome = is;
       machine = (updated_all_is event.build us w v done).0;
       leases = leases_of limits (used_vmids w.machine) event.build w v event.act (realm_of event.build w) us is done;
     }
-    of_outcome (Err rmi) is done below granules fit = cc
+    of_outcome (Err rmi) is done below granules range fit = cc
 
 -- ---- a block is taken, or given back
 
@@ -108,7 +110,7 @@ module _ (b : ℕ) (lease next : Option ℕ) (change : ℕ → Update) (granule 
 
 allowed : (limits : Limits) (w v : World) (event : Event) → IsStep limits w event v → is_allowed limits w event ≡ true
 allowed limits w v event h =
-    and_from _ _ (and_from _ _ (lt-ltb event.build limits.builds h.build) (leased_all (holder event.build event.act) w.leases (named event.act) h.granules)) h.fields
+    and_from _ _ (and_from _ _ (and_from _ _ (lt-ltb event.build limits.builds h.build) (leased_all (holder event.build event.act) w.leases (named event.act) h.granules)) h.in_range) h.fitting
 
 step_goes : (limits : Limits) (w v : World) (b : ℕ) (act : Act) → ReachesOwn limits b w act (realm_of b w) → IsStep limits w (by b act) v → (x : World) × (step limits w (by b act) ≡ Some x)
 unfolding step outcome_of named

@@ -4,18 +4,18 @@ use Rattle.std.specs.Prelude.{option_map}
 use Rattle.std.specs.Ordering.{eq_by_cmp}
 use Rattle.std.specs.FinMap.{get, get-insert}
 use Rattle.granule_addr.specs.Ipa.{covered_count, first_covered}
-use Rattle.realm_model.specs.declared.states.Hipas.TheVariants.{Unassigned}
+use Rattle.realm_model.specs.declared.states.EntryState.TheVariants.{Unassigned}
 use Rattle.realm_model.specs.declared.states.Ripas.{Ripas}
 use Rattle.realm_model.specs.declared.states.Ripas.TheVariants.{Destroyed}
 use Rattle.realm_model.specs.Rows.{Row, Rows, place_cmp, drop_rows, put_row, with_table, without_table, unassigned, table}
-use Rattle.realm_model.specs.Ownership.{mapping_of_row}
+use Rattle.realm_model.specs.Ownership.{mapping_of_row, mapping}
 use Rattle.realm_model.proofs.Booleans.{false_from, true_false}
 use Rattle.realm_model.proofs.Maps.{place_total, same_place}
 use Rattle.realm_model.proofs.Rows.{is_among, get-drop_rows, get-put_rows_other, get-put_row_other, among_put, differs}
 
 -- rows that own what rows with a new table own are, without the table, those from before it
 module _ (old rows : Rows) (level ipa granule : ℕ) (ripas : Ripas) (above : Row)
-    (was : get old (level - 1, first_covered (level - 1) ipa) ≡ Some above) (free : mapping_of_row above ≡ (Unassigned, None))
+    (was : get old (level - 1, first_covered (level - 1) ipa) ≡ Some above) (free : mapping_of_row above ≡ mapping Unassigned None)
     (none_below : (q : ℕ × ℕ) → is_among level ipa (512 * covered_count level) q ≡ true → get old q ≡ None)
     (same : (q : ℕ × ℕ) → option_map mapping_of_row (get (with_table old level ipa granule ripas) q) ≡ option_map mapping_of_row (get rows q)) where
   abbrev above_place : ℕ × ℕ

@@ -116,7 +116,7 @@ undone limits history b w legal at_w rest =
       world_is = left;
       same_others = others;
       none_open = ended.kept.open_is;
-      left = refl;
+      without_build = refl;
       free = free_set-without limits b history w legal at_w;
       others = λ other apart. part_of-without b other w apart;
     }

@@ -149,7 +149,7 @@ module _ (limits : Limits) (w : World) (linked : IsLinked (λ k. cell_at w.machi
       Yields-with_end Z _ _ _ _ (λ end e. Yields-check Z _ _ _ (λ used. Yields-with_granule Z _ _ (λ pa to.
       let row : (now rd.number).descriptor ≡ Some d = ap (λ (c : Cell). c.descriptor) at ∙ is in
       let found = linked.names rd.number d row (AtRow (end.level, first_covered end.level ipa)) (pa, InData)
-      (ap (λ o. row_target (option_map mapping_of_row o)) (walk_end d.rows ipa 3 end e) ∙ assigned_target end.row.hipas end.row.granule pa used to) in
+      (ap (λ o. row_target (option_map mapping_of_row o)) (walk_end d.rows ipa 3 end e) ∙ assigned_target end.row.state end.row.granule pa used to) in
       Yields-Ok Z _ (poked pa o v found.0))))))))
   keeps_zero act realm at = record { where_ok = λ us e. all us ((keeps act realm refl at).where_ok us e) }
 

@@ -7,19 +7,19 @@ use Rattle.granule_addr.specs.declared.root.Root.{Root}
 use Rattle.realm_model.specs.declared.states.GranuleState.{GranuleState}
 use Rattle.realm_model.specs.declared.states.RealmState.{RealmState}
 use Rattle.realm_model.specs.declared.states.RecState.{RecState}
-use Rattle.realm_model.specs.declared.states.Hipas.{Hipas}
+use Rattle.realm_model.specs.declared.states.EntryState.{EntryState}
 use Rattle.realm_model.specs.declared.states.Ripas.{Ripas}
 use Rattle.realm_model.specs.contracts.states.GranuleState as granule_state
 use Rattle.realm_model.specs.contracts.states.RealmState as realm_state
 use Rattle.realm_model.specs.contracts.states.RecState as rec_state
-use Rattle.realm_model.specs.contracts.states.Hipas as hipas
+use Rattle.realm_model.specs.contracts.states.EntryState as entry_state
 use Rattle.realm_model.specs.contracts.states.Ripas as ripas
 use Rattle.realm_model.specs.Rows.{Row, Rows}
 use Rattle.realm_model.specs.Machine.{RecRow, RealmRow, Cell, Machine}
 
 abbrev pub row_code : Coded Row
-row_code = code_by (Hipas × (Ripas × Option ℕ)) (coded× hipas.the_row.coded (coded× ripas.the_row.coded (coded_option coded_ℕ)))
-    (λ r. (r.hipas, (r.ripas, r.granule))) (λ p. record { hipas = p.0; ripas = p.1.0; granule = p.1.1 }) (λ _. refl)
+row_code = code_by (EntryState × (Ripas × Option ℕ)) (coded× entry_state.the_row.coded (coded× ripas.the_row.coded (coded_option coded_ℕ)))
+    (λ r. (r.state, (r.ripas, r.granule))) (λ p. record { state = p.0; ripas = p.1.0; granule = p.1.1 }) (λ _. refl)
 
 abbrev pub rows_code : Coded Rows
 rows_code = map.code (coded× coded_ℕ coded_ℕ) row_code

@@ -1,5 +1,5 @@
 -- What the monitor keeps of granules, realms and RECs. RMM 1.0, Granule, Realm and REC attributes.
-use Rattle.std.specs.Prelude.{ℕ, List, Option, Some, None, slice_index_or}
+use Rattle.std.specs.Prelude.{ℕ, List, map, Option, Some, None, slice_index_or}
 use Rattle.std.specs.FinMap.{FinMap}
 use Rattle.std.specs.Ordering.{nat_cmp}
 use Rattle.granule_addr.specs.Page.{zero_page}
@@ -68,3 +68,6 @@ pub record Seen : Type 0 where
 
 abbrev pub seen : Machine → ℕ → Seen
 seen machine granule = record { number = granule; cell = cell_at machine granule }
+
+abbrev pub numbers_of : List Seen → List ℕ
+numbers_of seen = map (λ g. g.number) seen

@@ -58,7 +58,7 @@ outcome_of limits used (Enter number) realm gs = on_realm realm (λ rd. rec_ente
 outcome_of limits used (Exit number) realm gs = on_realm realm (λ rd. rec_exit rd number)
 outcome_of limits used (Poke number ipa offset value) realm gs = on_realm realm (λ rd. guest_write rd number ipa offset value)
 
--- ---- what an act's own fields say of what is there
+-- ---- what an act's own fields say besides
 
 -- the build has a realm, and the test holds of its RD and its row
 abbrev pub realm_is : Option Seen → (Seen → RealmRow → Bool) → Bool
@@ -76,15 +76,21 @@ is_root a b = a.first == b.first && a.width == b.width
 abbrev pub leads_to : Option Row → ℕ → Bool
 leads_to row granule = elim row [ Some r ↦ option_eq nat_eq r.granule (Some granule) | None ↦ false ]
 
--- A block begins where one may, and is UNDELEGATED where it is given back. Values are bytes, offsets are inside a page, and
--- the byte of a Peek is the one seen. A build has one realm at most. A reverse names what its command takes away. A REC
--- gets the next number.
+-- Numbers of an act that no command checks: a block begins where one may, values are bytes, offsets are inside a page.
+abbrev pub is_in_range : Act → Bool
+is_in_range (Take order first) = is_block_start order first
+is_in_range (UnTake order first) = is_block_start order first
+is_in_range (Fill granule value) = nat_lt value 256
+is_in_range (Peek granule offset byte) = nat_lt offset 4096
+is_in_range (Poke number ipa offset value) = nat_lt offset 4096 && nat_lt value 256
+is_in_range _ = true
+
+-- What an act says of what is there, by the realm of its build and the granules that it names: a block that is given back
+-- is UNDELEGATED. The byte of a Peek is the one seen. A build has one realm at most. A reverse names what its command takes
+-- away. A REC gets the next number.
 unfoldable pub fits : Act → Option Seen → List Seen → Bool
-fits (Take order first) realm gs = is_block_start order first
-fits (UnTake order first) realm gs = is_block_start order first && list_all is_undelegated gs
-fits (Fill granule value) realm gs = nat_lt value 256
-fits (Peek granule offset byte) realm gs = nat_lt offset 4096 && list_all (λ g. slice_index g.cell.bytes offset == byte) gs
-fits (Poke number ipa offset value) realm gs = nat_lt offset 4096 && nat_lt value 256
+fits (UnTake order first) realm gs = list_all is_undelegated gs
+fits (Peek granule offset byte) realm gs = list_all (λ g. slice_index g.cell.bytes offset == byte) gs
 fits (Realm rd root vmid) realm gs = is_none realm
 fits (UnRealm rd root vmid) realm gs = realm_is realm (λ d r. d.number == rd && is_root root r.root && r.vmid == vmid)
 fits (UnRtt granule ipa level) realm gs = realm_is realm (λ d r. leads_to (row_at r.rows (level - 1) ipa) granule)

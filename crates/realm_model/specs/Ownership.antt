@@ -1,7 +1,7 @@
 -- Who owns what: a world but for bytes, RIPAS, measurements, the numbers of next RECs, and the states of realms and RECs.
 use Rattle.std.specs.Prelude.{◌≡◌, ℕ, List, Option, Some, None, option_map}
 use Rattle.std.specs.FinMap.{get}
-use Rattle.realm_model.specs.declared.states.Hipas.{Hipas}
+use Rattle.realm_model.specs.declared.states.EntryState.{EntryState}
 use Rattle.realm_model.specs.Rows.{Row}
 use Rattle.realm_model.specs.Machine.{RecRow, RealmRow, Cell, cell_at}
 use Rattle.realm_model.specs.World.{World}
@@ -10,9 +10,16 @@ use Rattle.realm_model.specs.World.{World}
 abbrev pub granules_of_rec : RecRow → ℕ × List ℕ
 granules_of_rec rec = (rec.granule, rec.auxiliaries)
 
--- the kind of a row, and the granule that it leads to
-abbrev pub mapping_of_row : Row → Hipas × Option ℕ
-mapping_of_row row = (row.hipas, row.granule)
+-- A row but for its RIPAS: the state of the entry, and the granule that it leads to.
+pub record Mapping : Type 0 where
+  pub state : EntryState
+  pub granule : Option ℕ
+
+abbrev pub mapping : EntryState → Option ℕ → Mapping
+mapping state granule = record { state = state; granule = granule }
+
+abbrev pub mapping_of_row : Row → Mapping
+mapping_of_row row = mapping row.state row.granule
 
 -- Two realms have the same VMID, root, RECs and mappings.
 pub record SameRealm (r s : RealmRow) : Type 0 where

@@ -5,10 +5,10 @@ use Rattle.granule_addr.specs.Root.{starting_tables}
 use Rattle.granule_addr.specs.declared.root.Root.{Root}
 use Rattle.realm_model.specs.declared.states.GranuleState.{GranuleState}
 use Rattle.realm_model.specs.declared.states.GranuleState.TheVariants.{Undelegated, Delegated, Rd, Rec as InRec, RecAux, Data as InData, Rtt as InRtt}
-use Rattle.realm_model.specs.declared.states.Hipas.{Hipas}
-use Rattle.realm_model.specs.declared.states.Hipas.TheVariants.{Unassigned, Assigned, Table}
+use Rattle.realm_model.specs.declared.states.EntryState.{EntryState}
+use Rattle.realm_model.specs.declared.states.EntryState.TheVariants.{Unassigned, Assigned, Table}
 use Rattle.realm_model.specs.Machine.{RealmRow, Cell}
-use Rattle.realm_model.specs.Ownership.{granules_of_rec}
+use Rattle.realm_model.specs.Ownership.{Mapping, granules_of_rec}
 use Rattle.realm_model.specs.Sound.{look}
 
 -- A role that a granule can have in a realm: a starting table, what a row leads to, a REC, or an auxiliary of a REC.
@@ -18,14 +18,14 @@ pub data Role : Type 0 where
   AsRec : (number : ℕ) → Role
   AsAux : (number : ℕ) (index : ℕ) → Role
 
-abbrev pub kind_target : Hipas → Option ℕ → Option (ℕ × GranuleState)
+abbrev pub kind_target : EntryState → Option ℕ → Option (ℕ × GranuleState)
 kind_target Unassigned granule = None
 kind_target Assigned granule = option_map (λ g. (g, InData)) granule
 kind_target Table granule = option_map (λ g. (g, InRtt)) granule
 
-abbrev pub row_target : Option (Hipas × Option ℕ) → Option (ℕ × GranuleState)
+abbrev pub row_target : Option Mapping → Option (ℕ × GranuleState)
 row_target None = None
-row_target (Some row) = kind_target row.0 row.1
+row_target (Some row) = kind_target row.state row.granule
 
 abbrev pub start_target : Root → ℕ → Option (ℕ × GranuleState)
 start_target root index = option_map (λ g. (g, InRtt)) (slice_get (starting_tables root) index)

@@ -1,19 +1,19 @@
 -- The translation of a realm: which row covers an IPA granule. No table stands in it. RMM 1.0, Realm Translation Table.
-use Rattle.std.specs.Prelude.{ℕ, zero, suc, ◌+◌, ◌-◌, ◌*◌, ◌%◌, ◌==◌, ◌&&◌, ◌||◌, Bool, true, false, not, nat_lt, nat_le, Option, Some, None}
+use Rattle.std.specs.Prelude.{ℕ, zero, suc, ◌+◌, ◌-◌, ◌*◌, ◌%◌, ◌==◌, ◌&&◌, ◌||◌, Bool, true, false, not, nat_lt, nat_le, Option, Some, None, if◌then◌else◌}
 use Rattle.std.specs.Ordering.{nat_cmp, on, then_cmp}
 use Rattle.std.specs.declared.cmp.Ordering.{Ordering}
 use Rattle.std.specs.FinMap.{FinMap, empty, get, insert, retain_keys}
 use Rattle.granule_addr.specs.Ipa.{covered_count, first_covered}
 use Rattle.granule_addr.specs.Root.{start_count}
-use Rattle.realm_model.specs.declared.states.Hipas.{Hipas}
-use Rattle.realm_model.specs.declared.states.Hipas.TheVariants.{Unassigned, Assigned, Table}
+use Rattle.realm_model.specs.declared.states.EntryState.{EntryState}
+use Rattle.realm_model.specs.declared.states.EntryState.TheVariants.{Unassigned, Assigned, Table}
 use Rattle.realm_model.specs.declared.states.Ripas.{Ripas}
 use Rattle.realm_model.specs.declared.states.Ripas.TheVariants.{Empty, Ram, Destroyed}
 
 -- What stands at a place of the translation. RMM 1.0, RTT entry.
 -- A row that is ASSIGNED or TABLE has the granule that it leads to. A TABLE row counts as EMPTY.
 pub record Row : Type 0 where
-  pub hipas : Hipas
+  pub state : EntryState
   pub ripas : Ripas
   pub granule : Option ℕ
 
@@ -44,25 +44,41 @@ walk rows ipa (suc level) = elim (row_at rows (suc level) ipa) [
   | None ↦ walk rows ipa level
 ]
 
--- ---- rows by their kind. RMM 1.0, HIPAS
+-- ---- rows by the state of the entry. RMM 1.0, RTT entry state
 
 abbrev pub unassigned : Ripas → Row
-unassigned ripas = record { hipas = Unassigned; ripas = ripas; granule = None }
+unassigned ripas = record { state = Unassigned; ripas = ripas; granule = None }
 
 abbrev pub assigned : Ripas → ℕ → Row
-assigned ripas granule = record { hipas = Assigned; ripas = ripas; granule = Some granule }
+assigned ripas granule = record { state = Assigned; ripas = ripas; granule = Some granule }
 
 abbrev pub table : ℕ → Row
-table granule = record { hipas = Table; ripas = Empty; granule = Some granule }
+table granule = record { state = Table; ripas = Empty; granule = Some granule }
+
+abbrev pub is_unassigned_state : EntryState → Bool
+is_unassigned_state state = elim state [ Unassigned ↦ true | Assigned ↦ false | Table ↦ false ]
+
+abbrev pub is_assigned_state : EntryState → Bool
+is_assigned_state state = elim state [ Unassigned ↦ false | Assigned ↦ true | Table ↦ false ]
+
+abbrev pub is_table_state : EntryState → Bool
+is_table_state state = elim state [ Unassigned ↦ false | Assigned ↦ false | Table ↦ true ]
 
 abbrev pub is_unassigned : Row → Bool
-is_unassigned row = elim row.hipas [ Unassigned ↦ true | Assigned ↦ false | Table ↦ false ]
+is_unassigned row = is_unassigned_state row.state
 
 abbrev pub is_assigned : Row → Bool
-is_assigned row = elim row.hipas [ Unassigned ↦ false | Assigned ↦ true | Table ↦ false ]
+is_assigned row = is_assigned_state row.state
 
 abbrev pub is_table : Row → Bool
-is_table row = elim row.hipas [ Unassigned ↦ false | Assigned ↦ false | Table ↦ true ]
+is_table row = is_table_state row.state
+
+-- the granule of the table that a row leads to, and that of the page of data
+abbrev pub table_of : Row → Option ℕ
+table_of row = if is_table row then row.granule else None
+
+abbrev pub data_of : Row → Option ℕ
+data_of row = if is_assigned row then row.granule else None
 
 -- The RIPAS that stays where a page is unmapped. RMM 1.0, RMI_DATA_DESTROY.
 abbrev pub unmapped_ripas : Ripas → Ripas

@@ -12,7 +12,7 @@ use Rattle.realm_model.specs.World.{World, realm_of}
 -- the REC is there, and RUNNING
 abbrev pub is_rec_running : Option RecRow → Bool
 is_rec_running None = false
-is_rec_running (Some rec) = not (is_ready rec)
+is_rec_running (Some rec) = not (is_ready rec.state)
 
 -- in the realm of a build, the REC of a number runs
 abbrev pub rec_runs : Option Seen → ℕ → Bool

@@ -5,33 +5,33 @@ use Rattle.granule_addr.specs.Ipa.{first_covered, is_protected_at}
 use Rattle.granule_addr.specs.Root.{space_of}
 use Rattle.realm_model.specs.declared.states.GranuleState.{GranuleState}
 use Rattle.realm_model.specs.declared.states.GranuleState.TheVariants.{Undelegated, Delegated, Rd, Data}
-use Rattle.realm_model.specs.declared.states.Hipas.{Hipas}
-use Rattle.realm_model.specs.declared.states.Hipas.TheVariants.{Unassigned, Assigned, Table}
+use Rattle.realm_model.specs.declared.states.EntryState.{EntryState}
+use Rattle.realm_model.specs.declared.states.EntryState.TheVariants.{Unassigned, Assigned, Table}
 use Rattle.realm_model.specs.declared.states.Ripas.TheVariants.{Empty}
-use Rattle.realm_model.specs.Rows.{Row, Rows, row_at, unassigned, is_table}
+use Rattle.realm_model.specs.Rows.{Row, Rows, row_at, unassigned, is_table_state, is_table}
 use Rattle.granule_addr.specs.Page.{zero_page}
 use Rattle.realm_model.specs.Machine.{Cell}
-use Rattle.realm_model.specs.Ownership.{mapping_of_row}
+use Rattle.realm_model.specs.Ownership.{Mapping, mapping_of_row}
 
--- a row's kind and granule
-abbrev pub look : Rows → ℕ × ℕ → Option (Hipas × Option ℕ)
+-- the mapping at a place
+abbrev pub look : Rows → ℕ × ℕ → Option Mapping
 look rows place = option_map mapping_of_row (get rows place)
 
-abbrev pub IsKind : ℕ → Hipas → Option ℕ → Type 0
+abbrev pub IsKind : ℕ → EntryState → Option ℕ → Type 0
 IsKind level Unassigned granule = granule ≡ None
 IsKind level Assigned granule = (level ≡ 3) × (is_some granule ≡ true)
 IsKind level Table granule = (level ≤ 2) × (is_some granule ≡ true)
 
-abbrev pub IsShaped : ℕ → Option (Hipas × Option ℕ) → Type 0
+abbrev pub IsShaped : ℕ → Option Mapping → Type 0
 IsShaped level None = Unit {0}
-IsShaped level (Some row) = IsKind level row.0 row.1
+IsShaped level (Some row) = IsKind level row.state row.granule
 
-abbrev pub is_table_kind : Option (Hipas × Option ℕ) → Bool
+abbrev pub is_table_kind : Option Mapping → Bool
 is_table_kind None = false
-is_table_kind (Some row) = elim row.0 [ Unassigned ↦ false | Assigned ↦ false | Table ↦ true ]
+is_table_kind (Some row) = is_table_state row.state
 
 -- a row of the root, or below a table
-abbrev pub has_table : (ℕ × ℕ → Option (Hipas × Option ℕ)) → ℕ × ℕ → Bool
+abbrev pub has_table : (ℕ × ℕ → Option Mapping) → ℕ × ℕ → Bool
 has_table rows place = place.0 == 1 || is_table_kind (rows (place.0 - 1, first_covered (place.0 - 1) place.1))
 
 -- the place of a row: of level 1 to 3, at the first IPA granule that it covers, inside an address space of that width
@@ -42,14 +42,14 @@ pub record IsPlace (width : ℕ) (place : ℕ × ℕ) : Type 0 where
   pub inside : place.1 < space_of width
 
 -- an UNASSIGNED row has no granule, an ASSIGNED one is of level 3, and above each row but those of level 1 is a table
-pub record IsSoundRows (width : ℕ) (rows : ℕ × ℕ → Option (Hipas × Option ℕ)) : Type 0 where
+pub record IsSoundRows (width : ℕ) (rows : ℕ × ℕ → Option Mapping) : Type 0 where
   pub placed : (place : ℕ × ℕ) → is_some (rows place) ≡ true → IsPlace width place
   pub shaped : (place : ℕ × ℕ) → IsShaped place.0 (rows place)
   pub below : (place : ℕ × ℕ) → is_some (rows place) ≡ true → has_table rows place ≡ true
 
 -- the starting tables have a row for each of their places, and so has each table: at every place below a TABLE row there
 -- is a row
-pub record IsFull (width : ℕ) (rows : ℕ × ℕ → Option (Hipas × Option ℕ)) : Type 0 where
+pub record IsFull (width : ℕ) (rows : ℕ × ℕ → Option Mapping) : Type 0 where
   pub root : (ipa : ℕ) → ipa < space_of width → is_some (rows (1, first_covered 1 ipa)) ≡ true
   pub tables : (level ipa : ℕ) → is_table_kind (rows (level, first_covered level ipa)) ≡ true → is_some (rows (level + 1, first_covered (level + 1) ipa)) ≡ true
 

@@ -6,7 +6,7 @@ use Rattle.realm_model.specs.declared.act.Event.{Event}
 use Rattle.realm_model.specs.Machine.{Cell, Machine, Limits, RealmRow, Seen, seen}
 use Rattle.realm_model.specs.Update.{Outcome}
 use Rattle.realm_model.specs.Act.{named, holder}
-use Rattle.realm_model.specs.Outcome.{outcome_of, fits}
+use Rattle.realm_model.specs.Outcome.{outcome_of, is_in_range, fits}
 use Rattle.realm_model.specs.World.{World, is_leased_to, realm_of, updated_all}
 
 -- The VMIDs that realms of a machine use. RMM 1.0, RMI_REALM_CREATE, VMID in use.
@@ -22,12 +22,13 @@ abbrev pub outcome_in : Limits → World → Event → Outcome
 outcome_in limits world event =
     outcome_of limits (used_vmids world.machine) event.act (realm_of event.build world) (named_cells world event.act)
 
--- The build is there, the granules named are leased by it (for a Take by nobody), and the act's own fields fit what is
--- there.
+-- The build is there, the granules named are leased by it (for a Take by nobody), the act's own numbers are in range, and
+-- what it says fits what is there.
 abbrev pub is_allowed : Limits → World → Event → Bool
 is_allowed limits world event =
     nat_lt event.build limits.builds
     && list_all (is_leased_to (holder event.build event.act) world.leases) (named event.act)
+    && is_in_range event.act
     && fits event.act (realm_of event.build world) (named_cells world event.act)
 
 abbrev pub after_outcome : ℕ → Outcome → World → Option World

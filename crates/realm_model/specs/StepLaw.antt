@@ -7,7 +7,7 @@ use Rattle.realm_model.specs.declared.act.Event.{Event}
 use Rattle.realm_model.specs.Machine.{Limits}
 use Rattle.realm_model.specs.Update.{Update, machine_after_all}
 use Rattle.realm_model.specs.Act.{block, named, holder}
-use Rattle.realm_model.specs.Outcome.{fits}
+use Rattle.realm_model.specs.Outcome.{is_in_range, fits}
 use Rattle.realm_model.specs.World.{World, realm_of}
 use Rattle.realm_model.specs.Step.{step, named_cells, outcome_in}
 
@@ -23,12 +23,13 @@ leases_after build (UnTake order first) leases = set_each None (block order firs
 leases_after build _ leases = leases
 
 -- An event leads from one world to another: the build is there; each granule named is inside the machine and leased by
--- the build, for a Take by nobody; the act's own fields fit; its command is not refused. The machine is changed as the
--- command says, and the leases as the act says.
+-- the build, for a Take by nobody; the act's own numbers are in range, and what it says fits what is there; its command is
+-- not refused. The machine is changed as the command says, and the leases as the act says.
 pub record IsStep (limits : Limits) (world : World) (event : Event) (next : World) : Type 0 where
   pub build : event.build < limits.builds
   pub granules : All (λ granule. slice_get world.leases granule ≡ Some (holder event.build event.act)) (named event.act)
-  pub fields : IsTrue (fits event.act (realm_of event.build world) (named_cells world event.act))
+  pub in_range : IsTrue (is_in_range event.act)
+  pub fitting : IsTrue (fits event.act (realm_of event.build world) (named_cells world event.act))
   pub updates : List Update
   pub outcome : outcome_in limits world event ≡ Ok updates
   pub machine : next.machine ≡ machine_after_all updates world.machine

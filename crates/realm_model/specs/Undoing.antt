@@ -40,7 +40,7 @@ pub record IsUndone (limits : Limits) (history : List Event) (build : ℕ) (worl
   pub world_is : replay limits (erase build history) ≡ Some after
   pub same_others : erase build (history ++ undoing build history) ≡ erase build history
   pub none_open : open_entries build (history ++ undoing build history) ≡ []
-  pub left : after ≡ without world build
+  pub without_build : after ≡ without world build
   pub free : (granule : ℕ) → Contains (free_set after) granule ↔ (Contains (free_set world) granule ⊎ Contains (pages_of build history) granule)
   pub others : (other : ℕ) → other ≢ build → part_of after other ≡ part_of world other
 

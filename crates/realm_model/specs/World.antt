@@ -15,12 +15,13 @@ opening limits = record { machine = replicate limits.pages blank; leases = repli
 
 -- ---- leases
 
-abbrev pub is_lease : Option ℕ → Option ℕ → Bool
-is_lease a b = option_eq nat_eq a b
+-- leased to the same build, or both free
+abbrev pub same_lease : Option ℕ → Option ℕ → Bool
+same_lease a b = option_eq nat_eq a b
 
 -- the granule is inside the machine and leased so
 abbrev pub is_leased_to : Option ℕ → List (Option ℕ) → ℕ → Bool
-is_leased_to lease leases granule = option_eq is_lease (slice_get leases granule) (Some lease)
+is_leased_to lease leases granule = option_eq same_lease (slice_get leases granule) (Some lease)
 
 -- The free set: the granules that nobody leases, in rising order.
 abbrev pub free_set : World → List ℕ
@@ -33,7 +34,7 @@ unfoldable pub realm_from : ℕ → ℕ → List (Option ℕ) → Machine → Op
 realm_from build n [] cells = None
 realm_from build n (lease ∷ leases) [] = None
 realm_from build n (lease ∷ leases) (cell ∷ cells) =
-    cond (is_lease lease (Some build) && is_some cell.descriptor) (Some (record { number = n; cell = cell })) (realm_from build (suc n) leases cells)
+    cond (same_lease lease (Some build) && is_some cell.descriptor) (Some (record { number = n; cell = cell })) (realm_from build (suc n) leases cells)
 
 -- The realm of a build is the one whose RD granule it leases.
 abbrev pub realm_of : ℕ → World → Option Seen
@@ -74,7 +75,7 @@ masked hides world = record {
 }
 
 abbrev pub is_of : ℕ → Option ℕ → Bool
-is_of build lease = is_lease lease (Some build)
+is_of build lease = same_lease lease (Some build)
 
 abbrev pub is_of_other : ℕ → Option ℕ → Bool
 is_of_other build None = false

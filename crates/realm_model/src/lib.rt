@@ -12,4 +12,4 @@ mod states;
 
 pub use act::{Act, Event, granules_again};
 pub use rmi::{Rmi, Status};
-pub use states::{GranuleState, Hipas, RealmState, RecState, Ripas};
+pub use states::{EntryState, GranuleState, RealmState, RecState, Ripas};

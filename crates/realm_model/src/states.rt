@@ -26,9 +26,11 @@ pub enum RecState {
     Running,
 }
 
-/// Whether a table entry leads to a page, to a table or to nothing. RMM 1.0, HIPAS and RTT entry.
+/// The state of an entry of a translation table: it leads to nothing, to a page or to a table. RMM 1.0, RTT entry state.
+///
+/// UNASSIGNED and ASSIGNED are also the HIPAS of what the entry maps; TABLE is no HIPAS.
 #[derive(Clone, Copy, Debug, PartialEq, Eq)]
-pub enum Hipas {
+pub enum EntryState {
     Unassigned,
     Assigned,
     Table,

@@ -1,13 +1,11 @@
 //! Realm descriptors.
 ghost use Rattle.std.specs.Prelude.{◌≡◌, ◌+◌, ◌<◌};
-ghost use Rattle.std.specs.FinMap.{FinMap, empty};
-ghost use Rattle.std.specs.Ordering.{nat_cmp};
-ghost use Rattle.realm_model.specs.Rows.{Rows, root_rows};
-ghost use Rattle.realm_model.specs.Machine.{RecRow};
-ghost use Rattle.realm_model.specs.Measurement.{zero_measurement, measurement_after};
+ghost use Rattle.std.specs.FinMap.{empty};
+ghost use Rattle.realm_model.specs.Rows.{root_rows};
+ghost use Rattle.realm_model.specs.Measurement.{measurement_after};
 ghost use Rattle.realm_model.specs.Command.Check as checks;
 ghost use Rattle.realm_model.specs.Command.Realm.{new_realm};
-ghost use Rattle.realm_model.specs.declared.states.RealmState.TheVariants.{New, Active};
+ghost use Rattle.realm_model.specs.declared.states.RealmState.TheVariants.{Active};
 ghost use Rattle.realm_objects.specs.Attributes.{realm_row};
 
 use crate::extend_measurement;
@@ -47,13 +45,6 @@ impl RealmDesc {
     /// `root` says its starting tables. RMM 1.0, RMI_REALM_CREATE.
     #[tactic(auto, unfolding(realm_model::specs::Measurement::zero_measurement, realm_model::specs::Command::Realm::new_realm))]
     pub fn new(vmid: Vmid, root: Root) -> RealmDesc
-        ensures attributes { result ≡ record {
-          state = New;
-          vmid = vmid;
-          root = root;
-          next = 0;
-          measurement = zero_measurement;
-        } }
         ensures row { realm_row result empty (root_rows root.width) ≡ new_realm vmid root }
     {
         RealmDesc {
@@ -74,8 +65,7 @@ impl RealmDesc {
 
     /// Whether the realm is NEW.
     pub fn is_new(&self) -> bool
-        ensures { (recs : FinMap nat_cmp RecRow) (rows : Rows) →
-            result ≡ checks.is_new (realm_row self.now recs rows) }
+        ensures { result ≡ checks.is_new self.now.state }
     {
         matches!(self.state, RealmState::New)
     }

@@ -1,8 +1,7 @@
 //! Realm execution contexts.
-ghost use Rattle.std.specs.Prelude.{◌≡◌, ◌≤◌, ℕ, length};
+ghost use Rattle.std.specs.Prelude.{◌≡◌, ◌≤◌, length};
 ghost use Rattle.realm_model.specs.Command.Check as checks;
 ghost use Rattle.realm_model.specs.declared.states.RecState.TheVariants.{Ready, Running};
-ghost use Rattle.realm_objects.specs.Attributes.{rec_row};
 
 use arrayvec::ArrayVec;
 use granule_addr::{Gran, RecNo};
@@ -65,7 +64,7 @@ impl Rec {
 
     /// Whether the REC is READY.
     pub fn is_ready(&self) -> bool
-        ensures { (granule : ℕ) → result ≡ checks.is_ready (rec_row granule self.now) }
+        ensures { result ≡ checks.is_ready self.now.state }
     {
         matches!(self.state, RecState::Ready)
     }

@@ -35,14 +35,14 @@ module _ (monitor : MonitorView) (fields : Fields) (view_is : seen_as fields ≡
     abbrev update : Update
     update = put_realm (seen_in monitor rd) (record row { state = Active })
 
-    checked : (b : Bool) → is_new row ≡ b → outcome ≡ check b error_realm (Ok (update ∷ []))
+    checked : (b : Bool) → is_new row.state ≡ b → outcome ≡ check b error_realm (Ok (update ∷ []))
     checked b e = somewhere monitor fields view_is whole rd realm there _ ∙ ap (λ t. check t error_realm (Ok (update ∷ []))) e
 
-    pub activate_late : is_new row ≡ false → outcome ≡ Err error_realm
+    pub activate_late : is_new row.state ≡ false → outcome ≡ Err error_realm
     unfolding check
     activate_late e = checked false e
 
-    pub activate_done : is_new row ≡ true → outcome ≡ Ok (update ∷ [])
+    pub activate_done : is_new row.state ≡ true → outcome ≡ Ok (update ∷ [])
     unfolding check
     activate_done e = checked true e
 
@@ -69,7 +69,7 @@ module _ (monitor : MonitorView) (fields : Fields) (view_is : seen_as fields ≡
       pub whole_after_activate : IsWhole (with_realm_at fields n now)
       whole_after_activate = subst IsWhole (sym written) whole_active
 
-      pub seen_after_activate : is_new row ≡ true → seen_as (with_realm_at fields n now) ≡ after_command outcome monitor
+      pub seen_after_activate : is_new row.state ≡ true → seen_as (with_realm_at fields n now) ≡ after_command outcome monitor
       seen_after_activate e =
           ap seen_as written
           ∙ after_done monitor fields view_is whole (with_realm_at fields rd active) (update ∷ []) outcome (activate_done e) refl refl refl machine_active

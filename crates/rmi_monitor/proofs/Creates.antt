@@ -1,5 +1,5 @@
 -- What comes of making a realm, by the places of a monitor.
-use Rattle.std.proofs.Common.{◌≡◌, ◌≢◌, ℕ, ◌<◌, ◌≤◌, ◌+◌, Bool, true, false, List, [], ◌∷◌, length, map, set, cond, Option, Some, None, Ok, Err, refl, sym, ap, ◌∙◌, subst, ⊎_elim}
+use Rattle.std.proofs.Common.{◌≡◌, ℕ, ◌<◌, ◌≤◌, Bool, true, false, List, [], ◌∷◌, length, map, set, cond, Option, Some, None, Ok, Err, refl, sym, ap, ◌∙◌, subst, ⊎_elim}
 use Rattle.std.specs.Prelude.{◌==◌, ◌%◌, ◌&&◌, ◌↔◌, IsTrue, not, nat_le}
 use Rattle.std.specs.Bool.{OnTrue}
 use Rattle.std.specs.List.{list_any, list_all, All}
@@ -14,7 +14,7 @@ use Rattle.granule_table.specs.Granules.{granule_at, undelegated, IsIn}
 use Rattle.granule_table.specs.declared.granule.Granule.{Granule}
 use Rattle.realm_model.specs.declared.states.GranuleState.TheVariants.{Delegated, Rd as InRd, Rtt as InRtt}
 use Rattle.realm_model.specs.Rows.{root_rows}
-use Rattle.realm_model.specs.Machine.{Cell, Seen, blank, cell_at, held}
+use Rattle.realm_model.specs.Machine.{Cell, Seen, blank, held}
 use Rattle.realm_model.specs.Step.{used_vmids}
 use Rattle.realm_model.specs.StepLaw.{set_each}
 use Rattle.realm_model.specs.Update.{Update, Outcome, Put, machine_after_all}
@@ -24,18 +24,17 @@ use Rattle.realm_model.proofs.Booleans.{not_true}
 use Rattle.realm_model.proofs.Lists.{is_in, all_in}
 use Rattle.realm_objects.specs.Attributes.{RealmAttributes, realm_row}
 use Rattle.rtt.specs.Tables.{rows}
-use Rattle.rtt.specs.Realm.{HasTables, IsBacked}
 use Rattle.rtt.specs.Calls.{with_state, with_states, Keeps}
 use Rattle.rmi_monitor.specs.View.{MonitorView, IsTaken, seen_in, after_command, make_realm}
 use Rattle.rmi_monitor.specs.Inside.{Fields, machine_of, seen_as, IsWhole}
 use Rattle.rmi_monitor.specs.Places.{is_delegated_at, is_fit_to_start, are_fit_for_realm}
 use Rattle.rmi_monitor.specs.Vmids.{is_used, IsMarked}
-use Rattle.rmi_monitor.proofs.Granules.{machine_is, as_many_granules, cell_is, in_granules, after_done, seen_delegated}
+use Rattle.rmi_monitor.proofs.Granules.{machine_is, as_many_granules, cell_is, in_granules, after_done}
 use Rattle.rmi_monitor.proofs.Checks.{delegated_state, delegated_test}
 use Rattle.rmi_monitor.proofs.Comparisons.{test_held, test_failed}
 use Rattle.rmi_monitor.proofs.Outcomes.{check_false}
 use Rattle.rmi_monitor.proofs.UsedVmids.{any_used}
-use Rattle.rmi_monitor.proofs.RealmCreates.{CanStart, tables_delegated, backed_with_rd, whole_created, machine_created}
+use Rattle.rmi_monitor.proofs.RealmCreates.{CanStart, tables_delegated, whole_created, machine_created}
 
 first_fails : (a b c d e f g : Bool) → a ≡ false → (a && b && c && d && e && f && g) ≡ false
 first_fails a b c d e f g h = ap (λ t. t && b && c && d && e && f && g) h
@@ -162,9 +161,6 @@ module _ (monitor : MonitorView) (fields : Fields) (view_is : seen_as fields ≡
 
         -- after the RD is one
         module _ (shifted : List Granule) (shift : shifted ≡ with_state fields.granules rd InRd (Some rd)) where
-          pub create_backed : IsBacked fields.pages fields.free shifted
-          create_backed = subst (IsBacked fields.pages fields.free) (sym shift) (backed_with_rd fields whole rd root rd_inside rd_was starts)
-
           pub create_delegated : All (λ table. IsIn shifted table Delegated None) tables
           create_delegated = subst (λ gs. All (λ table. IsIn gs table Delegated None) tables) (sym shift) (tables_delegated fields whole rd root rd_inside rd_was starts)
 

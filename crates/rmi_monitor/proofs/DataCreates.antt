@@ -19,7 +19,7 @@ use Rattle.realm_model.proofs.Outcomes.{check_true}
 use Rattle.realm_objects.specs.Attributes.{RealmAttributes, realm_row}
 use Rattle.rtt.specs.declared.tables.Tables.{Tables}
 use Rattle.rtt.specs.Tables.{rows}
-use Rattle.rtt.specs.Found.{with_free_page}
+use Rattle.realm_model.specs.Command.Found.{with_free_page}
 use Rattle.rmi_monitor.specs.View.{MonitorView, IsTaken, seen_in}
 use Rattle.rmi_monitor.specs.Inside.{Fields, realm_at, bytes_of, seen_as, IsWhole}
 use Rattle.rmi_monitor.specs.Places.{is_delegated_at, is_undelegated_at}
@@ -78,17 +78,17 @@ module _ (monitor : MonitorView) (fields : Fields) (view_is : seen_as fields ≡
 
     module _ (at : Tables) (given : ℕ) (located : IsLocated realm rd ipa at given) (delegated : is_delegated_at fields.granules g ≡ true)
         (undelegated : is_undelegated_at fields.granules source ≡ true) where
-      passed : outcome ≡ check (is_new row) error_realm (with_free_page old_rows ipa on_row)
+      passed : outcome ≡ check (is_new row.state) error_realm (with_free_page old_rows ipa on_row)
       passed =
           somewhere monitor fields view_is whole rd realm there _
           ∙ check_true inputs error_input _ (and_from _ _ (and_from _ _ (seen_delegated monitor fields view_is whole g page_taken ∙ delegated) (seen_undelegated monitor fields view_is whole source source_taken ∙ undelegated)) located.protected)
 
-      pub create_not_new : is_new row ≡ false → outcome ≡ Err error_realm
-      create_not_new h = passed ∙ check_false (is_new row) error_realm _ h
+      pub create_not_new : is_new row.state ≡ false → outcome ≡ Err error_realm
+      create_not_new h = passed ∙ check_false (is_new row.state) error_realm _ h
 
-      module _ (is_fresh : is_new row ≡ true) where
+      module _ (is_fresh : is_new row.state ≡ true) where
         decided : outcome ≡ with_free_page old_rows ipa on_row
-        decided = passed ∙ check_true (is_new row) error_realm _ is_fresh
+        decided = passed ∙ check_true (is_new row.state) error_realm _ is_fresh
 
         pub create_refused : (l : ℕ) → ((f : Row → Outcome) → with_free_page (rows fields.pages at.root) given f ≡ Err (error_rtt l)) → outcome ≡ Err (error_rtt l)
         create_refused l refused = decided ∙ (λ k. with_free_page (rows fields.pages (sym located.tables k).root) (sym located.same k) on_row) ∙ refused on_row

@@ -16,7 +16,7 @@ use Rattle.realm_model.proofs.Outcomes.{check_true, granule_there}
 use Rattle.realm_objects.specs.Attributes.{RealmAttributes}
 use Rattle.rtt.specs.declared.tables.Tables.{Tables}
 use Rattle.rtt.specs.Tables.{rows}
-use Rattle.rtt.specs.Found.{with_mapped_page}
+use Rattle.realm_model.specs.Command.Found.{with_mapped_page}
 use Rattle.rtt.specs.Calls.{with_state, LeadsTo, ChangesTablesAnd, LosesPage, Keeps, KeepsRest}
 use Rattle.rmi_monitor.specs.View.{MonitorView, IsTaken, seen_in}
 use Rattle.rmi_monitor.specs.Inside.{Fields, realm_at, seen_as, IsWhole}

@@ -15,7 +15,7 @@ use Rattle.realm_objects.specs.Attributes.{RealmAttributes, realm_row}
 use Rattle.rtt.specs.declared.tables.Tables.{Tables}
 use Rattle.rtt.specs.Tables.{rows}
 use Rattle.rtt.specs.Realm.{IsBacked, IsTableOf}
-use Rattle.rtt.specs.Found.{with_free_page}
+use Rattle.realm_model.specs.Command.Found.{with_free_page}
 use Rattle.rtt.specs.Calls.{with_state, ChangesTablesOnly, GainsPage, Keeps}
 use Rattle.rmi_monitor.specs.View.{MonitorView, IsTaken, seen_in, after_command}
 use Rattle.rmi_monitor.specs.Inside.{Fields, realm_at, recs_of, seen_as, IsWhole}

@@ -8,10 +8,6 @@ use Rattle.std.proofs.lemmas.Bool.{cases_eq, cases_lt, eq-eqb, ne_eqb}
 use Rattle.std.proofs.lemmas.Option.{same_Some, none-some}
 use Rattle.rmi_monitor.specs.Gathered.{added, gathered, IsOnce}
 
-some_either : {A : Type 0} (t : Bool) (a : A) (o : Option A) → is_some o ≡ true → is_some (cond t (Some a) o) ≡ true
-some_either true a o is = refl
-some_either false a o is = is
-
 module _ {A : Type 0} where
   -- a number is found after it is put, and the others stay
   get-insert_same : (map : FinMap nat_cmp A) (key : ℕ) (a : A) → get (insert map key a) key ≡ Some a
@@ -69,11 +65,6 @@ module _ {A : Type 0} where
       ∙ ap (cond (eq_by_cmp nat_cmp q entry.0) (Some entry.1)) same
       ∙ sym (get-insert nat_cmp_total n entry.0 entry.1 q)
 
-  some-added : (o : Option (ℕ × A)) (map : FinMap nat_cmp A) (q : ℕ) → is_some (get map q) ≡ true → is_some (get (added o map) q) ≡ true
-  some-added None map q some = some
-  some-added (Some entry) map q some =
-      ap is_some (get-insert nat_cmp_total map entry.0 entry.1 q) ∙ some_either (eq_by_cmp nat_cmp q entry.0) entry.1 (get map q) some
-
   once_before : (f : ℕ → Option (ℕ × A)) (n : ℕ) → IsOnce f (suc n) → IsOnce f n
   once_before f n once = λ i j key a b below below'. once i j key a b (omega arith) (omega arith)
 
@@ -92,17 +83,7 @@ module _ {A : Type 0} where
   gathered-none f zero none = refl
   gathered-none f (suc n) none = ap (λ o. added o (gathered f n)) (none n (omega arith)) ∙ gathered-none f n (λ i lt. none i (omega arith))
 
-  -- a number that some place has is found
-  pub gathered-some : (f : ℕ → Option (ℕ × A)) (n i : ℕ) (entry : ℕ × A) → i < n → f i ≡ Some entry → is_some (get (gathered f n) entry.0) ≡ true
-  unfolding gathered
-  gathered-some f zero i entry lt there = absurd (omega arith)
-  gathered-some f (suc n) i entry lt there =
-      ⊎_elim
-      (λ (s : i ≡ n). ap (λ o. is_some (get (added o (gathered f n)) entry.0)) (sym (ap f s) ∙ there) ∙ ap is_some (get-insert_same (gathered f n) entry.0 entry.1))
-      (λ (ne : i ≢ n). some-added (f n) (gathered f n) entry.0 (gathered-some f n i entry (omega arith) there))
-      (cases_eq i n)
-
-  -- and as it stands there, where no other place has it
+  -- a number that one place has alone is found as it stands there
   pub get-gathered : (f : ℕ → Option (ℕ × A)) (n i key : ℕ) (a : A) → IsOnce f n → i < n → f i ≡ Some (key, a) → get (gathered f n) key ≡ Some a
   unfolding gathered
   get-gathered f zero i key a once lt there = absurd (omega arith)

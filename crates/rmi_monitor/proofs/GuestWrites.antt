@@ -6,7 +6,7 @@ use Rattle.granule_table.specs.Granules.{IsIn}
 use Rattle.page_arena.specs.Page.{with_byte}
 use Rattle.realm_model.specs.declared.rmi.Rmi.{Rmi}
 use Rattle.realm_model.specs.declared.states.GranuleState.TheVariants.{Data as InData}
-use Rattle.realm_model.specs.Rows.{Row, Walk, walk, is_assigned}
+use Rattle.realm_model.specs.Rows.{Row, Walk, walk, is_assigned, data_of}
 use Rattle.realm_model.specs.Machine.{RealmRow, RecRow, Seen}
 use Rattle.realm_model.specs.Update.{Outcome, PutByte}
 use Rattle.realm_model.specs.Command.Check.{check, error_input, error_rec, error_rtt, is_ready, with_end, with_granule}
@@ -16,7 +16,7 @@ use Rattle.realm_model.proofs.Walks.{walk_end}
 use Rattle.realm_objects.specs.Attributes.{RealmAttributes, RecAttributes, rec_row}
 use Rattle.rtt.specs.declared.tables.Tables.{Tables}
 use Rattle.rtt.specs.Word.{IsEntry}
-use Rattle.rtt.specs.Tables.{data_of, rows}
+use Rattle.rtt.specs.Tables.{rows}
 use Rattle.rtt.proofs.EntryKinds.{data_of-none, data_of-leads}
 use Rattle.rtt.proofs.RowWords.{rows_said}
 use Rattle.rmi_monitor.specs.View.{MonitorView, IsOnRec, seen_in}
@@ -40,7 +40,7 @@ module _ (monitor : MonitorView) (fields : Fields) (view_is : seen_as fields ≡
   after_walk end = check (is_assigned end.row) (error_rtt end.level) (written_at end.row)
 
   abbrev after_protected : RealmRow → RecRow → Outcome
-  after_protected row rec_is = check (not (is_ready rec_is)) error_rec (with_end row.rows ipa 3 after_walk)
+  after_protected row rec_is = check (not (is_ready rec_is.state)) error_rec (with_end row.rows ipa 3 after_walk)
 
   abbrev here : Outcome
   here = after_protected (row_of fields rd realm) (rec_row granule rec)
@@ -56,18 +56,18 @@ module _ (monitor : MonitorView) (fields : Fields) (view_is : seen_as fields ≡
   write_unprotected is = refused error_input (write_is ∙ check_false (is_protected_at ipa realm.root.width) error_input here is)
 
   module _ (protected : is_protected_at ipa realm.root.width ≡ true) where
-    pub write_ready : is_ready (rec_row granule rec) ≡ true → IsOnRec {A = Unit {0}} (λ seen number. guest_write seen number ipa offset value) monitor granule (Err error_rec) monitor
+    pub write_ready : is_ready rec.state ≡ true → IsOnRec {A = Unit {0}} (λ seen number. guest_write seen number ipa offset value) monitor granule (Err error_rec) monitor
     write_ready ready =
-        refused error_rec (write_is ∙ check_true (is_protected_at ipa realm.root.width) error_input here protected ∙ check_false (not (is_ready (rec_row granule rec))) error_rec _ (ap not ready))
+        refused error_rec (write_is ∙ check_true (is_protected_at ipa realm.root.width) error_input here protected ∙ check_false (not (is_ready rec.state)) error_rec _ (ap not ready))
 
-    module _ (running : is_ready (rec_row granule rec) ≡ false) (at : Tables) (given to : ℕ) (located : IsLocated realm rd ipa at given) (last : to ≡ 3)
+    module _ (running : is_ready rec.state ≡ false) (at : Tables) (given to : ℕ) (located : IsLocated realm rd ipa at given) (last : to ≡ 3)
         (end : Walk) (given_ends : walk (rows fields.pages at.root) given to ≡ Some end) where
       ends : walk (rows fields.pages realm.root) ipa 3 ≡ Some end
       ends = (λ k. walk (rows fields.pages (sym located.tables k).root) (sym located.same k) (sym last k)) ∙ given_ends
 
       write_walks : command (seen_in monitor rd) rec.number ≡ after_walk end
       write_walks =
-          write_is ∙ check_true (is_protected_at ipa realm.root.width) error_input here protected ∙ check_true (not (is_ready (rec_row granule rec))) error_rec _ (ap not running)
+          write_is ∙ check_true (is_protected_at ipa realm.root.width) error_input here protected ∙ check_true (not (is_ready rec.state)) error_rec _ (ap not running)
           ∙ end_there (rows fields.pages realm.root) ipa 3 after_walk end ends
 
       said : IsEntry end.row

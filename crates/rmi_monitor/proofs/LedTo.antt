@@ -6,8 +6,8 @@ use Rattle.granule_addr.specs.declared.root.Root.{Root}
 use Rattle.granule_table.specs.Granules.{IsIn}
 use Rattle.granule_table.specs.declared.granule.Granule.{Granule}
 use Rattle.realm_model.specs.declared.states.GranuleState.TheVariants.{Data as InData, Rtt as InRtt}
-use Rattle.realm_model.specs.declared.states.Hipas.{Hipas}
-use Rattle.realm_model.specs.declared.states.Hipas.TheVariants.{Unassigned, Assigned, Table}
+use Rattle.realm_model.specs.declared.states.EntryState.{EntryState}
+use Rattle.realm_model.specs.declared.states.EntryState.TheVariants.{Unassigned, Assigned, Table}
 use Rattle.realm_model.specs.declared.states.Ripas.{Ripas}
 use Rattle.realm_model.specs.Rows.{Row, row_at, is_assigned, is_table}
 use Rattle.rtt.specs.Word.{IsSaid}
@@ -20,14 +20,14 @@ use Rattle.rtt.proofs.Walks.{child_in, page_in}
 
 -- ---- the granule of a row
 
-table_said : (hipas : Hipas) (ripas : Ripas) (granule : Option ℕ) → elim hipas [ Unassigned ↦ false | Assigned ↦ false | Table ↦ true ] ≡ true → IsSaid hipas ripas granule
+table_said : (state : EntryState) (ripas : Ripas) (granule : Option ℕ) → elim state [ Unassigned ↦ false | Assigned ↦ false | Table ↦ true ] ≡ true → IsSaid state ripas granule
     → (g : ℕ) × (granule ≡ Some g)
 table_said Unassigned ripas granule h is = cc
 table_said Assigned ripas granule h is = cc
 table_said Table ripas None h is = absurd is
 table_said Table ripas (Some g) h is = (g, refl)
 
-page_said : (hipas : Hipas) (ripas : Ripas) (granule : Option ℕ) → elim hipas [ Unassigned ↦ false | Assigned ↦ true | Table ↦ false ] ≡ true → IsSaid hipas ripas granule
+page_said : (state : EntryState) (ripas : Ripas) (granule : Option ℕ) → elim state [ Unassigned ↦ false | Assigned ↦ true | Table ↦ false ] ≡ true → IsSaid state ripas granule
     → (g : ℕ) × (granule ≡ Some g)
 page_said Unassigned ripas granule h is = cc
 page_said Assigned ripas None h is = absurd is
@@ -52,12 +52,12 @@ module _ (pages : List (List ℕ)) (granules : List Granule) (rd : ℕ) (root : 
   pub table_led : level < 3 → is_table row ≡ true → (table : ℕ) × (row.granule ≡ Some table) × IsIn granules table InRtt (Some rd)
   table_led high is =
       let there = entry_there in
-      let said = table_said row.hipas row.ripas row.granule is (rows_said pages root level ipa row at) in
+      let said = table_said row.state row.ripas row.granule is (rows_said pages root level ipa row at) in
       (said.0, said.1, child_in pages granules rd root level ipa there.0 said.0 row tables inside high there.1 there.2 (table_of-table row is ∙ said.1))
 
   -- and an ASSIGNED row to one of its pages of data
   pub page_led : is_assigned row ≡ true → (page : ℕ) × (row.granule ≡ Some page) × IsIn granules page InData (Some rd)
   page_led is =
       let there = entry_there in
-      let said = page_said row.hipas row.ripas row.granule is (rows_said pages root level ipa row at) in
+      let said = page_said row.state row.ripas row.granule is (rows_said pages root level ipa row at) in
       (said.0, said.1, page_in pages granules rd root level ipa there.0 said.0 row tables inside there.1 there.2 (ap (λ b. cond b row.granule None) is ∙ said.1))

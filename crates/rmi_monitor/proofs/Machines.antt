@@ -37,10 +37,6 @@ module _ (old new : Fields) (as_many : length new.granules ≡ length old.granul
       let inside : g < length new.granules = subst (λ n. g < n) (length-machine_of new) h in
       cell_at-machine_of new g inside ∙ same g (subst (λ n. g < n) as_many inside))
 
-  -- nothing is changed
-  pub none_put : ((g : ℕ) → g < length old.granules → cell_of new g ≡ cell_of old g) → machine_of new ≡ machine_of old
-  none_put same = is_machine (machine_of old) (length-machine_of old) (λ g h. same g h ∙ sym (cell_at-machine_of old g h))
-
   -- one granule is changed
   pub one_put : (a : ℕ) (cell : Cell) → a < length old.granules → cell_of new a ≡ cell
       → ((g : ℕ) → g < length old.granules → (g ≡ a → ⊥) → cell_of new g ≡ cell_of old g)

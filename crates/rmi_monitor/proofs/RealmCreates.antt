@@ -11,16 +11,16 @@ use Rattle.granule_addr.specs.Root.{starting_tables}
 use Rattle.granule_addr.specs.declared.root.Root.{Root}
 use Rattle.granule_table.specs.Granules.{granule_at, undelegated, IsIn}
 use Rattle.granule_table.specs.declared.granule.Granule.{Granule}
-use Rattle.page_arena.specs.Page.{page_at, is_free}
+use Rattle.page_arena.specs.Page.{page_at}
 use Rattle.realm_model.specs.declared.states.GranuleState.{GranuleState}
-use Rattle.realm_model.specs.declared.states.GranuleState.TheVariants.{Undelegated, Delegated, Data as InData, Rd as InRd, Rec as InRec, RecAux as InRecAux, Rtt as InRtt}
+use Rattle.realm_model.specs.declared.states.GranuleState.TheVariants.{Delegated, Data as InData, Rd as InRd, Rec as InRec, RecAux as InRecAux, Rtt as InRtt}
 use Rattle.realm_model.specs.Rows.{root_rows}
 use Rattle.realm_model.specs.Machine.{Cell, held}
 use Rattle.realm_model.specs.Sound.{is_host_state, is_rd_state}
 use Rattle.realm_model.specs.StepLaw.{set_each}
 use Rattle.realm_model.specs.Update.{Put, machine_after_all}
 use Rattle.realm_model.specs.Command.Realm.{new_realm}
-use Rattle.realm_model.proofs.Booleans.{or_parts, false_from, true_false}
+use Rattle.realm_model.proofs.Booleans.{or_parts, false_from}
 use Rattle.realm_model.proofs.Lists.{is_in}
 use Rattle.realm_objects.specs.Attributes.{RealmAttributes, realm_row}
 use Rattle.rtt.specs.Tables.{rows}
@@ -94,15 +94,6 @@ module _ (old : Fields) (whole : IsWhole old) (rd : ℕ) (root : Root) (rd_insid
         inside = subst (λ n. table < n) (sym count_rd) start.inside;
         is = with_rd_other table start.beside ∙ (λ i. record { state = start.was i; realm = (whole.each table).host (ap is_host_state start.was) i });
       })
-
-  pub backed_with_rd : IsBacked old.pages old.free with_rd
-  backed_with_rd = record {
-    as_many = count_rd ∙ whole.backed.as_many;
-    taken = λ g inside used. elim (g == rd) as (λ t. (g == rd) ≡ t → is_free old.free g ≡ false) [
-      | true ↦ λ e. ap (is_free old.free) (eqb-true g rd e) ∙ whole.backed.taken rd rd_inside (λ is. let differ : Undelegated ≡ Delegated = sym is ∙ rd_was in cc)
-      | false ↦ λ e. whole.backed.taken g (subst (λ n. g < n) count_rd inside) (λ is. used (ap (λ (x : Granule). x.state) (with_rd_other g (eqb-false g rd e)) ∙ is))
-    ] refl;
-  }
 
   no_realm_rd : realm_at old rd ≡ None
   no_realm_rd = no_realm_there old rd (whole.each rd) (ap is_rd_state rd_was)

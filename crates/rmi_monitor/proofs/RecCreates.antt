@@ -1,24 +1,23 @@
 -- RMI_REC_CREATE over the fields of a monitor: its checks, and what it changes.
-use Rattle.std.proofs.Common.{◌≡◌, ℕ, suc, ◌+◌, ◌<◌, Bool, true, false, ◌&&◌, ◌||◌, not, List, [], ◌∷◌, ◌++◌, length, map, set, get_or, All, Option, Some, None, Ok, Err, refl, sym, ap, ◌∙◌, subst}
+use Rattle.std.proofs.Common.{◌≡◌, ℕ, suc, ◌+◌, ◌<◌, Bool, true, false, ◌&&◌, List, [], ◌∷◌, ◌++◌, length, map, set, get_or, All, Option, Some, None, Ok, Err, refl, sym, ap, ◌∙◌, subst}
 use Rattle.std.specs.Prelude.{◌==◌}
 use Rattle.std.specs.Prelude.{IsTrue}
 use Rattle.std.specs.Bool.{OnTrue}
-use Rattle.std.specs.List.{list_all, list_any}
-use Rattle.std.specs.FinMap.{FinMap, insert}
-use Rattle.std.specs.Ordering.{nat_cmp}
+use Rattle.std.specs.List.{list_all}
+use Rattle.std.specs.FinMap.{insert}
 use Rattle.std.proofs.lemmas.Bool.{OnTrue_at, and_parts, eqb-true}
 use Rattle.std.proofs.lemmas.List.{length-set, get_or-set_other}
 use Rattle.std.proofs.lemmas.Option.{same_Some, slice_get-get_or}
 use Rattle.granule_table.specs.Granules.{granule_at, undelegated}
 use Rattle.granule_table.specs.declared.granule.Granule.{Granule}
+use Rattle.realm_model.proofs.Reversal.{seen_numbers}
 use Rattle.realm_model.specs.declared.states.GranuleState.TheVariants.{Delegated, Rec as InRec, RecAux as InRecAux}
 use Rattle.realm_model.specs.declared.rmi.Rmi.{Rmi}
 use Rattle.realm_model.specs.Measurement.{measurement_after, rec_event}
-use Rattle.realm_model.specs.Machine.{Cell, RealmRow, RecRow, Seen, cell_at, held}
-use Rattle.realm_model.specs.Rows.{Rows}
+use Rattle.realm_model.specs.Machine.{Cell, RealmRow, Seen, cell_at, held, numbers_of}
 use Rattle.realm_model.specs.StepLaw.{set_each}
 use Rattle.realm_model.specs.Update.{Outcome, Update, Put, machine_after_all}
-use Rattle.realm_model.specs.Command.Check.{check, error_input, error_realm, is_delegated, all_different, is_new}
+use Rattle.realm_model.specs.Command.Check.{check, error_input, error_realm, is_delegated, is_new, are_distinct}
 use Rattle.realm_model.specs.Command.Rec.{rec_create}
 use Rattle.realm_model.proofs.Booleans.{not_true, true_false}
 use Rattle.realm_model.proofs.Lists.{is_in, all_in, is_in_at, is_in_head, is_in_more}
@@ -27,7 +26,7 @@ use Rattle.realm_objects.specs.Attributes.{RealmAttributes, RecAttributes, realm
 use Rattle.rtt.specs.Tables.{rows}
 use Rattle.rmi_monitor.specs.View.{MonitorView, IsTaken, seen_in, after_command}
 use Rattle.rmi_monitor.specs.Inside.{Fields, realm_at, rec_count_at, recs_of, seen_as, IsWhole}
-use Rattle.rmi_monitor.specs.Places.{is_delegated_at, are_distinct, are_fit_for_rec, IsInState}
+use Rattle.rmi_monitor.specs.Places.{is_delegated_at, are_fit_for_rec, IsInState}
 use Rattle.rmi_monitor.proofs.Checks.{delegated_state}
 use Rattle.rmi_monitor.proofs.Granules.{machine_is, cell_is, in_granules, seen_delegated, after_done}
 use Rattle.rmi_monitor.proofs.Listed.{once_from_distinct, holds_in, put_back}
@@ -52,13 +51,8 @@ module _ (monitor : MonitorView) where
   length_seen [] = refl
   length_seen (x ∷ xs) = ap suc (length_seen xs)
 
-  any_seen : (x : ℕ) (xs : List ℕ) → list_any (λ (h : Seen). x == h.number) (map (seen_in monitor) xs) ≡ list_any (λ h. x == h) xs
-  any_seen x [] = refl
-  any_seen x (y ∷ xs) = ap (λ t. (x == y) || t) (any_seen x xs)
-
-  different_seen : (xs : List ℕ) → all_different (map (seen_in monitor) xs) ≡ are_distinct xs
-  different_seen [] = refl
-  different_seen (x ∷ xs) = λ i. not (any_seen x xs i) && different_seen xs i
+  distinct_seen : (xs : List ℕ) → are_distinct (numbers_of (map (seen_in monitor) xs)) ≡ are_distinct xs
+  distinct_seen xs = ap are_distinct (seen_numbers monitor.machine xs)
 
   delegated_seen : (granules : List Granule) (xs : List ℕ) → ((x : ℕ) → is_in x xs ≡ true → is_delegated (seen_in monitor x) ≡ is_delegated_at granules x)
       → list_all is_delegated (map (seen_in monitor) xs) ≡ list_all (is_delegated_at granules) xs
@@ -97,10 +91,10 @@ module _ (monitor : MonitorView) (fields : Fields) (view_is : seen_as fields ≡
 
   -- ---- its checks
 
-  fit_is : (list_all is_delegated (map (seen_in monitor) (g ∷ others)) && all_different (map (seen_in monitor) (g ∷ others)) && length (map (seen_in monitor) others) == monitor.aux) ≡ fit
+  fit_is : (list_all is_delegated (map (seen_in monitor) (g ∷ others)) && are_distinct (numbers_of (map (seen_in monitor) (g ∷ others))) && length (map (seen_in monitor) others) == monitor.aux) ≡ fit
   fit_is i =
       delegated_seen monitor fields.granules (g ∷ others) (λ h e. seen_delegated monitor fields view_is whole h (taken h e)) i
-      && different_seen monitor (g ∷ others) i
+      && distinct_seen monitor (g ∷ others) i
       && length_seen monitor others i == sym (ap (λ (m : MonitorView). m.aux) view_is) i
 
   pub refuses_no_realm : realm_at fields rd ≡ None → outcome ≡ Err error_input
@@ -114,8 +108,8 @@ module _ (monitor : MonitorView) (fields : Fields) (view_is : seen_as fields ≡
     row_is = descriptor_there monitor fields view_is whole rd realm there
 
     -- what a call answers of the realm
-    pub new_by : (answer wanted : Bool) → ((recs : FinMap nat_cmp RecRow) (translation : Rows) → answer ≡ is_new (realm_row realm recs translation)) → answer ≡ wanted → is_new row ≡ wanted
-    new_by answer wanted says is = sym (says (recs_of fields.granules fields.recs rd) (rows fields.pages realm.root)) ∙ is
+    pub new_by : (answer wanted : Bool) → answer ≡ is_new realm.state → answer ≡ wanted → is_new row.state ≡ wanted
+    new_by answer wanted says is = sym says ∙ is
 
     pub next_is : (other : RealmRow) → (cell_at monitor.machine rd).descriptor ≡ Some other → realm.next ≡ other.next
     next_is other e = ap (λ (r : RealmRow). r.next) (same_Some row other (sym row_is ∙ e))
@@ -128,22 +122,22 @@ module _ (monitor : MonitorView) (fields : Fields) (view_is : seen_as fields ≡
         }) ∷ []
 
     abbrev updates : List Update
-    updates = updates_by (map (λ (a : Seen). Put a.number (held InRecAux rd)) (map (seen_in monitor) others)) (map (λ (a : Seen). a.number) (map (seen_in monitor) others)) (cell_at monitor.machine rd)
+    updates = updates_by (map (λ (a : Seen). Put a.number (held InRecAux rd)) (map (seen_in monitor) others)) (numbers_of (map (seen_in monitor) others)) (cell_at monitor.machine rd)
 
     abbrev rest : Outcome
-    rest = check (is_new row) error_realm (Ok updates)
+    rest = check (is_new row.state) error_realm (Ok updates)
 
-    checked : outcome ≡ check (list_all is_delegated (map (seen_in monitor) (g ∷ others)) && all_different (map (seen_in monitor) (g ∷ others)) && length (map (seen_in monitor) others) == monitor.aux) error_input rest
+    checked : outcome ≡ check (list_all is_delegated (map (seen_in monitor) (g ∷ others)) && are_distinct (numbers_of (map (seen_in monitor) (g ∷ others))) && length (map (seen_in monitor) others) == monitor.aux) error_input rest
     checked = somewhere monitor fields view_is whole rd realm there _
 
     pub refuses_unfit : fit ≡ false → outcome ≡ Err error_input
     refuses_unfit e = checked ∙ check_false _ error_input rest (fit_is ∙ e)
 
-    pub refuses_active : fit ≡ true → is_new row ≡ false → outcome ≡ Err error_realm
-    refuses_active e active = checked ∙ check_true _ error_input rest (fit_is ∙ e) ∙ check_false (is_new row) error_realm (Ok updates) active
+    pub refuses_active : fit ≡ true → is_new row.state ≡ false → outcome ≡ Err error_realm
+    refuses_active e active = checked ∙ check_true _ error_input rest (fit_is ∙ e) ∙ check_false (is_new row.state) error_realm (Ok updates) active
 
-    pub creates : fit ≡ true → is_new row ≡ true → outcome ≡ Ok updates
-    creates e new = checked ∙ check_true _ error_input rest (fit_is ∙ e) ∙ check_true (is_new row) error_realm (Ok updates) new
+    pub creates : fit ≡ true → is_new row.state ≡ true → outcome ≡ Ok updates
+    creates e new = checked ∙ check_true _ error_input rest (fit_is ∙ e) ∙ check_true (is_new row.state) error_realm (Ok updates) new
 
     -- ---- what it changes
 
@@ -192,7 +186,7 @@ module _ (monitor : MonitorView) (fields : Fields) (view_is : seen_as fields ≡
       pub whole_created : IsWhole (made fields rd g others realm)
       whole_created = whole_made fields whole rd g others realm can
 
-      pub created : is_new row ≡ true → seen_as (made fields rd g others realm) ≡ after_command outcome monitor
+      pub created : is_new row.state ≡ true → seen_as (made fields rd g others realm) ≡ after_command outcome monitor
       created new =
           after_done monitor fields view_is whole (made fields rd g others realm) updates outcome (creates e new) refl refl refl
           (machine_made fields whole rd g others realm can

@@ -10,14 +10,14 @@ use Rattle.realm_model.specs.declared.states.GranuleState.TheVariants.{Rec as In
 use Rattle.realm_model.specs.Machine.{Cell, cell_at, left}
 use Rattle.realm_model.specs.StepLaw.{set_each}
 use Rattle.realm_model.specs.Update.{Update, Put, machine_after_all}
-use Rattle.realm_model.specs.Command.Check.{check, error_rec, is_ready, put_realm}
+use Rattle.realm_model.specs.Command.Check.{check, error_rec, is_ready, put_realm, are_distinct}
 use Rattle.realm_model.specs.Command.Rec.{rec_destroy}
 use Rattle.realm_model.proofs.Lists.{is_in, is_in_head, is_in_at, is_in_more}
 use Rattle.realm_model.proofs.Outcomes.{check_true}
-use Rattle.realm_objects.specs.Attributes.{RealmAttributes, RecAttributes, rec_row}
-use Rattle.rmi_monitor.specs.View.{MonitorView, IsTaken, IsOnRec, seen_in, after_command}
+use Rattle.realm_objects.specs.Attributes.{RealmAttributes, RecAttributes}
+use Rattle.rmi_monitor.specs.View.{MonitorView, IsOnRec, seen_in, after_command}
 use Rattle.rmi_monitor.specs.Inside.{Fields, rec_count_at, rec_at, recs_of, seen_as, IsWhole}
-use Rattle.rmi_monitor.specs.Places.{are_distinct, IsInState, HasPage}
+use Rattle.rmi_monitor.specs.Places.{IsInState, HasPage}
 use Rattle.rmi_monitor.proofs.Granules.{machine_is, cell_is, after_done, in_machine}
 use Rattle.rmi_monitor.proofs.Listed.{distinct_from_once}
 use Rattle.rmi_monitor.proofs.RecGone.{gone, left_granule, not_own, aux_is, aux_state, taken_moved}
@@ -98,10 +98,10 @@ module _ (monitor : MonitorView) (fields : Fields) (view_is : seen_as fields ≡
   abbrev updates : List Update
   updates = updates_by (cell_at monitor.machine rd)
 
-  checked : rec_destroy (seen_in monitor rd) rec.number ≡ check (is_ready (rec_row g rec)) error_rec (Ok updates)
+  checked : rec_destroy (seen_in monitor rd) rec.number ≡ check (is_ready rec.state) error_rec (Ok updates)
   checked =
       outcome_there monitor fields view_is whole g rec rd realm kept
-      (λ r c. check (is_ready c) error_rec (Ok (Put c.granule left ∷ map (λ a. Put a left) c.auxiliaries ++ put_realm (seen_in monitor rd) (record r { recs = remove r.recs rec.number }) ∷ [])))
+      (λ r c. check (is_ready c.state) error_rec (Ok (Put c.granule left ∷ map (λ a. Put a left) c.auxiliaries ++ put_realm (seen_in monitor rd) (record r { recs = remove r.recs rec.number }) ∷ [])))
 
   seen_gone : seen_as (gone fields rd g rec.auxiliaries) ≡ after_command (Ok updates) monitor
   seen_gone =
@@ -110,14 +110,14 @@ module _ (monitor : MonitorView) (fields : Fields) (view_is : seen_as fields ≡
       (machine_gone fields whole rd g rec realm kept
       ∙ (λ i. machine_after_all (updates_by (sym (cell_is monitor fields view_is whole rd rd_inside) i)) (machine_is monitor fields view_is whole i)))
 
-  pub not_ready : (answer : Bool) (new : MonitorView) → ((granule : ℕ) → answer ≡ is_ready (rec_row granule rec)) → answer ≡ false → new ≡ monitor
+  pub not_ready : (answer : Bool) (new : MonitorView) → answer ≡ is_ready rec.state → answer ≡ false → new ≡ monitor
       → IsOnRec {A = Unit {0}} rec_destroy monitor g (Err error_rec) new
   not_ready answer new says is same =
       on_rec monitor fields view_is whole rec_destroy g rec rd realm kept (Err error_rec) (Err error_rec) new
-      (checked ∙ check_false (is_ready (rec_row g rec)) error_rec (Ok updates) (sym (says g) ∙ is)) refl same
+      (checked ∙ check_false (is_ready rec.state) error_rec (Ok updates) (sym says ∙ is)) refl same
 
-  pub ready : (answer : Bool) (new : MonitorView) → ((granule : ℕ) → answer ≡ is_ready (rec_row granule rec)) → answer ≡ true → new ≡ seen_as (gone fields rd g rec.auxiliaries)
+  pub ready : (answer : Bool) (new : MonitorView) → answer ≡ is_ready rec.state → answer ≡ true → new ≡ seen_as (gone fields rd g rec.auxiliaries)
       → IsOnRec {A = Unit {0}} rec_destroy monitor g (Ok tt) new
   ready answer new says is same =
       on_rec monitor fields view_is whole rec_destroy g rec rd realm kept (Ok tt) (Ok updates) new
-      (checked ∙ check_true (is_ready (rec_row g rec)) error_rec (Ok updates) (sym (says g) ∙ is)) tt (same ∙ seen_gone)
+      (checked ∙ check_true (is_ready rec.state) error_rec (Ok updates) (sym says ∙ is)) tt (same ∙ seen_gone)

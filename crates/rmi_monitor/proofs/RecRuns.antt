@@ -1,18 +1,15 @@
 -- The commands by which a REC runs and stops, over the fields of a monitor.
 use Rattle.std.proofs.Common.{◌≡◌, ℕ, Bool, true, false, List, [], ◌∷◌, set, Ok, Err, Option, Some, None, refl, sym, ap, ◌∙◌}
 use Rattle.std.specs.Prelude.{not}
-use Rattle.std.specs.FinMap.{FinMap}
-use Rattle.std.specs.Ordering.{nat_cmp}
 use Rattle.realm_model.specs.declared.rmi.Rmi.{Rmi}
 use Rattle.realm_model.specs.declared.states.RecState.TheVariants.{Ready, Running}
-use Rattle.realm_model.specs.Rows.{Rows}
 use Rattle.realm_model.specs.Machine.{RealmRow, RecRow, Seen}
 use Rattle.realm_model.specs.Update.{Outcome}
 use Rattle.realm_model.specs.Command.Check.{check, error_input, error_realm, error_rec, is_new, is_ready, put_rec}
 use Rattle.realm_model.specs.Command.Rec.{rec_enter, rec_exit}
 use Rattle.realm_model.proofs.Outcomes.{check_true}
-use Rattle.realm_objects.specs.Attributes.{RealmAttributes, RecAttributes, realm_row, rec_row}
-use Rattle.rmi_monitor.specs.View.{MonitorView, IsTaken, IsOnRec, seen_in}
+use Rattle.realm_objects.specs.Attributes.{RealmAttributes, RecAttributes, rec_row}
+use Rattle.rmi_monitor.specs.View.{MonitorView, IsOnRec, seen_in}
 use Rattle.rmi_monitor.specs.Inside.{Fields, rec_at, seen_as, IsWhole}
 use Rattle.rmi_monitor.proofs.RecFound.{IsKept, outcome_there, on_none, on_rec}
 use Rattle.rmi_monitor.proofs.RecChanges.{with_recs, rec_put}
@@ -59,50 +56,50 @@ module _ (monitor : MonitorView) (fields : Fields) (view_is : seen_as fields ≡
     entered : Outcome
     entered = Ok (put_rec (seen_in monitor rd) row rec.number (record rec_is { state = Running }) ∷ [])
 
-    enter_is : rec_enter (seen_in monitor rd) rec.number ≡ check (not (is_new row)) error_realm (check (is_ready rec_is) error_rec entered)
+    enter_is : rec_enter (seen_in monitor rd) rec.number ≡ check (not (is_new row.state)) error_realm (check (is_ready rec_is.state) error_rec entered)
     unfolding entered
     enter_is = outcome_there monitor fields view_is whole granule rec rd realm kept
-        (λ r c. check (not (is_new r)) error_realm (check (is_ready c) error_rec (Ok (put_rec (seen_in monitor rd) r rec.number (record c { state = Running }) ∷ []))))
+        (λ r c. check (not (is_new r.state)) error_realm (check (is_ready c.state) error_rec (Ok (put_rec (seen_in monitor rd) r rec.number (record c { state = Running }) ∷ []))))
 
     -- what code says of the realm's state
     abbrev SaysNew : Bool → Type 0
-    SaysNew answer = (rs : FinMap nat_cmp RecRow) (translation : Rows) → answer ≡ is_new (realm_row realm rs translation)
+    SaysNew answer = answer ≡ is_new realm.state
 
-    says : (answer is : Bool) → SaysNew answer → answer ≡ is → is_new row ≡ is
-    says answer is told e = sym (told row.recs row.rows) ∙ e
+    says : (answer is : Bool) → SaysNew answer → answer ≡ is → is_new row.state ≡ is
+    says answer is told e = sym told ∙ e
 
     pub enter_new : (answer : Bool) → SaysNew answer → answer ≡ true → recs ≡ set fields.recs granule (Some rec) → IsOnRec {A = Unit {0}} rec_enter monitor granule (Err error_realm) (seen_as (with_recs fields recs))
-    enter_new answer told is back = refused rec_enter error_realm back (enter_is ∙ check_false (not (is_new row)) error_realm _ (ap not (says answer true told is)))
+    enter_new answer told is back = refused rec_enter error_realm back (enter_is ∙ check_false (not (is_new row.state)) error_realm _ (ap not (says answer true told is)))
 
-    enter_active : is_new row ≡ false → rec_enter (seen_in monitor rd) rec.number ≡ check (is_ready rec_is) error_rec entered
-    enter_active is = enter_is ∙ check_true (not (is_new row)) error_realm _ (ap not is)
+    enter_active : is_new row.state ≡ false → rec_enter (seen_in monitor rd) rec.number ≡ check (is_ready rec_is.state) error_rec entered
+    enter_active is = enter_is ∙ check_true (not (is_new row.state)) error_realm _ (ap not is)
 
-    pub enter_running : (answer : Bool) → SaysNew answer → answer ≡ false → is_ready rec_is ≡ false → recs ≡ set fields.recs granule (Some rec)
+    pub enter_running : (answer : Bool) → SaysNew answer → answer ≡ false → is_ready rec_is.state ≡ false → recs ≡ set fields.recs granule (Some rec)
         → IsOnRec {A = Unit {0}} rec_enter monitor granule (Err error_rec) (seen_as (with_recs fields recs))
     enter_running answer told active running back =
-        refused rec_enter error_rec back (enter_active (says answer false told active) ∙ check_false (is_ready rec_is) error_rec entered running)
+        refused rec_enter error_rec back (enter_active (says answer false told active) ∙ check_false (is_ready rec_is.state) error_rec entered running)
 
-    pub enter_done : (answer : Bool) → SaysNew answer → answer ≡ false → is_ready rec_is ≡ true → recs ≡ set fields.recs granule (Some (record rec { state = Running }))
+    pub enter_done : (answer : Bool) → SaysNew answer → answer ≡ false → is_ready rec_is.state ≡ true → recs ≡ set fields.recs granule (Some (record rec { state = Running }))
         → IsOnRec rec_enter monitor granule (Ok (tt {0})) (seen_as (with_recs fields recs))
     unfolding entered
     enter_done answer told active ready made =
-        done rec_enter (record rec { state = Running }) refl refl made (enter_active (says answer false told active) ∙ check_true (is_ready rec_is) error_rec entered ready)
+        done rec_enter (record rec { state = Running }) refl refl made (enter_active (says answer false told active) ∙ check_true (is_ready rec_is.state) error_rec entered ready)
 
     -- ---- the exit of a REC
 
     exited : Outcome
     exited = Ok (put_rec (seen_in monitor rd) row rec.number (record rec_is { state = Ready }) ∷ [])
 
-    exit_is : rec_exit (seen_in monitor rd) rec.number ≡ check (not (is_ready rec_is)) error_rec exited
+    exit_is : rec_exit (seen_in monitor rd) rec.number ≡ check (not (is_ready rec_is.state)) error_rec exited
     unfolding exited
     exit_is = outcome_there monitor fields view_is whole granule rec rd realm kept
-        (λ r c. check (not (is_ready c)) error_rec (Ok (put_rec (seen_in monitor rd) r rec.number (record c { state = Ready }) ∷ [])))
+        (λ r c. check (not (is_ready c.state)) error_rec (Ok (put_rec (seen_in monitor rd) r rec.number (record c { state = Ready }) ∷ [])))
 
-    pub exit_ready : is_ready rec_is ≡ true → recs ≡ set fields.recs granule (Some rec) → IsOnRec {A = Unit {0}} rec_exit monitor granule (Err error_rec) (seen_as (with_recs fields recs))
-    exit_ready ready back = refused rec_exit error_rec back (exit_is ∙ check_false (not (is_ready rec_is)) error_rec exited (ap not ready))
+    pub exit_ready : is_ready rec_is.state ≡ true → recs ≡ set fields.recs granule (Some rec) → IsOnRec {A = Unit {0}} rec_exit monitor granule (Err error_rec) (seen_as (with_recs fields recs))
+    exit_ready ready back = refused rec_exit error_rec back (exit_is ∙ check_false (not (is_ready rec_is.state)) error_rec exited (ap not ready))
 
-    pub exit_done : is_ready rec_is ≡ false → recs ≡ set fields.recs granule (Some (record rec { state = Ready }))
+    pub exit_done : is_ready rec_is.state ≡ false → recs ≡ set fields.recs granule (Some (record rec { state = Ready }))
         → IsOnRec rec_exit monitor granule (Ok (tt {0})) (seen_as (with_recs fields recs))
     unfolding exited
     exit_done running made =
-        done rec_exit (record rec { state = Ready }) refl refl made (exit_is ∙ check_true (not (is_ready rec_is)) error_rec exited (ap not running))
+        done rec_exit (record rec { state = Ready }) refl refl made (exit_is ∙ check_true (not (is_ready rec_is.state)) error_rec exited (ap not running))

@@ -6,11 +6,12 @@ use Rattle.std.proofs.lemmas.List.{drop_all, length-set, get_or-set_other}
 use Rattle.std.proofs.lemmas.Option.{slice_get-get_or}
 use Rattle.granule_table.specs.Granules.{undelegated}
 use Rattle.granule_table.specs.declared.granule.Granule.{Granule}
+use Rattle.realm_model.specs.Command.Check.{is_apart_from, are_distinct}
 use Rattle.realm_model.specs.declared.states.GranuleState.{GranuleState}
 use Rattle.realm_model.specs.StepLaw.{set_each}
 use Rattle.realm_model.proofs.Booleans.{not_true, true_false}
 use Rattle.realm_model.proofs.Lists.{is_in, is_in_at}
-use Rattle.rmi_monitor.specs.Places.{is_apart_from, are_distinct, IsInState, HasPage}
+use Rattle.rmi_monitor.specs.Places.{IsInState, HasPage}
 
 -- none of the others is the granule
 pub apart_at : (granule : ℕ) (others : List ℕ) (k d : ℕ) → is_apart_from granule others ≡ true → k < length others → get_or others k d ≢ granule

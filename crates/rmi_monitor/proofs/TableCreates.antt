@@ -15,7 +15,7 @@ use Rattle.realm_model.proofs.Outcomes.{check_true}
 use Rattle.realm_objects.specs.Attributes.{RealmAttributes}
 use Rattle.rtt.specs.declared.tables.Tables.{Tables}
 use Rattle.rtt.specs.Tables.{rows}
-use Rattle.rtt.specs.Found.{with_room_for_table}
+use Rattle.realm_model.specs.Command.Found.{with_room_for_table}
 use Rattle.rtt.specs.Calls.{with_state, ChangesTablesAnd, GainsTable, Keeps, KeepsRest}
 use Rattle.rmi_monitor.specs.Places.{is_delegated_at}
 use Rattle.rmi_monitor.specs.View.{MonitorView, IsTaken, seen_in}

@@ -19,7 +19,7 @@ use Rattle.realm_objects.specs.Attributes.{RealmAttributes}
 use Rattle.rtt.specs.declared.tables.Tables.{Tables}
 use Rattle.rtt.specs.Tables.{rows}
 use Rattle.rtt.specs.Realm.{IsInside}
-use Rattle.rtt.specs.Found.{with_unused_table}
+use Rattle.realm_model.specs.Command.Found.{with_unused_table}
 use Rattle.rtt.specs.Calls.{with_state, LeadsTo, ChangesTablesOnly, Keeps, KeepsRest}
 use Rattle.rmi_monitor.specs.View.{MonitorView, IsTaken, seen_in}
 use Rattle.rmi_monitor.specs.Inside.{Fields, realm_at, seen_as, IsWhole}

@@ -14,7 +14,7 @@ use Rattle.realm_model.proofs.Outcomes.{check_true}
 use Rattle.realm_objects.specs.Attributes.{RealmAttributes, realm_row}
 use Rattle.rtt.specs.declared.tables.Tables.{Tables}
 use Rattle.rtt.specs.Tables.{rows}
-use Rattle.rtt.specs.Found.{with_free_pages}
+use Rattle.realm_model.specs.Command.Found.{with_free_pages}
 use Rattle.rtt.specs.Calls.{ChangesTablesOnly, Keeps, KeepsRest}
 use Rattle.rmi_monitor.specs.View.{MonitorView, IsTaken, seen_in}
 use Rattle.rmi_monitor.specs.Inside.{Fields, realm_at, seen_as, IsWhole, recs_of}
@@ -81,7 +81,7 @@ module _ (monitor : MonitorView) (fields : Fields) (view_is : seen_as fields ≡
     looked = with_free_pages old_rows ipa count (λ row. made)
 
     abbrev checked : Outcome
-    checked = check (is_new (row_of fields rd realm)) error_realm looked
+    checked = check (is_new realm.state) error_realm looked
 
     found : outcome ≡ check run error_input checked
     found = somewhere monitor fields view_is whole rd realm there _
@@ -90,13 +90,13 @@ module _ (monitor : MonitorView) (fields : Fields) (view_is : seen_as fields ≡
     ripas_no_run h = found ∙ check_false run error_input checked h
 
     module _ (runs : run ≡ true) where
-      pub ripas_not_new : is_new (row_of fields rd realm) ≡ false → outcome ≡ Err error_realm
-      ripas_not_new h = found ∙ check_true run error_input checked runs ∙ check_false (is_new (row_of fields rd realm)) error_realm looked h
+      pub ripas_not_new : is_new realm.state ≡ false → outcome ≡ Err error_realm
+      ripas_not_new h = found ∙ check_true run error_input checked runs ∙ check_false (is_new realm.state) error_realm looked h
 
-      module _ (new_realm : is_new (row_of fields rd realm) ≡ true) (at : Tables) (given : ℕ) (located : IsLocated realm rd ipa at given) where
+      module _ (new_realm : is_new realm.state ≡ true) (at : Tables) (given : ℕ) (located : IsLocated realm rd ipa at given) where
         looks : outcome ≡ with_free_pages (rows fields.pages at.root) given count (λ row. made)
         looks =
-            found ∙ check_true run error_input checked runs ∙ check_true (is_new (row_of fields rd realm)) error_realm looked new_realm
+            found ∙ check_true run error_input checked runs ∙ check_true (is_new realm.state) error_realm looked new_realm
             ∙ (λ k. with_free_pages (rows fields.pages (sym located.tables k).root) (sym located.same k) count (λ row. made))
 
         pub ripas_refused : (l : ℕ) → ((f : Row → Outcome) → with_free_pages (rows fields.pages at.root) given count f ≡ Err (error_rtt l)) → outcome ≡ Err (error_rtt l)

@@ -1,11 +1,12 @@
 -- Tests of what stands at the places of a monitor.
-use Rattle.std.specs.Prelude.{◌≡◌, ℕ, ◌%◌, ◌==◌, ◌<◌, List, [], ◌∷◌, length, Bool, true, false, not, ◌&&◌, nat_le, Option, Some, None}
-use Rattle.std.specs.List.{list_any, list_all}
+use Rattle.std.specs.Prelude.{◌≡◌, ℕ, ◌%◌, ◌==◌, ◌<◌, List, ◌∷◌, length, Bool, true, false, not, ◌&&◌, nat_le, Option, Some, None}
+use Rattle.std.specs.List.{list_all}
 use Rattle.granule_addr.specs.Root.{start_count, starting_tables}
 use Rattle.granule_addr.specs.declared.root.Root.{Root}
 use Rattle.page_arena.specs.Page.{is_free}
 use Rattle.granule_table.specs.Granules.{granule_at}
 use Rattle.granule_table.specs.declared.granule.Granule.{Granule}
+use Rattle.realm_model.specs.Command.Check.{are_distinct}
 use Rattle.realm_model.specs.declared.states.GranuleState.{GranuleState}
 use Rattle.realm_model.specs.declared.states.GranuleState.TheVariants.{Undelegated, Delegated}
 use Rattle.realm_objects.specs.Attributes.{RealmAttributes}
@@ -30,15 +31,6 @@ are_fit_for_realm granules rd root vmid vmids =
 -- a realm with the VMID
 abbrev pub is_realm_with : ℕ → Option RealmAttributes → Bool
 is_realm_with vmid place = elim place [ Some realm ↦ realm.vmid == vmid | None ↦ false ]
-
--- none of the others is that granule
-abbrev pub is_apart_from : ℕ → List ℕ → Bool
-is_apart_from granule others = not (list_any (λ other. granule == other) others)
-
--- no granule is there twice
-abbrev pub are_distinct : List ℕ → Bool
-are_distinct [] = true
-are_distinct (granule ∷ others) = is_apart_from granule others && are_distinct others
 
 -- granules are DELEGATED, none is there twice, and those after the first are so many
 abbrev pub are_fit_for_rec : List Granule → ℕ → List ℕ → ℕ → Bool

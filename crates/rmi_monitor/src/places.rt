@@ -2,9 +2,10 @@
 ghost use Rattle.std.specs.Prelude.{◌≡◌, ◌<◌, ◌∷◌, All, IsTrue, length, Some, None, slice_set};
 ghost use Rattle.std.specs.List.{list_all};
 ghost use Rattle.granule_addr.specs.Page.{zero_page};
+ghost use Rattle.realm_model.specs.Command.Check.{is_apart_from, are_distinct};
 ghost use Rattle.realm_model.specs.StepLaw.{set_each};
 ghost use Rattle.realm_model.specs.declared.states.GranuleState.TheVariants.{Delegated};
-ghost use Rattle.rmi_monitor.specs.Places.{is_delegated_at, is_undelegated_at, is_apart_from, are_distinct, are_fit_for_rec, IsInState, HasPage};
+ghost use Rattle.rmi_monitor.specs.Places.{is_delegated_at, is_undelegated_at, are_fit_for_rec, IsInState, HasPage};
 
 use granule_addr::Gran;
 use granule_table::GranuleTable;

@@ -2,7 +2,7 @@
 use Rattle.std.proofs.Common.{◌≡◌, ℕ, suc, ◌+◌, ◌-◌, ◌*◌, ◌/◌, ◌<◌, ◌≤◌, true, Some, ⊎_elim, sym, ap, subst, ◌∙◌, arith}
 use Rattle.std.specs.FinMap.{get}
 use Rattle.std.proofs.lemmas.Bool.{and_parts, eqb-true}
-use Rattle.granule_addr.specs.Ipa.{covered_count, first_covered, entry_index}
+use Rattle.granule_addr.specs.Ipa.{covered_count, first_covered, entry_index, served_count}
 use Rattle.granule_addr.specs.Root.{space_of}
 use Rattle.granule_addr.specs.declared.root.Root.{Root}
 use Rattle.realm_model.specs.Rows.{is_unassigned, is_table_place, is_table_unused}
@@ -10,7 +10,7 @@ use Rattle.realm_model.proofs.Rows.{is_among}
 use Rattle.realm_model.proofs.Booleans.{false_from}
 use Rattle.realm_model.proofs.TablePlaces.{IsTablePlace, table_place}
 use Rattle.rtt.specs.Tables.{Entries, table_at, is_place, rows_in}
-use Rattle.rtt.specs.Realm.{IsInside, served_count}
+use Rattle.rtt.specs.Realm.{IsInside}
 use Rattle.rtt.proofs.PlaceLaws.{first_covers, served_below, below_is_place, is_under, under_cases}
 use Rattle.rtt.proofs.TableAt.{table_at-same, entry_at-some}
 use Rattle.rtt.proofs.RowsIn.{get-rows_in, row_in-place}

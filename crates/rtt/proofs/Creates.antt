@@ -11,10 +11,10 @@ use Rattle.granule_table.specs.declared.granule.Granule.{Granule}
 use Rattle.realm_model.specs.declared.states.GranuleState.{GranuleState}
 use Rattle.realm_model.specs.declared.states.GranuleState.TheVariants.{Delegated, Data as InData, Rtt as InRtt}
 use Rattle.realm_model.specs.declared.states.Ripas.{Ripas}
-use Rattle.realm_model.specs.Rows.{Row, Rows, put_row, put_rows, unassigned, table as table_row, with_table, is_table_place}
+use Rattle.realm_model.specs.Rows.{Row, Rows, put_row, put_rows, unassigned, table as table_row, with_table, is_table_place, table_of}
 use Rattle.realm_model.proofs.Rows.{is_place as is_at}
 use Rattle.rtt.proofs.FiniteRowsLaws.{place_tells}
-use Rattle.rtt.specs.Tables.{Entries, table_of, table_at, is_place, row_in, rows_in}
+use Rattle.rtt.specs.Tables.{Entries, table_at, is_place, row_in, rows_in}
 use Rattle.rtt.specs.Realm.{IsInside, HasGranules}
 use Rattle.rtt.proofs.PlaceLaws.{index_below, place_facts, below_is_place, place_is_below, is_under, under_cases}
 use Rattle.rtt.proofs.RowsIn.{get-rows_in, rows_in-from, row_in-none}
@@ -102,7 +102,7 @@ module _ (entries new : Entries) (granules : List Granule) (rd : ℕ) (root : Ro
     wrote = wrote;
     old_below = λ child index _ is _. let clash : None ≡ Some child = sym was_none ∙ is in cc;
     new_below = λ child index _ is few. let same : child ≡ granule = sym (same_Some granule child is) in
-        ap (λ (k : ℕ). (new k index).hipas) same ∙ ap (λ (r : Row). r.hipas) (fresh index few);
+        ap (λ (k : ℕ). (new k index).state) same ∙ ap (λ (r : Row). r.state) (fresh index few);
     kept = λ l i other index inside is few _ out. let there = own.tables l i other inside is in kept other index there (apart_table other there) few out;
   }
 

@@ -13,10 +13,10 @@ use Rattle.page_arena.specs.Word.{with_word}
 use Rattle.page_arena.specs.Words.{page_at-with_word_other}
 use Rattle.realm_model.specs.declared.states.GranuleState.TheVariants.{Delegated, Data as InData, Rtt as InRtt}
 use Rattle.realm_model.specs.declared.states.Ripas.{Ripas}
-use Rattle.realm_model.specs.Rows.{Row, row_at, unassigned, assigned, is_table, is_unassigned, put_row, unmapped_ripas}
+use Rattle.realm_model.specs.Rows.{Row, row_at, unassigned, assigned, is_table, is_unassigned, put_row, unmapped_ripas, data_of}
 use Rattle.realm_model.specs.Sound.{look, IsSoundRows}
 use Rattle.rtt.specs.Word.{entry_word, IsEntry}
-use Rattle.rtt.specs.Tables.{entries_of, table_at, data_of, rows}
+use Rattle.rtt.specs.Tables.{entries_of, table_at, rows}
 use Rattle.rtt.specs.Realm.{IsBacked, IsInside, HasTables, AreWords, LeavesOthers}
 use Rattle.rtt.proofs.PlaceLaws.{index_below}
 use Rattle.rtt.specs.Calls.{LeadsTo, ChangesTablesOnly, ChangesTablesAnd, LosesPage}

@@ -2,7 +2,7 @@
 use Rattle.std.proofs.Common.{◌≡◌, ◌≢◌, ℕ, suc, ◌+◌, ◌*◌, ◌/◌, ◌<◌, Bool, true, false, cond, not, List, Option, Some, None, refl, sym, ap, ◌∙◌}
 use Rattle.std.specs.FinMap.{get}
 use Rattle.std.proofs.lemmas.Option.{same_Some}
-use Rattle.granule_addr.specs.Ipa.{covered_count, first_covered, entry_index}
+use Rattle.granule_addr.specs.Ipa.{covered_count, first_covered, entry_index, served_count}
 use Rattle.granule_addr.specs.Root.{space_of}
 use Rattle.granule_addr.specs.declared.root.Root.{Root}
 use Rattle.granule_table.specs.Granules.{IsIn}
@@ -10,10 +10,10 @@ use Rattle.granule_table.specs.declared.granule.Granule.{Granule}
 use Rattle.realm_model.specs.declared.states.GranuleState.{GranuleState}
 use Rattle.realm_model.specs.declared.states.GranuleState.TheVariants.{Data as InData, Rtt as InRtt}
 use Rattle.realm_model.specs.declared.states.Ripas.TheVariants.{Destroyed}
-use Rattle.realm_model.specs.Rows.{Row, put_row, drop_rows, unassigned, is_unassigned, without_table, is_table_place}
+use Rattle.realm_model.specs.Rows.{Row, put_row, drop_rows, unassigned, is_unassigned, without_table, is_table_place, table_of}
 use Rattle.realm_model.proofs.Rows.{is_place as is_at, get-drop_rows}
-use Rattle.rtt.specs.Tables.{Entries, table_of, table_at, is_place, row_in, rows_in}
-use Rattle.rtt.specs.Realm.{IsInside, HasGranules, served_count}
+use Rattle.rtt.specs.Tables.{Entries, table_at, is_place, row_in, rows_in}
+use Rattle.rtt.specs.Realm.{IsInside, HasGranules}
 use Rattle.rtt.proofs.EntryKinds.{unassigned_kind}
 use Rattle.rtt.proofs.PlaceLaws.{served_below, is_under}
 use Rattle.rtt.proofs.TableAt.{table_at-next}

@@ -1,35 +1,34 @@
 -- What entries lead to, by their kind.
 use Rattle.std.proofs.Common.{◌≡◌, ℕ, Bool, true, false, cond, Option, Some, None, refl, ap}
-use Rattle.realm_model.specs.declared.states.Hipas.{Hipas}
-use Rattle.realm_model.specs.declared.states.Hipas.TheVariants.{Unassigned, Assigned, Table}
+use Rattle.realm_model.specs.declared.states.EntryState.{EntryState}
+use Rattle.realm_model.specs.declared.states.EntryState.TheVariants.{Unassigned, Assigned, Table}
 use Rattle.realm_model.specs.declared.states.Ripas.{Ripas}
 use Rattle.realm_model.specs.declared.states.Ripas.TheVariants.{Ram}
-use Rattle.realm_model.specs.Rows.{Row, is_unassigned, is_assigned, is_table, unassigned, assigned, as_ram}
+use Rattle.realm_model.specs.Rows.{Row, is_unassigned, is_assigned, is_table, unassigned, assigned, as_ram, table_of, data_of}
 use Rattle.rtt.specs.Word.{IsSaid, IsEntry}
-use Rattle.rtt.specs.Tables.{table_of, data_of}
 
 -- an UNASSIGNED entry is of no other kind
-pub unassigned_kind : (row : Row) → is_unassigned row ≡ true → row.hipas ≡ Unassigned
-unassigned_kind row e = by_kind row.hipas e
+pub unassigned_kind : (row : Row) → is_unassigned row ≡ true → row.state ≡ Unassigned
+unassigned_kind row e = by_kind row.state e
   where
-    by_kind : (h : Hipas) → elim h [ Unassigned ↦ true | Assigned ↦ false | Table ↦ false ] ≡ true → h ≡ Unassigned
+    by_kind : (h : EntryState) → elim h [ Unassigned ↦ true | Assigned ↦ false | Table ↦ false ] ≡ true → h ≡ Unassigned
     by_kind Unassigned e = refl
     by_kind Assigned e = cc
     by_kind Table e = cc
 
 pub unassigned_plain : (row : Row) → is_unassigned row ≡ true → is_table row ≡ false
-unassigned_plain row e = ap (λ (h : Hipas). elim h [ Unassigned ↦ false | Assigned ↦ false | Table ↦ true ]) (unassigned_kind row e)
+unassigned_plain row e = ap (λ (h : EntryState). elim h [ Unassigned ↦ false | Assigned ↦ false | Table ↦ true ]) (unassigned_kind row e)
 
 -- and leads to nothing
-pub table_of-unassigned : (row : Row) → row.hipas ≡ Unassigned → table_of row ≡ None
-table_of-unassigned row e = ap (λ (h : Hipas). cond (elim h [ Unassigned ↦ false | Assigned ↦ false | Table ↦ true ]) row.granule None) e
+pub table_of-unassigned : (row : Row) → row.state ≡ Unassigned → table_of row ≡ None
+table_of-unassigned row e = ap (λ (h : EntryState). cond (elim h [ Unassigned ↦ false | Assigned ↦ false | Table ↦ true ]) row.granule None) e
 
-pub data_of-unassigned : (row : Row) → row.hipas ≡ Unassigned → data_of row ≡ None
-data_of-unassigned row e = ap (λ (h : Hipas). cond (elim h [ Unassigned ↦ false | Assigned ↦ true | Table ↦ false ]) row.granule None) e
+pub data_of-unassigned : (row : Row) → row.state ≡ Unassigned → data_of row ≡ None
+data_of-unassigned row e = ap (λ (h : EntryState). cond (elim h [ Unassigned ↦ false | Assigned ↦ true | Table ↦ false ]) row.granule None) e
 
 -- one that becomes RAM
-pub as_ram-unassigned : (row : Row) → row.hipas ≡ Unassigned → row.granule ≡ None → as_ram (Some row) ≡ unassigned Ram
-as_ram-unassigned row kind none = λ i. record { hipas = kind i; ripas = Ram; granule = none i }
+pub as_ram-unassigned : (row : Row) → row.state ≡ Unassigned → row.granule ≡ None → as_ram (Some row) ≡ unassigned Ram
+as_ram-unassigned row kind none = λ i. record { state = kind i; ripas = Ram; granule = none i }
 
 -- ---- the table that an entry leads to
 
@@ -49,9 +48,9 @@ table_of-leads row granule e = leads (is_table row) row.granule granule e
 
 -- an entry that leads to no table is of another kind
 pub table_of-none : (row : Row) → IsEntry row → table_of row ≡ None → is_table row ≡ false
-table_of-none row is e = by_kind row.hipas row.ripas row.granule is e
+table_of-none row is e = by_kind row.state row.ripas row.granule is e
   where
-    by_kind : (h : Hipas) (r : Ripas) (o : Option ℕ) → IsSaid h r o → cond (elim h [ Unassigned ↦ false | Assigned ↦ false | Table ↦ true ]) o None ≡ None
+    by_kind : (h : EntryState) (r : Ripas) (o : Option ℕ) → IsSaid h r o → cond (elim h [ Unassigned ↦ false | Assigned ↦ false | Table ↦ true ]) o None ≡ None
         → elim h [ Unassigned ↦ false | Assigned ↦ false | Table ↦ true ] ≡ false
     by_kind Unassigned r o is e = refl
     by_kind Assigned r o is e = refl
@@ -61,9 +60,9 @@ table_of-none row is e = by_kind row.hipas row.ripas row.granule is e
 -- ---- the page that an entry leads to
 
 pub data_of-none : (row : Row) → IsEntry row → data_of row ≡ None → is_assigned row ≡ false
-data_of-none row is e = by_kind row.hipas row.ripas row.granule is e
+data_of-none row is e = by_kind row.state row.ripas row.granule is e
   where
-    by_kind : (h : Hipas) (r : Ripas) (o : Option ℕ) → IsSaid h r o → cond (elim h [ Unassigned ↦ false | Assigned ↦ true | Table ↦ false ]) o None ≡ None
+    by_kind : (h : EntryState) (r : Ripas) (o : Option ℕ) → IsSaid h r o → cond (elim h [ Unassigned ↦ false | Assigned ↦ true | Table ↦ false ]) o None ≡ None
         → elim h [ Unassigned ↦ false | Assigned ↦ true | Table ↦ false ] ≡ false
     by_kind Unassigned r o is e = refl
     by_kind Assigned r None is e = absurd is
@@ -71,10 +70,10 @@ data_of-none row is e = by_kind row.hipas row.ripas row.granule is e
     by_kind Table r o is e = refl
 
 pub data_of-leads : (row : Row) (page : ℕ) → data_of row ≡ Some page → row ≡ assigned row.ripas page
-data_of-leads row page e = let is = leads (is_assigned row) row.granule page e in by_kind row.hipas row.granule is.0 is.1
+data_of-leads row page e = let is = leads (is_assigned row) row.granule page e in by_kind row.state row.granule is.0 is.1
   where
-    by_kind : (h : Hipas) (o : Option ℕ) → elim h [ Unassigned ↦ false | Assigned ↦ true | Table ↦ false ] ≡ true → o ≡ Some page
-        → ◌≡◌ {A = Row} (record { hipas = h; ripas = row.ripas; granule = o }) (assigned row.ripas page)
+    by_kind : (h : EntryState) (o : Option ℕ) → elim h [ Unassigned ↦ false | Assigned ↦ true | Table ↦ false ] ≡ true → o ≡ Some page
+        → ◌≡◌ {A = Row} (record { state = h; ripas = row.ripas; granule = o }) (assigned row.ripas page)
     by_kind Unassigned o h e = cc
-    by_kind Assigned o h e = λ i. record { hipas = Assigned; ripas = row.ripas; granule = e i }
+    by_kind Assigned o h e = λ i. record { state = Assigned; ripas = row.ripas; granule = e i }
     by_kind Table o h e = cc

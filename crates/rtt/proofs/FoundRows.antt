@@ -6,7 +6,7 @@ use Rattle.realm_model.specs.declared.rmi.Rmi.{Rmi}
 use Rattle.realm_model.specs.Rows.{Row, Rows, walk, is_table, is_table_unused}
 use Rattle.realm_model.specs.Update.{Outcome}
 use Rattle.realm_model.specs.Command.Check.{check, error_rtt, with_row, with_end}
-use Rattle.rtt.specs.Found.{with_unused_table}
+use Rattle.realm_model.specs.Command.Found.{with_unused_table}
 
 check_true : (t : Bool) (rmi : Rmi) (rest : Outcome) → t ≡ true → check t rmi rest ≡ rest
 unfolding check

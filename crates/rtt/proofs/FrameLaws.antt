@@ -7,11 +7,12 @@ use Rattle.granule_addr.specs.declared.root.Root.{Root}
 use Rattle.granule_table.specs.Granules.{IsIn}
 use Rattle.granule_table.specs.declared.granule.Granule.{Granule}
 use Rattle.page_arena.specs.Word.{word_of_page}
+use Rattle.realm_model.specs.Rows.{table_of, data_of}
 use Rattle.realm_model.specs.declared.states.GranuleState.TheVariants.{Data as InData, Rtt as InRtt}
 use Rattle.realm_model.specs.Sound.{look, IsSoundRows}
 use Rattle.rtt.specs.FiniteRows.{rows_by}
 use Rattle.rtt.specs.Word.{entry_of, entry_word}
-use Rattle.rtt.specs.Tables.{Entries, entries_of, table_of, data_of, table_at, entry_at, data_at, is_place, row_in, rows_in, rows}
+use Rattle.rtt.specs.Tables.{Entries, entries_of, table_at, entry_at, data_at, is_place, row_in, rows_in, rows}
 use Rattle.rtt.specs.Realm.{IsInside, HasGranules, HasTables, LeavesAlone}
 use Rattle.rtt.proofs.PlaceLaws.{index_below, inside_place}
 

@@ -9,10 +9,10 @@ use Rattle.granule_table.specs.Granules.{IsIn}
 use Rattle.granule_table.specs.declared.granule.Granule.{Granule}
 use Rattle.realm_model.specs.declared.states.GranuleState.{GranuleState}
 use Rattle.realm_model.specs.declared.states.GranuleState.TheVariants.{Delegated, Data as InData, Rtt as InRtt}
-use Rattle.realm_model.specs.declared.states.Hipas.TheVariants.{Unassigned}
+use Rattle.realm_model.specs.declared.states.EntryState.TheVariants.{Unassigned}
 use Rattle.realm_model.specs.declared.states.Ripas.{Ripas}
-use Rattle.realm_model.specs.Rows.{Row, assigned, put_row}
-use Rattle.rtt.specs.Tables.{Entries, data_of, table_at, data_at, rows_in}
+use Rattle.realm_model.specs.Rows.{Row, assigned, put_row, data_of}
+use Rattle.rtt.specs.Tables.{Entries, table_at, data_at, rows_in}
 use Rattle.rtt.specs.Realm.{IsInside, HasGranules}
 use Rattle.rtt.proofs.EntryKinds.{data_of-unassigned}
 use Rattle.rtt.proofs.Owned.{Moves, apart_states, HasGranules-written}
@@ -85,7 +85,7 @@ module _ (entries new : Entries) (granules : List Granule) (rd : ℕ) (root : Ro
       (λ l i other is there was_at _. data_apart other (own.«data» l i other there was_at) (is_page other is))
 
   -- A page that the entry led to has left the realm.
-  pub leaf_unmapped : (new_granules : List Granule) (page : ℕ) (state : GranuleState) (realm : Option ℕ) → entry.hipas ≡ Unassigned
+  pub leaf_unmapped : (new_granules : List Granule) (page : ℕ) (state : GranuleState) (realm : Option ℕ) → entry.state ≡ Unassigned
       → data_of old_entry ≡ Some page → Moves granules new_granules page state realm → HasGranules new new_granules rd root
   leaf_unmapped new_granules page state realm entry_is was moves =
       let was_data : IsIn granules page InData (Some rd) = own.«data» 3 ipa page inside (own_data page was) in

@@ -11,12 +11,12 @@ use Rattle.page_arena.specs.Word.{word_at, with_word}
 use Rattle.page_arena.specs.Words.{page_at-with_word_other}
 use Rattle.realm_model.specs.declared.states.GranuleState.TheVariants.{Delegated, Rtt as InRtt}
 use Rattle.realm_model.specs.declared.states.Ripas.{Ripas}
-use Rattle.realm_model.specs.Rows.{Row, row_at, unassigned, table as table_row, is_table, with_table, is_table_place}
+use Rattle.realm_model.specs.Rows.{Row, row_at, unassigned, table as table_row, is_table, with_table, is_table_place, table_of}
 use Rattle.realm_model.specs.Sound.{look, IsSoundRows}
 use Rattle.realm_model.proofs.SoundRows.{with_table_sound}
 use Rattle.realm_model.proofs.TablePlaces.{table_place}
 use Rattle.rtt.specs.Word.{entry_word, IsEntry}
-use Rattle.rtt.specs.Tables.{entries_of, table_of, table_at, rows}
+use Rattle.rtt.specs.Tables.{entries_of, table_at, rows}
 use Rattle.rtt.specs.Realm.{IsBacked, IsInside, HasTables, LeavesOthers}
 use Rattle.rtt.proofs.PlaceLaws.{index_below}
 use Rattle.rtt.specs.Calls.{GainsTable, ChangesTablesAnd}

@@ -13,12 +13,12 @@ use Rattle.page_arena.specs.Word.{word_at, with_word}
 use Rattle.page_arena.specs.Words.{page_at-with_word_other}
 use Rattle.realm_model.specs.declared.states.GranuleState.TheVariants.{Delegated, Rtt as InRtt}
 use Rattle.realm_model.specs.declared.states.Ripas.TheVariants.{Destroyed}
-use Rattle.realm_model.specs.Rows.{Row, row_at, unassigned, is_unassigned, without_table, is_table_place, is_table_unused}
+use Rattle.realm_model.specs.Rows.{Row, row_at, unassigned, is_unassigned, without_table, is_table_place, is_table_unused, table_of}
 use Rattle.realm_model.specs.Sound.{look, IsSoundRows}
 use Rattle.realm_model.proofs.SoundRows.{without_table_sound}
 use Rattle.realm_model.proofs.TablePlaces.{table_place}
 use Rattle.rtt.specs.Word.{entry_word}
-use Rattle.rtt.specs.Tables.{entries_of, table_of, table_at, rows}
+use Rattle.rtt.specs.Tables.{entries_of, table_at, rows}
 use Rattle.rtt.specs.Realm.{IsBacked, IsInside, HasTables, LeavesOthers}
 use Rattle.rtt.proofs.PlaceLaws.{index_below}
 use Rattle.rtt.specs.Calls.{LeadsTo, ChangesTablesOnly}

@@ -3,16 +3,16 @@ use Rattle.std.proofs.Common.{◌≡◌, ◌≢◌, ℕ, suc, ◌/◌, ◌<◌, 
 use Rattle.std.specs.Prelude.{option_and_then}
 use Rattle.std.proofs.lemmas.List.{length-set, get_or-set_same, get_or-set_other}
 use Rattle.std.proofs.lemmas.Option.{same_Some}
-use Rattle.granule_addr.specs.Ipa.{covered_count, entry_index}
+use Rattle.granule_addr.specs.Ipa.{covered_count, entry_index, served_count}
 use Rattle.granule_addr.specs.declared.root.Root.{Root}
 use Rattle.granule_table.specs.Granules.{granule_at, undelegated, IsIn}
 use Rattle.granule_table.specs.declared.granule.Granule.{Granule}
 use Rattle.realm_model.specs.declared.states.GranuleState.{GranuleState}
 use Rattle.realm_model.specs.declared.states.GranuleState.TheVariants.{Data as InData, Rtt as InRtt}
-use Rattle.realm_model.specs.declared.states.Hipas.TheVariants.{Unassigned}
-use Rattle.realm_model.specs.Rows.{Row}
-use Rattle.rtt.specs.Tables.{Entries, table_of, data_of, table_at, entry_at, data_at}
-use Rattle.rtt.specs.Realm.{IsInside, HasGranules, served_count}
+use Rattle.realm_model.specs.declared.states.EntryState.TheVariants.{Unassigned}
+use Rattle.realm_model.specs.Rows.{Row, table_of, data_of}
+use Rattle.rtt.specs.Tables.{Entries, table_at, entry_at, data_at}
+use Rattle.rtt.specs.Realm.{IsInside, HasGranules}
 use Rattle.rtt.proofs.EntryKinds.{data_of-unassigned}
 use Rattle.rtt.proofs.PlaceLaws.{index_below, served_below, is_under, under_cases}
 use Rattle.rtt.proofs.TableAt.{data_in, data_at-entry}
@@ -65,7 +65,7 @@ pub record Fits (entries : Entries) (new_granules : List Granule) (rd : ℕ) (ro
   pub data_once : (other_level other page : ℕ) → data_of entry ≡ Some page → IsInside root.width other_level other
       → data_at entries root other_level other ≡ Some page → (other_level ≡ level → other / covered_count level ≢ ipa / covered_count level) → ⊥
 
-none_of_data : (entries : Entries) (o : Option ℕ) (index : ℕ) → ((child : ℕ) → o ≡ Some child → (entries child index).hipas ≡ Unassigned)
+none_of_data : (entries : Entries) (o : Option ℕ) (index : ℕ) → ((child : ℕ) → o ≡ Some child → (entries child index).state ≡ Unassigned)
     → data_in (option_and_then (λ t. Some (entries t index)) o) ≡ None
 none_of_data entries None index h = refl
 none_of_data entries (Some child) index h = data_of-unassigned (entries child index) (h child refl)

@@ -9,7 +9,7 @@ use Rattle.granule_table.specs.declared.granule.Granule.{Granule}
 use Rattle.page_arena.specs.Page.{page_at}
 use Rattle.page_arena.specs.Word.{word_at}
 use Rattle.realm_model.specs.declared.states.GranuleState.TheVariants.{Rtt as InRtt}
-use Rattle.realm_model.specs.declared.states.Hipas.TheVariants.{Unassigned}
+use Rattle.realm_model.specs.declared.states.EntryState.TheVariants.{Unassigned}
 use Rattle.realm_model.specs.declared.states.Ripas.TheVariants.{Ram}
 use Rattle.realm_model.specs.Rows.{Row, unassigned, is_unassigned, all_rows, as_ram, with_ram}
 use Rattle.realm_model.specs.Sound.{look, IsSoundRows}
@@ -63,7 +63,7 @@ pages_unused pages root level ipa table first count answer inside last at first_
 -- ---- the pages become RAM
 
 -- an UNASSIGNED entry leads to no granule
-granule_none : (row : Row) → IsEntry row → row.hipas ≡ Unassigned → row.granule ≡ None
+granule_none : (row : Row) → IsEntry row → row.state ≡ Unassigned → row.granule ≡ None
 granule_none row is kind = let said : IsSaid Unassigned row.ripas row.granule = subst (λ h. IsSaid h row.ripas row.granule) kind is in said
 
 pub record RamGiven (pages new_pages : List (List ℕ)) (granules : List Granule) (rd : ℕ) (root : Root) (ipa count : ℕ) : Type 0 where
@@ -88,7 +88,7 @@ module _ (pages new_pages : List (List ℕ)) (granules : List Granule) (rd : ℕ
   wrote : (k : ℕ) → k < count → entries_of new_pages table (entry_index 3 ipa + k) ≡ as_ram (Some (entries_of pages table (entry_index 3 ipa + k)))
   wrote k few =
       let old = entries_of pages table (entry_index 3 ipa + k) in
-      let kind : old.hipas ≡ Unassigned = unassigned_kind old (was k few) in
+      let kind : old.state ≡ Unassigned = unassigned_kind old (was k few) in
       entry_filled pages new_pages table first count (unassigned Ram) refl written left others (entry_index 3 ipa + k) (omega (arith, start)) (omega (arith, start))
       ∙ sym (as_ram-unassigned old kind (granule_none old (IsEntry-entries_of pages table (entry_index 3 ipa + k)) kind))
 

@@ -4,16 +4,16 @@ use Rattle.std.specs.Prelude.{option_and_then}
 use Rattle.std.specs.FinMap.{get}
 use Rattle.std.proofs.lemmas.Bool.{cases_eq, cases_lt}
 use Rattle.std.proofs.lemmas.Option.{same_Some}
-use Rattle.granule_addr.specs.Ipa.{covered_count, first_covered, entry_index}
+use Rattle.granule_addr.specs.Ipa.{covered_count, first_covered, entry_index, served_count}
 use Rattle.granule_addr.specs.Root.{space_of}
 use Rattle.granule_addr.specs.declared.root.Root.{Root}
 use Rattle.granule_table.specs.Granules.{IsIn}
 use Rattle.granule_table.specs.declared.granule.Granule.{Granule}
 use Rattle.realm_model.specs.declared.states.GranuleState.TheVariants.{Rtt as InRtt}
-use Rattle.realm_model.specs.declared.states.Hipas.TheVariants.{Unassigned}
-use Rattle.realm_model.specs.Rows.{Row, Rows, is_unassigned, all_rows, put_rows, as_ram, with_ram}
-use Rattle.rtt.specs.Tables.{Entries, table_of, data_of, table_at, is_place, row_in, rows_in}
-use Rattle.rtt.specs.Realm.{IsInside, HasGranules, served_count}
+use Rattle.realm_model.specs.declared.states.EntryState.TheVariants.{Unassigned}
+use Rattle.realm_model.specs.Rows.{Row, Rows, is_unassigned, all_rows, put_rows, as_ram, with_ram, table_of, data_of}
+use Rattle.rtt.specs.Tables.{Entries, table_at, is_place, row_in, rows_in}
+use Rattle.rtt.specs.Realm.{IsInside, HasGranules}
 use Rattle.rtt.proofs.EntryKinds.{unassigned_kind, table_of-unassigned, data_of-unassigned}
 use Rattle.rtt.proofs.PlaceLaws.{option_cases, index_below, place_facts, inside_place, is_place_from}
 use Rattle.rtt.proofs.TableAt.{table_at-same, entry_at-some}
@@ -81,13 +81,13 @@ module _ (entries : Entries) (root : Root) (ipa table count : ℕ) (below : ipa 
           | inr ne ↦ beside (λ o. ne o.0)
         ]
 
-    still : (f : Row → Option ℕ) → ((row : Row) → row.hipas ≡ Unassigned → f row ≡ None) → (l i granule index : ℕ) → IsInside root.width l i → table_at entries root l i ≡ Some granule → index < 512
+    still : (f : Row → Option ℕ) → ((row : Row) → row.state ≡ Unassigned → f row ≡ None) → (l i granule index : ℕ) → IsInside root.width l i → table_at entries root l i ≡ Some granule → index < 512
         → f (new granule index) ≡ f (entries granule index)
     unfolding InRun
     still f nothing l i granule index inside is few = elim (entry_cases granule index (own.tables l i granule inside is) few) [
       | inl p ↦
-          let was : (entries table (start + p.0)).hipas ≡ Unassigned = unassigned_kind (entries table (start + p.0)) (unused p.0 p.1) in
-          let now : (new table (start + p.0)).hipas ≡ Unassigned = ap (λ (r : Row). r.hipas) (wrote p.0 p.1) ∙ was in
+          let was : (entries table (start + p.0)).state ≡ Unassigned = unassigned_kind (entries table (start + p.0)) (unused p.0 p.1) in
+          let now : (new table (start + p.0)).state ≡ Unassigned = ap (λ (r : Row). r.state) (wrote p.0 p.1) ∙ was in
           ap (λ (g : ℕ). f (new g index)) p.2 ∙ ap (λ (j : ℕ). f (new table j)) p.3 ∙ nothing (new table (start + p.0)) now
           ∙ sym (ap (λ (g : ℕ). f (entries g index)) p.2 ∙ ap (λ (j : ℕ). f (entries table j)) p.3 ∙ nothing (entries table (start + p.0)) was)
       | inr beside ↦ ap f beside.1

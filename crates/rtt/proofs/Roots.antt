@@ -4,17 +4,17 @@ use Rattle.std.specs.Prelude.{option_and_then}
 use Rattle.std.specs.FinMap.{get, empty, get-empty}
 use Rattle.std.proofs.lemmas.Bool.{cases_eq}
 use Rattle.std.proofs.lemmas.Option.{same_Some}
-use Rattle.granule_addr.specs.Ipa.{covered_count, first_covered, entry_index, start_index}
+use Rattle.granule_addr.specs.Ipa.{covered_count, first_covered, entry_index, start_index, served_count}
 use Rattle.granule_addr.specs.Root.{start_count, space_of, start_table}
 use Rattle.granule_addr.specs.declared.root.Root.{Root}
 use Rattle.granule_table.specs.Granules.{IsIn}
 use Rattle.granule_table.specs.declared.granule.Granule.{Granule}
 use Rattle.realm_model.specs.declared.states.GranuleState.TheVariants.{Rtt as InRtt}
 use Rattle.realm_model.specs.declared.states.Ripas.TheVariants.{Empty}
-use Rattle.realm_model.specs.Rows.{Row, place_cmp, put_rows, unassigned, is_table, root_rows, has_root_table}
+use Rattle.realm_model.specs.Rows.{Row, place_cmp, put_rows, unassigned, is_table, root_rows, has_root_table, table_of, data_of}
 use Rattle.realm_model.proofs.Booleans.{not_true, not_false}
-use Rattle.rtt.specs.Tables.{Entries, table_of, data_of, table_at, entry_at, data_at, is_place, row_in, rows_in}
-use Rattle.rtt.specs.Realm.{IsInside, HasGranules, served_count}
+use Rattle.rtt.specs.Tables.{Entries, table_at, entry_at, data_at, is_place, row_in, rows_in}
+use Rattle.rtt.specs.Realm.{IsInside, HasGranules}
 use Rattle.rtt.proofs.PlaceLaws.{index_below, place_facts, is_place_from}
 use Rattle.rtt.proofs.StartTables.{start_index_below}
 use Rattle.rtt.proofs.TableAt.{table_at-root, entry_at-some}

@@ -8,9 +8,9 @@ use Rattle.granule_addr.specs.Root.{start_table}
 use Rattle.granule_addr.specs.declared.root.Root.{Root}
 use Rattle.granule_table.specs.declared.granule.Granule.{Granule}
 use Rattle.page_arena.specs.Word.{word_at}
-use Rattle.realm_model.specs.Rows.{Row, row_at}
+use Rattle.realm_model.specs.Rows.{Row, row_at, table_of}
 use Rattle.rtt.specs.Word.{entry_word, IsEntry}
-use Rattle.rtt.specs.Tables.{Entries, entries_of, table_of, table_at, is_place, rows}
+use Rattle.rtt.specs.Tables.{Entries, entries_of, table_at, is_place, rows}
 use Rattle.rtt.specs.Realm.{IsInside, HasTables}
 use Rattle.rtt.specs.RowWords.{table_by, AreRowWords}
 use Rattle.rtt.proofs.PlaceLaws.{index_below}

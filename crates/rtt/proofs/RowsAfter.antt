@@ -4,10 +4,10 @@ use Rattle.std.specs.Prelude.{option_and_then}
 use Rattle.granule_addr.specs.Ipa.{covered_count, first_covered, entry_index}
 use Rattle.granule_addr.specs.declared.root.Root.{Root}
 use Rattle.granule_table.specs.declared.granule.Granule.{Granule}
-use Rattle.realm_model.specs.Rows.{Row, put_row}
+use Rattle.realm_model.specs.Rows.{Row, put_row, table_of}
 use Rattle.realm_model.proofs.Rows.{is_place as is_at}
 use Rattle.rtt.proofs.FiniteRowsLaws.{place_tells}
-use Rattle.rtt.specs.Tables.{Entries, table_of, entry_at, is_place, row_in, rows_in}
+use Rattle.rtt.specs.Tables.{Entries, entry_at, is_place, row_in, rows_in}
 use Rattle.rtt.specs.Realm.{HasGranules}
 use Rattle.rtt.proofs.PlaceLaws.{place_facts, inside_place, first_covers, first_is_place, place_is_first, is_under, under_cases}
 use Rattle.rtt.proofs.RowsIn.{get-rows_in, rows_in-from, row_in-place, row_in-none}

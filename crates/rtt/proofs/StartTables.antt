@@ -5,11 +5,10 @@ use Rattle.std.proofs.lemmas.List.{length-set, get_or-set_same, get_or-set_other
 use Rattle.std.proofs.lemmas.List.FromFn.{length-range_with_len, get_or-range_with_len}
 use Rattle.std.proofs.lemmas.Bool.{cases_eq}
 use Rattle.std.proofs.lemmas.Nat.{pow_pos}
-use Rattle.granule_addr.specs.Ipa.{start_index}
+use Rattle.granule_addr.specs.Ipa.{start_index, served_count}
 use Rattle.granule_addr.specs.Root.{start_count, space_of, starting_tables}
 use Rattle.granule_addr.specs.declared.root.Root.{Root}
 use Rattle.realm_model.specs.StepLaw.{set_each}
-use Rattle.rtt.specs.Realm.{served_count}
 
 -- ---- a list with one element at each place of a run
 

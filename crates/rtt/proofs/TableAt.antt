@@ -2,12 +2,11 @@
 use Rattle.std.proofs.Common.{◌≡◌, ℕ, zero, suc, ◌+◌, ◌/◌, ◌≤◌, Option, Some, None, inl, inr, refl, sym, ap, ◌∙◌, arith}
 use Rattle.std.specs.Prelude.{option_and_then}
 use Rattle.std.proofs.lemmas.Bool.{cases_eq}
-use Rattle.granule_addr.specs.Ipa.{covered_count, entry_index}
+use Rattle.granule_addr.specs.Ipa.{covered_count, entry_index, served_count}
 use Rattle.granule_addr.specs.Root.{start_table}
 use Rattle.granule_addr.specs.declared.root.Root.{Root}
-use Rattle.realm_model.specs.Rows.{Row}
-use Rattle.rtt.specs.Tables.{Entries, table_of, data_of, table_at, entry_at, data_at}
-use Rattle.rtt.specs.Realm.{served_count}
+use Rattle.realm_model.specs.Rows.{Row, table_of, data_of}
+use Rattle.rtt.specs.Tables.{Entries, table_at, entry_at, data_at}
 use Rattle.rtt.proofs.PlaceLaws.{table_of_entry, index_of_entry, served_below}
 
 pub table_at-root : (entries : Entries) (root : Root) (ipa : ℕ) → table_at entries root 1 ipa ≡ Some (start_table root ipa)

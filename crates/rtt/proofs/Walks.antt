@@ -1,15 +1,15 @@
 -- Walks over the words of pages, as a call takes them.
 use Rattle.std.proofs.Common.{◌≡◌, ℕ, ◌+◌, ◌*◌, ◌<◌, ◌≤◌, List, length, Some, None, ◌⊎◌, ⊎_elim, inl, inr, refl, sym, ap, ◌∙◌, arith, add-one}
 use Rattle.std.specs.Prelude.{option_and_then}
-use Rattle.granule_addr.specs.Ipa.{entry_index}
+use Rattle.granule_addr.specs.Ipa.{entry_index, served_count}
 use Rattle.granule_addr.specs.Root.{start_count, space_of, start_table}
 use Rattle.granule_addr.specs.declared.root.Root.{Root}
 use Rattle.granule_table.specs.Granules.{IsIn}
 use Rattle.granule_table.specs.declared.granule.Granule.{Granule}
 use Rattle.realm_model.specs.declared.states.GranuleState.TheVariants.{Data as InData, Rtt as InRtt}
-use Rattle.realm_model.specs.Rows.{Row, Walk, walk}
-use Rattle.rtt.specs.Tables.{Entries, table_of, data_of, entries_of, table_at, rows}
-use Rattle.rtt.specs.Realm.{IsInside, HasTables, served_count}
+use Rattle.realm_model.specs.Rows.{Row, Walk, walk, table_of, data_of}
+use Rattle.rtt.specs.Tables.{Entries, entries_of, table_at, rows}
+use Rattle.rtt.specs.Realm.{IsInside, HasTables}
 use Rattle.rtt.proofs.StartTables.{first_served, starts_fit}
 use Rattle.rtt.proofs.TableAt.{table_at-root, table_at-next}
 use Rattle.rtt.proofs.RowsIn.{walk_ends}

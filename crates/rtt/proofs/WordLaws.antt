@@ -1,8 +1,8 @@
 -- Laws of the words of entries: each is read back as its entry.
 use Rattle.std.specs.Prelude.{◌≡◌, ℕ, ◌+◌, ◌*◌, ◌/◌, ◌%◌, ◌^◌, ◌<◌, Option, Some, None}
 use Rattle.std.proofs.Common.{refl, sym, ap, ◌∙◌, arith}
-use Rattle.realm_model.specs.declared.states.Hipas.{Hipas}
-use Rattle.realm_model.specs.declared.states.Hipas.TheVariants.{Unassigned, Assigned, Table}
+use Rattle.realm_model.specs.declared.states.EntryState.{EntryState}
+use Rattle.realm_model.specs.declared.states.EntryState.TheVariants.{Unassigned, Assigned, Table}
 use Rattle.realm_model.specs.declared.states.Ripas.{Ripas}
 use Rattle.realm_model.specs.declared.states.Ripas.TheVariants.{Empty, Ram, Destroyed}
 use Rattle.realm_model.specs.Rows.{Row}
@@ -30,22 +30,22 @@ by_parts kind granule ripas few few_granules =
     let p = parts kind (ripas_bits ripas) granule few (ripas_small ripas) few_granules in
     (λ i. said (kind_of (p.0 i)) (ripas_of (p.1 i)) (p.2 i)) ∙ ap (λ r. said (kind_of kind) r granule) (ripas_back ripas)
 
-back : (hipas : Hipas) (ripas : Ripas) (granule : Option ℕ) → IsSaid hipas ripas granule
-    → entry_of (kind_bits hipas + ripas_bits ripas * 4 + address_bits granule) ≡ record { hipas = hipas; ripas = ripas; granule = granule }
+back : (state : EntryState) (ripas : Ripas) (granule : Option ℕ) → IsSaid state ripas granule
+    → entry_of (kind_bits state + ripas_bits ripas * 4 + address_bits granule) ≡ record { state = state; ripas = ripas; granule = granule }
 back Unassigned ripas None is = by_parts 0 0 ripas (omega arith) (omega arith)
 back Unassigned ripas (Some granule) is = cc
 back Assigned ripas None is = absurd is
 back Assigned ripas (Some granule) is = by_parts 1 granule ripas (omega arith) is
 back Table ripas None is = absurd is
 back Table ripas (Some granule) is =
-    by_parts 2 granule ripas (omega arith) is.0 ∙ ap (λ r. let row : Row = record { hipas = Table; ripas = r; granule = Some granule } in row) (sym is.1)
+    by_parts 2 granule ripas (omega arith) is.0 ∙ ap (λ r. let row : Row = record { state = Table; ripas = r; granule = Some granule } in row) (sym is.1)
 
 -- the entry that is read from an entry's word
 pub entry_of-entry_word : (row : Row) → IsEntry row → entry_of (entry_word row) ≡ row
-entry_of-entry_word row is = back row.hipas row.ripas row.granule is
+entry_of-entry_word row is = back row.state row.ripas row.granule is
 
-small : (hipas : Hipas) (ripas : Ripas) (granule : Option ℕ) → IsSaid hipas ripas granule
-    → kind_bits hipas + ripas_bits ripas * 4 + address_bits granule < 2 ^ 64
+small : (state : EntryState) (ripas : Ripas) (granule : Option ℕ) → IsSaid state ripas granule
+    → kind_bits state + ripas_bits ripas * 4 + address_bits granule < 2 ^ 64
 small Unassigned ripas None is = let few = ripas_small ripas in omega arith
 small Unassigned ripas (Some granule) is = cc
 small Assigned ripas None is = absurd is
@@ -55,10 +55,10 @@ small Table ripas (Some granule) is = let few = ripas_small ripas in let below :
 
 -- an entry's word is one
 pub entry_word_fits : (row : Row) → IsEntry row → entry_word row < 2 ^ 64
-entry_word_fits row is = small row.hipas row.ripas row.granule is
+entry_word_fits row is = small row.state row.ripas row.granule is
 
 -- what is read from a word is an entry, whatever the word
-said_is : (hipas : Hipas) (ripas : Ripas) (granule : ℕ) → granule < 4096 → IsEntry (said hipas ripas granule)
+said_is : (state : EntryState) (ripas : Ripas) (granule : ℕ) → granule < 4096 → IsEntry (said state ripas granule)
 said_is Unassigned ripas granule below = refl
 said_is Assigned ripas granule below = below
 said_is Table ripas granule below = (below, refl)

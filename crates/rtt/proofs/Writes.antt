@@ -3,14 +3,14 @@ use Rattle.std.proofs.Common.{◌≡◌, ◌≢◌, ℕ, zero, suc, ◌/◌, ◌
 use Rattle.std.specs.Prelude.{option_and_then}
 use Rattle.std.proofs.lemmas.Bool.{cases_eq}
 use Rattle.std.proofs.lemmas.Option.{same_Some}
-use Rattle.granule_addr.specs.Ipa.{covered_count, entry_index}
+use Rattle.granule_addr.specs.Ipa.{covered_count, entry_index, served_count}
 use Rattle.granule_addr.specs.Root.{start_table}
 use Rattle.granule_addr.specs.declared.root.Root.{Root}
 use Rattle.granule_table.specs.declared.granule.Granule.{Granule}
-use Rattle.realm_model.specs.declared.states.Hipas.TheVariants.{Unassigned}
-use Rattle.realm_model.specs.Rows.{Row}
-use Rattle.rtt.specs.Tables.{Entries, table_of, table_at, entry_at}
-use Rattle.rtt.specs.Realm.{IsInside, HasGranules, served_count}
+use Rattle.realm_model.specs.declared.states.EntryState.TheVariants.{Unassigned}
+use Rattle.realm_model.specs.Rows.{Row, table_of}
+use Rattle.rtt.specs.Tables.{Entries, table_at, entry_at}
+use Rattle.rtt.specs.Realm.{IsInside, HasGranules}
 use Rattle.rtt.proofs.EntryKinds.{table_of-unassigned}
 use Rattle.rtt.proofs.PlaceLaws.{option_cases, index_below, table_of_entry, index_of_entry, entry_of_index, is_under, under_cases, under_true, under_false}
 use Rattle.rtt.proofs.TableAt.{table_at-next, table_at-same}
@@ -21,8 +21,8 @@ pub record Writes (entries new : Entries) (root : Root) (level ipa table : ℕ) 
   pub inside : IsInside root.width level ipa
   pub at : table_at entries root level ipa ≡ Some table
   pub wrote : new table (entry_index level ipa) ≡ entry
-  pub old_below : (child index : ℕ) → level < 3 → table_of (entries table (entry_index level ipa)) ≡ Some child → index < 512 → (entries child index).hipas ≡ Unassigned
-  pub new_below : (child index : ℕ) → level < 3 → table_of entry ≡ Some child → index < 512 → (new child index).hipas ≡ Unassigned
+  pub old_below : (child index : ℕ) → level < 3 → table_of (entries table (entry_index level ipa)) ≡ Some child → index < 512 → (entries child index).state ≡ Unassigned
+  pub new_below : (child index : ℕ) → level < 3 → table_of entry ≡ Some child → index < 512 → (new child index).state ≡ Unassigned
   pub kept : (other_level other other_table index : ℕ) → IsInside root.width other_level other → table_at entries root other_level other ≡ Some other_table → index < 512
       → (other_level ≡ suc level → other / covered_count level ≢ ipa / covered_count level)
       → ((other_table ≡ table) × (index ≡ entry_index level ipa) → ⊥)
@@ -31,7 +31,7 @@ pub record Writes (entries new : Entries) (root : Root) (level ipa table : ℕ) 
 suc_same : (a b : ℕ) → suc a ≡ suc b → a ≡ b
 suc_same a b e = omega arith
 
-none_below : (entries : Entries) (o : Option ℕ) (index : ℕ) → ((child : ℕ) → o ≡ Some child → (entries child index).hipas ≡ Unassigned)
+none_below : (entries : Entries) (o : Option ℕ) (index : ℕ) → ((child : ℕ) → o ≡ Some child → (entries child index).state ≡ Unassigned)
     → option_and_then (λ table. table_of (entries table index)) o ≡ None
 none_below entries None index h = refl
 none_below entries (Some child) index h = table_of-unassigned (entries child index) (h child refl)

@@ -3,6 +3,5 @@ pub mod FiniteRows
 pub mod Tables
 pub mod Realm
 pub mod RowWords
-pub mod Found
 pub mod Answer
 pub mod Calls

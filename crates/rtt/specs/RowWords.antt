@@ -4,9 +4,9 @@ use Rattle.granule_addr.specs.Ipa.{entry_index}
 use Rattle.granule_addr.specs.Root.{start_table}
 use Rattle.granule_addr.specs.declared.root.Root.{Root}
 use Rattle.page_arena.specs.Word.{word_at}
-use Rattle.realm_model.specs.Rows.{Row, Rows, row_at}
+use Rattle.realm_model.specs.Rows.{Row, Rows, row_at, table_of}
 use Rattle.rtt.specs.Word.{entry_word}
-use Rattle.rtt.specs.Tables.{table_of, rows}
+use Rattle.rtt.specs.Tables.{rows}
 use Rattle.rtt.specs.Realm.{IsInside}
 
 -- the table of a level that serves an IPA granule: a starting table, or what the row above leads to

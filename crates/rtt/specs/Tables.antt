@@ -4,7 +4,7 @@ use Rattle.granule_addr.specs.Ipa.{first_covered, entry_index}
 use Rattle.granule_addr.specs.Root.{start_table, space_of}
 use Rattle.granule_addr.specs.declared.root.Root.{Root}
 use Rattle.page_arena.specs.Word.{word_at}
-use Rattle.realm_model.specs.Rows.{Row, Rows, is_assigned, is_table}
+use Rattle.realm_model.specs.Rows.{Row, Rows, table_of, data_of}
 use Rattle.rtt.specs.Word.{entry_of}
 use Rattle.rtt.specs.FiniteRows.{rows_by}
 
@@ -15,13 +15,6 @@ Entries = ℕ → ℕ → Row
 -- the entries that the words of pages are
 unfoldable pub entries_of : List (List ℕ) → Entries
 entries_of pages granule index = entry_of (word_at pages granule index)
-
--- the granule of the table that an entry leads to, and that of the page of data
-abbrev pub table_of : Row → Option ℕ
-table_of row = if is_table row then row.granule else None
-
-abbrev pub data_of : Row → Option ℕ
-data_of row = if is_assigned row then row.granule else None
 
 -- The table of a level that serves an IPA granule: that of level 1 is a starting table, and any other is what the entry
 -- above it leads to.

@@ -1,12 +1,12 @@
 -- The word of a table entry. RMM 1.0, RTT entry; which bits say what is this profile's own.
 use Rattle.std.specs.Prelude.{◌≡◌, ℕ, ◌+◌, ◌*◌, ◌/◌, ◌%◌, ◌<◌, ◌==◌, Option, Some, None, if◌then◌else◌}
-use Rattle.realm_model.specs.declared.states.Hipas.{Hipas}
-use Rattle.realm_model.specs.declared.states.Hipas.TheVariants.{Unassigned, Assigned, Table}
+use Rattle.realm_model.specs.declared.states.EntryState.{EntryState}
+use Rattle.realm_model.specs.declared.states.EntryState.TheVariants.{Unassigned, Assigned, Table}
 use Rattle.realm_model.specs.declared.states.Ripas.{Ripas}
 use Rattle.realm_model.specs.declared.states.Ripas.TheVariants.{Empty, Ram, Destroyed}
 use Rattle.realm_model.specs.Rows.{Row}
 
-abbrev pub kind_bits : Hipas → ℕ
+abbrev pub kind_bits : EntryState → ℕ
 kind_bits Unassigned = 0
 kind_bits Assigned = 1
 kind_bits Table = 2
@@ -24,10 +24,10 @@ address_bits (Some granule) = granule * 4096
 -- The word of an entry: bits 0 and 1 are the kind, bits 2 and 3 the RIPAS, bits 12 to 47 those of the address. All others
 -- are 0.
 abbrev pub entry_word : Row → ℕ
-entry_word row = kind_bits row.hipas + ripas_bits row.ripas * 4 + address_bits row.granule
+entry_word row = kind_bits row.state + ripas_bits row.ripas * 4 + address_bits row.granule
 
 -- What an entry can say: one that is not UNASSIGNED leads to a granule of the machine, and a TABLE entry has no RIPAS.
-abbrev pub IsSaid : Hipas → Ripas → Option ℕ → Type 0
+abbrev pub IsSaid : EntryState → Ripas → Option ℕ → Type 0
 IsSaid Unassigned ripas granule = granule ≡ None
 IsSaid Assigned ripas None = ⊥
 IsSaid Assigned ripas (Some granule) = granule < 4096
@@ -35,21 +35,21 @@ IsSaid Table ripas None = ⊥
 IsSaid Table ripas (Some granule) = (granule < 4096) × (ripas ≡ Empty)
 
 abbrev pub IsEntry : Row → Type 0
-IsEntry row = IsSaid row.hipas row.ripas row.granule
+IsEntry row = IsSaid row.state row.ripas row.granule
 
 -- ---- and back
 
-abbrev pub kind_of : ℕ → Hipas
+abbrev pub kind_of : ℕ → EntryState
 kind_of bits = if bits == 1 then Assigned else (if bits == 2 then Table else Unassigned)
 
 abbrev pub ripas_of : ℕ → Ripas
 ripas_of bits = if bits == 1 then Ram else (if bits == 2 then Destroyed else Empty)
 
 -- the entry of a kind, with that RIPAS and that granule where the kind has them
-abbrev pub said : Hipas → Ripas → ℕ → Row
-said Unassigned ripas granule = record { hipas = Unassigned; ripas = ripas; granule = None }
-said Assigned ripas granule = record { hipas = Assigned; ripas = ripas; granule = Some granule }
-said Table ripas granule = record { hipas = Table; ripas = Empty; granule = Some granule }
+abbrev pub said : EntryState → Ripas → ℕ → Row
+said Unassigned ripas granule = record { state = Unassigned; ripas = ripas; granule = None }
+said Assigned ripas granule = record { state = Assigned; ripas = ripas; granule = Some granule }
+said Table ripas granule = record { state = Table; ripas = Empty; granule = Some granule }
 
 -- The entry that a word is read as, whatever the word.
 abbrev pub entry_of : ℕ → Row

@@ -1,18 +1,17 @@
 //! Entries of translation tables, and their words.
 ghost use Rattle.std.specs.Prelude.{◌≡◌};
 ghost use Rattle.realm_model.specs.Rows as rows;
-ghost use Rattle.rtt.specs.Tables.{table_of, data_of};
 ghost use Rattle.rtt.specs.Word.{entry_word, entry_of};
 
 use granule_addr::{Gran, MOST_PAGES};
-use realm_model::{Hipas, Ripas};
+use realm_model::{EntryState, Ripas};
 use std::marker::Model;
 
 /// An entry of a translation table: UNASSIGNED ones lead to nothing, ASSIGNED ones to a page of data, TABLE ones to a table,
 /// and these have no RIPAS of their own. RMM 1.0, RTT entry.
 #[derive(Clone, Copy, Debug, PartialEq, Eq)]
 pub struct Entry {
-    pub hipas: Hipas,
+    pub state: EntryState,
     pub ripas: Ripas,
     /// The granule that the entry leads to.
     pub granule: Option<Gran>,
@@ -27,11 +26,11 @@ impl Model for Entry {
 
     ghost coded = { row_code };
 
-    ghost view = { λ e. record { hipas = e.hipas; ripas = e.ripas; granule = e.granule } };
+    ghost view = { λ e. record { state = e.state; ripas = e.ripas; granule = e.granule } };
 
-    ghost invariant = { λ e. IsSaid e.hipas e.ripas e.granule };
+    ghost invariant = { λ e. IsSaid e.state e.ripas e.granule };
 
-    ghost inverse = { λ row. record { hipas = row.hipas; ripas = row.ripas; granule = row.granule } };
+    ghost inverse = { λ row. record { state = row.state; ripas = row.ripas; granule = row.granule } };
 }
 
 impl Entry {
@@ -40,7 +39,7 @@ impl Entry {
         ensures { result ≡ rows.unassigned ripas }
     {
         Entry {
-            hipas: Hipas::Unassigned,
+            state: EntryState::Unassigned,
             ripas,
             granule: None,
         }
@@ -51,7 +50,7 @@ impl Entry {
         ensures { result ≡ rows.assigned ripas page }
     {
         Entry {
-            hipas: Hipas::Assigned,
+            state: EntryState::Assigned,
             ripas,
             granule: Some(page),
         }
@@ -62,7 +61,7 @@ impl Entry {
         ensures { result ≡ rows.table table }
     {
         Entry {
-            hipas: Hipas::Table,
+            state: EntryState::Table,
             ripas: Ripas::Empty,
             granule: Some(table),
         }
@@ -71,37 +70,37 @@ impl Entry {
     pub fn is_unassigned(self) -> bool
         ensures { result ≡ rows.is_unassigned self }
     {
-        matches!(self.hipas, Hipas::Unassigned)
+        matches!(self.state, EntryState::Unassigned)
     }
 
     pub fn is_assigned(self) -> bool
         ensures { result ≡ rows.is_assigned self }
     {
-        matches!(self.hipas, Hipas::Assigned)
+        matches!(self.state, EntryState::Assigned)
     }
 
     pub fn is_table(self) -> bool
         ensures { result ≡ rows.is_table self }
     {
-        matches!(self.hipas, Hipas::Table)
+        matches!(self.state, EntryState::Table)
     }
 
     /// The granule of the table that the entry leads to.
     pub fn child(self) -> Option<Gran>
-        ensures { result ≡ table_of self }
+        ensures { result ≡ rows.table_of self }
     {
-        match self.hipas {
-            Hipas::Table => self.granule,
+        match self.state {
+            EntryState::Table => self.granule,
             _ => None,
         }
     }
 
     /// The granule of the page of data that the entry leads to.
     pub fn page(self) -> Option<Gran>
-        ensures { result ≡ data_of self }
+        ensures { result ≡ rows.data_of self }
     {
-        match self.hipas {
-            Hipas::Assigned => self.granule,
+        match self.state {
+            EntryState::Assigned => self.granule,
             _ => None,
         }
     }
@@ -110,10 +109,10 @@ impl Entry {
     pub fn to_word(self) -> u64
         ensures { result ≡ entry_word self }
     {
-        let kind = match self.hipas {
-            Hipas::Unassigned => 0,
-            Hipas::Assigned => 1,
-            Hipas::Table => 2,
+        let kind = match self.state {
+            EntryState::Unassigned => 0,
+            EntryState::Assigned => 1,
+            EntryState::Table => 2,
         };
         let ripas = match self.ripas {
             Ripas::Empty => 0,

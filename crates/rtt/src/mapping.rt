@@ -7,7 +7,7 @@ ghost use Rattle.page_arena.specs.Page.{page_at};
 ghost use Rattle.realm_model.specs.Rows.{with_ram, unmapped_ripas};
 ghost use Rattle.rtt.specs.Tables.{rows};
 ghost use Rattle.rtt.specs.Realm.{IsBacked, HasTables};
-ghost use Rattle.rtt.specs.Found.{with_free_page, with_mapped_page, with_free_pages};
+ghost use Rattle.realm_model.specs.Command.Found.{with_free_page, with_mapped_page, with_free_pages};
 ghost use Rattle.rtt.specs.Answer.{Answers};
 ghost use Rattle.rtt.specs.Calls.{with_state, LeadsTo, ChangesTablesOnly, ChangesTablesAnd, GainsPage, LosesPage, Keeps};
 

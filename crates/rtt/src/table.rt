@@ -7,7 +7,7 @@ ghost use Rattle.page_arena.specs.Page.{page_at};
 ghost use Rattle.realm_model.specs.Rows.{is_table_place, without_table};
 ghost use Rattle.rtt.specs.Tables.{rows};
 ghost use Rattle.rtt.specs.Realm.{IsBacked, HasTables};
-ghost use Rattle.rtt.specs.Found.{with_room_for_table, with_unused_table};
+ghost use Rattle.realm_model.specs.Command.Found.{with_room_for_table, with_unused_table};
 ghost use Rattle.rtt.specs.Answer.{Answers};
 ghost use Rattle.rtt.specs.Calls.{with_state, LeadsTo, ChangesTablesOnly, ChangesTablesAnd, GainsTable, Keeps};
 

@@ -4,8 +4,8 @@ ghost use Rattle.granule_addr.specs.Ipa.{entry_index};
 ghost use Rattle.granule_addr.specs.Root.{space_of};
 ghost use Rattle.granule_table.specs.Granules.{IsIn};
 ghost use Rattle.realm_model.specs.declared.states.GranuleState.{GranuleState};
-ghost use Rattle.realm_model.specs.Rows.{walk};
-ghost use Rattle.rtt.specs.Tables.{entries_of, table_of, data_of, table_at, rows};
+ghost use Rattle.realm_model.specs.Rows.{walk, table_of, data_of};
+ghost use Rattle.rtt.specs.Tables.{entries_of, table_at, rows};
 ghost use Rattle.rtt.specs.Realm.{IsInside, HasTables};
 
 use crate::pages::read;

@@ -1,4 +1,4 @@
-use granule_addr::{Gran, IpaGran, RecNo, Vmid};
+use granule_addr::{Gran, IpaGran, IpaWidth, RecNo, Root, Vmid};
 use realm_objects::{RealmDesc, data_event, extend_measurement, rec_event, ripas_event};
 
 // The digests below are Python's hashlib's, of bytes written out by hand.
@@ -60,11 +60,12 @@ fn measurements_follow_one_another(rt: HostRuntime) {
 
 #[test]
 fn a_new_realm_is_measured(rt: HostRuntime) {
-    let (Some(vmid), Some(root)) = (Vmid::new(7), Gran::new(5, 8)) else {
+    let (Some(vmid), Some(first)) = (Vmid::new(7), Gran::new(5, 8)) else {
         assert!(rt; false);
         return;
     };
-    let mut realm = RealmDesc::new(vmid, root);
+    let width = IpaWidth::least();
+    let mut realm = RealmDesc::new(vmid, Root { first, width });
     assert_eq!(rt; *realm.measurement(), [0; 32]);
     let boot = realm.next_rec();
     realm.measure(&rec_event(boot));

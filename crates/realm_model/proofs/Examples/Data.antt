@@ -10,13 +10,13 @@ use Rattle.granule_addr.specs.Page.{zero_page, page_of}
 use Rattle.realm_model.specs.declared.act.Act.TheVariants.{Take, Fill, Delegate, Realm, Activate, Rtt, Ripas, Data, Unknown, UnData, Rec, UnRec, Enter, Exit, Poke}
 use Rattle.realm_model.specs.declared.act.Event.{Event}
 use Rattle.realm_model.specs.declared.states.GranuleState.TheVariants.{Rec as InRec, RecAux, Data as InData}
-use Rattle.realm_model.specs.declared.states.Hipas.TheVariants.{Assigned}
+use Rattle.realm_model.specs.declared.states.EntryState.TheVariants.{Assigned}
 use Rattle.realm_model.specs.declared.states.RealmState.TheVariants.{Active}
 use Rattle.realm_model.specs.declared.states.RecState.{RecState}
 use Rattle.realm_model.specs.declared.states.RecState.TheVariants.{Ready, Running}
 use Rattle.realm_model.specs.declared.states.Ripas.{Ripas as RipasOf}
 use Rattle.realm_model.specs.declared.states.Ripas.TheVariants.{Empty, Ram, Destroyed}
-use Rattle.realm_model.specs.Rows.{Row, Rows, root_rows, unmapped_ripas}
+use Rattle.realm_model.specs.Rows.{Row, Rows, unmapped_ripas}
 use Rattle.realm_model.specs.Measurement.{zero_measurement, measurement_after, data_event, ripas_event, rec_event}
 use Rattle.realm_model.specs.Machine.{Limits, RecRow, RealmRow, Cell}
 use Rattle.realm_model.specs.Act.{named, reverse_of, is_reverse}
@@ -40,7 +40,7 @@ abbrev eight : Limits
 eight = record (machine_of 8) { aux = 1 }
 
 abbrev assigned : RipasOf → ℕ → Row
-assigned ripas granule = record { hipas = Assigned; ripas = ripas; granule = Some granule }
+assigned ripas granule = record { state = Assigned; ripas = ripas; granule = Some granule }
 
 -- ---- rows, one change after another
 

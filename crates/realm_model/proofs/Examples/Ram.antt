@@ -3,10 +3,10 @@ use Rattle.std.proofs.Common.{◌≡◌, ℕ, ◌+◌, ◌*◌, ◌<◌, true, S
 use Rattle.std.specs.Prelude.{option_map}
 use Rattle.std.specs.FinMap.{get, get-insert}
 use Rattle.realm_model.specs.declared.states.Ripas.TheVariants.{Empty, Ram}
-use Rattle.realm_model.specs.Rows.{Row, Rows, put_row, with_table, with_ram, all_rows, as_ram, is_unassigned, unassigned, table}
-use Rattle.realm_model.specs.Ownership.{mapping_of_row}
+use Rattle.realm_model.specs.Rows.{Row, Rows, put_row, with_table, with_ram, all_rows, as_ram, is_unassigned, unassigned, table, is_unassigned_state}
+use Rattle.realm_model.specs.Ownership.{mapping_of_row, Mapping}
 use Rattle.realm_model.proofs.Maps.{place_total}
-use Rattle.realm_model.proofs.RowKinds.{Vacant, kind_unassigned}
+use Rattle.realm_model.proofs.RowKinds.{Vacant}
 use Rattle.realm_model.proofs.Rows.{get-put_rows, get-put_rows_other, all_rows_from}
 use Rattle.realm_model.proofs.Examples.Tables.{vacant, leads, apart, tabled}
 
@@ -57,7 +57,7 @@ pub all_free : all_rows is_unassigned mapped 3 8 4 ≡ true
 all_free = all_rows_from is_unassigned passes mapped 3 8 4 (λ k less. ap (option_map mapping_of_row) (ap (λ n. get mapped (3, n)) (place k) ∙ mapped-row (8 + k) (omega arith)))
   where
     passes : (row : Row) → mapping_of_row row ≡ Vacant → is_unassigned row ≡ true
-    passes row e = ap kind_unassigned e
+    passes row e = ap (λ (p : Mapping). is_unassigned_state p.state) e
 
     place : (k : ℕ) → 8 + k * 1 ≡ 0 + (8 + k) * 1
     place k = omega arith

@@ -17,11 +17,11 @@ use Rattle.realm_model.specs.declared.states.GranuleState.TheVariants.{Rec as In
 use Rattle.realm_model.specs.declared.states.RealmState.TheVariants.{Active}
 use Rattle.realm_model.specs.declared.states.RecState.{RecState}
 use Rattle.realm_model.specs.declared.states.RecState.TheVariants.{Ready, Running}
-use Rattle.realm_model.specs.Rows.{Row, root_rows, unassigned, is_table, all_rows}
+use Rattle.realm_model.specs.Rows.{Row, root_rows, unassigned, is_table, all_rows, is_table_state}
 use Rattle.realm_model.specs.Measurement.{zero_measurement, measurement_after, rec_event}
 use Rattle.realm_model.specs.Machine.{RecRow, RealmRow, Cell}
 use Rattle.realm_model.specs.declared.states.Ripas.TheVariants.{Empty}
-use Rattle.realm_model.specs.Ownership.{mapping_of_row}
+use Rattle.realm_model.specs.Ownership.{mapping_of_row, Mapping}
 use Rattle.realm_model.specs.Act.{named, reverse_of, is_reverse}
 use Rattle.realm_model.specs.Command.Check.{check, with_realm}
 use Rattle.realm_model.specs.Command.Realm.{new_realm}
@@ -35,7 +35,7 @@ use Rattle.realm_model.specs.Marks.{mark_at, above, rolling_back}
 use Rattle.realm_model.proofs.HistoryParts.{after_append}
 use Rattle.realm_model.proofs.Outcomes.{check_true, rec_there}
 use Rattle.realm_model.proofs.Reversal.{no_recs}
-use Rattle.realm_model.proofs.RowKinds.{Vacant, kind_table}
+use Rattle.realm_model.proofs.RowKinds.{Vacant}
 use Rattle.realm_model.proofs.Rows.{all_rows_from, put_there}
 use Rattle.realm_model.proofs.Examples.Worlds.{machine_of, page, delegated, rd, table_page, of_realm, start, start_rows, fresh, world_of, Recs, latest, step_by, and_then, forward, joined}
 use Rattle.realm_model.proofs.Examples.Realms.{on_four}
@@ -139,7 +139,7 @@ ends = step_by (machine_of 4) _ _ (by 0 (UnRealm 0 start 1)) _ refl
     refl
   where
     passes : (row : Row) → mapping_of_row row ≡ Vacant → not (is_table row) ≡ true
-    passes row e = ap (λ p. not (kind_table p)) e
+    passes row e = ap (λ (p : Mapping). not (is_table_state p.state)) e
 
     no_table : all_rows (λ row. not (is_table row)) start_rows 1 0 512 ≡ true
     no_table = all_rows_from (λ row. not (is_table row)) passes start_rows 1 0 512 (λ k less. put_there (unassigned Empty) empty 1 0 512 k less)

@@ -6,11 +6,11 @@ use Rattle.std.specs.Prelude.{nat_eq, is_some, option_and_then}
 use Rattle.granule_addr.specs.Page.{zero_page}
 use Rattle.realm_model.specs.declared.act.Act.TheVariants.{Rtt, UnRtt, Data}
 use Rattle.realm_model.specs.declared.rmi.Status.TheVariants.{Rtt as OfRtt}
-use Rattle.realm_model.specs.declared.states.Hipas.TheVariants.{Unassigned, Table}
+use Rattle.realm_model.specs.declared.states.EntryState.TheVariants.{Unassigned, Table}
 use Rattle.realm_model.specs.declared.states.Ripas.{Ripas}
 use Rattle.realm_model.specs.declared.states.Ripas.TheVariants.{Empty, Destroyed}
-use Rattle.realm_model.specs.Rows.{Row, Rows, place_cmp, walk, root_rows, put_row, drop_rows, with_table, without_table, is_unassigned, is_table_unused, unassigned, table}
-use Rattle.realm_model.specs.Ownership.{mapping_of_row}
+use Rattle.realm_model.specs.Rows.{Row, Rows, place_cmp, walk, root_rows, put_row, drop_rows, with_table, without_table, is_unassigned, is_table_unused, unassigned, table, is_unassigned_state}
+use Rattle.realm_model.specs.Ownership.{mapping_of_row, Mapping}
 use Rattle.realm_model.specs.declared.act.Event.{Event}
 use Rattle.realm_model.specs.Machine.{Cell}
 use Rattle.realm_model.specs.Act.{named, reverse_of, is_reverse}
@@ -24,7 +24,7 @@ use Rattle.realm_model.proofs.Booleans.{false_from}
 use Rattle.realm_model.proofs.HistoryParts.{after_append}
 use Rattle.realm_model.proofs.Maps.{place_total, same_place}
 use Rattle.realm_model.proofs.Outcomes.{check_true, end_there}
-use Rattle.realm_model.proofs.RowKinds.{Vacant, kind_unassigned}
+use Rattle.realm_model.proofs.RowKinds.{Vacant}
 use Rattle.realm_model.proofs.Rows.{differs, get-put_rows, get-put_rows_other, get-drop_rows, put_there, all_rows_from}
 use Rattle.realm_model.proofs.Walks.{walk_there, walk_above}
 use Rattle.realm_model.proofs.Examples.Worlds.{machine_of, page, delegated, rd, table_page, start_rows, fresh, world_of, step_by, and_then, at_end, forward, joined}
@@ -32,10 +32,10 @@ use Rattle.realm_model.proofs.Examples.Realms.{on_four, on_four-world}
 
 -- rows as they are written down
 abbrev pub vacant : Ripas → Row
-vacant ripas = record { hipas = Unassigned; ripas = ripas; granule = None }
+vacant ripas = record { state = Unassigned; ripas = ripas; granule = None }
 
 abbrev pub leads : ℕ → Row
-leads granule = record { hipas = Table; ripas = Empty; granule = Some granule }
+leads granule = record { state = Table; ripas = Empty; granule = Some granule }
 
 -- places of one level with other IPA granules
 pub apart : (level i k : ℕ) → (i ≡ k → ⊥) → differs (level, i) (level, k)
@@ -147,7 +147,7 @@ unfolding is_table_unused with_table
 unused = all_rows_from is_unassigned passes tabled 2 0 512 (λ k less. put_there (unassigned Empty) (put_row start_rows 1 0 (table 2)) 2 0 512 k less)
   where
     passes : (row : Row) → mapping_of_row row ≡ Vacant → is_unassigned row ≡ true
-    passes row e = ap kind_unassigned e
+    passes row e = ap (λ (p : Mapping). is_unassigned_state p.state) e
 
 gone : step (machine_of 4) (world tabled table_page) (by 0 (UnRtt 2 0 2)) ≡ Some (world untabled delegated)
 unfolding named outcome_of fits updated_all realm_from with_realm with_granule

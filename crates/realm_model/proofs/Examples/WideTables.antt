@@ -1,6 +1,6 @@
 -- A realm of four starting tables: tables and a page under the second one, and all of it undone.
 use Rattle.std.proofs.Common.{◌≡◌, ℕ, ◌+◌, ◌*◌, Bool, true, false, cond, ◌&&◌, not, List, [], ◌∷◌, ◌++◌, map, Some, None, Err, refl, sym, ap, ◌∙◌, arith, lit≤}
-use Rattle.std.specs.Prelude.{◌==◌, is_some, nat_eq, option_map, option_and_then}
+use Rattle.std.specs.Prelude.{is_some, nat_eq, option_map, option_and_then}
 use Rattle.std.specs.Option.{option_eq}
 use Rattle.std.specs.Ordering.{nat_cmp}
 use Rattle.std.specs.FinMap.{get, insert, empty, len, get-insert, get-empty, len-empty}
@@ -14,12 +14,12 @@ use Rattle.realm_model.specs.declared.act.Act.TheVariants.{Take, UnTake, Delegat
 use Rattle.realm_model.specs.declared.act.Event.{Event}
 use Rattle.realm_model.specs.declared.rmi.Status.TheVariants.{Input, Realm as OfRealm, Rtt as OfRtt}
 use Rattle.realm_model.specs.declared.states.GranuleState.TheVariants.{Data as InData}
-use Rattle.realm_model.specs.declared.states.Hipas.TheVariants.{Assigned}
+use Rattle.realm_model.specs.declared.states.EntryState.TheVariants.{Assigned}
 use Rattle.realm_model.specs.declared.states.Ripas.TheVariants.{Empty, Destroyed}
-use Rattle.realm_model.specs.Rows.{Row, Rows, place_cmp, root_rows, put_row, drop_rows, with_table, without_table, is_unassigned, is_table, is_table_unused, all_rows, unassigned, table}
-use Rattle.realm_model.specs.Ownership.{mapping_of_row}
+use Rattle.realm_model.specs.Rows.{Row, Rows, place_cmp, root_rows, put_row, drop_rows, with_table, without_table, is_unassigned, is_table, is_table_unused, all_rows, unassigned, table, is_unassigned_state, is_table_state}
+use Rattle.realm_model.specs.Ownership.{mapping_of_row, Mapping}
 use Rattle.realm_model.specs.Sound.{look, IsSoundRows}
-use Rattle.realm_model.specs.Machine.{Limits, RecRow, RealmRow, Cell}
+use Rattle.realm_model.specs.Machine.{Limits, RecRow, Cell}
 use Rattle.realm_model.specs.Update.{Outcome}
 use Rattle.realm_model.specs.Act.{named, reverse_of, is_reverse}
 use Rattle.realm_model.specs.Command.Check.{check, with_realm, with_granule}
@@ -33,7 +33,7 @@ use Rattle.realm_model.proofs.Booleans.{false_from, true_false}
 use Rattle.realm_model.proofs.HistoryParts.{after_append}
 use Rattle.realm_model.proofs.Maps.{place_total, same_place}
 use Rattle.realm_model.proofs.Outcomes.{check_true, end_there}
-use Rattle.realm_model.proofs.RowKinds.{Vacant, kind_unassigned, kind_table}
+use Rattle.realm_model.proofs.RowKinds.{Vacant}
 use Rattle.realm_model.proofs.Rows.{is_place, get-put_rows, get-put_rows_other, get-drop_rows, look-insert, put_there, all_rows_from, all_rows_at}
 use Rattle.realm_model.proofs.SoundRows.{root_sound, with_table_sound, none_among}
 use Rattle.realm_model.proofs.TableBack.{table_back}
@@ -136,7 +136,7 @@ lower-one =
     ∙ get-put_rows (λ _. unassigned Empty) empty 1 0 2048 1023 (lit≤ tt)
 
 abbrev page_row : Row
-page_row = record { hipas = Assigned; ripas = Empty; granule = Some 3 }
+page_row = record { state = Assigned; ripas = Empty; granule = Some 3 }
 
 abbrev filled : Rows
 filled = insert lower (3, second) page_row
@@ -181,10 +181,10 @@ bare-same : (q : ℕ × ℕ) → look wide q ≡ look bare q
 bare-same = table_back wide closed 2 second 1 Empty (vacant Empty) wide-second refl (none_among wide 2 second (vacant Empty) (root_sound 41) (table_place second 2 refl) wide-second refl) closed-same
 
 free : (row : Row) → mapping_of_row row ≡ Vacant → is_unassigned row ≡ true
-free row e = ap kind_unassigned e
+free row e = ap (λ (p : Mapping). is_unassigned_state p.state) e
 
 plain : (row : Row) → mapping_of_row row ≡ Vacant → not (is_table row) ≡ true
-plain row e = ap (λ p. not (kind_table p)) e
+plain row e = ap (λ (p : Mapping). not (is_table_state p.state)) e
 
 emptied-unused : is_table_unused emptied 3 second ≡ true
 unfolding is_table_unused with_table

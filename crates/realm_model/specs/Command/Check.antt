@@ -7,7 +7,9 @@ use Rattle.realm_model.specs.declared.rmi.Rmi.{Rmi}
 use Rattle.realm_model.specs.declared.rmi.Status.{Status}
 use Rattle.realm_model.specs.declared.rmi.Status.TheVariants.{Input, Realm as OfRealm, Rec as OfRec, Rtt as OfRtt}
 use Rattle.realm_model.specs.declared.states.GranuleState.TheVariants.{Undelegated, Delegated}
+use Rattle.realm_model.specs.declared.states.RealmState.{RealmState}
 use Rattle.realm_model.specs.declared.states.RealmState.TheVariants.{New, Active}
+use Rattle.realm_model.specs.declared.states.RecState.{RecState}
 use Rattle.realm_model.specs.declared.states.RecState.TheVariants.{Ready, Running}
 use Rattle.realm_model.specs.Rows.{Rows, Row, Walk, walk}
 use Rattle.realm_model.specs.Machine.{RecRow, RealmRow, Seen}
@@ -43,15 +45,21 @@ is_undelegated g = elim g.cell.state [ Undelegated ↦ true | _ ↦ false ]
 abbrev pub is_delegated : Seen → Bool
 is_delegated g = elim g.cell.state [ Delegated ↦ true | _ ↦ false ]
 
-abbrev pub all_different : List Seen → Bool
-all_different [] = true
-all_different (g ∷ gs) = not (list_any (λ h. g.number == h.number) gs) && all_different gs
+-- none of the others is that number, and no number is there twice
+abbrev pub is_apart_from : ℕ → List ℕ → Bool
+is_apart_from number others = not (list_any (λ other. number == other) others)
 
-abbrev pub is_new : RealmRow → Bool
-is_new realm = elim realm.state [ New ↦ true | Active ↦ false ]
+abbrev pub are_distinct : List ℕ → Bool
+are_distinct [] = true
+are_distinct (number ∷ others) = is_apart_from number others && are_distinct others
 
-abbrev pub is_ready : RecRow → Bool
-is_ready rec = elim rec.state [ Ready ↦ true | Running ↦ false ]
+abbrev pub is_new : RealmState → Bool
+is_new New = true
+is_new Active = false
+
+abbrev pub is_ready : RecState → Bool
+is_ready Ready = true
+is_ready Running = false
 
 -- an IPA granule of the protected half of the realm's address space
 abbrev pub is_protected : RealmRow → ℕ → Bool

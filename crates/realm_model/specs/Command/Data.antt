@@ -2,42 +2,39 @@
 use Rattle.std.specs.Prelude.{ℕ, [], ◌∷◌, ◌&&◌, Ok}
 use Rattle.realm_model.specs.declared.states.GranuleState.TheVariants.{Data}
 use Rattle.realm_model.specs.declared.states.Ripas.TheVariants.{Ram}
-use Rattle.realm_model.specs.Rows.{unassigned, assigned, is_unassigned, is_assigned, unmapped_ripas, put_row}
+use Rattle.realm_model.specs.Rows.{unassigned, assigned, unmapped_ripas, put_row}
 use Rattle.realm_model.specs.Measurement.{measurement_after, data_event}
 use Rattle.realm_model.specs.Machine.{Seen, left, held}
 use Rattle.realm_model.specs.Update.{Outcome, Put}
-use Rattle.realm_model.specs.Command.Check.{check, error_input, error_realm, error_rtt, is_undelegated, is_delegated, is_new, is_protected, with_realm, with_row, with_granule, put_realm}
+use Rattle.realm_model.specs.Command.Check.{check, error_input, error_realm, is_undelegated, is_delegated, is_new, is_protected, with_realm, with_granule, put_realm}
+use Rattle.realm_model.specs.Command.Found.{with_free_page, with_mapped_page}
 
 -- A DELEGATED granule becomes a page of a NEW realm, with the bytes of an UNDELEGATED one. RMM 1.0, RMI_DATA_CREATE.
 abbrev pub data_create : Seen → Seen → ℕ → Seen → Outcome
 data_create rd g ipa source =
     with_realm rd (λ realm.
     check (is_delegated g && is_undelegated source && is_protected realm ipa) error_input
-    (check (is_new realm) error_realm
-    (with_row realm.rows ipa 3 (λ row.
-    check (is_unassigned row) (error_rtt 3)
-    (Ok (Put g.number (record (held Data rd.number) { bytes = source.cell.bytes })
+    (check (is_new realm.state) error_realm
+    (with_free_page realm.rows ipa (λ row.
+    Ok (Put g.number (record (held Data rd.number) { bytes = source.cell.bytes })
     ∷ put_realm rd (record realm {
       rows = put_row realm.rows 3 ipa (assigned Ram g.number);
       measurement = measurement_after realm.measurement (data_event ipa source.cell.bytes);
-    }) ∷ []))))))
+    }) ∷ [])))))
 
 -- A DELEGATED granule becomes a page of zeros, and the RIPAS stays. RMM 1.0, RMI_DATA_CREATE_UNKNOWN.
 abbrev pub data_create_unknown : Seen → Seen → ℕ → Outcome
 data_create_unknown rd g ipa =
     with_realm rd (λ realm.
     check (is_delegated g && is_protected realm ipa) error_input
-    (with_row realm.rows ipa 3 (λ row.
-    check (is_unassigned row) (error_rtt 3)
-    (Ok (Put g.number (held Data rd.number)
-    ∷ put_realm rd (record realm { rows = put_row realm.rows 3 ipa (assigned row.ripas g.number) }) ∷ [])))))
+    (with_free_page realm.rows ipa (λ row.
+    Ok (Put g.number (held Data rd.number)
+    ∷ put_realm rd (record realm { rows = put_row realm.rows 3 ipa (assigned row.ripas g.number) }) ∷ []))))
 
 -- A page leaves its realm and is DELEGATED; where it was RAM, it is DESTROYED. RMM 1.0, RMI_DATA_DESTROY.
 abbrev pub data_destroy : Seen → ℕ → Outcome
 data_destroy rd ipa =
     with_realm rd (λ realm.
     check (is_protected realm ipa) error_input
-    (with_row realm.rows ipa 3 (λ row.
-    check (is_assigned row) (error_rtt 3)
-    (with_granule row (λ granule.
-    Ok (Put granule left ∷ put_realm rd (record realm { rows = put_row realm.rows 3 ipa (unassigned (unmapped_ripas row.ripas)) }) ∷ []))))))
+    (with_mapped_page realm.rows ipa (λ row. with_granule row (λ granule.
+    Ok (Put granule left ∷ put_realm rd (record realm { rows = put_row realm.rows 3 ipa (unassigned (unmapped_ripas row.ripas)) }) ∷ [])))))

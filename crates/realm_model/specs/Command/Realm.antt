@@ -1,6 +1,6 @@
 -- Commands on realms.
 use Rattle.std.specs.Prelude.{ℕ, ◌%◌, ◌==◌, nat_le, List, [], ◌∷◌, map, Bool, not, ◌&&◌, Some, Ok}
-use Rattle.std.specs.List.{list_all, list_any}
+use Rattle.std.specs.List.{list_all}
 use Rattle.std.specs.FinMap.{empty, len}
 use Rattle.granule_addr.specs.Ipa.{is_width}
 use Rattle.granule_addr.specs.Root.{start_count, starting_tables}
@@ -12,7 +12,7 @@ use Rattle.realm_model.specs.Measurement.{zero_measurement}
 use Rattle.granule_addr.specs.Page.{zero_page}
 use Rattle.realm_model.specs.Machine.{RealmRow, Seen, left, held}
 use Rattle.realm_model.specs.Update.{Outcome, Put}
-use Rattle.realm_model.specs.Command.Check.{check, error_input, error_realm, is_delegated, is_new, with_realm, put_realm}
+use Rattle.realm_model.specs.Command.Check.{check, error_input, error_realm, is_delegated, is_apart_from, is_new, with_realm, put_realm}
 
 -- a realm that has just been made
 unfoldable pub new_realm : ℕ → Root → RealmRow
@@ -36,7 +36,7 @@ abbrev pub realm_create : ℕ → List ℕ → Seen → List Seen → Root → �
 realm_create vmids used rd tables root vmid =
     check (is_width root.width && root.first % start_count root.width == 0
     && is_delegated rd && list_all (is_start rd) tables
-    && nat_le 1 vmid && nat_le vmid vmids && not (list_any (λ v. vmid == v) used)) error_input
+    && nat_le 1 vmid && nat_le vmid vmids && is_apart_from vmid used) error_input
     (Ok (Put rd.number (record { state = Rd; realm = Some rd.number; bytes = zero_page; descriptor = Some (new_realm vmid root) })
     ∷ map (λ t. Put t.number (held Rtt rd.number)) tables))
 
@@ -44,7 +44,7 @@ realm_create vmids used rd tables root vmid =
 abbrev pub realm_activate : Seen → Outcome
 realm_activate rd =
     with_realm rd (λ realm.
-    check (is_new realm) error_realm
+    check (is_new realm.state) error_realm
     (Ok (put_realm rd (record realm { state = Active }) ∷ [])))
 
 -- A realm with no REC and no table below its starting tables is gone; its RD and starting tables are DELEGATED.

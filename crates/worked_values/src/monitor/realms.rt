@@ -37,11 +37,21 @@ fn wide_realms(rt: HostRuntime) -> Result<(), Fail> {
     bench.delegate_below(&rt, 8);
     equal(&rt, "no width", bench.create_wide(0, 1, 1, 44), 1);
     equal(&rt, "no multiple of 4", bench.create_wide(0, 2, 1, 41), 1);
-    equal(&rt, "the RD is a starting table", bench.create_wide(4, 4, 1, 41), 1);
+    equal(
+        &rt,
+        "the RD is a starting table",
+        bench.create_wide(4, 4, 1, 41),
+        1,
+    );
     equal(&rt, "a realm", bench.create_wide(0, 4, 1, 41), 0);
     equal(&rt, "level 2", bench.rtt_create(0, 1, 134_217_728, 2), 0);
     equal(&rt, "level 3", bench.rtt_create(0, 2, 134_217_728, 3), 0);
-    equal(&rt, "the second table leads to level 2", bench.word(5, 0), 4098);
+    equal(
+        &rt,
+        "the second table leads to level 2",
+        bench.word(5, 0),
+        4098,
+    );
     equal(&rt, "unprotected", bench.unknown(0, 3, 268_435_456), 1);
     equal(&rt, "no level 2", bench.unknown(0, 3, 268_435_455), 260);
     equal(&rt, "a page", bench.unknown(0, 3, 134_217_728), 0);

@@ -1,5 +1,5 @@
 use Rattle.std.proofs.Common.{◌≡◌, drop}
-use Rattle.rmi_monitor.specs.Places.{are_distinct}
+use Rattle.realm_model.specs.Command.Check.{are_distinct}
 use Rattle.rmi_monitor.proofs.places.are_different.Given as goal
 
 abbrev pub invariant-loop-i : goal.invariant-loop-i

@@ -1,5 +1,5 @@
 use Rattle.std.proofs.Common.{◌≡◌, drop}
-use Rattle.rmi_monitor.specs.Places.{is_apart_from}
+use Rattle.realm_model.specs.Command.Check.{is_apart_from}
 use Rattle.rmi_monitor.proofs.places.is_apart.Given as goal
 
 abbrev pub invariant-loop-other : goal.invariant-loop-other

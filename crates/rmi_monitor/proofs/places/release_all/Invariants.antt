@@ -1,8 +1,9 @@
 use Rattle.std.proofs.Common.{◌≡◌, All, IsTrue, None, drop}
 use Rattle.granule_addr.specs.Page.{zero_page}
+use Rattle.realm_model.specs.Command.Check.{are_distinct}
 use Rattle.realm_model.specs.StepLaw.{set_each}
 use Rattle.realm_model.specs.declared.states.GranuleState.TheVariants.{Delegated}
-use Rattle.rmi_monitor.specs.Places.{are_distinct, IsInState, HasPage}
+use Rattle.rmi_monitor.specs.Places.{IsInState, HasPage}
 use Rattle.rmi_monitor.proofs.places.release_all.Given as goal
 
 abbrev pub invariant-loop-granule : goal.invariant-loop-granule

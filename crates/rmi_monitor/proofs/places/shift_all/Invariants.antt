@@ -1,6 +1,7 @@
 use Rattle.std.proofs.Common.{◌≡◌, All, IsTrue, Some, drop}
+use Rattle.realm_model.specs.Command.Check.{are_distinct}
 use Rattle.realm_model.specs.StepLaw.{set_each}
-use Rattle.rmi_monitor.specs.Places.{are_distinct, IsInState}
+use Rattle.rmi_monitor.specs.Places.{IsInState}
 use Rattle.rmi_monitor.proofs.places.shift_all.Given as goal
 
 abbrev pub invariant-loop-granule : goal.invariant-loop-granule

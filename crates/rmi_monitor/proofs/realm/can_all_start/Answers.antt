@@ -1,4 +1,4 @@
-use Rattle.std.proofs.Common.{◌≡◌, ◌+◌, ◌<◌, ℕ, true, sym, ap, ◌∙◌, subst, arith, ◌≤◌}
+use Rattle.std.proofs.Common.{◌+◌, ◌<◌, sym, ap, ◌∙◌, subst, arith}
 use Rattle.granule_addr.specs.Root.{start_count}
 use Rattle.rmi_monitor.specs.Places.{is_fit_to_start}
 use Rattle.rmi_monitor.proofs.Starting.{all_start, one_does_not}

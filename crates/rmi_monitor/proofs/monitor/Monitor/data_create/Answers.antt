@@ -1,5 +1,4 @@
 use Rattle.std.proofs.Common.{◌≡◌, ◌<◌, set, Some, None, Err, refl, sym, ap, ◌∙◌, subst}
-use Rattle.std.specs.FinMap.{empty}
 use Rattle.realm_model.specs.Command.Check.{error_input, error_realm, error_rtt}
 use Rattle.realm_model.specs.Command.Data.{data_create}
 use Rattle.rmi_monitor.specs.View.{seen_in}
@@ -74,7 +73,7 @@ not_new g c =
     (realm_read c.args.self.now _ c.self.view_is c.self.invariant c.args.rd c.requires.rd_taken.inside c.number.result c.index_mut.result.now (Some c.in-Some.realm) c.number.ensures.value c.index_mut.ensures.value c.in-Some.is)
     (record { rd = c.args.rd; root = c.in-Some.realm.root }) c.in-Some-protected.ipa
     (located c.in-Some.realm c.args.ipa c.root.result c.root.ensures c.protected.result c.protected.ensures c.args.rd _ refl c.in-Some-protected.ipa c.in-Some-protected.is)
-    (sym c.is_delegated.ensures ∙ c.if-not-is_delegated.false) (sym c.is_undelegated.ensures ∙ c.if-not-is_undelegated.false) (sym (c.is_new.ensures empty empty) ∙ c.if-not-is_new.true)
+    (sym c.is_delegated.ensures ∙ c.if-not-is_delegated.false) (sym c.is_undelegated.ensures ∙ c.if-not-is_undelegated.false) (sym c.is_new.ensures ∙ c.if-not-is_new.true)
 
 pub returns-then-not-is_new : goal.returns-then-not-is_new
 returns-then-not-is_new g c =
@@ -105,7 +104,7 @@ refused g c =
     (realm_read c.args.self.now _ c.self.view_is c.self.invariant c.args.rd c.requires.rd_taken.inside c.number.result c.index_mut.result.now (Some c.in-Some.realm) c.number.ensures.value c.index_mut.ensures.value c.in-Some.is)
     c.tables_of.result c.in-Some-protected.ipa
     (located c.in-Some.realm c.args.ipa c.root.result c.root.ensures c.protected.result c.protected.ensures c.args.rd c.tables_of.result c.tables_of.ensures c.in-Some-protected.ipa c.in-Some-protected.is)
-    (sym c.is_delegated.ensures ∙ c.if-not-is_delegated.false) (sym c.is_undelegated.ensures ∙ c.if-not-is_undelegated.false) (sym (c.is_new.ensures empty empty) ∙ c.if-not-is_new.false)
+    (sym c.is_delegated.ensures ∙ c.if-not-is_delegated.false) (sym c.is_undelegated.ensures ∙ c.if-not-is_undelegated.false) (sym c.is_new.ensures ∙ c.if-not-is_new.false)
     c.in_err-map.field-0.0.level c.in_err-map.ensures.answer
 
 pub returns-in_err-map : goal.returns-in_err-map
@@ -135,7 +134,7 @@ done g c =
     (realm_read c.args.self.now _ c.self.view_is c.self.invariant c.args.rd c.requires.rd_taken.inside c.number.result c.index_mut.result.now (Some c.in-Some.realm) c.number.ensures.value c.index_mut.ensures.value c.in-Some.is)
     c.tables_of.result c.in-Some-protected.ipa
     (located c.in-Some.realm c.args.ipa c.root.result c.root.ensures c.protected.result c.protected.ensures c.args.rd c.tables_of.result c.tables_of.ensures c.in-Some-protected.ipa c.in-Some-protected.is)
-    (sym c.is_delegated.ensures ∙ c.if-not-is_delegated.false) (sym c.is_undelegated.ensures ∙ c.if-not-is_undelegated.false) (sym (c.is_new.ensures empty empty) ∙ c.if-not-is_new.false)
+    (sym c.is_delegated.ensures ∙ c.if-not-is_delegated.false) (sym c.is_undelegated.ensures ∙ c.if-not-is_undelegated.false) (sym c.is_new.ensures ∙ c.if-not-is_new.false)
     _ _ _ (record {
       answer = c.in_ok-map.ensures.answer;
       gains = c.in_ok-map.ensures.rows;

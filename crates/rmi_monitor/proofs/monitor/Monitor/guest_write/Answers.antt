@@ -1,8 +1,7 @@
 use Rattle.std.proofs.Common.{Some, None, refl, sym, ap, ◌∙◌, arith}
-use Rattle.realm_model.specs.Rows.{Walk}
+use Rattle.realm_model.specs.Rows.{Walk, data_of}
 use Rattle.realm_model.specs.Command.Check.{error_rtt}
 use Rattle.realm_model.specs.Command.Rec.{guest_write}
-use Rattle.rtt.specs.Tables.{data_of}
 use Rattle.rmi_monitor.proofs.DataBytes.{page_inside, whole_written}
 use Rattle.rmi_monitor.proofs.Granules.{in_granules}
 use Rattle.rmi_monitor.proofs.GuestWrites.{write_unprotected, write_ready, write_unassigned, write_done}
@@ -56,7 +55,7 @@ returns-then-is_ready g c =
     let kept = kept_there _ c.self.invariant c.args.rec c.in-Some.kept at c.in-Some-realm_of.rd (sym c.realm_of.ensures ∙ c.in-Some-realm_of.is)
     c.number-2.result c.number-2.ensures.value _ c.in-Some-index.realm c.index-2.ensures c.in-Some-index.is in
     write_ready c.args.self.now _ c.self.view_is c.self.invariant c.args.rec c.in-Some.kept c.in-Some-realm_of.rd c.in-Some-index.realm kept c.args.ipa c.args.offset c.args.value
-    (located c.in-Some-index.realm c.args.ipa c.root.result c.root.ensures c.protected.result c.protected.ensures c.in-Some-realm_of.rd _ refl c.in-Some-protected.granule c.in-Some-protected.is).protected (sym (c.is_ready.ensures c.args.rec) ∙ c.if-is_ready.true)
+    (located c.in-Some-index.realm c.args.ipa c.root.result c.root.ensures c.protected.result c.protected.ensures c.in-Some-realm_of.rd _ refl c.in-Some-protected.granule c.in-Some-protected.is).protected (sym c.is_ready.ensures ∙ c.if-is_ready.true)
 
 pub walk-walk-requires-clause-tables : goal.walk-walk-requires-clause-tables
 walk-walk-requires-clause-tables g c =
@@ -78,7 +77,7 @@ returns-in_default-page g c =
     c.number-2.result c.number-2.ensures.value _ c.in-Some-index.realm c.index-2.ensures c.in-Some-index.is in
     let is = (located c.in-Some-index.realm c.args.ipa c.root.result c.root.ensures c.protected.result c.protected.ensures c.in-Some-realm_of.rd c.tables_of.result c.tables_of.ensures c.in-Some-protected.granule c.in-Some-protected.is) in
     write_unassigned c.args.self.now _ c.self.view_is c.self.invariant c.args.rec c.in-Some.kept c.in-Some-realm_of.rd c.in-Some-index.realm kept c.args.ipa c.args.offset c.args.value
-    is.protected (sym (c.is_ready.ensures c.args.rec) ∙ c.if-is_ready.false) c.tables_of.result c.in-Some-protected.granule c.last.result is c.last.ensures c.walk-walk.result c.walk-walk.ensures.walk
+    is.protected (sym c.is_ready.ensures ∙ c.if-is_ready.false) c.tables_of.result c.in-Some-protected.granule c.last.result is c.last.ensures c.walk-walk.result c.walk-walk.ensures.walk
     _ (c.from.ensures ∙ ap (λ (w : Walk). error_rtt w.level) c.walk.view_is)
     (ap (λ (w : Walk). data_of w.row) (sym c.walk.view_is) ∙ sym c.page.ensures ∙ c.in_default-page.is)
 
@@ -97,5 +96,5 @@ returns g c =
     let is = (located c.in-Some-index.realm c.args.ipa c.root.result c.root.ensures c.protected.result c.protected.ensures c.in-Some-realm_of.rd c.tables_of.result c.tables_of.ensures c.in-Some-protected.granule c.in-Some-protected.is) in
     let leads = ap (λ (w : Walk). data_of w.row) (sym c.walk.view_is) ∙ sym c.page.ensures ∙ c.in-Some-page.is in
     write_done c.args.self.now _ c.self.view_is c.self.invariant c.args.rec c.in-Some.kept c.in-Some-realm_of.rd c.in-Some-index.realm kept c.args.ipa c.args.offset c.args.value
-    is.protected (sym (c.is_ready.ensures c.args.rec) ∙ c.if-is_ready.false) c.tables_of.result c.in-Some-protected.granule c.last.result is c.last.ensures c.walk-walk.result c.walk-walk.ensures.walk
+    is.protected (sym c.is_ready.ensures ∙ c.if-is_ready.false) c.tables_of.result c.in-Some-protected.granule c.last.result is c.last.ensures c.walk-walk.result c.walk-walk.ensures.walk
     c.in-Some-page.page leads (c.walk-walk.ensures.page c.in-Some-page.page leads) _ _ c.set.ensures.written c.set.ensures.flags

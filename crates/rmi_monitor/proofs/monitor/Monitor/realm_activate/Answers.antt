@@ -1,7 +1,5 @@
 use Rattle.std.proofs.Common.{◌<◌, List, Option, sym, ap, subst, ◌∙◌}
 use Rattle.std.specs.Prelude.{slice_set}
-use Rattle.std.specs.FinMap.{empty}
-use Rattle.realm_model.specs.Rows.{root_rows}
 use Rattle.realm_model.specs.Command.Check.{error_input, error_realm}
 use Rattle.realm_objects.specs.Attributes.{RealmAttributes}
 use Rattle.rmi_monitor.specs.Inside.{fields_of, seen_as}
@@ -25,23 +23,23 @@ returns-in_default-clause-machine g c =
 
 pub returns-then-not-is_new-clause-answer : goal.returns-then-not-is_new-clause-answer
 returns-then-not-is_new-clause-answer g c =
-    answers_err (Unit {0}) error_realm _ (activate_late c.args.self.now _ c.self.view_is c.self.invariant c.args.rd c.requires c.in-Some.realm (realm_read c.args.self.now _ c.self.view_is c.self.invariant c.args.rd c.requires.inside c.number.result c.index_mut.result.now _ c.number.ensures.value c.index_mut.ensures.value c.in-Some.is) (sym (c.if-not-is_new.ensures empty (root_rows 39))))
+    answers_err (Unit {0}) error_realm _ (activate_late c.args.self.now _ c.self.view_is c.self.invariant c.args.rd c.requires c.in-Some.realm (realm_read c.args.self.now _ c.self.view_is c.self.invariant c.args.rd c.requires.inside c.number.result c.index_mut.result.now _ c.number.ensures.value c.index_mut.ensures.value c.in-Some.is) (sym c.if-not-is_new.ensures))
 
 pub returns-then-not-is_new-clause-machine : goal.returns-then-not-is_new-clause-machine
 returns-then-not-is_new-clause-machine g c =
     ap (λ (realms : List (Option RealmAttributes)). seen_as (fields_of c.self.inside.vmids c.self.inside.aux c.self.inside.used c.self.inside.granules (g.S.PageStore.page_bytes c.self.inside.store) (g.S.PageStore.free_flags c.self.inside.store) realms c.self.inside.rec_counts.items c.self.inside.recs.items))
     (ap (slice_set c.self.inside.realms.items c.number.result) (sym c.in-Some.is) ∙ put_back c.self.inside.realms.items c.number.result c.index_mut.result.now c.index_mut.result.now (sym c.index_mut.ensures.value))
     ∙ c.self.view_is
-    ∙ after_err c.args.self.now error_realm _ (activate_late c.args.self.now _ c.self.view_is c.self.invariant c.args.rd c.requires c.in-Some.realm (realm_read c.args.self.now _ c.self.view_is c.self.invariant c.args.rd c.requires.inside c.number.result c.index_mut.result.now _ c.number.ensures.value c.index_mut.ensures.value c.in-Some.is) (sym (c.if-not-is_new.ensures empty (root_rows 39))))
+    ∙ after_err c.args.self.now error_realm _ (activate_late c.args.self.now _ c.self.view_is c.self.invariant c.args.rd c.requires c.in-Some.realm (realm_read c.args.self.now _ c.self.view_is c.self.invariant c.args.rd c.requires.inside c.number.result c.index_mut.result.now _ c.number.ensures.value c.index_mut.ensures.value c.in-Some.is) (sym c.if-not-is_new.ensures))
 
 pub invariant_of-self-2 : goal.invariant_of-self-2
 invariant_of-self-2 g c = whole_after_activate c.args.self.now _ c.self.view_is c.self.invariant c.args.rd c.requires c.in-Some.realm (realm_read c.args.self.now _ c.self.view_is c.self.invariant c.args.rd c.requires.inside c.number.result c.index_mut.result.now _ c.number.ensures.value c.index_mut.ensures.value c.in-Some.is) c.number.result c.number.ensures.value c.activate.new.self c.activate.ensures
 
 pub returns-clause-answer : goal.returns-clause-answer
 returns-clause-answer g c =
-    answers_ok {A = Unit {0}} tt _ _ (activate_done c.args.self.now _ c.self.view_is c.self.invariant c.args.rd c.requires c.in-Some.realm (realm_read c.args.self.now _ c.self.view_is c.self.invariant c.args.rd c.requires.inside c.number.result c.index_mut.result.now _ c.number.ensures.value c.index_mut.ensures.value c.in-Some.is) (sym (c.if-not-is_new.ensures empty (root_rows 39))))
+    answers_ok {A = Unit {0}} tt _ _ (activate_done c.args.self.now _ c.self.view_is c.self.invariant c.args.rd c.requires c.in-Some.realm (realm_read c.args.self.now _ c.self.view_is c.self.invariant c.args.rd c.requires.inside c.number.result c.index_mut.result.now _ c.number.ensures.value c.index_mut.ensures.value c.in-Some.is) (sym c.if-not-is_new.ensures))
 
 pub returns-clause-machine : goal.returns-clause-machine
 returns-clause-machine g c =
     seen_after_activate c.args.self.now _ c.self.view_is c.self.invariant c.args.rd c.requires c.in-Some.realm (realm_read c.args.self.now _ c.self.view_is c.self.invariant c.args.rd c.requires.inside c.number.result c.index_mut.result.now _ c.number.ensures.value c.index_mut.ensures.value c.in-Some.is) c.number.result c.number.ensures.value c.activate.new.self c.activate.ensures
-    (sym (c.if-not-is_new.ensures empty (root_rows 39)))
+    (sym c.if-not-is_new.ensures)

@@ -54,7 +54,7 @@ returns-then-not-is_ready g c =
     let kept = kept_there _ c.self.invariant c.args.rec c.in-Some.kept at c.in-Some-realm_of.rd (sym c.realm_of.ensures ∙ c.in-Some-realm_of.is)
     c.number-2.result c.number-2.ensures.value _ c.in-Some-index.realm c.index.ensures c.in-Some-index.is in
     enter_running c.args.self.now _ c.self.view_is c.self.invariant c.args.rec _ c.in-Some.kept c.in-Some-realm_of.rd c.in-Some-index.realm kept
-    c.is_new.result c.is_new.ensures c.if-is_new.false (sym (c.is_ready.ensures c.args.rec) ∙ c.if-not-is_ready.true)
+    c.is_new.result c.is_new.ensures c.if-is_new.false (sym c.is_ready.ensures ∙ c.if-not-is_ready.true)
     (λ i. slice_set c.self.inside.recs.items (c.number.ensures.value i) (Some c.in-Some.kept))
 
 pub invariant_of-self-2 : goal.invariant_of-self-2
@@ -71,5 +71,5 @@ returns g c =
     let kept = kept_there _ c.self.invariant c.args.rec c.in-Some.kept at c.in-Some-realm_of.rd (sym c.realm_of.ensures ∙ c.in-Some-realm_of.is)
     c.number-2.result c.number-2.ensures.value _ c.in-Some-index.realm c.index.ensures c.in-Some-index.is in
     enter_done c.args.self.now _ c.self.view_is c.self.invariant c.args.rec _ c.in-Some.kept c.in-Some-realm_of.rd c.in-Some-index.realm kept
-    c.is_new.result c.is_new.ensures c.if-is_new.false (sym (c.is_ready.ensures c.args.rec) ∙ c.if-not-is_ready.false)
+    c.is_new.result c.is_new.ensures c.if-is_new.false (sym c.is_ready.ensures ∙ c.if-not-is_ready.false)
     (λ i. slice_set c.self.inside.recs.items (c.number.ensures.value i) (Some (c.enter.ensures i)))

@@ -22,7 +22,7 @@ pub returns-then-is_ready : goal.returns-then-is_ready
 returns-then-is_ready g c =
     let at = rec_read c.args.self.now _ c.self.view_is c.self.invariant c.args.rec c.requires c.number.result c.number.ensures.value _ (Some c.in-Some.kept) c.index_mut.ensures.value c.in-Some.is in
     exit_ready c.args.self.now _ c.self.view_is c.self.invariant c.args.rec _ c.in-Some.kept _ _ (kept_at _ c.self.invariant c.args.rec c.in-Some.kept at)
-    (sym (c.is_ready.ensures c.args.rec) ∙ c.if-is_ready.true)
+    (sym c.is_ready.ensures ∙ c.if-is_ready.true)
     (λ i. slice_set c.self.inside.recs.items (c.number.ensures.value i) (Some c.in-Some.kept))
 
 pub invariant_of-self-2 : goal.invariant_of-self-2
@@ -35,5 +35,5 @@ pub returns : goal.returns
 returns g c =
     let at = rec_read c.args.self.now _ c.self.view_is c.self.invariant c.args.rec c.requires c.number.result c.number.ensures.value _ (Some c.in-Some.kept) c.index_mut.ensures.value c.in-Some.is in
     exit_done c.args.self.now _ c.self.view_is c.self.invariant c.args.rec _ c.in-Some.kept _ _ (kept_at _ c.self.invariant c.args.rec c.in-Some.kept at)
-    (sym (c.is_ready.ensures c.args.rec) ∙ c.if-is_ready.false)
+    (sym c.is_ready.ensures ∙ c.if-is_ready.false)
     (λ i. slice_set c.self.inside.recs.items (c.number.ensures.value i) (Some (c.exit.ensures i)))

@@ -1,5 +1,4 @@
 use Rattle.std.proofs.Common.{◌≡◌, ◌<◌, set, Some, None, Err, refl, sym, ap, ◌∙◌, subst}
-use Rattle.std.specs.FinMap.{empty}
 use Rattle.realm_model.specs.Command.Check.{error_input, error_realm, error_rtt}
 use Rattle.realm_model.specs.Command.Table.{rtt_init_ripas}
 use Rattle.rmi_monitor.specs.View.{seen_in}
@@ -43,7 +42,7 @@ returns-then-not-is_new g c =
     let active =
     ripas_not_new c.args.self.now _ c.self.view_is c.self.invariant c.args.rd c.args.ipa c.args.count c.requires c.in-Some.realm
     (realm_read c.args.self.now _ c.self.view_is c.self.invariant c.args.rd c.requires.inside c.number.result c.index_mut.result.now (Some c.in-Some.realm) c.number.ensures.value c.index_mut.ensures.value c.in-Some.is)
-    (is_run_there c.in-Some.realm c.args.ipa c.args.count c.root.result c.root.ensures c.protected_run.result c.protected_run.ensures c.in-Some-protected_run.first c.in-Some-protected_run.is) (sym (c.is_new.ensures empty empty) ∙ c.if-not-is_new.true) in
+    (is_run_there c.in-Some.realm c.args.ipa c.args.count c.root.result c.root.ensures c.protected_run.result c.protected_run.ensures c.in-Some-protected_run.first c.in-Some-protected_run.is) (sym c.is_new.ensures ∙ c.if-not-is_new.true) in
     record {
       answer = answers_err (Unit {0}) error_realm _ active;
       machine = seen_unmoved c.args.self.now _ c.self.view_is _ _ _ refl refl refl c.number.result c.index_mut.result.now _ c.index_mut.ensures.value c.in-Some.is ∙ after_err c.args.self.now error_realm _ active;
@@ -66,7 +65,7 @@ refused : (g : Over) (c : goal.After-from_residual g) → rtt_init_ripas (seen_i
 refused g c =
     ripas_refused c.args.self.now _ c.self.view_is c.self.invariant c.args.rd c.args.ipa c.args.count c.requires c.in-Some.realm
     (realm_read c.args.self.now _ c.self.view_is c.self.invariant c.args.rd c.requires.inside c.number.result c.index_mut.result.now (Some c.in-Some.realm) c.number.ensures.value c.index_mut.ensures.value c.in-Some.is)
-    (is_run_there c.in-Some.realm c.args.ipa c.args.count c.root.result c.root.ensures c.protected_run.result c.protected_run.ensures c.in-Some-protected_run.first c.in-Some-protected_run.is) (sym (c.is_new.ensures empty empty) ∙ c.if-not-is_new.false) c.tables_of.result c.in-Some-protected_run.first
+    (is_run_there c.in-Some.realm c.args.ipa c.args.count c.root.result c.root.ensures c.protected_run.result c.protected_run.ensures c.in-Some-protected_run.first c.in-Some-protected_run.is) (sym c.is_new.ensures ∙ c.if-not-is_new.false) c.tables_of.result c.in-Some-protected_run.first
     (run_located c.in-Some.realm c.args.ipa c.args.count c.root.result c.root.ensures c.protected_run.result c.protected_run.ensures c.args.rd c.tables_of.result c.tables_of.ensures c.in-Some-protected_run.first c.in-Some-protected_run.is)
     c.in_err-init_ripas.field-0.0.level c.in_err-init_ripas.ensures.answer
 
@@ -86,7 +85,7 @@ done : (g : Over) (c : goal.After-self-2-1 g) → Done c.args.self.now (rtt_init
 done g c =
     ripas_done c.args.self.now _ c.self.view_is c.self.invariant c.args.rd c.args.ipa c.args.count c.requires c.in-Some.realm
     (realm_read c.args.self.now _ c.self.view_is c.self.invariant c.args.rd c.requires.inside c.number.result c.index_mut.result.now (Some c.in-Some.realm) c.number.ensures.value c.index_mut.ensures.value c.in-Some.is)
-    (is_run_there c.in-Some.realm c.args.ipa c.args.count c.root.result c.root.ensures c.protected_run.result c.protected_run.ensures c.in-Some-protected_run.first c.in-Some-protected_run.is) (sym (c.is_new.ensures empty empty) ∙ c.if-not-is_new.false) c.tables_of.result c.in-Some-protected_run.first
+    (is_run_there c.in-Some.realm c.args.ipa c.args.count c.root.result c.root.ensures c.protected_run.result c.protected_run.ensures c.in-Some-protected_run.first c.in-Some-protected_run.is) (sym c.is_new.ensures ∙ c.if-not-is_new.false) c.tables_of.result c.in-Some-protected_run.first
     (run_located c.in-Some.realm c.args.ipa c.args.count c.root.result c.root.ensures c.protected_run.result c.protected_run.ensures c.args.rd c.tables_of.result c.tables_of.ensures c.in-Some-protected_run.first c.in-Some-protected_run.is)
     _ _ (record {
       answer = c.in_ok-init_ripas.ensures.answer;

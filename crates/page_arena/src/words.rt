@@ -2,7 +2,7 @@
 ghost use Rattle.std.specs.Prelude.{◌≡◌, ◌<◌, length};
 ghost use Rattle.page_arena.specs.Word.{word_of_page, page_with_word};
 
-// Word `index` of a page.
+/// Word `index` of a page's bytes.
 #[tactic(auto, unfolding(crate::specs::Word::word_of_page))]
 pub fn word_in(page: &[u8], index: usize) -> u64
     requires page { length page.now ≡ 4096 }
@@ -14,7 +14,7 @@ pub fn word_in(page: &[u8], index: usize) -> u64
     u64::from_le_bytes(bytes)
 }
 
-// Writes word `index` of a page.
+/// Writes word `index` of a page's bytes.
 #[tactic(auto, unfolding(crate::specs::Word::page_with_word, crate::specs::Word::with_bytes))]
 pub fn set_word_in(page: &mut [u8], index: usize, word: u64)
     requires page { length page.old ≡ 4096 }

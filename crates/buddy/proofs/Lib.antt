@@ -1,0 +1,14 @@
+pub mod Aligned
+pub mod Halves
+pub mod Flags
+pub mod Maximal
+pub mod Heads
+pub mod InHand
+pub mod Looking
+pub mod Giving
+pub mod Counts
+pub mod Tally
+pub mod Taking
+pub mod Held
+pub mod Linking
+pub mod Masks

@@ -1,0 +1,10 @@
+use Rattle.std.proofs.Common.{◌≡◌, subst, arith}
+use Rattle.buddy.specs.InHand.{HasLooked}
+use Rattle.buddy.proofs.Looking.{looked_all}
+use Rattle.buddy.proofs.blocks.cut_out.Goals as goal
+
+pub returns-clause-answer : goal.returns-clause-answer
+returns-clause-answer g c =
+    let kept = c.loop-rest.invariant in let heads = c.loop-rest.lists in let from = kept.from in
+    let last : c.loop-rest.rest ≡ c.args.order = omega arith in let orders = c.requires.0 in
+    (looked_all heads g.flags c.args.order c.args.first c.requires.1.1.0 (omega arith) c.loop-rest.found (subst (λ rest. HasLooked heads g.flags c.args.first rest c.loop-rest.found) last kept.looked)).0

@@ -1,0 +1,35 @@
+-- Which granules head a free block, and of which order.
+use Rattle.std.specs.Prelude.{◌≡◌, ℕ, ◌+◌, ◌*◌, ◌/◌, ◌^◌, ◌≤◌, ◌==◌, ◌↔◌, Bool, List, map, length, filter, slice_index_or, bit_xor}
+use Rattle.std.specs.List.{list_any, range_with_len}
+use Rattle.buddy.specs.MaximalBlock.{IsMaximalBlock}
+
+-- of a granule that heads a block, one more than the block's order; else 0
+abbrev pub head_at : List ℕ → ℕ → ℕ
+head_at heads granule = slice_index_or heads granule 0
+
+-- where the block of an order begins that holds a granule
+abbrev pub start_at : ℕ → ℕ → ℕ
+start_at granule order = granule / 2 ^ order * 2 ^ order
+
+-- the other half of the block of the next order
+abbrev pub buddy_at : ℕ → ℕ → ℕ
+buddy_at first order = bit_xor first (2 ^ order)
+
+-- the block of an order that holds a granule is one of the heads'
+abbrev pub is_held_at : List ℕ → ℕ → ℕ → Bool
+is_held_at heads granule order = head_at heads (start_at granule order) == order + 1
+
+-- of each granule, whether a block of the heads holds it
+unfoldable pub held : List ℕ → List Bool
+held heads = map (λ granule. list_any (is_held_at heads granule) (range_with_len 0 10)) (range_with_len 0 (length heads))
+
+-- The blocks of the heads are the maximal blocks of the free set.
+pub record AreMaximal (heads : List ℕ) (flags : List Bool) : Type 0 where
+  pub sized : length heads ≡ length flags
+  pub each : (order first : ℕ) → (head_at heads first ≡ order + 1) ↔ IsMaximalBlock flags order first
+
+-- The heads of a machine, and how many of its granules are free.
+pub record IsIndex (count : ℕ) (heads : List ℕ) : Type 0 where
+  pub few : length heads ≤ 4096
+  pub lists : AreMaximal heads (held heads)
+  pub counted : count ≡ length (filter (λ flag. flag) (held heads))

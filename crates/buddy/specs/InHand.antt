@@ -1,0 +1,24 @@
+-- A free block in hand, which the lists do not have, while blocks are split and merged.
+use Rattle.std.specs.Prelude.{◌≡◌, ℕ, ◌+◌, ◌^◌, ◌<◌, ◌≤◌, Bool, true, false, List}
+use Rattle.page_arena.specs.Block.{IsFreeBlock, with_taken}
+use Rattle.buddy.specs.MaximalBlock.{IsMaximalBlock}
+use Rattle.buddy.specs.Heads.{start_at, AreMaximal}
+
+-- a granule lies in a block
+abbrev pub LiesIn : ℕ → ℕ → ℕ → Type 0
+LiesIn granule order first = (first ≤ granule) × (granule < first + 2 ^ order)
+
+-- The lists have the maximal blocks of what is free without the block in hand.
+pub record InHand (heads : List ℕ) (flags : List Bool) (order first : ℕ) : Type 0 where
+  pub free : IsFreeBlock flags order first
+  pub others : AreMaximal heads (with_taken flags order first)
+
+-- no maximal block of that order or above holds the granule
+abbrev pub AllBelow : List Bool → ℕ → ℕ → Type 0
+AllBelow flags granule order = (larger start : ℕ) → IsMaximalBlock flags larger start → LiesIn granule larger start → larger < order
+
+-- Of orders from `order` on it is known whether the maximal block that holds a granule is of one of them. If so, then of
+-- that block the part of `order` that holds the granule is in hand.
+pub record HasLooked (heads : List ℕ) (flags : List Bool) (granule order : ℕ) (found : Bool) : Type 0 where
+  pub in_hand : found ≡ true → (order ≤ 9) × InHand heads flags order (start_at granule order)
+  pub not_yet : found ≡ false → AreMaximal heads flags × AllBelow flags granule order

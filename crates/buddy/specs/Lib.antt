@@ -1,0 +1,5 @@
+pub mod MaximalBlock
+pub mod Halves
+pub mod Heads
+pub mod InHand
+pub mod Links

@@ -1,0 +1,21 @@
+-- The maximal blocks of a free set. This profile's own: orders are at most 9.
+use Rattle.std.specs.Prelude.{◌≡◌, ℕ, ◌+◌, ◌^◌, ◌<◌, ◌≤◌, Bool, List}
+use Rattle.page_arena.specs.Block.{IsFreeBlock}
+
+-- a block lies in another one
+abbrev pub LiesWithin : ℕ → ℕ → ℕ → ℕ → Type 0
+LiesWithin order first larger start = (start ≤ first) × (first + 2 ^ order ≤ start + 2 ^ larger)
+
+-- A free block of order at most 9 that lies in no larger one.
+pub record IsMaximalBlock (flags : List Bool) (order first : ℕ) : Type 0 where
+  pub low : order ≤ 9
+  pub free : IsFreeBlock flags order first
+  pub widest : (larger start : ℕ) → order < larger → larger ≤ 9 → IsFreeBlock flags larger start → ¬ (LiesWithin order first larger start)
+
+-- The maximal block that holds a block, and one turn for each order from the block's own to that one's.
+pub record TurnsUp (flags : List Bool) (order first turns : ℕ) : Type 0 where
+  pub larger : ℕ
+  pub start : ℕ
+  pub maximal : IsMaximalBlock flags larger start
+  pub within : LiesWithin order first larger start
+  pub counted : turns + order ≡ larger + 1

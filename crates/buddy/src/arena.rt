@@ -1,0 +1,150 @@
+//! Raw pages under free lists by order.
+ghost use Rattle.std.specs.Prelude.{◌≡◌, ◌≢◌, ℕ, ◌+◌, ◌%◌, ◌^◌, ◌<◌, ◌≤◌, ◌↔◌, ◌⊎◌, true, length, filter, replicate, slice_set, IsTrue, IfOk, IfSome, IfNone, IsErrOf};
+ghost use Rattle.std.specs.Bool.{OnTrue, OnFalse};
+ghost use Rattle.granule_addr.specs.Page.{zero_page};
+ghost use Rattle.page_arena.specs.Page.{IsSized};
+ghost use Rattle.page_arena.specs.Block.{IsFreeBlock, IsTakenBlock, with_run, with_taken, with_given};
+ghost use Rattle.buddy.specs.MaximalBlock.{IsMaximalBlock, TurnsUp};
+
+use crate::index::FreeIndex;
+use granule_addr::{Gran, MOST_PAGES, Order, PageOff};
+use page_arena::{BuildError, PageStore, set_word_in, word_in};
+use raw_pages::RawPages;
+use std::alloc::Global;
+
+/// A store of pages in one allocation, with a list of free blocks for each order. The lists have the maximal free
+/// blocks, and no call searches one.
+#[derive(Drop)]
+pub struct BuddyArena {
+    pages: RawPages,
+    index: FreeIndex,
+    visits: u8,
+    ghost sized: { IsSized pages index },
+}
+
+impl BuddyArena {
+    /// A store of so many pages, all free and zero. `BadSize` comes exactly where the number is not 1 to 4,096, and
+    /// else the one error is `Memory`.
+    pub fn build(alloc: Global, pages: u16) -> Result<BuddyArena, BuildError>
+        ensures bad_size { IsErrOf result BuildError.BadSize ↔ ((pages < 1) ⊎ (4096 < pages)) }
+        ensures zero { IfOk result (λ arena.
+            ⟦<BuddyArena as PageStore>⟧.page_bytes arena ≡ replicate pages zero_page) }
+        ensures free { IfOk result (λ arena.
+            ⟦<BuddyArena as PageStore>⟧.free_flags arena ≡ replicate pages true) }
+        ensures visits { IfOk result (λ arena. arena.visits ≡ 0) }
+    {
+        let raw = RawPages::build(alloc, pages)?;
+        let index = FreeIndex::build(alloc, pages).map_err(BuildError::Memory)?;
+        Ok(BuddyArena {
+            pages: raw,
+            index,
+            visits: 0,
+        })
+    }
+
+    /// Whether a block is one of those that the lists hold: a free block that lies in no larger one.
+    pub fn is_free_block(&self, order: Order, first: Gran) -> bool
+        ensures { IsTrue result ↔
+            IsMaximalBlock (⟦<BuddyArena as PageStore>⟧.free_flags self.now) order first }
+    {
+        self.index
+            .is_free_block(order.number() as usize, first.number() as usize)
+    }
+
+    /// How many orders the last `take`, `take_at` or `give` looked at: one at each turn of its loop.
+    pub fn visits(&self) -> u8
+        ensures { result ≡ self.now.visits }
+    {
+        self.visits
+    }
+}
+
+impl PageStore for BuddyArena {
+    ghost page_bytes = { λ arena. arena.pages };
+
+    ghost free_flags = { λ arena. arena.index };
+
+    fn pages(&self) -> u16 {
+        self.pages.count()
+    }
+
+    fn free_count(&self) -> u16 {
+        self.index.count()
+    }
+
+    /// The visits are one for each order from that of the block up to that of the maximal block that it is cut from,
+    /// which is of the smallest order that has one; and none where there is none.
+    fn take(&mut self, order: Order) -> Option<Gran>
+        ensures block { IfSome result (IsFreeBlock self.old.index order) }
+        ensures taken { IfSome result (λ first. self.new.index ≡ with_taken self.old.index order first) }
+        ensures none { IfNone result ((first : ℕ) → ¬ (IsFreeBlock self.old.index order first)) }
+        ensures unchanged { IfNone result (self.new.index ≡ self.old.index) }
+        ensures bytes { self.new.pages ≡ self.old.pages }
+        ensures visits { IfSome result (λ first. TurnsUp self.old.index order first self.new.visits) }
+        ensures smallest { IfSome result (λ _. (larger start : ℕ) → order ≤ larger
+            → IsMaximalBlock self.old.index larger start → self.new.visits + order ≤ larger + 1) }
+        ensures refused { IfNone result (self.new.visits ≡ 0) }
+    {
+        self.visits = 0;
+        let (first, turns) = self.index.take(order.number() as usize)?;
+        self.visits = turns;
+        Gran::new(first as u16, MOST_PAGES)
+    }
+
+    /// The visits are one for each order from 9 down to that of the block, whether it is taken or not; and none where
+    /// it is not aligned.
+    fn take_at(&mut self, order: Order, first: Gran) -> bool
+        ensures answer { IsTrue result ↔ IsFreeBlock self.old.index order first }
+        ensures taken { OnTrue result (self.new.index ≡ with_taken self.old.index order first) }
+        ensures unchanged { OnFalse result (self.new.index ≡ self.old.index) }
+        ensures bytes { self.new.pages ≡ self.old.pages }
+        ensures visits { first % 2 ^ order ≡ 0 → self.new.visits + order ≡ 10 }
+        ensures slanted { first % 2 ^ order ≢ 0 → self.new.visits ≡ 0 }
+    {
+        let first = first.number() as usize;
+        let (taken, visits) = self.index.take_at(order.number() as usize, first);
+        self.visits = visits;
+        taken
+    }
+
+    /// The visits are one for each order from that of the block up to that of the maximal block that it ends in.
+    fn give(&mut self, first: Gran, order: Order)
+        requires { IsTakenBlock self.old.index order first }
+        ensures given { self.new.index ≡ with_given self.old.index order first }
+        ensures cleared { self.new.pages ≡ with_run self.old.pages first (2 ^ order) zero_page }
+        ensures visits { TurnsUp self.new.index order first self.new.visits }
+    {
+        let first = first.number() as usize;
+        self.pages.clear(first, order.size() as usize);
+        self.visits = self.index.give(first, order.number() as usize);
+    }
+
+    fn bytes(&self, granule: Gran) -> &[u8] {
+        self.pages.page(granule.number() as usize)
+    }
+
+    fn fill(&mut self, granule: Gran, value: u8) {
+        *self.pages.page_mut(granule.number() as usize) = [value; 4096];
+    }
+
+    fn set(&mut self, granule: Gran, offset: PageOff, value: u8) {
+        let page = self.pages.page_mut(granule.number() as usize);
+        page[offset.number() as usize] = value;
+    }
+
+    fn copy(&mut self, target: Gran, source: Gran) {
+        let target = target.number() as usize;
+        self.pages.copy(target, source.number() as usize);
+    }
+
+    fn word(&self, granule: Gran, index: u16) -> u64 {
+        word_in(self.pages.page(granule.number() as usize), index as usize)
+    }
+
+    fn set_word(&mut self, granule: Gran, index: u16, word: u64) {
+        let page = self.pages.page_mut(granule.number() as usize);
+        set_word_in(page, index as usize, word);
+    }
+
+    ghost sized = { λ arena. arena.sized };
+}

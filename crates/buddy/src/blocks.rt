@@ -1,0 +1,132 @@
+//! Blocks are cut out of larger ones, and merged.
+ghost use Rattle.std.specs.Prelude.{◌≡◌, ◌≢◌, ℕ, ◌+◌, ◌^◌, ◌%◌, ◌<◌, ◌≤◌, ◌↔◌, Bool, true, List, length, IsTrue, IfSome, IfNone};
+ghost use Rattle.std.specs.Bool.{OnTrue, OnFalse};
+ghost use Rattle.page_arena.specs.Block.{IsFreeBlock, IsTakenBlock, with_taken, with_given};
+ghost use Rattle.buddy.specs.MaximalBlock.{TurnsUp};
+ghost use Rattle.buddy.specs.Heads.{head_at, start_at, buddy_at, AreMaximal};
+ghost use Rattle.buddy.specs.InHand.{AllBelow, HasLooked};
+
+use crate::lists::FreeLists;
+use granule_addr::{Gran, MOST_PAGES, Order, align_down, buddy_of};
+
+// The order of that number.
+fn order_of(number: usize) -> Order
+    requires { number < 10 }
+    ensures { result ≡ number }
+{
+    Order::new(number as u8).unwrap()
+}
+
+/// How many granules a block of an order has.
+pub(crate) fn size_of(order: usize) -> u16
+    requires { order < 10 }
+    ensures size { result ≡ 2 ^ order }
+    ensures below { result ≤ 512 }
+{
+    order_of(order).size()
+}
+
+/// Where the block of an order begins that holds a granule.
+pub(crate) fn start_of(granule: usize, order: usize) -> usize
+    requires granule { granule < 4096 }
+    requires order { order < 10 }
+    ensures { result ≡ start_at granule order }
+{
+    align_down(granule as u16, order_of(order)) as usize
+}
+
+// The other half of the block of the next order. A machine may lack it.
+fn other_half(first: usize, order: usize) -> usize
+    requires first { first < 4096 }
+    requires order { order < 10 }
+    ensures { result ≡ buddy_at first order }
+{
+    let first = Gran::new(first as u16, MOST_PAGES).unwrap();
+    buddy_of(first, order_of(order)) as usize
+}
+
+// Looks at one order. A block that is in hand is split, and the half without the granule is put back.
+fn look(lists: &mut FreeLists, granule: usize, order: usize, found: bool) -> bool
+    ghost flags: { List Bool }
+    requires granule { granule < 4096 }
+    requires order { order < 10 }
+    requires looked { HasLooked lists.old flags granule (order + 1) found }
+    ensures looked { HasLooked lists.new flags granule order result }
+    ensures unchanged { OnFalse result (lists.new ≡ lists.old) }
+    ensures stays { OnTrue found (result ≡ true) }
+{
+    let start = start_of(granule, order);
+    if found {
+        lists.put(other_half(start, order), order);
+        return true;
+    }
+    if lists.head(start) as usize != order + 1 {
+        return false;
+    }
+    lists.take_out(start, order);
+    true
+}
+
+/// Cuts a block out of the free one that holds it, of which the order is at most `top`. Answers whether there is one, and
+/// how many orders were looked at.
+pub(crate) fn cut_out(lists: &mut FreeLists, first: usize, order: usize, top: usize) -> (bool, u8)
+    ghost flags: { List Bool }
+    requires orders { (order ≤ top) × (top ≤ 9) }
+    requires first { first < 4096 }
+    requires aligned { first % 2 ^ order ≡ 0 }
+    requires lists { AreMaximal lists.old flags }
+    requires top { AllBelow flags first (top + 1) }
+    ensures answer { IsTrue result.0 ↔ IsFreeBlock flags order first }
+    ensures cut { OnTrue result.0 (AreMaximal lists.new (with_taken flags order first)) }
+    ensures unchanged { OnFalse result.0 (lists.new ≡ lists.old) }
+    ensures turns { result.1 + order ≡ top + 1 }
+{
+    let mut found = false;
+    let mut turns = 0;
+    let mut rest = top + 1;
+    while rest > order {
+        rest -= 1;
+        found = look(lists, first, rest, found);
+        turns += 1;
+    }
+    (found, turns)
+}
+
+// The other half of the block of the next order, where it is free and whole.
+fn free_buddy(lists: &FreeLists, first: usize, order: usize) -> Option<usize>
+    requires first { first < 4096 }
+    requires order { order < 10 }
+    ensures order { IfSome result (λ _. order < 9) }
+    ensures buddy { IfSome result (λ other. other ≡ buddy_at first order) }
+    ensures head { IfSome result (λ other. head_at lists.now other ≡ order + 1) }
+    ensures none { IfNone result (order < 9 → head_at lists.now (buddy_at first order) ≢ order + 1) }
+{
+    let other = other_half(first, order);
+    if order < 9 && lists.head(other) as usize == order + 1 {
+        return Some(other);
+    }
+    None
+}
+
+/// Puts a block back, merged with each other half that is free and whole. Answers how many orders were looked at.
+pub(crate) fn give_to(lists: &mut FreeLists, first: usize, order: usize) -> u8
+    ghost flags: { List Bool }
+    requires few { length flags ≤ 4096 }
+    requires lists { AreMaximal lists.old flags }
+    requires order { order < 10 }
+    requires block { IsTakenBlock flags order first }
+    ensures lists { AreMaximal lists.new (with_given flags order first) }
+    ensures turns { TurnsUp (with_given flags order first) order first result }
+{
+    let mut start = first;
+    let mut rest = order;
+    let mut turns = 1;
+    while let Some(other) = free_buddy(lists, start, rest) {
+        lists.take_out(other, rest);
+        start = start.min(other);
+        rest += 1;
+        turns += 1;
+    }
+    lists.put(start, rest);
+    turns
+}

@@ -1,0 +1,111 @@
+//! Links between the heads of one order.
+ghost use Rattle.std.specs.Prelude.{◌≡◌, ℕ, ◌+◌, ◌<◌, ◌≤◌, length, replicate, slice_set, IfOk, IfSome, IfNone};
+ghost use Rattle.buddy.specs.Heads.{head_at};
+ghost use Rattle.buddy.specs.Links.{HasHead};
+
+use granule_addr::MOST_PAGES;
+use std::alloc::{AllocError, Global};
+use std::marker::Model;
+
+// The number that leads nowhere: no granule has it.
+const NOWHERE: u16 = MOST_PAGES;
+
+/// A list for each order, linked both ways by number, beside the pages and not in them: free pages are zero. Seen as
+/// the table of heads.
+#[derive(Drop)]
+pub(crate) struct Links {
+    heads: Vec<u8>,
+    next: Vec<u16>,
+    prev: Vec<u16>,
+    firsts: [u16; 10],
+}
+
+impl Model for Links {
+    ghost use Rattle.std.specs.Prelude.{List, ℕ, length};
+    ghost use Rattle.buddy.specs.Links.{IsLinked};
+
+    ghost Value = { List ℕ };
+
+    ghost view = { λ l. l.heads.items };
+
+    ghost invariant = { λ l. IsLinked (length l.heads.items) l.heads.items l.next.items l.prev.items l.firsts };
+}
+
+impl Links {
+    /// Lists with no block.
+    pub(crate) fn build(alloc: Global, count: usize) -> Result<Links, AllocError>
+        requires { count ≤ 4096 }
+        ensures { IfOk result (λ links. links ≡ replicate count 0) }
+    {
+        let heads = vec![in alloc; 0u8; count]?;
+        let next = vec![in alloc; NOWHERE; count]?;
+        let prev = vec![in alloc; NOWHERE; count]?;
+        Ok(Links {
+            heads,
+            next,
+            prev,
+            firsts: [NOWHERE; 10],
+        })
+    }
+
+    /// Of a granule that heads a block, one more than the block's order; else 0.
+    pub(crate) fn head(&self, granule: usize) -> u8
+        ensures { result ≡ head_at self.now granule }
+    {
+        if granule < self.heads.len() {
+            self.heads[granule]
+        } else {
+            0
+        }
+    }
+
+    /// The first of the list of an order.
+    pub(crate) fn first(&self, order: usize) -> Option<usize>
+        requires { order < 10 }
+        ensures head { IfSome result (λ first. head_at self.now first ≡ order + 1) }
+        ensures none { IfNone result (¬ (HasHead self.now order)) }
+    {
+        let first = self.firsts[order] as usize;
+        if first < self.heads.len() {
+            Some(first)
+        } else {
+            None
+        }
+    }
+
+    /// Puts a granule at the front of the list of an order.
+    pub(crate) fn put(&mut self, granule: usize, order: usize)
+        requires order { order < 10 }
+        requires inside { granule < length self.old }
+        requires no_head { head_at self.old granule ≡ 0 }
+        ensures { self.new ≡ slice_set self.old granule (order + 1) }
+    {
+        let first = self.firsts[order];
+        self.heads[granule] = order as u8 + 1;
+        self.next[granule] = first;
+        self.prev[granule] = NOWHERE;
+        self.firsts[order] = granule as u16;
+        if (first as usize) < self.heads.len() {
+            self.prev[first as usize] = granule as u16;
+        }
+    }
+
+    /// Takes a granule out of the list of an order, and joins its neighbours.
+    pub(crate) fn take_out(&mut self, granule: usize, order: usize)
+        requires order { order < 10 }
+        requires head { head_at self.old granule ≡ order + 1 }
+        ensures { self.new ≡ slice_set self.old granule 0 }
+    {
+        let next = self.next[granule];
+        let prev = self.prev[granule];
+        self.heads[granule] = 0;
+        if (prev as usize) < self.heads.len() {
+            self.next[prev as usize] = next;
+        } else {
+            self.firsts[order] = next;
+        }
+        if (next as usize) < self.heads.len() {
+            self.prev[next as usize] = prev;
+        }
+    }
+}

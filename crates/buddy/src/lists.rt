@@ -1,0 +1,85 @@
+//! The heads of the free blocks, in a list for each order.
+ghost use Rattle.std.specs.Prelude.{◌≡◌, ℕ, ◌+◌, ◌<◌, ◌≤◌, ◌≢◌, length, replicate, slice_set, IfOk, IfSome, IfNone};
+ghost use Rattle.buddy.specs.Heads.{head_at};
+ghost use Rattle.buddy.specs.Links.{HasHead};
+
+use crate::links::Links;
+use std::alloc::{AllocError, Global};
+use std::marker::Model;
+
+/// Lists of blocks by order, and a mask of the orders that have one. Seen as the table of heads: of a granule that
+/// heads a block, one more than the block's order, and else 0.
+#[derive(Drop)]
+pub(crate) struct FreeLists {
+    links: Links,
+    mask: u16,
+}
+
+impl Model for FreeLists {
+    ghost use Rattle.std.specs.Prelude.{List, ℕ};
+    ghost use Rattle.buddy.specs.Links.{IsMask};
+
+    ghost Value = { List ℕ };
+
+    ghost view = { λ l. l.links };
+
+    ghost invariant = { λ l. IsMask l.mask l.links };
+}
+
+impl FreeLists {
+    /// Lists with no block.
+    pub(crate) fn build(alloc: Global, count: usize) -> Result<FreeLists, AllocError>
+        requires { count ≤ 4096 }
+        ensures { IfOk result (λ lists. lists ≡ replicate count 0) }
+    {
+        let links = Links::build(alloc, count)?;
+        Ok(FreeLists { links, mask: 0 })
+    }
+
+    /// Of a granule that heads a block, one more than the block's order; else 0.
+    pub(crate) fn head(&self, granule: usize) -> u8
+        ensures { result ≡ head_at self.now granule }
+    {
+        self.links.head(granule)
+    }
+
+    /// The lowest order from `order` on that has a block, and the first of its list.
+    pub(crate) fn lowest(&self, order: usize) -> Option<(usize, usize)>
+        requires { order < 10 }
+        ensures head { IfSome result (λ r. head_at self.now r.1 ≡ r.0 + 1) }
+        ensures from { IfSome result (λ r. order ≤ r.0) }
+        ensures lowest { IfSome result (λ r. (k : ℕ) → order ≤ k → k < r.0 → ¬ (HasHead self.now k)) }
+        ensures none { IfNone result ((k : ℕ) → order ≤ k → k < 10 → ¬ (HasHead self.now k)) }
+    {
+        let above = self.mask >> order;
+        if above == 0 {
+            return None;
+        }
+        let found = order + above.trailing_zeros() as usize;
+        let first = self.links.first(found)?;
+        Some((found, first))
+    }
+
+    /// Puts a block at the front of the list of its order.
+    pub(crate) fn put(&mut self, granule: usize, order: usize)
+        requires order { order < 10 }
+        requires inside { granule < length self.old }
+        requires no_head { head_at self.old granule ≡ 0 }
+        ensures { self.new ≡ slice_set self.old granule (order + 1) }
+    {
+        self.links.put(granule, order);
+        self.mask |= 1 << order;
+    }
+
+    /// Takes a block out of its list.
+    pub(crate) fn take_out(&mut self, granule: usize, order: usize)
+        requires order { order < 10 }
+        requires head { head_at self.old granule ≡ order + 1 }
+        ensures { self.new ≡ slice_set self.old granule 0 }
+    {
+        self.links.take_out(granule, order);
+        if self.links.first(order).is_none() {
+            self.mask &= !(1 << order);
+        }
+    }
+}

@@ -1,0 +1,6 @@
+pub mod Cuts
+pub mod Decimals
+pub mod Fields
+pub mod Maxima
+pub mod Spelled
+pub mod Grammars

@@ -1,0 +1,37 @@
+-- Numbers in a text.
+use Rattle.std.specs.Prelude.{◌≡◌, ◌≢◌, ℕ, ◌<◌, ◌≤◌, ◌^◌, ◌==◌, nat_lt, ◌&&◌, if◌then◌else◌, List, [], ◌∷◌, length, slice_index, Option, Some, None, option_map, option_and_then}
+use Rattle.std.specs.List.{flat_map, AllByRecursion}
+use Rattle.std.specs.Fmt.{decimal}
+use Rattle.std.specs.Str.{bytes_eq}
+use Rattle.std.specs.Str.Parse.{digits_value}
+
+-- no `+`, and a zero only alone
+abbrev pub IsPlain : List ℕ → Type 0
+IsPlain bytes = (slice_index bytes 0 ≢ 43) × (slice_index bytes 0 ≡ 48 → length bytes ≡ 1)
+
+-- each number in decimal behind one space
+abbrev pub spelled_numbers : List ℕ → List ℕ
+spelled_numbers ns = flat_map (λ n. 32 ∷ decimal n) ns
+
+-- no more than that many, and each of 32 bits
+abbrev pub AreNumbers : ℕ → List ℕ → Type 0
+AreNumbers most ns = (length ns ≤ most) × AllByRecursion (λ n. n < 2 ^ 32) ns
+
+-- what stands before the first space, and the rest from it on
+abbrev pub before_space : List ℕ → List ℕ
+before_space [] = []
+before_space (b ∷ bs) = if b == 32 then [] else b ∷ before_space bs
+
+abbrev pub from_space : List ℕ → List ℕ
+from_space [] = []
+from_space (b ∷ bs) = if b == 32 then b ∷ bs else from_space bs
+
+-- the number of 32 bits that the field is the decimal of
+abbrev pub number_at : List ℕ → Option ℕ
+number_at field =
+    let n = digits_value 10 field in
+    if nat_lt n (2 ^ 32) && bytes_eq (decimal n) field then Some n else None
+
+abbrev pub numbers_at : List (List ℕ) → Option (List ℕ)
+numbers_at [] = Some []
+numbers_at (field ∷ fields) = option_and_then (λ n. option_map (λ ns. n ∷ ns) (numbers_at fields)) (number_at field)

@@ -1,0 +1,11 @@
+//! The pages of a machine in one allocation.
+//!
+//! Pages are seen as a list of 4,096 bytes each. All are zero at first; a page that was never written costs nothing,
+//! since all of these are lent as one page of zeros. Pointers stand in the six functions of `row.rt`. Of the caller it
+//! asks that a page is inside the machine.
+#![tactic(auto)]
+
+mod pages;
+mod row;
+
+pub use pages::RawPages;

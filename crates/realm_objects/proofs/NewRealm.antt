@@ -1,0 +1,16 @@
+-- What a realm that has just been made says of itself.
+use Rattle.std.proofs.Common.{◌≡◌, ℕ, ap}
+use Rattle.std.specs.FinMap.{empty}
+use Rattle.granule_addr.specs.declared.root.Root.{Root}
+use Rattle.realm_model.specs.Rows.{root_rows}
+use Rattle.realm_model.specs.Machine.{RealmRow}
+use Rattle.realm_model.specs.Command.Realm.{new_realm}
+use Rattle.realm_objects.specs.Attributes.{RealmAttributes, realm_row}
+
+pub new_vmid : (realm : RealmAttributes) (vmid : ℕ) (root : Root) → realm_row realm empty (root_rows root.width) ≡ new_realm vmid root → realm.vmid ≡ vmid
+unfolding new_realm
+new_vmid realm vmid root made = ap (λ (r : RealmRow). r.vmid) made
+
+pub new_root : (realm : RealmAttributes) (vmid : ℕ) (root : Root) → realm_row realm empty (root_rows root.width) ≡ new_realm vmid root → realm.root ≡ root
+unfolding new_realm
+new_root realm vmid root made = ap (λ (r : RealmRow). r.root) made

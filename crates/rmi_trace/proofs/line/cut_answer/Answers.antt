@@ -1,0 +1,16 @@
+use Rattle.std.proofs.Common.{◌≡◌, drop, true, false, Some, sym, ap, ◌∙◌}
+use Rattle.rmi_trace.specs.Lines.{answer_in}
+use Rattle.rmi_trace.proofs.Answered.{begins, rest_from, passed_more, answer_here}
+use Rattle.rmi_trace.proofs.line.cut_answer.Goals as goal
+
+pub returns-then-starts_with-clause-answer : goal.returns-then-starts_with-clause-answer
+returns-then-starts_with-clause-answer c =
+    let text = c.text_of-text.result.now in
+    let test : begins (drop c.loop-at.at text) ≡ true = ap begins (sym (rest_from text c.loop-at.at)) ∙ sym c.if-starts_with.ensures.value in
+    ap Some (rest_from text _) ∙ answer_here text c.loop-at.at c.loop-at-test.true test c.loop-at.invariant ∙ ap answer_in c.text_of-text.ensures
+
+pub loop-at-preserved : goal.loop-at-preserved
+loop-at-preserved c =
+    let text = c.text_of-text.result.now in
+    let test : begins (drop c.loop-at.at text) ≡ false = ap begins (sym (rest_from text c.loop-at.at)) ∙ sym c.if-starts_with.ensures.value in
+    passed_more text c.loop-at.at c.loop-at-test.true test c.loop-at.invariant

@@ -1,0 +1,6 @@
+pub mod Written
+pub mod Rows
+pub mod Commands
+pub mod Requests
+pub mod Lines
+pub mod Answers

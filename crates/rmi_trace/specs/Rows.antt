@@ -1,0 +1,19 @@
+-- What a word's numbers make, by how many it takes: each number is at most its maximum.
+use Rattle.std.specs.Prelude.{ℕ, nat_le, ◌&&◌, List, [], ◌∷◌, if◌then◌else◌, Option, Some, None}
+
+module _ {A : Type 0} where
+  abbrev pub one : ℕ → (ℕ → A) → List ℕ → Option A
+  one a make (k ∷ []) = if nat_le k a then Some (make k) else None
+  one a make _ = None
+
+  abbrev pub two : ℕ → ℕ → (ℕ → ℕ → A) → List ℕ → Option A
+  two a b make (k ∷ l ∷ []) = if nat_le k a && nat_le l b then Some (make k l) else None
+  two a b make _ = None
+
+  abbrev pub three : ℕ → ℕ → ℕ → (ℕ → ℕ → ℕ → A) → List ℕ → Option A
+  three a b c make (k ∷ l ∷ m ∷ []) = if nat_le k a && nat_le l b && nat_le m c then Some (make k l m) else None
+  three a b c make _ = None
+
+  abbrev pub four : ℕ → ℕ → ℕ → ℕ → (ℕ → ℕ → ℕ → ℕ → A) → List ℕ → Option A
+  four a b c d make (k ∷ l ∷ m ∷ n ∷ []) = if nat_le k a && nat_le l b && nat_le m c && nat_le n d then Some (make k l m n) else None
+  four a b c d make _ = None

@@ -1,0 +1,198 @@
+//! Answers of the monitor, and their texts.
+ghost use Rattle.std.specs.Prelude.{◌≡◌, ◌≤◌, ◌+◌, ◌++◌, length, decimal, ℕ, List};
+ghost use Rattle.arrayvec.specs.ArrayVec.{array_vec_len};
+ghost use Rattle.rmi_trace.specs.Answers.{state_word, realm_text, rec_text, measurement_text, answer_text};
+
+use arrayvec::ArrayVec;
+
+/// The most bytes that the text of an answer has.
+pub const MOST_BYTES: usize = 128;
+
+/// The state of a granule.
+#[derive(Debug, Clone, Copy)]
+pub enum State {
+    Undelegated,
+    Delegated,
+    Rd,
+    Rec,
+    RecAux,
+    Data,
+    Rtt,
+}
+
+/// The state of a realm.
+#[derive(Debug, Clone, Copy)]
+pub enum RealmState {
+    New,
+    Active,
+}
+
+/// The state of a REC.
+#[derive(Debug, Clone, Copy)]
+pub enum RecState {
+    Ready,
+    Running,
+}
+
+/// What the monitor answers.
+#[derive(Debug, Drop)]
+pub enum Answer {
+    /// The result word of a command.
+    ResultWord(u64),
+    /// RMI_SUCCESS, and the byte that was read or the number of the REC.
+    Value(u16),
+    /// The reading is of nothing.
+    Nothing,
+    State(State),
+    Sum(u32),
+    Word(u64),
+    Realm {
+        state: RealmState,
+        vmid: u8,
+        root: u16,
+        width: u8,
+        next: u16,
+    },
+    Measurement([u8; 32]),
+    Rec {
+        number: u16,
+        state: RecState,
+        auxiliaries: ArrayVec<u16, 16>,
+    },
+    /// The line is no command.
+    NoCommand,
+}
+
+// Appends the bytes.
+fn push(text: &mut ArrayVec<u8, MOST_BYTES>, bytes: &[u8])
+    requires { array_vec_len text.old + length bytes.now ≤ 128 }
+    ensures items { text.new.items ≡ text.old.items ++ bytes.now }
+    ensures len { array_vec_len text.new ≡ array_vec_len text.old + length bytes.now }
+{
+    text.try_extend_from_slice(bytes).unwrap();
+}
+
+// Appends the number in decimal.
+fn push_number(text: &mut ArrayVec<u8, MOST_BYTES>, number: u64)
+    requires { array_vec_len text.old + 20 ≤ 128 }
+    ensures items { text.new.items ≡ text.old.items ++ decimal number }
+    ensures len { array_vec_len text.new ≤ array_vec_len text.old + 20 }
+{
+    push(text, itoa::Buffer::new().format(number).as_bytes());
+}
+
+// Appends the number in decimal.
+fn push_short(text: &mut ArrayVec<u8, MOST_BYTES>, number: u16)
+    requires { array_vec_len text.old + 5 ≤ 128 }
+    ensures items { text.new.items ≡ text.old.items ++ decimal number }
+    ensures len { array_vec_len text.new ≤ array_vec_len text.old + 5 }
+{
+    push(text, itoa::Buffer::new().format(number).as_bytes());
+}
+
+// The name of the state.
+fn state_word(state: State) -> &'static [u8]
+    ensures word { result.now ≡ state_word state }
+    ensures short { length result.now ≤ 11 }
+{
+    match state {
+        State::Undelegated => b"UNDELEGATED",
+        State::Delegated => b"DELEGATED",
+        State::Rd => b"RD",
+        State::Rec => b"REC",
+        State::RecAux => b"REC_AUX",
+        State::Data => b"DATA",
+        State::Rtt => b"RTT",
+    }
+}
+
+// The attributes of a realm.
+fn realm_text(
+    state: RealmState,
+    vmid: u8,
+    root: u16,
+    width: u8,
+    next: u16,
+) -> ArrayVec<u8, MOST_BYTES>
+    ensures { result.items ≡ realm_text state vmid root width next }
+{
+    let mut text = ArrayVec::new();
+    match state {
+        RealmState::New => push(&mut text, b"NEW"),
+        RealmState::Active => push(&mut text, b"ACTIVE"),
+    }
+    push(&mut text, b" vmid ");
+    push_short(&mut text, u16::from(vmid));
+    push(&mut text, b" root ");
+    push_short(&mut text, root);
+    push(&mut text, b" width ");
+    push_short(&mut text, u16::from(width));
+    push(&mut text, b" next ");
+    push_short(&mut text, next);
+    text
+}
+
+// The attributes of a REC.
+fn rec_text(number: u16, state: RecState, auxiliaries: &[u16]) -> ArrayVec<u8, MOST_BYTES>
+    requires { length auxiliaries.now ≤ 16 }
+    ensures { result.items ≡ rec_text number state auxiliaries.now }
+{
+    let mut text = ArrayVec::new();
+    push(&mut text, b"number ");
+    push_short(&mut text, number);
+    match state {
+        RecState::Ready => push(&mut text, b" READY aux"),
+        RecState::Running => push(&mut text, b" RUNNING aux"),
+    }
+    for granule in auxiliaries {
+        push(&mut text, b" ");
+        push_short(&mut text, *granule);
+    }
+    text
+}
+
+// Two digits for each byte.
+fn measurement_text(measurement: &[u8; 32]) -> ArrayVec<u8, MOST_BYTES>
+    ensures { result.items ≡ measurement_text measurement.now }
+{
+    let mut digits = [0; 64];
+    hex::encode_to_slice(measurement.as_slice(), &mut digits).unwrap();
+    let mut text = ArrayVec::new();
+    push(&mut text, &digits);
+    text
+}
+
+impl Answer {
+    /// The text of the answer, as a trace has it behind ` = `. It takes no memory.
+    pub fn text(&self) -> ArrayVec<u8, MOST_BYTES>
+        ensures { result.items ≡ answer_text self.now }
+    {
+        let mut text = ArrayVec::new();
+        match self {
+            Answer::ResultWord(word) => push_number(&mut text, *word),
+            Answer::Value(value) => {
+                push(&mut text, b"0 ");
+                push_short(&mut text, *value);
+            }
+            Answer::Nothing => push(&mut text, b"none"),
+            Answer::State(state) => push(&mut text, state_word(*state)),
+            Answer::Sum(sum) => push_number(&mut text, u64::from(*sum)),
+            Answer::Word(word) => push_number(&mut text, *word),
+            Answer::Realm {
+                state,
+                vmid,
+                root,
+                width,
+                next,
+            } => return realm_text(*state, *vmid, *root, *width, *next),
+            Answer::Measurement(measurement) => return measurement_text(measurement),
+            Answer::Rec {
+                number,
+                state,
+                auxiliaries,
+            } => return rec_text(*number, *state, auxiliaries.as_slice()),
+            Answer::NoCommand => push(&mut text, b"no command"),
+        }
+        text
+    }
+}

@@ -1,0 +1,122 @@
+//! What a line of a trace asks for.
+//!
+//! Each operand has the number type of what it names: granules, counts and offsets 16 bits, IPA granules 32, VMIDs,
+//! widths, levels and bytes 8. So a line can name what no machine has, which is for the monitor to refuse.
+use arrayvec::ArrayVec;
+
+/// A fresh machine, in which every page is taken and zero: of 1 to 4,096 pages, with 1 to 255 VMIDs, and with up to 16
+/// auxiliary granules for each REC.
+#[derive(Debug, Drop)]
+pub struct Opening {
+    pub pages: u16,
+    pub vmids: u8,
+    pub auxiliaries: u8,
+}
+
+/// A command of the monitor.
+#[derive(Debug, Drop)]
+pub enum Command {
+    GranuleDelegate {
+        granule: u16,
+    },
+    GranuleUndelegate {
+        granule: u16,
+    },
+    HostFill {
+        granule: u16,
+        value: u8,
+    },
+    HostPeek {
+        granule: u16,
+        offset: u16,
+    },
+    /// `root` is the first of the starting tables.
+    RealmCreate {
+        rd: u16,
+        root: u16,
+        vmid: u8,
+        width: u8,
+    },
+    RealmActivate {
+        rd: u16,
+    },
+    RealmDestroy {
+        rd: u16,
+    },
+    RttCreate {
+        rd: u16,
+        granule: u16,
+        ipa: u32,
+        level: u8,
+    },
+    RttDestroy {
+        rd: u16,
+        ipa: u32,
+        level: u8,
+    },
+    RttInitRipas {
+        rd: u16,
+        ipa: u32,
+        count: u16,
+    },
+    DataCreate {
+        rd: u16,
+        granule: u16,
+        ipa: u32,
+        source: u16,
+    },
+    DataCreateUnknown {
+        rd: u16,
+        granule: u16,
+        ipa: u32,
+    },
+    DataDestroy {
+        rd: u16,
+        ipa: u32,
+    },
+    RecCreate {
+        rd: u16,
+        granule: u16,
+        auxiliaries: ArrayVec<u16, 16>,
+    },
+    RecEnter {
+        rec: u16,
+    },
+    RecExit {
+        rec: u16,
+    },
+    RecDestroy {
+        rec: u16,
+    },
+    GuestWrite {
+        rec: u16,
+        ipa: u32,
+        offset: u16,
+        value: u8,
+    },
+}
+
+/// A reading, which changes nothing.
+#[derive(Debug, Drop)]
+pub enum Reading {
+    /// The granule's state.
+    State { granule: u16 },
+    /// The sum of the granule's bytes, which of a table is 0.
+    Sum { granule: u16 },
+    /// The eight bytes at eight times the index, little endian; of a table, the word of an entry.
+    Word { granule: u16, index: u16 },
+    /// The attributes of the realm of this RD.
+    Realm { granule: u16 },
+    /// The measurement of the realm of this RD.
+    Measurement { granule: u16 },
+    /// The attributes of the REC.
+    Rec { granule: u16 },
+}
+
+/// What a line asks for.
+#[derive(Debug, Drop)]
+pub enum Request {
+    Opening(Opening),
+    Command(Command),
+    Reading(Reading),
+}
