@@ -26,7 +26,8 @@ asked_of limits world next build act command stepped =
       command = command;
       there = is.build;
       granules = subst (λ o. All (λ granule. slice_get world.leases granule ≡ Some o) (named act)) (holder_is build act command) is.granules;
-      fields = is.fields;
+      in_range = is.in_range;
+      fitting = is.fitting;
     }
 
 pub newest_is_accepted : (limits : Limits) (history : List Event) (world : World) (monitor : MonitorView) (build : ℕ) (act back : Act) (place : Place)

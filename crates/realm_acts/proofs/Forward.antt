@@ -80,7 +80,8 @@ module _ (limits : Limits) (history : List Event) (world : World) (monitor : Mon
       is = record {
         build = asked.there;
         granules = subst (λ o. All (λ granule. slice_get world.leases granule ≡ Some o) (named act)) (sym (holder_is build act asked.command)) asked.granules;
-        fields = asked.fields;
+        in_range = asked.in_range;
+        fitting = asked.fitting;
         updates = updates;
         outcome = sym same_outcome ∙ done;
         machine = ap (λ (m : MonitorView). m.machine) after ∙ ap (machine_after_all updates) mirror.machine;

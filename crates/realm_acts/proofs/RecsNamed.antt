@@ -39,5 +39,5 @@ of_realm granule number test (Some rd) is = of_row granule number test rd.cell.d
 pub rec_named_is : (limits : Limits) (world : World) (build : ℕ) (act : Act) → UnRecNamesItsRec limits world build act
 unfolding fits
 rec_named_is limits world build (UnRec granule auxiliaries number) =
-    λ asked. of_realm granule number (λ rec. bytes_eq rec.auxiliaries auxiliaries.items) (realm_of build world) asked.fields
+    λ asked. of_realm granule number (λ rec. bytes_eq rec.auxiliaries auxiliaries.items) (realm_of build world) asked.fitting
 rec_named_is limits world build _ = tt

@@ -8,7 +8,7 @@ use Rattle.realm_model.specs.declared.rmi.Rmi.{Rmi}
 use Rattle.realm_model.specs.Machine.{Limits, Seen}
 use Rattle.realm_model.specs.Update.{Update}
 use Rattle.realm_model.specs.Act.{named, reverse_of}
-use Rattle.realm_model.specs.Outcome.{fits}
+use Rattle.realm_model.specs.Outcome.{is_in_range, fits}
 use Rattle.realm_model.specs.World.{World, realm_of}
 use Rattle.realm_model.specs.Step.{step, named_cells, outcome_in}
 use Rattle.realm_model.specs.StepLaw.{leases_after}
@@ -47,13 +47,14 @@ pub record IsPlaceOf (world : World) (build : ℕ) (act : Act) (place : Place) :
 
 -- ---- what is asked
 
--- What is asked of a command of a build before the monitor is: the build is there and leases the granules named, and the
--- act's own fields fit what is there.
+-- What is asked of a command of a build before the monitor is: the build is there and leases the granules named, the act's
+-- own numbers are in range, and what it says fits what is there.
 pub record IsAsked (limits : Limits) (world : World) (build : ℕ) (act : Act) : Type 0 where
   pub command : is_command act ≡ true
   pub there : build < limits.builds
   pub granules : All (λ granule. slice_get world.leases granule ≡ Some (Some build)) (named act)
-  pub fields : fits act (realm_of build world) (named_cells world act) ≡ true
+  pub in_range : is_in_range act ≡ true
+  pub fitting : fits act (realm_of build world) (named_cells world act) ≡ true
 
 -- An act that is asked for can be performed, where its build has fewer events than RECs have numbers.
 abbrev pub AskedIsReady : Limits → List Event → World → MonitorView → ℕ → Act → Place → Type 0
