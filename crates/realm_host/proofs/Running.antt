@@ -4,7 +4,7 @@ use Rattle.std.specs.Prelude.{is_some}
 use Rattle.std.specs.List.{All}
 use Rattle.std.proofs.lemmas.List.Elements.{All-head, All-tail}
 use Rattle.realm_model.specs.Machine.{Cell, Machine}
-use Rattle.realm_model.specs.World.{realm_from, realm_of, is_lease}
+use Rattle.realm_model.specs.World.{realm_from, realm_of, same_lease}
 use Rattle.realm_model.specs.History.{acts_of, open_entries}
 use Rattle.realm_model.specs.Running.{running_count}
 use Rattle.realm_host.specs.View.{HostView, world_of, used}
@@ -17,8 +17,8 @@ unfolding realm_from
 none_from build n [] machine all = refl
 none_from build n (lease ∷ leases) [] all = refl
 none_from build n (lease ∷ leases) (cell ∷ cells) all =
-    let test : (is_lease lease (Some build) && is_some cell.descriptor) ≡ false =
-    ap (λ d. is_lease lease (Some build) && is_some d) (All-head no_rd cell cells all) ∙ never (is_lease lease (Some build)) in
+    let test : (same_lease lease (Some build) && is_some cell.descriptor) ≡ false =
+    ap (λ d. same_lease lease (Some build) && is_some d) (All-head no_rd cell cells all) ∙ never (same_lease lease (Some build)) in
     ap (λ t. cond t (Some (record { number = n; cell = cell })) (realm_from build (suc n) leases cells)) test
     ∙ none_from build (suc n) leases cells (All-tail no_rd cell cells all)
   where

@@ -9,7 +9,7 @@ use Rattle.std.proofs.lemmas.List.{length-replicate}
 use Rattle.realm_model.specs.declared.act.Act.{Act}
 use Rattle.realm_model.specs.declared.act.Event.{Event}
 use Rattle.realm_model.specs.Machine.{Limits, Cell, blank}
-use Rattle.realm_model.specs.World.{World, opening, is_lease, is_leased_to, free_set}
+use Rattle.realm_model.specs.World.{World, opening, same_lease, is_leased_to, free_set}
 use Rattle.realm_model.specs.History.{after, replay, open_entries, unmatched, pages_of, pages_held, acts_of, IsLegal}
 use Rattle.realm_model.proofs.Pages.{pages_are_leased}
 use Rattle.rmi_monitor.specs.View.{MonitorView, fresh}
@@ -83,9 +83,9 @@ same_count (lease ∷ leases) first test same =
 
 pub length-free_set : (world : World) → length (filter (λ (flag : Bool). flag) (map is_none world.leases)) ≡ length (free_set world)
 length-free_set world = same_count world.leases 0 (is_leased_to None world.leases) (λ i lease e.
-    ap (λ n. option_eq is_lease (slice_get world.leases n) (Some None)) (zero-add i) ∙ ap (λ o. option_eq is_lease o (Some None)) e ∙ nobody lease)
+    ap (λ n. option_eq same_lease (slice_get world.leases n) (Some None)) (zero-add i) ∙ ap (λ o. option_eq same_lease o (Some None)) e ∙ nobody lease)
   where
-    nobody : (lease : Option ℕ) → is_lease lease None ≡ is_none lease
+    nobody : (lease : Option ℕ) → same_lease lease None ≡ is_none lease
     nobody None = refl
     nobody (Some b) = refl
 
