@@ -1,5 +1,5 @@
 -- A block that is taken, and one that is given back, are steps.
-use Rattle.std.proofs.Common.{◌≡◌, ℕ, ◌+◌, ◌-◌, ◌%◌, ◌^◌, ◌<◌, ◌≤◌, Bool, true, false, ◌&&◌, List, [], ◌∷◌, length, map, Option, Some, None, refl, sym, ap, ◌∙◌, subst, arith}
+use Rattle.std.proofs.Common.{◌≡◌, ℕ, ◌+◌, ◌-◌, ◌%◌, ◌^◌, ◌<◌, ◌≤◌, Bool, true, false, List, [], ◌∷◌, length, map, Option, Some, None, refl, sym, ap, ◌∙◌, subst, arith}
 use Rattle.std.specs.Prelude.{is_none, slice_get}
 use Rattle.std.specs.List.{All, list_all, last_or}
 use Rattle.std.proofs.lemmas.Bool.{and_parts, and_from, eqb-true, eq-eqb, le-leb}
@@ -107,12 +107,12 @@ module _ (limits : Limits) (history : List Event) (world : World) (monitor : Mon
     abbrev is_of_host : ℕ → Type 0
     is_of_host g = (cell_at world.machine g).state ≡ Undelegated
 
-    fit : (is_block_start order first && list_all is_undelegated (map (seen world.machine) (block order first))) ≡ true
-    unfolding named fits
-    fit = is.fields
-
     begins : is_block_start order first ≡ true
-    begins = (and_parts _ _ fit).0
+    begins = is.in_range
+
+    fit : list_all is_undelegated (map (seen world.machine) (block order first)) ≡ true
+    unfolding named fits
+    fit = is.fitting
 
     all_held : All is_held (block order first)
     unfolding named
@@ -125,7 +125,7 @@ module _ (limits : Limits) (history : List Event) (world : World) (monitor : Mon
         All-cons is_of_host g gs (undelegated_state (cell_at world.machine g).state parts.0) (all_states gs parts.1)
 
     states : All is_of_host (block order first)
-    states = all_states (block order first) (and_parts _ _ fit).1
+    states = all_states (block order first) fit
 
     each_held : (g : ℕ) → first ≤ g → g < first + 2 ^ order → is_held g
     each_held = of_all_range is_held first (2 ^ order) all_held

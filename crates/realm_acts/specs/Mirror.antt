@@ -47,8 +47,8 @@ pub record IsPlaceOf (world : World) (build : ℕ) (act : Act) (place : Place) :
 
 -- ---- what is asked
 
--- What is asked of a command of a build before the monitor is: the build is there and leases the granules named, the
--- act's own numbers are in range, and what it says fits what is there.
+-- What is asked of a command of a build before the monitor is: the build is there and leases the granules named, the act's
+-- own numbers are in range, and what it says fits what is there.
 pub record IsAsked (limits : Limits) (world : World) (build : ℕ) (act : Act) : Type 0 where
   pub command : is_command act ≡ true
   pub there : build < limits.builds
