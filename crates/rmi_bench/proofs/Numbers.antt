@@ -1,5 +1,5 @@
 -- The number of a realm's next REC.
-use Rattle.std.proofs.Common.{◌≡◌, ℕ, Bool, true, Option, Some, None, option_map, refl, sym, ap, ◌∙◌}
+use Rattle.std.proofs.Common.{◌≡◌, Bool, true, Option, Some, None, option_map, refl, ap, ◌∙◌}
 use Rattle.std.specs.Prelude.{nat_lt}
 use Rattle.realm_model.specs.Machine.{RealmRow}
 use Rattle.realm_objects.specs.Attributes.{RealmAttributes}

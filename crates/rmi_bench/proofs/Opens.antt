@@ -1,13 +1,13 @@
 -- How every granule is taken, one after another.
-use Rattle.std.proofs.Common.{◌≡◌, ℕ, zero, suc, ◌+◌, ◌<◌, ◌≤◌, ◌^◌, ◌⊎◌, inl, inr, ⊎_elim, Bool, true, false, List, [], ◌∷◌, length, replicate, get_or, refl, sym, ap, ◌∙◌, subst, arith}
+use Rattle.std.proofs.Common.{◌≡◌, ℕ, ◌+◌, ◌<◌, ◌≤◌, ◌⊎◌, inl, inr, ⊎_elim, Bool, true, false, List, length, replicate, refl, sym, ap, ◌∙◌, subst, arith}
 use Rattle.std.specs.Prelude.{IsTrue, ◌↔◌}
 use Rattle.std.specs.Bool.{OnTrue, OnFalse}
 use Rattle.std.proofs.lemmas.Bool.{cases_lt}
 use Rattle.std.proofs.lemmas.List.{ext_get_or, length-replicate, get_or-replicate}
 use Rattle.page_arena.specs.Page.{is_free}
-use Rattle.page_arena.specs.Block.{IsFreeBlock, with_run}
+use Rattle.page_arena.specs.Block.{IsFreeBlock}
 use Rattle.page_arena.specs.Runs.{length-with_run, get_or-with_run_inside, get_or-with_run_outside, inside_or_outside}
-use Rattle.rmi_monitor.specs.View.{MonitorView, IsTaken, with_block}
+use Rattle.rmi_monitor.specs.View.{MonitorView, with_block}
 use Rattle.rmi_bench.specs.Machine.{all_taken, IsBench}
 
 -- so many granules are taken, and nothing else is other than it was

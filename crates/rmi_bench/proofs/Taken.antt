@@ -1,10 +1,10 @@
 -- What the commands of the monitor keep: a bench is a bench.
-use Rattle.std.proofs.Common.{◌≡◌, ℕ, ◌<◌, ◌≤◌, true, List, [], ◌∷◌, length, Ok, Err, refl, sym, ap, ◌∙◌, subst}
+use Rattle.std.proofs.Common.{◌≡◌, ℕ, ◌<◌, ◌≤◌, true, List, [], ◌∷◌, length, Ok, Err, refl, sym, ◌∙◌, subst}
 use Rattle.std.proofs.lemmas.List.{length-set}
 use Rattle.std.proofs.lemmas.Bool.{ltb-true}
 use Rattle.realm_model.specs.Machine.{Machine}
 use Rattle.realm_model.specs.Update.{Update, Outcome, granule_of, machine_after, machine_after_all, machine_after_command}
-use Rattle.rmi_monitor.specs.View.{MonitorView, IsTaken, AreAllTaken, after_command}
+use Rattle.rmi_monitor.specs.View.{MonitorView, IsTaken, after_command}
 use Rattle.rmi_bench.specs.Machine.{IsBench}
 use Rattle.rmi_bench.specs.Calls.{is_inside}
 

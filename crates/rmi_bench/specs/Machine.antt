@@ -1,5 +1,5 @@
 -- The machine of a bench.
-use Rattle.std.specs.Prelude.{◌≡◌, ℕ, ◌<◌, ◌≤◌, ◌&&◌, nat_le, Bool, false, length, replicate}
+use Rattle.std.specs.Prelude.{ℕ, ◌≤◌, ◌&&◌, nat_le, Bool, false, length, replicate}
 use Rattle.realm_model.specs.Machine.{blank}
 use Rattle.rmi_monitor.specs.View.{MonitorView, AreAllTaken}
 

@@ -1,7 +1,6 @@
 use Rattle.std.proofs.Common.{[], ◌∷◌, Err, refl, sym, ap, ◌∙◌}
 use Rattle.std.specs.Prelude.{nat_le}
 use Rattle.std.proofs.lemmas.Result.{err_from_is_err_and}
-use Rattle.granule_addr.specs.declared.root.Root.{Root}
 use Rattle.rmi_monitor.specs.View.{make_realm}
 use Rattle.rmi_bench.proofs.Calls.{given, not_given, no_vmid, out_first, out_second, in_two, does_refused, does_outside, does_named, does_inside}
 use Rattle.rmi_bench.proofs.Taken.{bench_after}
