@@ -98,11 +98,11 @@ module _ (limits : Limits) (history : List Event) (w : World) (b : ℕ) (legal :
       of_build c = ⊎_elim
           (λ same. none (room_of c (erase b history)) capacity (ap (λ n. room_of n (erase b history)) same ∙ ap (sum_by room_taken) (acts_of-erased b history)))
           (λ apart. subst (λ n. n ≤ capacity)
-          (room_is_sum limits history w c legal at_w ∙ ap (sum_by room_taken) (sym (acts_of-erase b c apart history))) (fits.used c))
+          (room_is_sum limits history w c legal at_w ∙ ap (sum_by room_taken) (sym (acts_of-erase b c apart history))) (fits.used c (λ same. apart (sym same))))
           (cases_eq c b)
 
       few_of_build : (c n : ℕ) → length (open_entries c (erase b (take n history))) ≤ most
       few_of_build c n = ⊎_elim
           (λ same. none (length (open_entries c (erase b (take n history)))) most (ap length (ap (λ x. open_entries x (erase b (take n history))) same ∙ none_open b (take n history))))
-          (λ apart. subst (λ s. length s ≤ most) (sym (open_others b c apart [] (take n history))) (fits.few_open c n))
+          (λ apart. subst (λ s. length s ≤ most) (sym (open_others b c apart [] (take n history))) (fits.few_open c n (λ same. apart (sym same))))
           (cases_eq c b)

@@ -34,12 +34,12 @@ AllAccepted limits capacity most before [] = Unit {0}
 AllAccepted limits capacity most before (event ∷ events) =
     IsAccepted limits capacity most before event × AllAccepted limits capacity most (before ++ event ∷ []) events
 
--- no build has used more than its room, and none has had more acts open at any time than the most
-pub record AllHaveRoom (capacity most : ℕ) (history : List Event) (world : World) : Type 0 where
-  pub used : (build : ℕ) → used_room build history world ≤ capacity
-  pub few_open : (build n : ℕ) → length (open_entries build (take n history)) ≤ most
+-- No build but the one that is left out has used more than its room, or had more acts open at any time than the most.
+pub record OthersHaveRoom (capacity most : ℕ) (history : List Event) (world : World) (build : ℕ) : Type 0 where
+  pub used : (other : ℕ) → build ≢ other → used_room other history world ≤ capacity
+  pub few_open : (other n : ℕ) → build ≢ other → length (open_entries other (take n history)) ≤ most
 
--- Where all builds have room, each event of what is left is accepted in turn, from nothing on.
+-- Where these have room, each event of what is left is accepted in turn, from nothing on.
 abbrev pub WhatIsLeftIsAccepted : Limits → ℕ → ℕ → List Event → World → ℕ → Type 0
 WhatIsLeftIsAccepted limits capacity most history world build =
-    AllHaveRoom capacity most history world → AllAccepted limits capacity most [] (erase build history)
+    OthersHaveRoom capacity most history world build → AllAccepted limits capacity most [] (erase build history)
