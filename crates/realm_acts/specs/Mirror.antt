@@ -2,7 +2,7 @@
 use Rattle.std.specs.Prelude.{◌≡◌, ◌<◌, ℕ, List, [], ◌∷◌, ◌++◌, map, true, false, Option, Some, None, option_map, is_none, slice_get, length, Result, Ok, Err}
 use Rattle.std.specs.List.{All, last_or}
 use Rattle.realm_model.specs.declared.act.Act.{Act}
-use Rattle.realm_model.specs.declared.act.Act.TheVariants.{UnRec}
+use Rattle.realm_model.specs.declared.act.Act.TheVariants.{Rec, UnRec}
 use Rattle.realm_model.specs.declared.act.Event.{Event}
 use Rattle.realm_model.specs.declared.rmi.Rmi.{Rmi}
 use Rattle.realm_model.specs.Machine.{Limits, Seen}
@@ -56,10 +56,15 @@ pub record IsAsked (limits : Limits) (world : World) (build : ℕ) (act : Act) :
   pub in_range : is_in_range act ≡ true
   pub fitting : fits act (realm_of build world) (named_cells world act) ≡ true
 
--- An act that is asked for can be performed, where its build has fewer events than RECs have numbers.
+-- where an act makes a REC, its build has fewer events than RECs have numbers
+abbrev pub HasFewEvents : List Event → ℕ → Act → Type 0
+HasFewEvents history build (Rec granule auxiliaries number) = length (acts_of build history) < 65535
+HasFewEvents history build _ = Unit {0}
+
+-- So an act that is asked for can be performed.
 abbrev pub AskedIsReady : Limits → List Event → World → MonitorView → ℕ → Act → Place → Type 0
 AskedIsReady limits history world monitor build act place =
-    IsMirror limits history world monitor → IsPlaceOf world build act place → IsAsked limits world build act → length (acts_of build history) < 65535
+    IsMirror limits history world monitor → IsPlaceOf world build act place → IsAsked limits world build act → HasFewEvents history build act
     → IsReady monitor place act
 
 -- A REC that is taken away has the granule that its act names.
