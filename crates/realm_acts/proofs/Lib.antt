@@ -4,8 +4,12 @@ pub mod Pages
 -- beside a history
 pub mod Flags
 pub mod Ranges
+pub mod Fresh
 pub mod Forward
 pub mod Ready
 pub mod Backward
 pub mod RecsNamed
 pub mod Blocks
+pub mod RecLists
+pub mod RecsAfter
+pub mod RecsOpen

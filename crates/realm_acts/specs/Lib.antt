@@ -1,3 +1,4 @@
 pub mod Performing
 pub mod Mirror
 pub mod Blocks
+pub mod RecsOpen

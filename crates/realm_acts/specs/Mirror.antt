@@ -9,13 +9,13 @@ use Rattle.realm_model.specs.Machine.{Limits, Seen}
 use Rattle.realm_model.specs.Update.{Update}
 use Rattle.realm_model.specs.Act.{named, reverse_of}
 use Rattle.realm_model.specs.Outcome.{is_in_range, fits}
-use Rattle.realm_model.specs.World.{World, realm_of}
+use Rattle.realm_model.specs.World.{World, opening, realm_of}
 use Rattle.realm_model.specs.Step.{step, named_cells, outcome_in}
 use Rattle.realm_model.specs.StepLaw.{leases_after}
 use Rattle.realm_model.specs.History.{acts_of, open_entries, replay, IsLegal, IsInTurn}
 use Rattle.realm_model.specs.Running.{is_running}
 use Rattle.realm_model.specs.Undoing.{by}
-use Rattle.rmi_monitor.specs.View.{MonitorView, Answers, after_command}
+use Rattle.rmi_monitor.specs.View.{MonitorView, Answers, after_command, fresh}
 use Rattle.realm_acts.specs.declared.place.Place.{Place}
 use Rattle.realm_acts.specs.Performing.{is_command, rec_named, rec_granule, outcome_on, IsReady}
 
@@ -28,6 +28,10 @@ pub record IsMirror (limits : Limits) (history : List Event) (world : World) (mo
   pub aux : monitor.aux ≡ limits.aux
   pub machine : monitor.machine ≡ world.machine
   pub free : monitor.free ≡ map is_none world.leases
+
+-- A monitor that has just been built is that of the empty history.
+abbrev pub FreshIsMirror : Limits → Type 0
+FreshIsMirror limits = IsMirror limits [] (opening limits) (fresh limits.vmids limits.aux limits.pages)
 
 -- ---- where an act of a build is performed
 
