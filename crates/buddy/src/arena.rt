@@ -1,9 +1,10 @@
 //! Raw pages under free lists by order.
-ghost use Rattle.std.specs.Prelude.{◌≡◌, ◌≢◌, ℕ, ◌+◌, ◌%◌, ◌^◌, ◌<◌, ◌≤◌, ◌↔◌, ◌⊎◌, true, length, filter, replicate, slice_set, IsTrue, IfOk, IfSome, IfNone, IsErrOf};
+ghost use Rattle.std.specs.Prelude.{◌≡◌, ◌≢◌, ℕ, ◌+◌, ◌%◌, ◌^◌, ◌<◌, ◌≤◌, ◌↔◌, ◌⊎◌, true, false, length, filter, replicate, slice_set, IsTrue, IfOk, IfSome, IfNone, IsErrOf};
 ghost use Rattle.std.specs.Bool.{OnTrue, OnFalse};
-ghost use Rattle.granule_addr.specs.Page.{zero_page};
-ghost use Rattle.page_arena.specs.Page.{IsSized};
+ghost use Rattle.granule_addr.specs.Page.{page_of, zero_page};
+ghost use Rattle.page_arena.specs.Page.{page_at, is_free, with_byte, IsSized};
 ghost use Rattle.page_arena.specs.Block.{IsFreeBlock, IsTakenBlock, with_run, with_taken, with_given};
+ghost use Rattle.page_arena.specs.Word.{with_word};
 ghost use Rattle.buddy.specs.MaximalBlock.{IsMaximalBlock, TurnsUp};
 
 use crate::index::FreeIndex;
@@ -123,16 +124,36 @@ impl PageStore for BuddyArena {
         self.pages.page(granule.number() as usize)
     }
 
-    fn fill(&mut self, granule: Gran, value: u8) {
+    fn fill(&mut self, granule: Gran, value: u8)
+        requires inside { granule < length self.old.pages }
+        requires taken { is_free self.old.index granule ≡ false }
+        ensures filled { self.new.pages ≡ slice_set self.old.pages granule (page_of value) }
+        ensures flags { self.new.index ≡ self.old.index }
+        ensures visits { self.new.visits ≡ self.old.visits }
+    {
         *self.pages.page_mut(granule.number() as usize) = [value; 4096];
     }
 
-    fn set(&mut self, granule: Gran, offset: PageOff, value: u8) {
+    fn set(&mut self, granule: Gran, offset: PageOff, value: u8)
+        requires inside { granule < length self.old.pages }
+        requires taken { is_free self.old.index granule ≡ false }
+        ensures written { self.new.pages ≡ with_byte self.old.pages granule offset value }
+        ensures flags { self.new.index ≡ self.old.index }
+        ensures visits { self.new.visits ≡ self.old.visits }
+    {
         let page = self.pages.page_mut(granule.number() as usize);
         page[offset.number() as usize] = value;
     }
 
-    fn copy(&mut self, target: Gran, source: Gran) {
+    fn copy(&mut self, target: Gran, source: Gran)
+        requires inside { target < length self.old.pages }
+        requires source_inside { source < length self.old.pages }
+        requires taken { is_free self.old.index target ≡ false }
+        requires different { target ≢ source }
+        ensures copied { self.new.pages ≡ slice_set self.old.pages target (page_at self.old.pages source) }
+        ensures flags { self.new.index ≡ self.old.index }
+        ensures visits { self.new.visits ≡ self.old.visits }
+    {
         let target = target.number() as usize;
         self.pages.copy(target, source.number() as usize);
     }
@@ -141,7 +162,14 @@ impl PageStore for BuddyArena {
         word_in(self.pages.page(granule.number() as usize), index as usize)
     }
 
-    fn set_word(&mut self, granule: Gran, index: u16, word: u64) {
+    fn set_word(&mut self, granule: Gran, index: u16, word: u64)
+        requires inside { granule < length self.old.pages }
+        requires taken { is_free self.old.index granule ≡ false }
+        requires index { index < 512 }
+        ensures written { self.new.pages ≡ with_word self.old.pages granule index word }
+        ensures flags { self.new.index ≡ self.old.index }
+        ensures visits { self.new.visits ≡ self.old.visits }
+    {
         let page = self.pages.page_mut(granule.number() as usize);
         set_word_in(page, index as usize, word);
     }

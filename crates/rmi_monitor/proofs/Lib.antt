@@ -50,6 +50,8 @@ pub mod DataBytes
 pub mod RecFound
 pub mod RecReads
 pub mod RecNumbers
+pub mod RecNamed
+pub mod RecReadings
 pub mod RecChanges
 pub mod RecRuns
 pub mod GuestWrites

@@ -3,4 +3,5 @@ pub mod Codes
 pub mod Gathered
 pub mod Inside
 pub mod Places
+pub mod Named
 pub mod Vmids

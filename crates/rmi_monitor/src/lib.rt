@@ -11,6 +11,7 @@ mod guest;
 mod inputs;
 mod monitor;
 mod places;
+mod reading;
 mod realm;
 mod rec;
 mod recs;

@@ -1,0 +1,7 @@
+pub mod Taken
+pub mod Calls
+pub mod RecCalls
+pub mod Opens
+pub mod Words
+pub mod Numbers
+pub mod RecMakes

@@ -1,0 +1,41 @@
+-- What the commands of the monitor keep: a bench is a bench.
+use Rattle.std.proofs.Common.{◌≡◌, ℕ, ◌<◌, ◌≤◌, true, List, [], ◌∷◌, length, Ok, Err, refl, sym, ◌∙◌, subst}
+use Rattle.std.proofs.lemmas.List.{length-set}
+use Rattle.std.proofs.lemmas.Bool.{ltb-true}
+use Rattle.realm_model.specs.Machine.{Machine}
+use Rattle.realm_model.specs.Update.{Update, Outcome, granule_of, machine_after, machine_after_all, machine_after_command}
+use Rattle.rmi_monitor.specs.View.{MonitorView, IsTaken, after_command}
+use Rattle.rmi_bench.specs.Machine.{IsBench}
+use Rattle.rmi_bench.specs.Calls.{is_inside}
+
+length_after_all : (updates : List Update) (machine : Machine) → length (machine_after_all updates machine) ≡ length machine
+unfolding machine_after_all
+length_after_all [] machine = refl
+length_after_all (update ∷ updates) machine = length_after_all updates (machine_after update machine) ∙ length-set machine (granule_of update) _
+
+pub length_after : (outcome : Outcome) (machine : Machine) → length (machine_after_command outcome machine) ≡ length machine
+length_after (Ok updates) machine = length_after_all updates machine
+length_after (Err rmi) machine = refl
+
+taken_after : (outcome : Outcome) (monitor : MonitorView) (granule : ℕ) → IsTaken monitor granule → IsTaken (after_command outcome monitor) granule
+taken_after outcome monitor granule taken =
+    record { inside = subst (λ n. granule < n) (sym (length_after outcome monitor.machine)) taken.inside; taken = taken.taken }
+
+-- a bench after a command
+bench_after_command : (outcome : Outcome) (monitor : MonitorView) → IsBench monitor → IsBench (after_command outcome monitor)
+bench_after_command outcome monitor is =
+    let same : length (machine_after_command outcome monitor.machine) ≡ length monitor.machine = length_after outcome monitor.machine in record {
+      all = record {
+        size = refl;
+        each = λ granule inside. taken_after outcome monitor granule (is.all.each granule (subst (λ n. granule < n) same inside));
+      };
+      few_pages = subst (λ n. n ≤ 4096) (sym same) is.few_pages;
+      few_auxiliaries = is.few_auxiliaries;
+    }
+
+pub bench_after : (outcome : Outcome) (monitor after : MonitorView) → after ≡ after_command outcome monitor → IsBench monitor → IsBench after
+bench_after outcome monitor after is bench = subst IsBench (sym is) (bench_after_command outcome monitor bench)
+
+-- a granule that the machine has is taken
+pub taken_inside : (monitor : MonitorView) (granule : ℕ) → IsBench monitor → is_inside monitor granule ≡ true → IsTaken monitor granule
+taken_inside monitor granule bench inside = bench.all.each granule (ltb-true granule (length monitor.machine) inside)

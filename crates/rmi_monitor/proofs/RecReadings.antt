@@ -1,0 +1,61 @@
+-- What is read of a REC by its granule, over the fields of a monitor.
+use Rattle.std.proofs.Common.{◌≡◌, ℕ, ◌<◌, length, get_or, Option, Some, None, option_map, refl, sym, ap, ◌∙◌, subst}
+use Rattle.std.specs.Prelude.{option_and_then}
+use Rattle.std.specs.FinMap.{get}
+use Rattle.std.proofs.lemmas.Option.{same_Some, none-some}
+use Rattle.realm_model.specs.Machine.{RealmRow, RecRow}
+use Rattle.realm_objects.specs.Attributes.{RealmAttributes, RecAttributes, rec_row}
+use Rattle.rmi_monitor.specs.View.{MonitorView, IsRec, rec_in}
+use Rattle.rmi_monitor.specs.Inside.{Fields, rec_at, seen_as, IsWhole}
+use Rattle.rmi_monitor.specs.Named.{rec_named, rec_attributes_of, rec_attributes_at}
+use Rattle.rmi_monitor.proofs.Granules.{as_many_granules}
+use Rattle.rmi_monitor.proofs.Listed.{read_at}
+use Rattle.rmi_monitor.proofs.RealmFound.{row_of, descriptor_there}
+use Rattle.rmi_monitor.proofs.RecFound.{IsKept, kept_at, rec_found, row_found}
+use Rattle.rmi_monitor.proofs.RecNamed.{named_some, named_none}
+
+module _ (monitor : MonitorView) (fields : Fields) (view_is : seen_as fields ≡ monitor) (whole : IsWhole fields) (granule : ℕ) where
+  -- what the machine has by a realm and a number
+  row_there : (rec : RecAttributes) (rd : ℕ) (realm : RealmAttributes) → IsKept fields granule rec rd realm → rec_in monitor.machine rd rec.number ≡ Some (rec_row granule rec)
+  row_there rec rd realm kept =
+      ap (option_and_then (λ (r : RealmRow). get r.recs rec.number)) (descriptor_there monitor fields view_is whole rd realm kept.there)
+      ∙ row_found fields whole granule rec rd realm kept
+
+  is_rec : (rec : RecAttributes) (rd : ℕ) (realm : RealmAttributes) → IsKept fields granule rec rd realm → IsRec monitor.machine rd rec.number granule
+  is_rec rec rd realm kept = record {
+    realm = row_of fields rd realm;
+    there = descriptor_there monitor fields view_is whole rd realm kept.there;
+    rec = rec_row granule rec;
+    numbered = row_found fields whole granule rec rd realm kept;
+    is = refl;
+  }
+
+  -- the attributes of the REC that stands there
+  pub rec_there : rec_at fields granule ≡ rec_attributes_at monitor.machine granule
+  rec_there = by (rec_at fields granule) refl (rec_named monitor.machine granule) refl
+    where
+      by : (kept : Option RecAttributes) → rec_at fields granule ≡ kept → (named : Option (ℕ × ℕ)) → rec_named monitor.machine granule ≡ named
+          → kept ≡ option_and_then (λ n. option_map (rec_attributes_of n.1) (rec_in monitor.machine n.0 n.1)) named
+      by (Some rec) at (Some (rd, number)) found =
+          let is = rec_found monitor fields view_is whole rd number granule (named_some monitor.machine granule rd number found) in
+          let same : is.0 ≡ rec = same_Some is.0 rec (sym is.2.at ∙ at) in
+          let same_number : is.0.number ≡ number = is.3 in
+          sym (ap (λ n. option_map (rec_attributes_of n) (rec_in monitor.machine rd n)) (sym same_number)
+          ∙ ap (option_map (rec_attributes_of is.0.number)) (row_there is.0 rd is.1 is.2)
+          ∙ ap Some same)
+      by (Some rec) at None found =
+          let kept = kept_at fields whole granule rec at in
+          absurd (named_none monitor.machine granule found (whole.recs.of granule rec at).rd rec.number (is_rec rec _ _ kept))
+      by None at (Some (rd, number)) found =
+          let is = rec_found monitor fields view_is whole rd number granule (named_some monitor.machine granule rd number found) in
+          absurd (none-some is.0 (sym at ∙ is.2.at))
+      by None at None found = refl
+
+  module _ (inside : granule < length monitor.machine) (i : ℕ) where
+    -- the place, by the number that code reads it with
+    pub rec_place : i ≡ granule → i < length fields.recs
+    rec_place same = subst (λ k. i < k) (as_many_granules monitor fields view_is whole ∙ sym whole.rec_places) (subst (λ k. k < length monitor.machine) (sym same) inside)
+
+    pub rec_read : (x y : Option RecAttributes) → i ≡ granule → x ≡ get_or fields.recs i x → x ≡ y → rec_at fields granule ≡ y
+    rec_read x y same read is =
+        read_at fields.recs i granule None x y same (subst (λ k. k < length fields.recs) same (rec_place same)) read is
