@@ -10,6 +10,8 @@ pub mod Ready
 pub mod Backward
 pub mod RecsNamed
 pub mod Blocks
+-- what a build has open, and its realm
 pub mod RecLists
 pub mod RecsAfter
 pub mod RecsOpen
+pub mod VmidsFollow

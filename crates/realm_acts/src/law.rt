@@ -10,6 +10,7 @@ ghost use Rattle.realm_acts.specs.declared.place.Place.{Place};
 ghost use Rattle.realm_acts.specs.Blocks.{TakenIsStep, GivenBackIsStep};
 ghost use Rattle.realm_acts.specs.Mirror.{FreshIsMirror, AskedIsReady, PerformedIsStep, NewestIsAccepted, UnRecNamesItsRec};
 ghost use Rattle.realm_acts.specs.RecsOpen.{RecsAreOpen};
+ghost use Rattle.realm_acts.specs.VmidsUsed.{VmidsFollowSteps};
 
 /// A monitor that has just been built is that of the empty history.
 pub fn a_fresh_monitor_mirrors_nothing()
@@ -49,4 +50,9 @@ pub fn what_is_given_back_is_a_step()
 /// The RECs of a build's realm are those of its open Rec acts, whose numbers rise.
 pub fn recs_are_open_acts()
     ensures { (limits : Limits) (history : List Event) (world : World) (build : ℕ) → IsLegal limits history → replay limits history ≡ Some world → RecsAreOpen history world build }
+{}
+
+/// The VMIDs in use after an act are those before it, with that of a realm that is made, and without that of one that ends.
+pub fn vmids_follow_steps()
+    ensures { (limits : Limits) (history : List Event) (world : World) (build : ℕ) (act : Act) (next : World) → IsLegal limits history → replay limits history ≡ Some world → VmidsFollowSteps limits history world build act next }
 {}
