@@ -41,6 +41,16 @@ fn set_run(flags: &mut [bool], first: usize, count: usize, flag: bool)
     }
 }
 
+// Makes the `count` values from `first` on zero.
+fn clear(values: &mut [u8], first: usize, count: usize)
+    requires { first + count ≤ length values.old }
+    ensures { length values.new ≡ length values.old }
+{
+    for at in first..first + count {
+        values[at] = 0;
+    }
+}
+
 /// Whether a block lies inside the machine and all its flags are `wanted`.
 pub(crate) fn is_block(flags: &[bool], order: Order, first: usize, wanted: bool) -> bool
     ensures { IsTrue result → IsBlock wanted flags.now order first }
@@ -116,9 +126,7 @@ impl<S: PageStore + Drop> Beside<S> {
         }
         self.store.give(first, order);
         set_run(&mut self.free, start, size, true);
-        for at in start..start + size {
-            self.values[at] = 0;
-        }
+        clear(&mut self.values, start, size);
         true
     }
 
