@@ -1,0 +1,3 @@
+pub mod Commands
+pub mod Readings
+pub mod Session
