@@ -15,7 +15,7 @@ pub appends_none : (old : Option (List ℕ)) → Appends old old []
 appends_none None = tt
 appends_none (Some xs) = sym (append-nil xs)
 
-appends_keeps : (a b c : Option (List ℕ)) (front : List ℕ) → Appends a b front → Keeps b c → Appends a c front
+pub appends_keeps : (a b c : Option (List ℕ)) (front : List ℕ) → Appends a b front → Keeps b c → Appends a c front
 appends_keeps None b c front h k = tt
 appends_keeps (Some xs) None c front h k = absurd h
 appends_keeps (Some xs) (Some ys) None front h k = absurd k

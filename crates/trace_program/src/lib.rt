@@ -4,10 +4,13 @@
 //! another: it has no bench before the first `machine` line, and a new one from each of these on.
 #![tactic(auto)]
 
+mod answering;
 mod command;
+mod fault;
 mod reading;
 mod session;
 
 pub use command::perform;
+pub use fault::Fault;
 pub use reading::read;
 pub use session::Session;
