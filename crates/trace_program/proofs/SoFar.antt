@@ -1,5 +1,5 @@
 -- What has been read and written, one byte after another.
-use Rattle.std.proofs.Common.{◌≡◌, ℕ, ◌<◌, ◌==◌, Bool, true, false, List, [], ◌∷◌, ◌++◌, length, map, suc, get_or, take, drop, Option, None, refl, sym, ap, ◌∙◌, subst, append_assoc, ◌⊎◌, inl, inr}
+use Rattle.std.proofs.Common.{◌≡◌, ℕ, ◌<◌, ◌==◌, Bool, true, false, List, [], ◌∷◌, ◌++◌, length, map, suc, get_or, take, drop, Option, Some, None, refl, sym, ap, ◌∙◌, subst, append_assoc, ◌⊎◌, inl, inr}
 use mathlib.Core.List.{append-nil}
 use Rattle.std.proofs.Math.Seq.{take-suc}
 use Rattle.std.proofs.lemmas.List.{take-append-drop}
@@ -12,6 +12,10 @@ use Rattle.trace_program.specs.Answering.{IsSoFar, Writes, WritesFront}
 use Rattle.trace_program.proofs.Kept.{kept_none}
 use Rattle.trace_program.proofs.Parts.{cut_feed, cut_more, lines_are}
 use Rattle.trace_program.proofs.Sessions.{kept_session_more}
+
+pub keeps_same : (old : Option (List ℕ)) → Keeps old old
+keeps_same None = tt
+keeps_same (Some xs) = refl
 
 pub so_far_none : (old : Option (List ℕ)) → IsSoFar old old [] None []
 so_far_none old = record { lines = []; rest = []; cut = refl; is_kept = sym kept_none; text = []; session = (refl, refl); written = appends_none old }
@@ -105,7 +109,7 @@ pub cut_short_in : (old new : Option (List ℕ)) (read part : List ℕ) (i : ℕ
     → IsCutShort old new (read ++ part)
 cut_short_in old new read part i within c =
     let upto : (read ++ take i part) ++ get_or part i 0 ∷ [] ≡ read ++ take (suc i) part =
-        append_assoc read (take i part) (get_or part i 0 ∷ []) ∙ ap (λ t. read ++ t) (sym (take-suc part i 0 within)) in
+    append_assoc read (take i part) (get_or part i 0 ∷ []) ∙ ap (λ t. read ++ t) (sym (take-suc part i 0 within)) in
     let all : (read ++ take (suc i) part) ++ drop (suc i) part ≡ read ++ part =
-        append_assoc read (take (suc i) part) (drop (suc i) part) ∙ ap (λ t. read ++ t) (take-append-drop (suc i) part) in
+    append_assoc read (take (suc i) part) (drop (suc i) part) ∙ ap (λ t. read ++ t) (take-append-drop (suc i) part) in
     subst (IsCutShort old new) all (cut_short_more old new (read ++ take (suc i) part) (drop (suc i) part) (subst (IsCutShort old new) upto c))

@@ -10,7 +10,7 @@ use Rattle.trace_program.specs.Answering.{IsSoFar, IsUnderway, Writes, WritesFro
 use Rattle.trace_program.proofs.Kept.{none_kept, some_kept}
 use Rattle.trace_program.proofs.Parts.{lines_without, lines_with}
 use Rattle.trace_program.proofs.Sessions.{kept_session_more}
-use Rattle.trace_program.proofs.SoFar.{so_far_none, stopped, front_more}
+use Rattle.trace_program.proofs.SoFar.{keeps_same, so_far_none, stopped, front_more}
 
 -- ---- reads
 
@@ -30,12 +30,39 @@ consumes_keeps (Some xs) None c front h k = absurd h
 consumes_keeps (Some xs) (Some ys) None front h k = absurd k
 consumes_keeps (Some xs) (Some ys) (Some zs) front h k = h ∙ ap (λ t. front ++ t) (sym k)
 
-pub keeps_same : (old : Option (List ℕ)) → Keeps old old
-keeps_same None = tt
-keeps_same (Some xs) = refl
+-- a read that gives nothing
+consumes_nothing : (left after : Option (List ℕ)) (part : List ℕ) → part ≡ [] → Consumes left after part → Keeps left after
+consumes_nothing None after part none h = tt
+consumes_nothing (Some xs) None part none h = absurd h
+consumes_nothing (Some xs) (Some ys) part none h = sym (h ∙ ap (λ t. t ++ ys) none)
+
+pub underway_at_end : (input left after old new : Option (List ℕ)) (bench : Now) (line part : List ℕ) → IsUnderway input left old new bench line → part ≡ [] → Consumes left after part
+    → IsUnderway input after old new bench line
+underway_at_end input left after old new bench line part u none consumed = record {
+  read = u.read;
+  consumed = consumes_keeps input left after u.read u.consumed (consumes_nothing left after part none consumed);
+  so_far = u.so_far;
+}
 
 pub underway_none : (input old : Option (List ℕ)) → IsUnderway input input old old None []
 underway_none input old = record { read = []; consumed = consumes_none input; so_far = so_far_none old }
+
+pub underway_more : (input left after old new newer : Option (List ℕ)) (bench bench_after : Now) (line line_after part : List ℕ) → IsUnderway input left old new bench line → Consumes left after part
+    → ((start : Option (List ℕ)) (read : List ℕ) → IsSoFar start new read bench line → IsSoFar start newer (read ++ part) bench_after line_after)
+    → IsUnderway input after old newer bench_after line_after
+underway_more input left after old new newer bench bench_after line line_after part u consumed more = record {
+  read = u.read ++ part;
+  consumed = consumes_more input left after u.read part u.consumed consumed;
+  so_far = more old u.read u.so_far;
+}
+
+pub stopped_in_part : (input left after old new newer : Option (List ℕ)) (bench : Now) (line part : List ℕ) → IsUnderway input left old new bench line → Consumes left after part
+    → ((start : Option (List ℕ)) (read : List ℕ) → IsSoFar start new read bench line → IsCutShort start newer (read ++ part)) → AreCutShort input after old newer
+stopped_in_part input left after old new newer bench line part u consumed stops = record {
+  read = u.read ++ part;
+  consumed = consumes_more input left after u.read part u.consumed consumed;
+  cut_short = stops old u.read u.so_far;
+}
 
 -- ---- at the end of the input
 

@@ -107,6 +107,42 @@ impl Answering {
         if self.line.is_empty() {
             return Ok(());
         }
-        self.end_line(alloc, output)
+        self.end_line(alloc, output)?;
+        Ok(())
     }
+}
+
+/// Reads the lines of a trace to their end, and writes each with its answer as soon as it has it.
+///
+/// Memory is taken for a fresh machine and for a line, of which no more than 65,537 bytes are kept. Errors: Memory, where a
+/// growth was refused; Device, where a read or a write failed, or after 2^64 - 1 reads. Then the answers to the first lines were
+/// written, and of the last of them a front at least.
+pub fn answer<R: Read, W: Write>(
+    alloc: Global,
+    input: &mut Told<R>,
+    output: &mut Told<W>,
+) -> Result<(), Fault>
+    requires readable { input.old.failed ≡ false }
+    requires writable { output.old.failed ≡ false }
+    ensures ok { OnOk result (AreAnswered (R.remaining input.old.device) (R.remaining input.new.device)
+        (W.contents output.old.device) (W.contents output.new.device)) }
+    ensures err { OnErr result (AreCutShort (R.remaining input.old.device) (R.remaining input.new.device)
+        (W.contents output.old.device) (W.contents output.new.device)) }
+    ensures failed { ((input.new.failed ≡ true) ⊎ (output.new.failed ≡ true)) → result ≡ Err Device }
+{
+    let mut answering = Answering {
+        session: Session::new(),
+        line: Vec::new(alloc),
+        text: Vec::new(alloc),
+    };
+    let mut buf = [0u8; 4096];
+    'reads: for _ in 0..u64::MAX {
+        let n = input.read(&mut buf)?;
+        if n == 0 {
+            answering.end(alloc, output)?;
+            return Ok(());
+        }
+        answering.take_bytes(alloc, &buf[..n], output)?;
+    }
+    Err(Fault::Device)
 }

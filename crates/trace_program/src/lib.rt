@@ -10,6 +10,7 @@ mod fault;
 mod reading;
 mod session;
 
+pub use answering::answer;
 pub use command::perform;
 pub use fault::Fault;
 pub use reading::read;
