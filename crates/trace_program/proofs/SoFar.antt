@@ -1,13 +1,13 @@
 -- What has been read and written, one byte after another.
-use Rattle.std.proofs.Common.{◌≡◌, ℕ, ◌<◌, ◌==◌, Bool, true, false, List, [], ◌∷◌, ◌++◌, length, map, suc, get_or, take, drop, Option, Some, None, refl, sym, ap, ◌∙◌, subst, append_assoc, ◌⊎◌, inl, inr}
+use Rattle.std.proofs.Common.{◌≡◌, ℕ, ◌<◌, ◌==◌, true, false, List, [], ◌∷◌, ◌++◌, length, suc, get_or, take, drop, Option, Some, None, refl, sym, ap, ◌∙◌, subst, append_assoc, ◌⊎◌, inl, inr}
 use mathlib.Core.List.{append-nil}
 use Rattle.std.proofs.Math.Seq.{take-suc}
 use Rattle.std.proofs.lemmas.List.{take-append-drop}
 use Rattle.std.specs.Io.KnownBytes.{Appends, Keeps}
 use Rattle.told_device.specs.Whole.{AppendsFront}
 use Rattle.told_device.proofs.Written.{appends_none, appends_more, appends_keeps}
-use Rattle.trace_program.specs.Session.{Now, IsTold, IsSession}
-use Rattle.trace_program.specs.Input.{parts_of, last_line, lines_in, kept_of, IsCutShort}
+use Rattle.trace_program.specs.Session.{Now}
+use Rattle.trace_program.specs.Input.{last_line, kept_of, IsCutShort}
 use Rattle.trace_program.specs.Answering.{IsSoFar, Writes, WritesFront}
 use Rattle.trace_program.proofs.Kept.{kept_none}
 use Rattle.trace_program.proofs.Parts.{cut_feed, cut_more, lines_are}

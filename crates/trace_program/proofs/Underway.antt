@@ -1,11 +1,10 @@
 -- An input that is being read, and where it ends.
 use Rattle.std.proofs.Common.{◌≡◌, ℕ, ◌<◌, List, [], ◌∷◌, ◌++◌, length, map, Option, Some, None, refl, sym, ap, ◌∙◌, subst, append_assoc, ◌⊎◌, inl, inr}
 use mathlib.Core.List.{append-nil}
-use Rattle.std.specs.Io.KnownBytes.{Appends, Keeps, Consumes, IsAtEnd}
-use Rattle.told_device.specs.Whole.{AppendsFront}
+use Rattle.std.specs.Io.KnownBytes.{Keeps, Consumes, IsAtEnd}
 use Rattle.told_device.proofs.Written.{appends_more}
-use Rattle.trace_program.specs.Session.{Now, IsTold, IsSession}
-use Rattle.trace_program.specs.Input.{parts_of, lines_in, kept_of, AreAnswered, IsCutShort, AreCutShort}
+use Rattle.trace_program.specs.Session.{Now, IsSession}
+use Rattle.trace_program.specs.Input.{kept_of, AreAnswered, IsCutShort, AreCutShort}
 use Rattle.trace_program.specs.Answering.{IsSoFar, IsUnderway, Writes, WritesFront}
 use Rattle.trace_program.proofs.Kept.{none_kept, some_kept}
 use Rattle.trace_program.proofs.Parts.{lines_without, lines_with}

@@ -1,4 +1,4 @@
-use Rattle.std.proofs.Common.{◌≡◌, ◌<◌, ◌≤◌, length, arith, sym, ◌∙◌}
+use Rattle.std.proofs.Common.{arith, ◌∙◌}
 use Rattle.trace_program.proofs.Kept.{kept_more, kept_full}
 use Rattle.trace_program.proofs.answering.keep.Goals as goal
 

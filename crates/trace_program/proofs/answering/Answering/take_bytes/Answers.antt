@@ -1,4 +1,4 @@
-use Rattle.std.proofs.Common.{◌≡◌, ◌++◌, take}
+use Rattle.std.proofs.Common.{◌++◌, take}
 use Rattle.std.proofs.lemmas.Result.{err_from_is_err_and}
 use Rattle.trace_program.proofs.SoFar.{cut_short_in}
 use Rattle.trace_program.proofs.answering.Answering.take_bytes.Goals as goal
