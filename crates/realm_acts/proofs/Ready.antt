@@ -6,6 +6,7 @@ use Rattle.std.proofs.lemmas.Option.{slice_get_within}
 use Rattle.std.proofs.lemmas.List.Elements.{All-nil, All-cons, All-head, All-tail}
 use Rattle.page_arena.specs.Page.{is_free}
 use Rattle.realm_model.specs.declared.act.Act.{Act}
+use Rattle.realm_model.specs.declared.act.Act.TheVariants.{Rec}
 use Rattle.realm_model.specs.declared.act.Event.{Event}
 use Rattle.realm_model.specs.declared.states.GranuleState.TheVariants.{Rec as InRec}
 use Rattle.realm_model.specs.Machine.{Limits, Machine, RecRow, Cell, Seen, cell_at}
@@ -20,8 +21,8 @@ use Rattle.realm_model.proofs.RealmNumbers.{numbers_are_few}
 use Rattle.realm_model.proofs.RealmOf.{IsAt, IsAt-realm_of, IsHeld, IsHeld-realm_of}
 use Rattle.rmi_monitor.specs.View.{MonitorView, IsTaken, IsRec}
 use Rattle.realm_acts.specs.declared.place.Place.{Place}
-use Rattle.realm_acts.specs.Performing.{rec_named, rec_granule, realm_on, IsRealmReadyAt, IsRecReadyAt, IsTakenAt}
-use Rattle.realm_acts.specs.Mirror.{IsMirror, IsRecOf, AskedIsReady, rd_of}
+use Rattle.realm_acts.specs.Performing.{rec_named, rec_granule, realm_on, HasNextNumber, IsNumberReady, IsRecReadyAt, IsTakenAt}
+use Rattle.realm_acts.specs.Mirror.{IsMirror, IsRecOf, HasFewEvents, AskedIsReady, rd_of}
 use Rattle.realm_acts.proofs.Flags.{taken_flag}
 use Rattle.realm_acts.proofs.OnRecs.{is_rec}
 use Rattle.realm_acts.proofs.Forward.{realm_seen}
@@ -67,25 +68,32 @@ module _ (limits : Limits) (history : List Event) (world : World) (monitor : Mon
       let seen_so = is ∙ ap (λ o. rec_granule o number) (sym (realm_seen limits history world monitor mirror build)) in
       record { is = seen_so; taken = rec_taken (realm_of build world) (IsHeld-realm_of build world) number rec seen_so }
 
-  realm_ready_at : length (acts_of build history) < 65535 → (realm : Option Seen) → realm_of build world ≡ realm → IsAt world.machine realm → IsHeld build world.leases realm
-      → IsRealmReadyAt monitor (option_map (λ (rd : Seen). rd.number) realm)
-  realm_ready_at few None is at held = tt
-  realm_ready_at few (Some rd) is at held = record {
-    taken = taken rd.number (leased (Some build) world.leases rd.number held);
-    numbers = λ realm there.
-        let row : rd.cell.descriptor ≡ Some realm = ap (λ (c : Cell). c.descriptor) (sym at) ∙ ap (λ (m : Machine). (cell_at m rd.number).descriptor) (sym mirror.machine) ∙ there in
-        let most = numbers_are_few limits history world build mirror.legal mirror.world_is rd realm is row in
-        omega arith;
-  }
+  realm_taken_at : (realm : Option Seen) → IsHeld build world.leases realm → IsTakenAt monitor (option_map (λ (rd : Seen). rd.number) realm)
+  realm_taken_at None held = tt
+  realm_taken_at (Some rd) held = taken rd.number (leased (Some build) world.leases rd.number held)
 
-  pub realm_ready : length (acts_of build history) < 65535 → IsRealmReadyAt monitor (rd_of build world)
-  realm_ready few = realm_ready_at few (realm_of build world) refl (IsAt-realm_of build world) (IsHeld-realm_of build world)
+  pub realm_taken : IsTakenAt monitor (rd_of build world)
+  realm_taken = realm_taken_at (realm_of build world) (IsHeld-realm_of build world)
+
+  -- RECs of a realm are no more than the events of its build
+  next_number_at : length (acts_of build history) < 65535 → (realm : Option Seen) → realm_of build world ≡ realm → IsAt world.machine realm
+      → HasNextNumber monitor (option_map (λ (rd : Seen). rd.number) realm)
+  next_number_at few None is at = tt
+  next_number_at few (Some rd) is at = λ realm there.
+      let row : rd.cell.descriptor ≡ Some realm = ap (λ (c : Cell). c.descriptor) (sym at) ∙ ap (λ (m : Machine). (cell_at m rd.number).descriptor) (sym mirror.machine) ∙ there in
+      let most = numbers_are_few limits history world build mirror.legal mirror.world_is rd realm is row in
+      omega arith
+
+  pub number_ready : (act : Act) → HasFewEvents history build act → IsNumberReady monitor (rd_of build world) act
+  number_ready (Rec granule auxiliaries number) few = next_number_at few (realm_of build world) refl (IsAt-realm_of build world)
+  number_ready _ few = tt
 
 pub asked_is_ready : (limits : Limits) (history : List Event) (world : World) (monitor : MonitorView) (build : ℕ) (act : Act) (place : Place)
     → AskedIsReady limits history world monitor build act place
 asked_is_ready limits history world monitor build act place mirror at asked few = record {
   command = asked.command;
   granules = all_taken limits history world monitor mirror build (named act) asked.granules;
-  realm = subst (IsRealmReadyAt monitor) (sym at.realm) (realm_ready limits history world monitor mirror build few);
+  realm = subst (IsTakenAt monitor) (sym at.realm) (realm_taken limits history world monitor mirror build);
+  number = subst (λ o. IsNumberReady monitor o act) (sym at.realm) (number_ready limits history world monitor mirror build act few);
   rec = subst (λ o. IsRecReadyAt monitor o (rec_named act) place.rec) (sym at.realm) (rec_ready limits history world monitor mirror build (rec_named act) place.rec at.rec);
 }

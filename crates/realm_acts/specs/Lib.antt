@@ -1,3 +1,5 @@
 pub mod Performing
 pub mod Mirror
 pub mod Blocks
+pub mod RecsOpen
+pub mod VmidsUsed

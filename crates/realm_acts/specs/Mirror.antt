@@ -2,20 +2,20 @@
 use Rattle.std.specs.Prelude.{◌≡◌, ◌<◌, ℕ, List, [], ◌∷◌, ◌++◌, map, true, false, Option, Some, None, option_map, is_none, slice_get, length, Result, Ok, Err}
 use Rattle.std.specs.List.{All, last_or}
 use Rattle.realm_model.specs.declared.act.Act.{Act}
-use Rattle.realm_model.specs.declared.act.Act.TheVariants.{UnRec}
+use Rattle.realm_model.specs.declared.act.Act.TheVariants.{Rec, UnRec}
 use Rattle.realm_model.specs.declared.act.Event.{Event}
 use Rattle.realm_model.specs.declared.rmi.Rmi.{Rmi}
 use Rattle.realm_model.specs.Machine.{Limits, Seen}
 use Rattle.realm_model.specs.Update.{Update}
 use Rattle.realm_model.specs.Act.{named, reverse_of}
 use Rattle.realm_model.specs.Outcome.{is_in_range, fits}
-use Rattle.realm_model.specs.World.{World, realm_of}
+use Rattle.realm_model.specs.World.{World, opening, realm_of}
 use Rattle.realm_model.specs.Step.{step, named_cells, outcome_in}
 use Rattle.realm_model.specs.StepLaw.{leases_after}
 use Rattle.realm_model.specs.History.{acts_of, open_entries, replay, IsLegal, IsInTurn}
 use Rattle.realm_model.specs.Running.{is_running}
 use Rattle.realm_model.specs.Undoing.{by}
-use Rattle.rmi_monitor.specs.View.{MonitorView, Answers, after_command}
+use Rattle.rmi_monitor.specs.View.{MonitorView, Answers, after_command, fresh}
 use Rattle.realm_acts.specs.declared.place.Place.{Place}
 use Rattle.realm_acts.specs.Performing.{is_command, rec_named, rec_granule, outcome_on, IsReady}
 
@@ -28,6 +28,10 @@ pub record IsMirror (limits : Limits) (history : List Event) (world : World) (mo
   pub aux : monitor.aux ≡ limits.aux
   pub machine : monitor.machine ≡ world.machine
   pub free : monitor.free ≡ map is_none world.leases
+
+-- A monitor that has just been built is that of the empty history.
+abbrev pub FreshIsMirror : Limits → Type 0
+FreshIsMirror limits = IsMirror limits [] (opening limits) (fresh limits.vmids limits.aux limits.pages)
 
 -- ---- where an act of a build is performed
 
@@ -56,10 +60,15 @@ pub record IsAsked (limits : Limits) (world : World) (build : ℕ) (act : Act) :
   pub in_range : is_in_range act ≡ true
   pub fitting : fits act (realm_of build world) (named_cells world act) ≡ true
 
--- An act that is asked for can be performed, where its build has fewer events than RECs have numbers.
+-- where an act makes a REC, its build has fewer events than RECs have numbers
+abbrev pub HasFewEvents : List Event → ℕ → Act → Type 0
+HasFewEvents history build (Rec granule auxiliaries number) = length (acts_of build history) < 65535
+HasFewEvents history build _ = Unit {0}
+
+-- So an act that is asked for can be performed.
 abbrev pub AskedIsReady : Limits → List Event → World → MonitorView → ℕ → Act → Place → Type 0
 AskedIsReady limits history world monitor build act place =
-    IsMirror limits history world monitor → IsPlaceOf world build act place → IsAsked limits world build act → length (acts_of build history) < 65535
+    IsMirror limits history world monitor → IsPlaceOf world build act place → IsAsked limits world build act → HasFewEvents history build act
     → IsReady monitor place act
 
 -- A REC that is taken away has the granule that its act names.

@@ -67,20 +67,20 @@ rec_granule realm number =
     option_map (λ (rec : RecRow). rec.granule)
     (option_and_then (λ (row : RealmRow). get row.recs number) (option_and_then (λ (rd : Seen). rd.cell.descriptor) realm))
 
--- the RD is taken, and there is a number for one more REC
-pub record IsRealmReady (monitor : MonitorView) (rd : ℕ) : Type 0 where
-  pub taken : IsTaken monitor rd
-  pub numbers : (realm : RealmRow) → (cell_at monitor.machine rd).descriptor ≡ Some realm → realm.next < 65535
-
--- so for the realm of a build, where it has one
-abbrev pub IsRealmReadyAt : MonitorView → Option ℕ → Type 0
-IsRealmReadyAt monitor None = Unit {0}
-IsRealmReadyAt monitor (Some rd) = IsRealmReady monitor rd
-
 -- the granule is taken, where there is one
 abbrev pub IsTakenAt : MonitorView → Option ℕ → Type 0
 IsTakenAt monitor None = Unit {0}
 IsTakenAt monitor (Some granule) = IsTaken monitor granule
+
+-- there is a number for one more REC of the realm, where there is one
+abbrev pub HasNextNumber : MonitorView → Option ℕ → Type 0
+HasNextNumber monitor None = Unit {0}
+HasNextNumber monitor (Some rd) = (realm : RealmRow) → (cell_at monitor.machine rd).descriptor ≡ Some realm → realm.next < 65535
+
+-- so for an act that makes a REC
+abbrev pub IsNumberReady : MonitorView → Option ℕ → Act → Type 0
+IsNumberReady monitor realm (Rec granule auxiliaries number) = HasNextNumber monitor realm
+IsNumberReady monitor realm _ = Unit {0}
 
 -- that granule, or none, is the REC of that number in the realm, and it is taken
 pub record IsRecReady (monitor : MonitorView) (realm : Option ℕ) (number : ℕ) (rec : Option ℕ) : Type 0 where
@@ -92,10 +92,11 @@ abbrev pub IsRecReadyAt : MonitorView → Option ℕ → Option ℕ → Option �
 IsRecReadyAt monitor realm None rec = Unit {0}
 IsRecReadyAt monitor realm (Some number) rec = IsRecReady monitor realm number rec
 
--- The act can be performed: it is a command, the granules that it names are taken, its build's realm is ready, and so is
--- the REC that it names.
+-- The act can be performed: it is a command, the granules that it names and its build's realm are taken, there is a number
+-- for the REC that it makes, and the REC that it names is ready.
 pub record IsReady (monitor : MonitorView) (place : Place) (act : Act) : Type 0 where
   pub command : is_command act ≡ true
   pub granules : All (IsTaken monitor) (named act)
-  pub realm : IsRealmReadyAt monitor place.realm
+  pub realm : IsTakenAt monitor place.realm
+  pub number : IsNumberReady monitor place.realm act
   pub rec : IsRecReadyAt monitor place.realm (rec_named act) place.rec

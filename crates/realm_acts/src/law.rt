@@ -1,13 +1,21 @@
 //! Laws of acts that are performed.
-ghost use Rattle.std.specs.Prelude.{◌≡◌, ℕ, List};
+ghost use Rattle.std.specs.Prelude.{◌≡◌, ℕ, List, Some};
 ghost use Rattle.realm_model.specs.declared.act.Act.{Act};
 ghost use Rattle.realm_model.specs.declared.act.Event.{Event};
 ghost use Rattle.realm_model.specs.Machine.{Limits};
 ghost use Rattle.realm_model.specs.World.{World};
+ghost use Rattle.realm_model.specs.History.{replay, IsLegal};
 ghost use Rattle.rmi_monitor.specs.View.{MonitorView};
 ghost use Rattle.realm_acts.specs.declared.place.Place.{Place};
 ghost use Rattle.realm_acts.specs.Blocks.{TakenIsStep, GivenBackIsStep};
-ghost use Rattle.realm_acts.specs.Mirror.{AskedIsReady, PerformedIsStep, NewestIsAccepted, UnRecNamesItsRec};
+ghost use Rattle.realm_acts.specs.Mirror.{FreshIsMirror, AskedIsReady, PerformedIsStep, NewestIsAccepted, UnRecNamesItsRec};
+ghost use Rattle.realm_acts.specs.RecsOpen.{RecsAreOpen};
+ghost use Rattle.realm_acts.specs.VmidsUsed.{VmidsFollowSteps};
+
+/// A monitor that has just been built is that of the empty history.
+pub fn a_fresh_monitor_mirrors_nothing()
+    ensures { (limits : Limits) → FreshIsMirror limits }
+{}
 
 /// An act that is asked for can be performed.
 pub fn what_is_asked_can_be_performed()
@@ -37,4 +45,14 @@ pub fn what_is_taken_is_a_step()
 /// The block of a Take that is the newest act that a build has open can be given back, and that is a step in turn.
 pub fn what_is_given_back_is_a_step()
     ensures { (limits : Limits) (history : List Event) (world : World) (monitor : MonitorView) (build order first : ℕ) → GivenBackIsStep limits history world monitor build order first }
+{}
+
+/// The RECs of a build's realm are those of its open Rec acts, whose numbers rise.
+pub fn recs_are_open_acts()
+    ensures { (limits : Limits) (history : List Event) (world : World) (build : ℕ) → IsLegal limits history → replay limits history ≡ Some world → RecsAreOpen history world build }
+{}
+
+/// The VMIDs in use after an act are those before it, with that of a realm that is made, and without that of one that ends.
+pub fn vmids_follow_steps()
+    ensures { (limits : Limits) (history : List Event) (world : World) (build : ℕ) (act : Act) (next : World) → IsLegal limits history → replay limits history ≡ Some world → VmidsFollowSteps limits history world build act next }
 {}

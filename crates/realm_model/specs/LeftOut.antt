@@ -1,7 +1,8 @@
 -- What is left of a history without a build: others have what they had, and each of its events is accepted anew.
-use Rattle.std.specs.Prelude.{◌≡◌, ◌≢◌, ℕ, ◌+◌, ◌≤◌, List, [], ◌∷◌, ◌++◌, Some}
+use Rattle.std.specs.Prelude.{◌≡◌, ◌≢◌, ℕ, ◌+◌, ◌<◌, ◌≤◌, true, List, [], ◌∷◌, ◌++◌, length, take, Some}
 use Rattle.realm_model.specs.declared.act.Event.{Event}
 use Rattle.realm_model.specs.Machine.{Limits}
+use Rattle.realm_model.specs.Act.{is_paired}
 use Rattle.realm_model.specs.World.{World, without}
 use Rattle.realm_model.specs.Step.{step}
 use Rattle.realm_model.specs.History.{erase, open_entries, replay, IsInTurn}
@@ -16,27 +17,29 @@ pub record KeepsItsRoom (history : List Event) (world : World) (build other : �
 abbrev pub OthersKeepTheirRoom : List Event → World → ℕ → ℕ → Type 0
 OthersKeepTheirRoom history world build other = build ≢ other → KeepsItsRoom history world build other
 
--- An event is accepted after a history, where each build has so much room: it is in turn, its build has the room that it
--- takes, and it is a step.
-pub record IsAccepted (limits : Limits) (capacity : ℕ) (before : List Event) (event : Event) : Type 0 where
+-- An event is accepted after a history, where each build has so much room and has that many acts open at most: it is in
+-- turn, its build has the room that it takes, and can have its act open where that has a reverse, and it is a step.
+pub record IsAccepted (limits : Limits) (capacity most : ℕ) (before : List Event) (event : Event) : Type 0 where
   pub world : World
   pub world_is : replay limits before ≡ Some world
   pub in_turn : IsInTurn before event
   pub room : used_room event.build before world + room_taken event.act ≤ capacity
+  pub few_open : is_paired event.act ≡ true → length (open_entries event.build before) < most
   pub next : World
   pub stepped : step limits world event ≡ Some next
 
 -- each of the events, after those before it
-abbrev pub AllAccepted : Limits → ℕ → List Event → List Event → Type 0
-AllAccepted limits capacity before [] = Unit {0}
-AllAccepted limits capacity before (event ∷ events) =
-    IsAccepted limits capacity before event × AllAccepted limits capacity (before ++ event ∷ []) events
+abbrev pub AllAccepted : Limits → ℕ → ℕ → List Event → List Event → Type 0
+AllAccepted limits capacity most before [] = Unit {0}
+AllAccepted limits capacity most before (event ∷ events) =
+    IsAccepted limits capacity most before event × AllAccepted limits capacity most (before ++ event ∷ []) events
 
--- no build has used more than its room
-abbrev pub AllHaveRoom : ℕ → List Event → World → Type 0
-AllHaveRoom capacity history world = (build : ℕ) → used_room build history world ≤ capacity
+-- No build but the one that is left out has used more than its room, or had more acts open at any time than the most.
+pub record OthersHaveRoom (capacity most : ℕ) (history : List Event) (world : World) (build : ℕ) : Type 0 where
+  pub used : (other : ℕ) → build ≢ other → used_room other history world ≤ capacity
+  pub few_open : (other n : ℕ) → build ≢ other → length (open_entries other (take n history)) ≤ most
 
--- Where no build has used more than its room, each event of what is left is accepted in turn, from nothing on.
-abbrev pub WhatIsLeftIsAccepted : Limits → ℕ → List Event → World → ℕ → Type 0
-WhatIsLeftIsAccepted limits capacity history world build =
-    AllHaveRoom capacity history world → AllAccepted limits capacity [] (erase build history)
+-- Where these have room, each event of what is left is accepted in turn, from nothing on.
+abbrev pub WhatIsLeftIsAccepted : Limits → ℕ → ℕ → List Event → World → ℕ → Type 0
+WhatIsLeftIsAccepted limits capacity most history world build =
+    OthersHaveRoom capacity most history world build → AllAccepted limits capacity most [] (erase build history)

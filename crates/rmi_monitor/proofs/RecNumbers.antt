@@ -1,6 +1,6 @@
 -- The REC of a number in a realm: what the machine has is what stands at a granule.
-use Rattle.std.proofs.Common.{◌≡◌, ℕ, ◌<◌, List, length, get_or, Option, Some, None, option_map, refl, sym, ap, ◌∙◌, subst}
-use Rattle.std.specs.Prelude.{option_and_then}
+use Rattle.std.proofs.Common.{◌≡◌, ℕ, ◌<◌, true, List, length, get_or, Option, Some, None, option_map, refl, sym, ap, ◌∙◌, subst}
+use Rattle.std.specs.Prelude.{option_and_then, is_some}
 use Rattle.std.specs.FinMap.{get}
 use Rattle.std.proofs.lemmas.Option.{same_Some}
 use Rattle.realm_model.specs.Machine.{Cell, RealmRow}
@@ -35,7 +35,16 @@ module _ (monitor : MonitorView) (fields : Fields) (view_is : seen_as fields ≡
         ap (option_and_then (λ (realm : RealmRow). get realm.recs number)) (descriptor_there monitor fields view_is whole rd of.realm there)
         ∙ is.found ∙ ap (λ r. Some r) row_same
 
-    -- as code reads it at its place
+    -- which is there as code reads it at its place
+    pub rec_there : (recs : List (Option RecAttributes)) (i : ℕ) (read : Option RecAttributes) → recs ≡ fields.recs
+        → IsRecAt fields.granules recs rd number granule → i ≡ granule → read ≡ get_or fields.recs i read → is_some read ≡ true
+    rec_there recs i read same is place reads =
+        let there : IsRecAt fields.granules fields.recs rd number granule = subst (λ rs. IsRecAt fields.granules rs rd number granule) same is in
+        let inside : granule < length fields.recs = subst (λ n. granule < n) (sym whole.rec_places) there.inside in
+        let entry : IsEntry fields.granules fields.recs rd granule number there.row = entry_at fields.granules rd granule fields.recs number there.row there.at in
+        ap is_some (sym (read_at fields.recs i granule None read read place inside reads refl) ∙ entry.at)
+
+    -- and what is read is what the machine has
     pub rec_in-read : (recs : List (Option RecAttributes)) (i : ℕ) (read : Option RecAttributes) (rec : RecAttributes) → recs ≡ fields.recs
         → IsRecAt fields.granules recs rd number granule → i ≡ granule → read ≡ get_or fields.recs i read → Some rec ≡ read
         → Some (rec_row granule rec) ≡ rec_in monitor.machine rd number

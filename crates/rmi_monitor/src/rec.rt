@@ -151,7 +151,7 @@ impl<S: PageStore> Monitor<S> {
         ensures inside { IfSome result (λ r. r.0 < length self.now.machine) }
     {
         let granule = find_rec(&self.granules, self.recs.as_slice(), rd, number)?;
-        let rec = self.recs[granule.number() as usize].as_ref()?;
+        let rec = self.recs[granule.number() as usize].as_ref().unwrap();
         Some((granule, rec))
     }
 }

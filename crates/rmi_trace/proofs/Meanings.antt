@@ -1,16 +1,21 @@
 -- What a line means, as a relation and as a function.
-use Rattle.std.proofs.Common.{◌≡◌, ℕ, List, [], ◌∷◌, true, false, cond, IsUtf8, Option, Some, None, refl, sym, ap, subst, ◌∙◌, inl, inr, length, leb}
+use Rattle.std.proofs.Common.{◌≡◌, ℕ, ◌+◌, ◌-◌, ◌<◌, List, [], ◌∷◌, ◌++◌, get_or, take, drop, nat_eq, true, false, cond, IsUtf8, Option, Some, None, refl, sym, ap, subst, ◌∙◌, inl, inr, length, leb, arith}
+use Rattle.std.specs.List.{ends_with}
+use Rattle.std.specs.Cmp.Lexicographic.{pointwise}
+use Rattle.std.proofs.Math.Seq.{take-append_seam, get_or-append_seam}
+use Rattle.std.proofs.lemmas.List.{take-append-drop, length-append}
 use Rattle.std.specs.Str.{is_utf8}
 use Rattle.std.proofs.lemmas.Bool.{cases_Bool, eq-eqb, eqb-true, le-leb, leb-true, and_parts, false≢true}
-use Rattle.std.proofs.lemmas.Str.{IsUtf8-from_is_utf8, is_utf8-from_IsUtf8}
+use Rattle.std.proofs.lemmas.Str.{IsUtf8-from_is_utf8, is_utf8-from_IsUtf8, IsUtf8-take, IsCharBoundary-before_ascii}
 use Rattle.number_text.specs.Grammar.{meaning_of_text}
 use Rattle.rmi_trace.specs.declared.line.Line.{Line}
 use Rattle.rmi_trace.specs.declared.line.Line.TheVariants as line
 use Rattle.rmi_trace.specs.declared.request.Request.{Request}
 use Rattle.rmi_trace.specs.Requests.{request_at}
 use Rattle.rmi_trace.specs.Lines.{text_of, before_answer, is_readable, IsReadable, is_remark, IsRemark, Asks, Means, line_of_request, line_of}
+use Rattle.rmi_trace.proofs.Asked.{asked-before_answer}
 use Rattle.rmi_trace.proofs.Asking.{asks-from_written, written-from_asks, not_remark-asks}
-use Rattle.rmi_trace.proofs.RequestTexts.{written-from_meaning, meaning-written, IsUtf8-written}
+use Rattle.rmi_trace.proofs.RequestTexts.{written-from_meaning, meaning-written}
 
 -- ---- tests
 
@@ -63,13 +68,39 @@ line_of-asked bytes found is test same =
     ∙ sym (ap (λ u. cond u (cond (is_remark (text_of bytes)) line.Remark (line_of_request (meaning_of_text request_at (asked bytes)))) line.Neither) (test-from_readable bytes is)
     ∙ ap (λ u. cond u line.Remark (line_of_request (meaning_of_text request_at (asked bytes)))) test)
 
--- no request is written in bytes that are not UTF-8
-none_asked : (text : List ℕ) (found : Option Request) → meaning_of_text request_at text ≡ found → ¬ IsUtf8 text → None ≡ found
-none_asked text None e is_not = refl
-none_asked text (Some request) e is_not = absurd (is_not (IsUtf8-written text request (written-from_meaning text request e)))
+-- ---- what is asked in UTF-8 is UTF-8
 
-pub line_of-not_asked : (bytes : List ℕ) → IsReadable bytes → is_remark (text_of bytes) ≡ false → ¬ IsUtf8 (asked bytes) → line.Neither ≡ line_of bytes
-line_of-not_asked bytes is test is_not = line_of-asked bytes None is test (none_asked (asked bytes) (meaning_of_text request_at (asked bytes)) refl is_not)
+-- what stands before a byte of ASCII
+IsUtf8-front : (xs : List ℕ) (b : ℕ) (ys : List ℕ) → b < 128 → IsUtf8 (xs ++ b ∷ ys) → IsUtf8 xs
+IsUtf8-front xs b ys low u =
+    let at : get_or (xs ++ b ∷ ys) (length xs) 0 ≡ b = get_or-append_seam xs b ys 0 in
+    let long : length (xs ++ b ∷ ys) ≡ length xs + length (b ∷ ys) = length-append xs (b ∷ ys) in
+    let within : length xs < length (xs ++ b ∷ ys) = omega (arith, long) in
+    subst IsUtf8 (take-append_seam xs (b ∷ ys))
+    (IsUtf8-take (xs ++ b ∷ ys) (length xs) u (IsCharBoundary-before_ascii (xs ++ b ∷ ys) (length xs) within (subst (λ n. n < 128) (sym at) low)))
+
+begins_with : (rest : List ℕ) → pointwise nat_eq (13 ∷ []) rest ≡ true → (more : List ℕ) × (rest ≡ 13 ∷ more)
+begins_with [] test = cc
+begins_with (b ∷ more) test = (more, ap (λ x. x ∷ more) (sym (eqb-true 13 b (and_parts _ _ test).0)))
+
+IsUtf8-text_of : (line : List ℕ) → IsUtf8 line → IsUtf8 (text_of line)
+IsUtf8-text_of line u = elim (cases_Bool (ends_with nat_eq line (13 ∷ []))) [
+  | inl ends ↦
+      let front = take (length line - 1) line in
+      let found = begins_with (drop (length line - 1) line) ends in
+      let parts : line ≡ front ++ 13 ∷ found.0 = sym (take-append-drop (length line - 1) line) ∙ ap (λ t. front ++ t) found.1 in
+      subst (λ t. IsUtf8 (cond t front line)) (sym ends) (IsUtf8-front front 13 found.0 (omega arith) (subst IsUtf8 parts u))
+  | inr other ↦ subst (λ t. IsUtf8 (cond t (take (length line - 1) line) line)) (sym other) u
+]
+
+IsUtf8-before_answer : (text : List ℕ) → IsUtf8 text → IsUtf8 (before_answer text)
+IsUtf8-before_answer text u = elim (asked-before_answer text) [
+  | inl alone ↦ subst IsUtf8 alone u
+  | inr answered ↦ IsUtf8-front (before_answer text) 32 (61 ∷ 32 ∷ answered.0) (omega arith) (subst IsUtf8 answered.1 u)
+]
+
+pub IsUtf8-asked : (bytes : List ℕ) → IsUtf8 bytes → IsUtf8 (asked bytes)
+IsUtf8-asked bytes u = IsUtf8-before_answer (text_of bytes) (IsUtf8-text_of bytes u)
 
 -- ---- the relation
 

@@ -68,7 +68,7 @@ pub fn parse(line: &[u8]) -> Line
         return Line::Remark;
     }
     let Ok(asked) = str::from_utf8(cut_answer(line).0) else {
-        return Line::Neither;
+        unreachable!()
     };
     match request_of(asked) {
         Some(request) => Line::Request(request),

@@ -135,9 +135,7 @@ impl Entry {
             2 => Ripas::Destroyed,
             _ => Ripas::Empty,
         };
-        let Some(granule) = Gran::new((word / 4096 % 4096) as u16, MOST_PAGES) else {
-            return Entry::unassigned(ripas);
-        };
+        let granule = Gran::new((word / 4096 % 4096) as u16, MOST_PAGES).unwrap();
         match word % 4 {
             1 => Entry::assigned(ripas, granule),
             2 => Entry::table(granule),

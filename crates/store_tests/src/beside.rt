@@ -7,13 +7,15 @@ use page_arena::PageStore;
 use std::alloc::{AllocError, Global};
 use std::process::Abort;
 
-/// A store, and a list that says of each page whether it is free. Each call is made on both, and what the store
-/// answers is compared with what the list says.
+/// A store, and two lists that say of each page whether it is free, and which value fills it. Each call is made on the
+/// store and on the lists, and what the store answers is compared with what they say.
 #[derive(Drop)]
 pub(crate) struct Beside<S: PageStore + Drop> {
     store: S,
     free: Vec<bool>,
+    values: Vec<u8>,
     ghost same: { S.free_flags store ≡ free.items },
+    ghost paired: { length values.items ≡ length free.items },
 }
 
 // Whether the `count` flags from `first` on are all `wanted`.
@@ -39,6 +41,16 @@ fn set_run(flags: &mut [bool], first: usize, count: usize, flag: bool)
     }
 }
 
+// Makes the `count` values from `first` on zero.
+fn clear(values: &mut [u8], first: usize, count: usize)
+    requires { first + count ≤ length values.old }
+    ensures { length values.new ≡ length values.old }
+{
+    for at in first..first + count {
+        values[at] = 0;
+    }
+}
+
 /// Whether a block lies inside the machine and all its flags are `wanted`.
 pub(crate) fn is_block(flags: &[bool], order: Order, first: usize, wanted: bool) -> bool
     ensures { IsTrue result → IsBlock wanted flags.now order first }
@@ -56,7 +68,12 @@ impl<S: PageStore + Drop> Beside<S> {
         requires { S.free_flags store ≡ replicate (length (S.page_bytes store)) true }
     {
         let free = vec![in alloc; true; store.pages() as usize]?;
-        Ok(Beside { store, free })
+        let values = vec![in alloc; 0; store.pages() as usize]?;
+        Ok(Beside {
+            store,
+            free,
+            values,
+        })
     }
 
     pub(crate) fn store(&self) -> &S {
@@ -109,7 +126,35 @@ impl<S: PageStore + Drop> Beside<S> {
         }
         self.store.give(first, order);
         set_run(&mut self.free, start, size, true);
+        clear(&mut self.values, start, size);
         true
+    }
+
+    /// Fills a page, where it is taken.
+    pub(crate) fn fill(&mut self, granule: Gran, value: u8) {
+        let at = granule.number() as usize;
+        if at < self.free.len() && !self.free[at] {
+            self.store.fill(granule, value);
+            self.values[at] = value;
+        }
+    }
+
+    /// Each page is filled with what was last written, or with zero since it came back.
+    pub(crate) fn bytes_are_those(&self, rt: &impl Abort) {
+        for number in 0..self.store.pages() {
+            let Some(granule) = Gran::new(number, self.store.pages()) else {
+                panic!(rt; "no such page");
+            };
+            let value = u64::from(self.values[number as usize]);
+            for index in [0, 255, 511] {
+                let word = self.store.word(granule, index);
+                assert_eq!(rt;
+                    word,
+                    value * 0x0101_0101_0101_0101,
+                    "word {index} of {number}"
+                );
+            }
+        }
     }
 
     /// As many pages are free as flags are up.

@@ -15,7 +15,7 @@ const SIZES: [u16; 18] = [
     1, 2, 3, 5, 7, 13, 31, 64, 100, 255, 257, 511, 512, 513, 1000, 2047, 4095, 4096,
 ];
 
-const TURNS: u32 = 400;
+const TURNS: u32 = 600;
 
 // One call, of a small order more often than of a large one.
 fn turn<S: PageStore + Drop>(rt: &impl Abort, both: &mut Beside<S>, random: &mut Random) {
@@ -29,16 +29,17 @@ fn turn<S: PageStore + Drop>(rt: &impl Abort, both: &mut Beside<S>, random: &mut
         _ => align_down(first, order),
     };
     let first = granule(rt, first);
-    match random.below(3) {
+    match random.below(4) {
         0 => {
             both.take(rt, order);
         }
         1 => {
             both.take_at(rt, order, first);
         }
-        _ => {
+        2 => {
             both.give(first, order);
         }
+        _ => both.fill(first, random.below(256) as u8),
     }
 }
 
@@ -69,12 +70,13 @@ fn is_in_larger(flags: &[bool], first: u16, number: u8) -> bool
     }
 }
 
-// A sequence of calls, and then the counts are compared.
+// A sequence of calls, and then the counts and the bytes are compared.
 fn turns<S: PageStore + Drop>(rt: &impl Abort, both: &mut Beside<S>, random: &mut Random) {
     for _turn in 0..TURNS {
         turn(rt, both, random);
     }
     both.counts(rt);
+    both.bytes_are_those(rt);
 }
 
 #[test]

@@ -2,7 +2,7 @@ use Rattle.std.proofs.Common.{◌≡◌, true, false, Some, None, IsUtf8, sym, a
 use Rattle.number_text.specs.Grammar.{meaning_of_text}
 use Rattle.rmi_trace.specs.Requests.{request_at}
 use Rattle.rmi_trace.specs.Lines.{text_of, is_remark}
-use Rattle.rmi_trace.proofs.Meanings.{asked, line_of-not_readable, line_of-remark, line_of-asked, line_of-not_asked, meant-line_of}
+use Rattle.rmi_trace.proofs.Meanings.{asked, line_of-not_readable, line_of-remark, line_of-asked, IsUtf8-asked, meant-line_of}
 use Rattle.rmi_trace.proofs.line.parse.Goals as goal
 
 pub returns-in_default-clause-exact : goal.returns-in_default-clause-exact
@@ -13,13 +13,9 @@ returns-then-is_remark-clause-exact c =
     let test : is_remark (text_of c.args.line.now) ≡ true = ap is_remark (sym c.text_of.ensures) ∙ sym c.if-is_remark.ensures in
     line_of-remark c.args.line.now (c.if-line-gt-MOST_LINE.false, c.in-Ok.ensures.cases.1) test
 
-pub returns-in_default-from_utf8-clause-exact : goal.returns-in_default-from_utf8-clause-exact
-returns-in_default-from_utf8-clause-exact c =
-    let test : is_remark (text_of c.args.line.now) ≡ false = ap is_remark (sym c.text_of.ensures) ∙ sym c.if-is_remark.ensures in
-    line_of-not_asked c.args.line.now (c.if-line-gt-MOST_LINE.false, c.in-Ok.ensures.cases.1) test (subst (λ it. ¬ IsUtf8 it) c.cut_answer.ensures.before c.in_default-from_utf8.ensures.cases.0)
-
-pub returns-in_default-from_utf8-clause-meant : goal.returns-in_default-from_utf8-clause-meant
-returns-in_default-from_utf8-clause-meant c = meant-line_of c.args.line.now _ (returns-in_default-from_utf8-clause-exact c)
+pub unreachable-requires : goal.unreachable-requires
+unreachable-requires c =
+    c.in_default-from_utf8.ensures.cases.0 (subst IsUtf8 (sym c.cut_answer.ensures.before) (IsUtf8-asked c.args.line.now c.in-Ok.ensures.cases.1))
 
 pub returns-in-Some-clause-exact : goal.returns-in-Some-clause-exact
 returns-in-Some-clause-exact c =

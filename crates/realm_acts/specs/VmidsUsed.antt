@@ -1,0 +1,31 @@
+-- The VMIDs in use before an act and after it. RMM 1.0, RMI_REALM_CREATE, RMI_REALM_DESTROY.
+use Rattle.std.specs.Prelude.{◌≡◌, ◌≢◌, ◌==◌, ℕ, List, Bool, true, false, Some}
+use Rattle.std.specs.List.{list_any}
+use Rattle.realm_model.specs.declared.act.Act.{Act}
+use Rattle.realm_model.specs.declared.act.Act.TheVariants.{Realm, UnRealm}
+use Rattle.realm_model.specs.declared.act.Event.{Event}
+use Rattle.realm_model.specs.Machine.{Limits, Machine}
+use Rattle.realm_model.specs.World.{World}
+use Rattle.realm_model.specs.Step.{step, used_vmids}
+use Rattle.realm_model.specs.History.{IsInTurn}
+use Rattle.realm_model.specs.Undoing.{by}
+
+-- a realm of the machine has the VMID
+abbrev pub is_vmid_used : Machine → ℕ → Bool
+is_vmid_used machine vmid = list_any (λ used. vmid == used) (used_vmids machine)
+
+-- one VMID is in use, or not, from now on, and the others are as they were
+pub record IsUsedNow (old new : Machine) (vmid : ℕ) (used : Bool) : Type 0 where
+  pub one : is_vmid_used new vmid ≡ used
+  pub others : (other : ℕ) → other ≢ vmid → is_vmid_used new other ≡ is_vmid_used old other
+
+-- An act that makes a realm uses its VMID from then on, and the reverse of that one no more. No other act changes any.
+abbrev pub VmidsFollow : Act → Machine → Machine → Type 0
+VmidsFollow (Realm rd root vmid) old new = IsUsedNow old new vmid true
+VmidsFollow (UnRealm rd root vmid) old new = IsUsedNow old new vmid false
+VmidsFollow _ old new = (vmid : ℕ) → is_vmid_used new vmid ≡ is_vmid_used old vmid
+
+-- so of each step in turn
+abbrev pub VmidsFollowSteps : Limits → List Event → World → ℕ → Act → World → Type 0
+VmidsFollowSteps limits history world build act next =
+    IsInTurn history (by build act) → step limits world (by build act) ≡ Some next → VmidsFollow act world.machine next.machine

@@ -1,0 +1,35 @@
+-- What has been read and written so far.
+use Rattle.std.specs.Prelude.{◌≡◌, ℕ, List, [], ◌∷◌, ◌++◌, map, Option, None}
+use Rattle.std.specs.Io.KnownBytes.{Appends, Consumes}
+use Rattle.told_device.specs.Whole.{AppendsFront}
+use Rattle.trace_program.specs.Session.{Now, IsTold, IsSession}
+use Rattle.trace_program.specs.Input.{parts_of, kept_of}
+
+-- Lines of what was read are answered, and of the rest so much is kept.
+pub record IsSoFar (old new : Option (List ℕ)) (read : List ℕ) (bench : Now) (kept : List ℕ) : Type 0 where
+  pub lines : List (List ℕ)
+  pub rest : List ℕ
+  pub cut : parts_of read ≡ lines ++ rest ∷ []
+  pub is_kept : kept ≡ kept_of rest
+  pub text : List ℕ
+  pub session : IsSession None (map kept_of lines) text bench
+  pub written : Appends old new text
+
+-- the answer to a line was written
+pub record Writes (old new : Option (List ℕ)) (before : Now) (line : List ℕ) (after : Now) : Type 0 where
+  pub told : List ℕ
+  pub is_told : IsTold before line told after
+  pub written : Appends old new told
+
+-- a front of the answer to a line was written
+pub record WritesFront (old new : Option (List ℕ)) (before : Now) (line : List ℕ) : Type 0 where
+  pub after : Now
+  pub told : List ℕ
+  pub is_told : IsTold before line told after
+  pub written : AppendsFront old new told
+
+-- the same, of what the reader gave
+pub record IsUnderway (input left old new : Option (List ℕ)) (bench : Now) (kept : List ℕ) : Type 0 where
+  pub read : List ℕ
+  pub consumed : Consumes input left read
+  pub so_far : IsSoFar old new read bench kept

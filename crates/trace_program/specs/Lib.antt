@@ -1,0 +1,5 @@
+pub mod Commands
+pub mod Readings
+pub mod Session
+pub mod Input
+pub mod Answering

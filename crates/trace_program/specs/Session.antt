@@ -1,0 +1,63 @@
+-- A session: what is answered to the lines of a trace, one after another.
+use Rattle.std.specs.Prelude.{◌≡◌, ℕ, Bool, true, false, List, [], ◌∷◌, ◌++◌, Option, Some, None}
+use Rattle.rmi_monitor.specs.View.{MonitorView, after_command}
+use Rattle.rmi_bench.specs.Machine.{is_machine, opened}
+use Rattle.rmi_trace.specs.Answers.{repeated_line, answered_line}
+use Rattle.rmi_trace.specs.Lines.{text_of, before_answer, line_of}
+use Rattle.rmi_trace.specs.declared.answer.Answer.{Answer}
+use Rattle.rmi_trace.specs.declared.answer.Answer.TheVariants.{NoCommand}
+use Rattle.rmi_trace.specs.declared.line.Line.{Line}
+use Rattle.rmi_trace.specs.declared.line.Line.TheVariants as line
+use Rattle.rmi_trace.specs.declared.request.Opening.{Opening}
+use Rattle.rmi_trace.specs.declared.request.Request.{Request}
+use Rattle.rmi_trace.specs.declared.request.Request.TheVariants.{Opening as Opens, Command, Reading}
+use Rattle.trace_program.specs.Commands.{outcome_of, answer_to}
+use Rattle.trace_program.specs.Readings.{IsReading}
+
+-- the monitor of the last `machine` line, if there was one
+abbrev pub Now : Type 0
+Now = Option MonitorView
+
+-- ---- one line
+
+-- it is no command, and nothing changes
+abbrev pub IsNoCommand : Now → Option Answer → Now → Type 0
+IsNoCommand old given new = (given ≡ Some NoCommand) × (new ≡ old)
+
+-- a fresh machine, with no answer; numbers that no machine has are no command
+abbrev pub IsOpening : Bool → Opening → Now → Option Answer → Now → Type 0
+IsOpening true o old given new = (given ≡ None) × (new ≡ Some (opened o.pages o.vmids o.auxiliaries))
+IsOpening false o old given new = IsNoCommand old given new
+
+-- Before a machine is opened, nothing else is a command.
+abbrev pub IsPerformed : Request → Now → Option Answer → Now → Type 0
+IsPerformed (Opens o) old given new = IsOpening (is_machine o.pages o.vmids o.auxiliaries) o old given new
+IsPerformed request None given new = IsNoCommand None given new
+IsPerformed (Command c) (Some m) given new = (given ≡ Some (answer_to c m)) × (new ≡ Some (after_command (outcome_of c m) m))
+IsPerformed (Reading r) (Some m) given new = (a : Answer) × IsReading r m a × (given ≡ Some a) × (new ≡ Some m)
+
+-- The answer to a line, if it gets one, and what the line does.
+abbrev pub IsAnswer : Line → Now → Option Answer → Now → Type 0
+IsAnswer line.Remark old given new = (given ≡ None) × (new ≡ old)
+IsAnswer line.Neither old given new = IsNoCommand old given new
+IsAnswer (line.Request request) old given new = IsPerformed request old given new
+
+-- a line as it is written: a remark is repeated; else what is asked, and the answer if there is one
+abbrev pub written_with : List ℕ → Line → Option Answer → List ℕ
+written_with bytes line.Remark given = repeated_line bytes
+written_with bytes _ (Some a) = answered_line (before_answer (text_of bytes)) a
+written_with bytes _ None = repeated_line (before_answer (text_of bytes))
+
+-- what is written for a line
+pub record IsTold (old : Now) (bytes text : List ℕ) (new : Now) : Type 0 where
+  pub given : Option Answer
+  pub answer : IsAnswer (line_of bytes) old given new
+  pub written : text ≡ written_with bytes (line_of bytes) given
+
+-- ---- lines in their order
+
+-- What is written for lines, one after another.
+abbrev pub IsSession : Now → List (List ℕ) → List ℕ → Now → Type 0
+IsSession old [] text new = (text ≡ []) × (new ≡ old)
+IsSession old (bytes ∷ more) text new =
+    (mid : Now) × (first : List ℕ) × (rest : List ℕ) × IsTold old bytes first mid × IsSession mid more rest new × (text ≡ first ++ rest)

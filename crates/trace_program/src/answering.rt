@@ -1,0 +1,148 @@
+//! Lines in, the same lines with their answers out.
+ghost use Rattle.std.specs.Prelude.{◌≡◌, ◌≤◌, ◌++◌, ◌⊎◌, ℕ, List, [], ◌∷◌, Option, false, true, ◌↔◌, Err, OnOk, OnErr};
+ghost use Rattle.std.specs.Io.KnownBytes.{Keeps, IsAtEnd};
+ghost use Rattle.trace_program.specs.Answering.{IsSoFar, IsUnderway, Writes, WritesFront};
+ghost use Rattle.trace_program.specs.Input.{kept_of, AreAnswered, IsCutShort, AreCutShort};
+ghost use Rattle.trace_program.specs.declared.fault.Fault.TheVariants.{Device};
+
+use crate::{Fault, Session};
+use rmi_trace::MOST_LINE;
+use std::alloc::{AllocError, Global};
+use std::io::{Read, Write};
+use told_device::Told;
+
+// What is kept of a line: one byte more than a line that is read may have.
+const KEPT: usize = MOST_LINE + 1;
+
+// Keeps a byte of a line, unless enough of it is kept.
+fn keep(line: &mut Vec<u8>, byte: u8) -> Result<(), AllocError>
+    ensures { OnOk result ((rest : List ℕ) → line.old.items ≡ kept_of rest → line.new.items ≡ kept_of (rest ++ byte ∷ [])) }
+{
+    if line.len() < KEPT {
+        line.push(byte)?;
+    }
+    Ok(())
+}
+
+// A trace that is being answered: what its lines have come to, what is kept of the next line, and the text of an answer.
+#[derive(Drop)]
+struct Answering {
+    session: Session,
+    line: Vec<u8>,
+    text: Vec<u8>,
+}
+
+impl Answering {
+    // Ends the line, and writes it with its answer.
+    fn end_line<W: Write>(&mut self, alloc: Global, output: &mut Told<W>) -> Result<(), Fault>
+        requires { output.old.failed ≡ false }
+        ensures ok { OnOk result (Writes (W.contents output.old.device) (W.contents output.new.device)
+            self.old.session.bench self.old.line.items self.new.session.bench) }
+        ensures empty { OnOk result (self.new.line.items ≡ []) }
+        ensures err { OnErr result (Keeps (W.contents output.old.device) (W.contents output.new.device)
+            ⊎ WritesFront (W.contents output.old.device) (W.contents output.new.device) self.old.session.bench self.old.line.items) }
+        ensures told { (output.new.failed ≡ true) ↔ (result ≡ Err Device) }
+        ensures fine { OnOk result (output.new.failed ≡ false) }
+    {
+        self.text.clear();
+        self.session.take_line(alloc, &self.line, &mut self.text)?;
+        self.line.clear();
+        output.write_whole(&self.text)?;
+        Ok(())
+    }
+
+    // Takes a byte of the input.
+    fn take_byte<W: Write>(
+        &mut self,
+        alloc: Global,
+        byte: u8,
+        output: &mut Told<W>,
+    ) -> Result<(), Fault>
+        requires { output.old.failed ≡ false }
+        ensures ok { (start : Option (List ℕ)) (read : List ℕ) → IsSoFar start (W.contents output.old.device) read self.old.session.bench self.old.line.items
+            → OnOk result (IsSoFar start (W.contents output.new.device) (read ++ byte ∷ []) self.new.session.bench self.new.line.items) }
+        ensures err { (start : Option (List ℕ)) (read : List ℕ) → IsSoFar start (W.contents output.old.device) read self.old.session.bench self.old.line.items
+            → OnErr result (IsCutShort start (W.contents output.new.device) (read ++ byte ∷ [])) }
+        ensures told { (output.new.failed ≡ true) ↔ (result ≡ Err Device) }
+        ensures fine { OnOk result (output.new.failed ≡ false) }
+    {
+        if byte == b'\n' {
+            self.end_line(alloc, output)?;
+        } else {
+            keep(&mut self.line, byte)?;
+        }
+        Ok(())
+    }
+
+    // Takes bytes of the input.
+    fn take_bytes<W: Write>(
+        &mut self,
+        alloc: Global,
+        part: &[u8],
+        output: &mut Told<W>,
+    ) -> Result<(), Fault>
+        requires { output.old.failed ≡ false }
+        ensures ok { (start : Option (List ℕ)) (read : List ℕ) → IsSoFar start (W.contents output.old.device) read self.old.session.bench self.old.line.items
+            → OnOk result (IsSoFar start (W.contents output.new.device) (read ++ part.now) self.new.session.bench self.new.line.items) }
+        ensures err { (start : Option (List ℕ)) (read : List ℕ) → IsSoFar start (W.contents output.old.device) read self.old.session.bench self.old.line.items
+            → OnErr result (IsCutShort start (W.contents output.new.device) (read ++ part.now)) }
+        ensures told { (output.new.failed ≡ true) ↔ (result ≡ Err Device) }
+        ensures fine { OnOk result (output.new.failed ≡ false) }
+    {
+        'bytes: for byte in part {
+            self.take_byte(alloc, *byte, output)?;
+        }
+        Ok(())
+    }
+
+    // Ends the last line, which has no line feed, unless it is empty.
+    fn end<W: Write>(&mut self, alloc: Global, output: &mut Told<W>) -> Result<(), Fault>
+        requires { output.old.failed ≡ false }
+        ensures ok { (input left start : Option (List ℕ)) → IsUnderway input left start (W.contents output.old.device) self.old.session.bench self.old.line.items
+            → IsAtEnd left → OnOk result (AreAnswered input left start (W.contents output.new.device)) }
+        ensures err { (input left start : Option (List ℕ)) → IsUnderway input left start (W.contents output.old.device) self.old.session.bench self.old.line.items
+            → OnErr result (AreCutShort input left start (W.contents output.new.device)) }
+        ensures told { (output.new.failed ≡ true) ↔ (result ≡ Err Device) }
+    {
+        if self.line.is_empty() {
+            return Ok(());
+        }
+        self.end_line(alloc, output)?;
+        Ok(())
+    }
+}
+
+/// Reads the lines of a trace to their end, and writes each with its answer as soon as it has it.
+///
+/// Memory is taken for a fresh machine and for a line, of which no more than 65,537 bytes are kept. Errors: Memory, where a
+/// growth was refused; Device, where a read or a write failed, or after 2^64 - 1 reads. Then the answers to the first lines were
+/// written, and of the last of them a front at least.
+pub fn answer<R: Read, W: Write>(
+    alloc: Global,
+    input: &mut Told<R>,
+    output: &mut Told<W>,
+) -> Result<(), Fault>
+    requires readable { input.old.failed ≡ false }
+    requires writable { output.old.failed ≡ false }
+    ensures ok { OnOk result (AreAnswered (R.remaining input.old.device) (R.remaining input.new.device)
+        (W.contents output.old.device) (W.contents output.new.device)) }
+    ensures err { OnErr result (AreCutShort (R.remaining input.old.device) (R.remaining input.new.device)
+        (W.contents output.old.device) (W.contents output.new.device)) }
+    ensures failed { ((input.new.failed ≡ true) ⊎ (output.new.failed ≡ true)) → result ≡ Err Device }
+{
+    let mut answering = Answering {
+        session: Session::new(),
+        line: Vec::new(alloc),
+        text: Vec::new(alloc),
+    };
+    let mut buf = [0u8; 4096];
+    'reads: for _ in 0..u64::MAX {
+        let n = input.read(&mut buf)?;
+        if n == 0 {
+            answering.end(alloc, output)?;
+            return Ok(());
+        }
+        answering.take_bytes(alloc, &buf[..n], output)?;
+    }
+    Err(Fault::Device)
+}

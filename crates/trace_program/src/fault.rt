@@ -1,0 +1,34 @@
+//! Why a trace is not taken to its end.
+ghost use Rattle.std.specs.Prelude.{◌≡◌};
+ghost use Rattle.trace_program.specs.declared.fault.Fault.TheVariants.{Memory, Device};
+
+use std::alloc::AllocError;
+use thiserror::Error;
+use told_device::DeviceFailed;
+
+/// Why a trace is not taken to its end. Its line goes to standard error.
+#[derive(Clone, Copy, Debug, PartialEq, Eq, Error)]
+pub enum Fault {
+    /// A growth was refused.
+    #[error("memory")]
+    Memory,
+    /// A read or a write failed.
+    #[error("device")]
+    Device,
+}
+
+impl From<DeviceFailed> for Fault {
+    ghost from_gives = { λ _ fault. fault ≡ Device };
+
+    fn from(_error: DeviceFailed) -> Fault {
+        Fault::Device
+    }
+}
+
+impl From<AllocError> for Fault {
+    ghost from_gives = { λ _ fault. fault ≡ Memory };
+
+    fn from(_error: AllocError) -> Fault {
+        Fault::Memory
+    }
+}

@@ -1,0 +1,93 @@
+//! The lines of a trace, one after another.
+ghost use Rattle.std.specs.Prelude.{◌≡◌, ◌++◌, List, ℕ, None, IfOk, OnOk, OnErr};
+ghost use Rattle.trace_program.specs.Session.{IsOpening, IsPerformed, IsAnswer, IsTold};
+ghost use Rattle.rmi_bench.specs.Machine.{is_machine};
+
+use crate::{perform, read};
+use rmi_bench::{Bench, OpenError};
+use rmi_trace::{Answer, Line, Opening, Request, cut_answer, parse, push_answered, push_line};
+use std::alloc::{AllocError, Global};
+
+/// What the lines of a trace have come to.
+#[derive(Drop)]
+pub struct Session {
+    /// The bench of the last `machine` line, if there was one.
+    pub bench: Option<Bench>,
+}
+
+impl Session {
+    /// A session that has had no line.
+    pub fn new() -> Session
+        ensures { result.bench ≡ None }
+    {
+        Session { bench: None }
+    }
+
+    // Opens a fresh machine.
+    fn open(&mut self, alloc: Global, opening: &Opening) -> Result<Option<Answer>, AllocError>
+        ensures ok { IfOk result (λ given. IsOpening (is_machine opening.now.pages opening.now.vmids opening.now.auxiliaries)
+            opening.now self.old.bench given self.new.bench) }
+        ensures err { OnErr result (self.new.bench ≡ self.old.bench) }
+    {
+        match Bench::open(alloc, opening.pages, opening.vmids, opening.auxiliaries) {
+            Ok(bench) => {
+                self.bench = Some(bench);
+                Ok(None)
+            }
+            Err(OpenError::NoMachine) => Ok(Some(Answer::NoCommand)),
+            Err(OpenError::Memory(error)) => Err(error),
+        }
+    }
+
+    // Does what is asked.
+    fn perform(&mut self, alloc: Global, request: &Request) -> Result<Option<Answer>, AllocError>
+        ensures ok { IfOk result (λ given. IsPerformed request.now self.old.bench given self.new.bench) }
+        ensures err { OnErr result (self.new.bench ≡ self.old.bench) }
+    {
+        match request {
+            Request::Opening(opening) => self.open(alloc, opening),
+            Request::Command(command) => match &mut self.bench {
+                Some(bench) => Ok(Some(perform(bench, command))),
+                None => Ok(Some(Answer::NoCommand)),
+            },
+            Request::Reading(reading) => match &self.bench {
+                Some(bench) => Ok(Some(read(bench, reading))),
+                None => Ok(Some(Answer::NoCommand)),
+            },
+        }
+    }
+
+    /// The answer to a line, if it gets one. Memory is taken for a fresh machine alone; where there is none, nothing changes.
+    pub fn answer(&mut self, alloc: Global, line: &Line) -> Result<Option<Answer>, AllocError>
+        ensures ok { IfOk result (λ given. IsAnswer line.now self.old.bench given self.new.bench) }
+        ensures err { OnErr result (self.new.bench ≡ self.old.bench) }
+    {
+        match line {
+            Line::Remark => Ok(None),
+            Line::Request(request) => self.perform(alloc, request),
+            Line::Neither => Ok(Some(Answer::NoCommand)),
+        }
+    }
+
+    /// Takes a line, and appends it with its answer to the text. An answer that it already has is set aside.
+    pub fn take_line(
+        &mut self,
+        alloc: Global,
+        bytes: &[u8],
+        text: &mut Vec<u8>,
+    ) -> Result<(), AllocError>
+        ensures ok { OnOk result ((told : List ℕ) × (text.new.items ≡ text.old.items ++ told) × IsTold self.old.bench bytes.now told self.new.bench) }
+        ensures err { OnErr result (text.new.items ≡ text.old.items) }
+    {
+        let line = parse(bytes);
+        let given = self.answer(alloc, &line)?;
+        let asked = match &line {
+            Line::Remark => bytes,
+            _ => cut_answer(bytes).0,
+        };
+        match given {
+            Some(answer) => push_answered(text, asked, &answer),
+            None => push_line(text, asked),
+        }
+    }
+}
