@@ -37,13 +37,6 @@ leases_stay build _ leases command = refl
 
 -- ---- the outcome in the monitor is that in the world
 
--- how many pages and builds there are does not matter to a command
-irrelevant : (limits : Limits) (pages builds : ℕ) (used : List ℕ) (act : Act) (realm : Option Seen) (gs : List Seen)
-    → outcome_of (record { pages = pages; vmids = limits.vmids; aux = limits.aux; builds = builds }) used act realm gs ≡ outcome_of limits used act realm gs
-unfolding outcome_of
-irrelevant limits pages builds used (Take order first) realm gs = refl
-irrelevant limits pages builds used _ realm gs = refl
-
 rd_seen : (machine : Machine) (realm : Option Seen) → IsAt machine realm → option_map (seen machine) (option_map (λ (rd : Seen). rd.number) realm) ≡ realm
 rd_seen machine None there = refl
 rd_seen machine (Some rd) there = λ i. Some (record { number = rd.number; cell = there i })
@@ -61,10 +54,8 @@ module _ (limits : Limits) (history : List Event) (world : World) (monitor : Mon
 
     pub same_outcome : outcome_on monitor place.realm act ≡ outcome_in limits world (by build act)
     same_outcome =
-        ap (λ o. outcome_of (limits_of monitor) (used_vmids monitor.machine) act o (gs monitor.machine)) (ap (realm_on monitor) at.realm ∙ realm_seen)
-        ∙ ap (λ (m : Machine). outcome_of (limits_of monitor) (used_vmids m) act (realm_of build world) (gs m)) mirror.machine
-        ∙ (λ i. outcome_of (record { pages = (limits_of monitor).pages; vmids = mirror.vmids i; aux = mirror.aux i; builds = 0 }) (used_vmids world.machine) act (realm_of build world) (gs world.machine))
-        ∙ irrelevant limits (limits_of monitor).pages 0 (used_vmids world.machine) act (realm_of build world) (gs world.machine)
+        ap (λ o. outcome_of monitor.vmids monitor.aux (used_vmids monitor.machine) act o (gs monitor.machine)) (ap (realm_on monitor) at.realm ∙ realm_seen)
+        ∙ (λ i. outcome_of (mirror.vmids i) (mirror.aux i) (used_vmids (mirror.machine i)) act (realm_of build world) (gs (mirror.machine i)))
 
     -- ---- it is done
 

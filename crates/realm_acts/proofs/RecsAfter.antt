@@ -89,7 +89,7 @@ keeps limits w sound act plain stay = λ d e same m. ap (λ (r : RealmRow). gran
 
 destroyed : (limits : Limits) (w : World) (sound : IsSoundPart w) (rd : ℕ) (root : Root) (v : ℕ) (realm : Option Seen) → IsAt w.machine realm
     → Yields (λ us. (k : ℕ) (d : RealmRow) → (cell_at w.machine k).descriptor ≡ Some d → (m : ℕ) → granule_of d m ≡ None)
-    (outcome_of limits (used_vmids w.machine) (UnRealm rd root v) realm (map (seen w.machine) (named (UnRealm rd root v))))
+    (outcome_of limits.vmids limits.aux (used_vmids w.machine) (UnRealm rd root v) realm (map (seen w.machine) (named (UnRealm rd root v))))
 unfolding outcome_of named
 destroyed limits w sound rd root v realm at = Yields-with_realm P _ _ (λ d is. Yields-check P _ _ _ (λ empty. Yields-Ok P _ (λ k x there m.
     let same : d ≡ x = same_Some _ _ (sym is ∙ ap (λ j. (cell_at w.machine j).descriptor) (one_place w sound rd k d x is there) ∙ there) in
@@ -203,7 +203,7 @@ abbrev made : World → ℕ → List ℕ → RecRow
 made w granule auxiliaries = record { granule = granule; auxiliaries = numbers_of (map (seen w.machine) auxiliaries); state = Ready }
 
 created : (limits : Limits) (w : World) (sound : IsSoundPart w) (granule : ℕ) (aux : ArrayVec ℕ 16 (Unit {0})) (n : ℕ) (realm : Option Seen) → IsAt w.machine realm
-    → Yields (GainsBy w granule) (outcome_of limits (used_vmids w.machine) (Rec granule aux n) realm (map (seen w.machine) (named (Rec granule aux n))))
+    → Yields (GainsBy w granule) (outcome_of limits.vmids limits.aux (used_vmids w.machine) (Rec granule aux n) realm (map (seen w.machine) (named (Rec granule aux n))))
 unfolding outcome_of named
 created limits w sound granule aux n None at = Yields-Err (GainsBy w granule) _
 created limits w sound granule aux n (Some rd) at =

@@ -1,10 +1,10 @@
 -- What comes of an act on a monitor, and when it can be performed.
-use Rattle.std.specs.Prelude.{◌≡◌, ◌<◌, ℕ, length, Bool, true, false, Option, Some, None, option_map, option_and_then, map}
+use Rattle.std.specs.Prelude.{◌≡◌, ◌<◌, ℕ, Bool, true, false, Option, Some, None, option_map, option_and_then, map}
 use Rattle.std.specs.List.{All}
 use Rattle.std.specs.FinMap.{get}
 use Rattle.realm_model.specs.declared.act.Act.{Act}
 use Rattle.realm_model.specs.declared.act.Act.TheVariants.{Take, UnTake, Activate, Rtt, UnRtt, Ripas, Data, Unknown, UnData, Rec, UnRec, Enter, Exit, Poke}
-use Rattle.realm_model.specs.Machine.{Limits, RealmRow, RecRow, Seen, cell_at}
+use Rattle.realm_model.specs.Machine.{RealmRow, RecRow, Seen, cell_at}
 use Rattle.realm_model.specs.Update.{Outcome}
 use Rattle.realm_model.specs.Act.{named}
 use Rattle.realm_model.specs.Outcome.{outcome_of}
@@ -46,10 +46,6 @@ rec_named _ = None
 
 -- ---- what comes of an act
 
--- a command reads how many VMIDs and auxiliaries there are; a monitor knows no builds
-abbrev pub limits_of : MonitorView → Limits
-limits_of monitor = record { pages = length monitor.machine; vmids = monitor.vmids; aux = monitor.aux; builds = 0 }
-
 -- the realm of an RD as commands see it
 abbrev pub realm_on : MonitorView → Option ℕ → Option Seen
 realm_on monitor rd = option_map (seen_in monitor) rd
@@ -57,7 +53,7 @@ realm_on monitor rd = option_map (seen_in monitor) rd
 -- What comes of an act of a build whose realm has that RD.
 abbrev pub outcome_on : MonitorView → Option ℕ → Act → Outcome
 outcome_on monitor rd act =
-    outcome_of (limits_of monitor) (used_vmids monitor.machine) act (realm_on monitor rd) (map (seen_in monitor) (named act))
+    outcome_of monitor.vmids monitor.aux (used_vmids monitor.machine) act (realm_on monitor rd) (map (seen_in monitor) (named act))
 
 -- ---- when it can be performed
 

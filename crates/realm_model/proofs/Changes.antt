@@ -59,12 +59,12 @@ updated_all-changes build (u ∷ us) w h =
 pub step-command : (limits : Limits) (w : World) (build : ℕ) (act : Act) (us : List Update) → build < limits.builds
     → list_all (is_leased_to (holder build act) w.leases) (named act) ≡ true
     → is_in_range act ≡ true → fits act (realm_of build w) (map (seen w.machine) (named act)) ≡ true
-    → outcome_of limits (used_vmids w.machine) act (realm_of build w) (map (seen w.machine) (named act)) ≡ Ok us
+    → outcome_of limits.vmids limits.aux (used_vmids w.machine) act (realm_of build w) (map (seen w.machine) (named act)) ≡ Ok us
     → list_all (is_change build w.leases) us ≡ true
     → step limits w (record { build = build; act = act }) ≡ Some (record { machine = machine_after_all us w.machine; leases = w.leases })
 unfolding step
 step-command limits w build act us below leases range fit planned changes =
-    ap (λ t. cond t (after_outcome build (outcome_of limits (used_vmids w.machine) act (realm_of build w) (map (seen w.machine) (named act))) w) None)
+    ap (λ t. cond t (after_outcome build (outcome_of limits.vmids limits.aux (used_vmids w.machine) act (realm_of build w) (map (seen w.machine) (named act))) w) None)
     (and_from _ _ (and_from _ _ (and_from _ _ (lt-ltb build limits.builds below) leases) range) fit)
     ∙ ap (λ o. after_outcome build o w) planned
     ∙ updated_all-changes build us w changes
@@ -130,7 +130,7 @@ module _ (limits : Limits) (b : ℕ) (w : World) where
   ReachesOwn _ realm = Unit {0}
 
   pub changes : (act : Act) (realm : Option Seen) → is_of_block act ≡ false → ReachesOwn act realm → list_all L (named act) ≡ true → IsAt w.machine realm → IsHeld b w.leases realm
-      → fits act realm (map (seen w.machine) (named act)) ≡ true → Yields C (outcome_of limits (used_vmids w.machine) act realm (map (seen w.machine) (named act)))
+      → fits act realm (map (seen w.machine) (named act)) ≡ true → Yields C (outcome_of limits.vmids limits.aux (used_vmids w.machine) act realm (map (seen w.machine) (named act)))
   unfolding outcome_of named fits
   changes (Fill g v) realm k reach h at held fit = Yields-check C _ _ _ (λ _. Yields-Ok C _ h)
   changes (Peek g o v) realm k reach h at held fit = Yields-check C _ _ _ (λ _. Yields-Ok C _ refl)
@@ -189,7 +189,7 @@ holder_is build _ k = refl
 -- where the granules named are the build's, the act fits, and its command is not refused, the step is made
 pub step_exact : (limits : Limits) (w : World) (build : ℕ) (act : Act) (us : List Update) → is_of_block act ≡ false → ReachesOwn limits build w act (realm_of build w)
     → is_allowed limits w (record { build = build; act = act }) ≡ true
-    → outcome_of limits (used_vmids w.machine) act (realm_of build w) (map (seen w.machine) (named act)) ≡ Ok us
+    → outcome_of limits.vmids limits.aux (used_vmids w.machine) act (realm_of build w) (map (seen w.machine) (named act)) ≡ Ok us
     → step limits w (record { build = build; act = act }) ≡ Some (record { machine = machine_after_all us w.machine; leases = w.leases })
 step_exact limits w build act us k reach opened planned =
     let outer = and_parts _ _ opened in

@@ -91,7 +91,7 @@ module _ (limits : Limits) (w : World) (sound : IsSoundPart w) (old : IsLinked (
       ])
 
   linked : (act : Act) (realm : Option Seen) → IsAt w.machine realm → (realm ≡ None → (k : ℕ) → (now k).descriptor ≡ None) → fits act realm (map (seen w.machine) (named act)) ≡ true
-      → Yields R (outcome_of limits (used_vmids w.machine) act realm (map (seen w.machine) (named act)))
+      → Yields R (outcome_of limits.vmids limits.aux (used_vmids w.machine) act realm (map (seen w.machine) (named act)))
   unfolding outcome_of named fits with_ram
   linked (Take order first) realm at none fit = Yields-Ok R _ (subst R (sym (seen_takes w.machine (block order first))) (subst IsLinked (λ i k. sym (put_takes (block order first) k (now k)) i) old))
   linked (UnTake order first) realm at none fit = Yields-Ok R _ (subst R (sym (seen_frees w.machine (block order first)))

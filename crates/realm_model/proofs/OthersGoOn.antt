@@ -108,7 +108,7 @@ module _ (limits : Limits) (b : ℕ) (base y x : World) (back : IsBack b base y 
         fitting = (λ i. fits e.act (realm i) (cells i)) ∙ s.fitting;
         updates = s.updates;
         outcome = outcome_of-fewer limits (used_vmids y.machine) (used_vmids x.machine) (used_there sound_x.square) e.act (realm_of e.build x) (map (seen x.machine) gs) s.updates
-            ((λ i. outcome_of limits (used_vmids y.machine) e.act (realm i) (cells i)) ∙ s.outcome);
+            ((λ i. outcome_of limits.vmids limits.aux (used_vmids y.machine) e.act (realm i) (cells i)) ∙ s.outcome);
         machine = refl;
         leases = refl;
       } in

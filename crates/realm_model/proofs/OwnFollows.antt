@@ -103,7 +103,7 @@ module _ (r s : Rows) (same : LookSame r s) (ipa level : ℕ) (a b : Walk) (ra :
 
 module _ (limits : Limits) (w v : World) (cells : (g : ℕ) → SameCell (cell_at w.machine g) (cell_at v.machine g)) where
   abbrev Follows : Act → Option Seen → Option Seen → Type 0
-  Follows act r s = Agree (outcome_of limits (used_vmids w.machine) act r (map (seen w.machine) (named act))) (outcome_of limits (used_vmids v.machine) act s (map (seen v.machine) (named act)))
+  Follows act r s = Agree (outcome_of limits.vmids limits.aux (used_vmids w.machine) act r (map (seen w.machine) (named act))) (outcome_of limits.vmids limits.aux (used_vmids v.machine) act s (map (seen v.machine) (named act)))
 
   module _ (rd sd : Seen) (twin : IsTwin rd sd) where
     at_realm : (d e : RealmRow) → rd.cell.descriptor ≡ Some d → sd.cell.descriptor ≡ Some e → SameRealm d e
@@ -256,8 +256,8 @@ module _ (limits : Limits) (w v : World) (cells : (g : ℕ) → SameCell (cell_a
 
 both_step : (limits : Limits) (b : ℕ) (act : Act) (w v next other : World) → IsSquare w → IsSquare v → (is_paired act || is_reverse act) ≡ true → OwnershipFollows limits b act w v next other
 both_step limits b act w v next other sw sv p same step_w step_v =
-    let o : Outcome = outcome_of limits (used_vmids w.machine) act (realm_of b w) (map (seen w.machine) (named act)) in
-    let q : Outcome = outcome_of limits (used_vmids v.machine) act (realm_of b v) (map (seen v.machine) (named act)) in
+    let o : Outcome = outcome_of limits.vmids limits.aux (used_vmids w.machine) act (realm_of b w) (map (seen w.machine) (named act)) in
+    let q : Outcome = outcome_of limits.vmids limits.aux (used_vmids v.machine) act (realm_of b v) (map (seen v.machine) (named act)) in
     let did_w = done limits b w next act (λ us. o ≡ Ok us) (record { where_ok = λ us e. e }) step_w in
     let did_v = done limits b v other act (λ us. q ≡ Ok us) (record { where_ok = λ us e. e }) step_v in
     let follows = act_follows limits w v same.cells act (realm_of b w) (realm_of b v) p (realms_twins b w v sw sv same) (asked limits b w next act step_w).fit (asked limits b v other act step_v).fit in

@@ -125,8 +125,8 @@ module _ (limits : Limits) (b : ℕ) (u v w : World) (act : Act) (su : IsSound b
       named_seen (is_of_other b) (Some b) (ap not (eq-eqb b b refl)) w.leases w.machine (named r) named_here in
       let ready : back.ready ≡ true = back.ready_if (ap (λ o. is_running o act) realm ∙ rest) in
       let used : List ℕ = used_vmids w.machine in
-      let planned : outcome_of limits used r (realm_of b w) (map (seen w.machine) (named r)) ≡ Ok back.updates =
-      (λ i. outcome_of limits used r (sym realm i) (sym granules i)) ∙ back.planned used ∙ check_true back.ready back.refusal (Ok back.updates) ready in
+      let planned : outcome_of limits.vmids limits.aux used r (realm_of b w) (map (seen w.machine) (named r)) ≡ Ok back.updates =
+      (λ i. outcome_of limits.vmids limits.aux used r (sym realm i) (sym granules i)) ∙ back.planned used ∙ check_true back.ready back.refusal (Ok back.updates) ready in
       let opened : is_allowed limits w (by b r) ≡ true =
       and_from _ _ (and_from _ _ (and_from _ _ a.below (ap (λ l. list_all (is_leased_to l w.leases) (named r)) info.holds ∙ named_here)) (range_back act p a.range))
       ((λ i. fits r (sym realm i) (sym granules i)) ∙ back.fitting) in

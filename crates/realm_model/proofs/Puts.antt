@@ -21,7 +21,7 @@ module _ (limits : Limits) (used : List ℕ) where
   abbrev Q : List Update → Type 0
   Q us = list_all is_put us ≡ true
 
-  pub puts : (m : Machine) (act : Act) (realm : Option Seen) → is_of_block act ≡ false → Yields Q (outcome_of limits used act realm (map (seen m) (named act)))
+  pub puts : (m : Machine) (act : Act) (realm : Option Seen) → is_of_block act ≡ false → Yields Q (outcome_of limits.vmids limits.aux used act realm (map (seen m) (named act)))
   unfolding outcome_of named
   puts m (Fill g v) realm k = Yields-check Q _ _ _ (λ _. Yields-Ok Q _ refl)
   puts m (Peek g o v) realm k = Yields-check Q _ _ _ (λ _. Yields-Ok Q _ refl)

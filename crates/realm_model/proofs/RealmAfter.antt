@@ -92,7 +92,7 @@ module _ (limits : Limits) (w : World) (sound : IsSoundPart w) (T : RealmRow →
     poked g o v = as_it_was (PutByte g o v ∷ []) (λ k d there. elim (k == g) as (λ t. (cond t (cell_after (PutByte g o v) (now k)) (now k)).descriptor ≡ Some d) [ true ↦ there | false ↦ there ])
 
   pub turns : (act : Act) (realm : Option Seen) → Allows act → IsAt w.machine realm → (realm ≡ None → (k : ℕ) → (now k).descriptor ≡ None) → fits act realm (map (seen w.machine) (named act)) ≡ true
-      → Yields S (outcome_of limits (used_vmids w.machine) act realm (map (seen w.machine) (named act)))
+      → Yields S (outcome_of limits.vmids limits.aux (used_vmids w.machine) act realm (map (seen w.machine) (named act)))
   unfolding outcome_of named fits
   turns (Take order first) realm allows at none fit = Yields-Ok S _ (subst S (sym (seen_takes w.machine (block order first))) (taken (λ d. allows d d refl) (block order first)))
   turns (UnTake order first) realm allows at none fit = Yields-Ok S _ (subst S (sym (seen_frees w.machine (block order first))) (freed (λ d. allows d d refl) (block order first) fit))
@@ -177,7 +177,7 @@ realm_turned limits b w v act square sound none plain = turned_by limits b w v a
 -- a realm that is made is new
 made_new : (limits : Limits) (w : World) (rd : ℕ) (root : Root) (v : ℕ) (realm : Option Seen) → ((k : ℕ) → (cell_at w.machine k).descriptor ≡ None)
     → Yields (λ us. (k : ℕ) (e : RealmRow) → (put_at us k (cell_at w.machine k)).descriptor ≡ Some e → e ≡ new_realm v root)
-    (outcome_of limits (used_vmids w.machine) (Realm rd root v) realm (map (seen w.machine) (named (Realm rd root v))))
+    (outcome_of limits.vmids limits.aux (used_vmids w.machine) (Realm rd root v) realm (map (seen w.machine) (named (Realm rd root v))))
 unfolding outcome_of named
 made_new limits w rd root v realm none =
     Yields-check P _ _ _ (λ _. Yields-Ok P _ (subst P (sym (seen-creation w.machine rd root v)) (λ k e h. sym (made_row w rd root v none k e h).1)))
@@ -188,7 +188,7 @@ made_new limits w rd root v realm none =
 -- a realm that ends ran no REC, and no realm is left
 destroyed : (limits : Limits) (w : World) (sound : IsSoundPart w) (rd : ℕ) (root : Root) (v : ℕ) (realm : Option Seen)
     → Yields (λ us. ((k : ℕ) (e : RealmRow) → (put_at us k (cell_at w.machine k)).descriptor ≡ Some e → ⊥) × ((k : ℕ) (d : RealmRow) → (cell_at w.machine k).descriptor ≡ Some d → running d.recs d.next ≡ 0))
-    (outcome_of limits (used_vmids w.machine) (UnRealm rd root v) realm (map (seen w.machine) (named (UnRealm rd root v))))
+    (outcome_of limits.vmids limits.aux (used_vmids w.machine) (UnRealm rd root v) realm (map (seen w.machine) (named (UnRealm rd root v))))
 unfolding outcome_of named
 destroyed limits w sound rd root v realm = Yields-with_realm P _ _ (λ d is. Yields-check P _ _ _ (λ empty. Yields-Ok P _ (
   (λ k e h. gone_row w sound rd d is (starting_tables d.root) k e h),

@@ -61,7 +61,7 @@ pub record Reversal (limits : Limits) (b : ℕ) (u w : World) (act r : Act) : Ty
   pub ready : Bool
   pub refusal : Rmi
   pub updates : List Update
-  pub planned : (used : List ℕ) → outcome_of limits used r (realm_of b w) (map (seen w.machine) (named r)) ≡ check ready refusal (Ok updates)
+  pub planned : (used : List ℕ) → outcome_of limits.vmids limits.aux used r (realm_of b w) (map (seen w.machine) (named r)) ≡ check ready refusal (Ok updates)
   pub fitting : fits r (realm_of b w) (map (seen w.machine) (named r)) ≡ true
   pub back : (k : ℕ) → SameCell (cell_at u.machine k) (put_at updates k (cell_at w.machine k))
   pub ready_if : is_running (realm_of b w) act ≡ false → ready ≡ true
@@ -258,11 +258,11 @@ module _ (limits : Limits) (b : ℕ) (u w : World) (su : IsSoundPart u) (sw : Is
 
   planned_rtt : (used : List ℕ) (d2 : RealmRow) (n ipa g level : ℕ) (row : Row) → (cell_at w.machine n).descriptor ≡ Some d2 → get d2.rows (level - 1, first_covered (level - 1) ipa) ≡ Some row → is_table row ≡ true → row.granule ≡ Some g
       → is_table_place ipa level ≡ true → is_protected d2 ipa ≡ true → 1 ≤ level - 1 → is_table_unused d2.rows level ipa ≡ true → realm_of b w ≡ Some (seen w.machine n)
-      → outcome_of limits used (UnRtt g ipa level) (realm_of b w) (map (seen w.machine) (named (UnRtt g ipa level)))
+      → outcome_of limits.vmids limits.aux used (UnRtt g ipa level) (realm_of b w) (map (seen w.machine) (named (UnRtt g ipa level)))
       ≡ check true error_input (Ok (Put g left ∷ Put n (record (cell_at w.machine n) { descriptor = Some (record d2 { rows = without_table d2.rows level ipa }) }) ∷ []))
   unfolding outcome_of named
   planned_rtt used d2 n ipa g level row there at table granule place protected low unused found =
-      ap (λ o. outcome_of limits used (UnRtt g ipa level) o (map (seen w.machine) (named (UnRtt g ipa level)))) found
+      ap (λ o. outcome_of limits.vmids limits.aux used (UnRtt g ipa level) o (map (seen w.machine) (named (UnRtt g ipa level)))) found
       ∙ realm_there (seen w.machine n) _ d2 there
       ∙ check_true _ _ _ (and_from _ _ place protected)
       ∙ end_there d2.rows ipa (level - 1) _ (record { level = level - 1; row = row }) (walk_there d2.rows ipa (level - 1) row low at)
@@ -313,11 +313,11 @@ module _ (limits : Limits) (b : ℕ) (u w : World) (su : IsSoundPart u) (sw : Is
 
   planned_data : (used : List ℕ) (d2 : RealmRow) (c : Cell) (n ipa g : ℕ) (row : Row) → (cell_at w.machine n).descriptor ≡ Some d2 → get d2.rows (3, first_covered 3 ipa) ≡ Some row → is_assigned row ≡ true → row.granule ≡ Some g
       → is_protected d2 ipa ≡ true → realm_of b w ≡ Some (seen w.machine n)
-      → outcome_of limits used (UnData g ipa) (realm_of b w) (map (seen w.machine) (named (UnData g ipa)))
+      → outcome_of limits.vmids limits.aux used (UnData g ipa) (realm_of b w) (map (seen w.machine) (named (UnData g ipa)))
       ≡ check true error_input (Ok (Put g left ∷ Put n (record (cell_at w.machine n) { descriptor = Some (record d2 { rows = put_row d2.rows 3 ipa (unassigned (unmapped_ripas row.ripas)) }) }) ∷ []))
   unfolding outcome_of named
   planned_data used d2 c n ipa g row there at assigned granule protected found =
-      ap (λ o. outcome_of limits used (UnData g ipa) o (map (seen w.machine) (named (UnData g ipa)))) found
+      ap (λ o. outcome_of limits.vmids limits.aux used (UnData g ipa) o (map (seen w.machine) (named (UnData g ipa)))) found
       ∙ realm_there (seen w.machine n) _ d2 there
       ∙ check_true _ _ _ protected
       ∙ end_there d2.rows ipa 3 _ (record { level = 3; row = row }) (walk_there d2.rows ipa 3 row (lit≤ tt) at)
@@ -382,11 +382,11 @@ module _ (limits : Limits) (b : ℕ) (u w : World) (su : IsSoundPart u) (sw : Is
   look_rec (Some rec) p e = (rec, refl, same_Some _ _ e)
 
   planned_rec : (used : List ℕ) (d2 : RealmRow) (k g : ℕ) (aux : ArrayVec ℕ 16 (Unit {0})) (n : ℕ) (rec : RecRow) → (cell_at w.machine k).descriptor ≡ Some d2 → get d2.recs n ≡ Some rec → granules_of_rec rec ≡ (g, aux.items) → realm_of b w ≡ Some (seen w.machine k)
-      → outcome_of limits used (UnRec g aux n) (realm_of b w) (map (seen w.machine) (named (UnRec g aux n)))
+      → outcome_of limits.vmids limits.aux used (UnRec g aux n) (realm_of b w) (map (seen w.machine) (named (UnRec g aux n)))
       ≡ check (is_ready rec.state) error_rec (Ok (lefts (g ∷ aux.items) ++ Put k (record (cell_at w.machine k) { descriptor = Some (record d2 { recs = remove d2.recs n }) }) ∷ []))
   unfolding outcome_of named
   planned_rec used d2 k g aux n rec there at own found =
-      ap (λ o. outcome_of limits used (UnRec g aux n) o (map (seen w.machine) (named (UnRec g aux n)))) found
+      ap (λ o. outcome_of limits.vmids limits.aux used (UnRec g aux n) o (map (seen w.machine) (named (UnRec g aux n)))) found
       ∙ realm_there (seen w.machine k) _ d2 there
       ∙ rec_there d2 n _ rec at
       ∙ ap (λ (p : ℕ × List ℕ). check (is_ready rec.state) error_rec (Ok (lefts (p.0 ∷ p.1) ++ Put k (record (cell_at w.machine k) { descriptor = Some (record d2 { recs = remove d2.recs n }) }) ∷ []))) own
@@ -460,7 +460,7 @@ module _ (limits : Limits) (b : ℕ) (u w : World) (su : IsSoundPart u) (sw : Is
 
   pub undone : (act : Act) (realm : Option Seen) → is_of_block act ≡ false → is_paired act ≡ true → list_all (is_leased_to (Some b) u.leases) (named act) ≡ true
       → IsAt u.machine realm → IsHeld b u.leases realm → fits act realm (map (seen u.machine) (named act)) ≡ true
-      → Yields (Y act) (outcome_of limits (used_vmids u.machine) act realm (map (seen u.machine) (named act)))
+      → Yields (Y act) (outcome_of limits.vmids limits.aux (used_vmids u.machine) act realm (map (seen u.machine) (named act)))
   unfolding outcome_of named fits reverse_of
   undone (Delegate g) realm k p h at held fit = Yields-check (Y (Delegate g)) _ _ _ (λ host. Yields-Ok (Y (Delegate g)) _ (undone_delegate g host))
   undone (Realm rd root v) realm k p h at held fit =

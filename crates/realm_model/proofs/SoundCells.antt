@@ -196,7 +196,7 @@ module _ (limits : Limits) (w : World) (o : ℕ) (sound : AllCells o w) where
     recs = λ n r e. absurd (true_false _ (ap is_some e) (ap is_some (get-empty {X = RecRow} nat_cmp n)));
   }
 
-  pub good : (act : Act) (realm : Option Seen) → StandsAt o act → IsAt w.machine realm → Yields G (outcome_of limits (used_vmids w.machine) act realm (map (seen w.machine) (named act)))
+  pub good : (act : Act) (realm : Option Seen) → StandsAt o act → IsAt w.machine realm → Yields G (outcome_of limits.vmids limits.aux (used_vmids w.machine) act realm (map (seen w.machine) (named act)))
   unfolding outcome_of named
   good (Take order first) realm stands at = Yields-Ok G _ (leases_good _)
   good (UnTake order first) realm stands at = Yields-Ok G _ (frees_good _)

@@ -47,7 +47,7 @@ same_Ok : (us vs : List Update) → ◌≡◌ {A = Outcome} (Ok us) (Ok vs) → 
 same_Ok us vs e = cc
 
 -- the leases after the updates of an act
-leases_of : (limits : Limits) (used : List ℕ) (b : ℕ) (w v : World) (act : Act) (realm : Option Seen) (us : List Update) → outcome_of limits used act realm (map (seen w.machine) (named act)) ≡ Ok us → updated_all b us w ≡ Some v
+leases_of : (limits : Limits) (used : List ℕ) (b : ℕ) (w v : World) (act : Act) (realm : Option Seen) (us : List Update) → outcome_of limits.vmids limits.aux used act realm (map (seen w.machine) (named act)) ≡ Ok us → updated_all b us w ≡ Some v
     → v.leases ≡ leases_after b act w.leases
 unfolding outcome_of named
 leases_of limits used b w v (Take order first) realm us e done =

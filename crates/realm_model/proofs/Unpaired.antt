@@ -60,7 +60,7 @@ module _ (limits : Limits) (w : World) where
   abbrev P : List Update → Type 0
   P = AreMild w
 
-  pub mild : (act : Act) (realm : Option Seen) → is_paired act ≡ false → is_reverse act ≡ false → IsAt w.machine realm → Yields P (outcome_of limits (used_vmids w.machine) act realm (map (seen w.machine) (named act)))
+  pub mild : (act : Act) (realm : Option Seen) → is_paired act ≡ false → is_reverse act ≡ false → IsAt w.machine realm → Yields P (outcome_of limits.vmids limits.aux (used_vmids w.machine) act realm (map (seen w.machine) (named act)))
   unfolding outcome_of named reverse_of is_reverse with_ram
   mild (Fill g v) realm p r at = Yields-check P _ _ _ (λ _. Yields-Ok P _ (bytes_put (cell_at w.machine g) (page_of v)))
   mild (Peek g o v) realm p r at = Yields-check P _ _ _ (λ _. Yields-Ok P _ tt)
@@ -99,5 +99,5 @@ after_mild b (Err rmi) w v yields e = cc
 pub own_step : (limits : Limits) (b : ℕ) (w v : World) (act : Act) → is_paired act ≡ false → is_reverse act ≡ false → step limits w (by b act) ≡ Some v → OwnsSame w v
 unfolding step
 own_step limits b w v act p r s =
-    after_mild b (outcome_of limits (used_vmids w.machine) act (realm_of b w) (map (seen w.machine) (named act))) w v
+    after_mild b (outcome_of limits.vmids limits.aux (used_vmids w.machine) act (realm_of b w) (map (seen w.machine) (named act))) w v
     (mild limits w act (realm_of b w) p r (IsAt-realm_of b w)) (guarded (is_allowed limits w (by b act)) _ v s).1

@@ -65,11 +65,11 @@ used-hidden p leases machine v e =
 
 -- what is no refusal is none where no more are in use, and changes the same
 pub outcome_of-fewer : (limits : Limits) (used fewer : List ℕ) → ((v : ℕ) → is_in v fewer ≡ true → is_in v used ≡ true) → (act : Act) (realm : Option Seen) (gs : List Seen) (us : List Update)
-    → outcome_of limits used act realm gs ≡ Ok us → outcome_of limits fewer act realm gs ≡ Ok us
+    → outcome_of limits.vmids limits.aux used act realm gs ≡ Ok us → outcome_of limits.vmids limits.aux fewer act realm gs ≡ Ok us
 unfolding outcome_of
 outcome_of-fewer limits used fewer less (Realm rd root v) realm [] us e = e
 outcome_of-fewer limits used fewer less (Realm rd root v) realm (g ∷ gs) us e =
-    (Yields-check (λ us. outcome_of limits fewer (Realm rd root v) realm (g ∷ gs) ≡ Ok us) _ _ _ (λ all.
+    (Yields-check (λ us. outcome_of limits.vmids limits.aux fewer (Realm rd root v) realm (g ∷ gs) ≡ Ok us) _ _ _ (λ all.
     let parts = and_parts _ _ all in
     let free : is_in v fewer ≡ false = false_from (is_in v fewer) (λ i. true_false _ (less v i) (not_true _ parts.1)) in
     Yields-Ok _ _ (check_true _ _ _ (and_from _ _ parts.0 (ap not free))))).where_ok us e

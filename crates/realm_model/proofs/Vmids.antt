@@ -91,7 +91,7 @@ module _ (limits : Limits) (w : World) (Made : ℕ → RealmRow → Type 0) wher
   Makes (Realm rd root v) = (e : RealmRow) → e.vmid ≡ v → CanBeMade limits.vmids (used_vmids w.machine) w.machine rd root v → Made rd e
   Makes _ = Unit {0}
 
-  vmids : (act : Act) (realm : Option Seen) → Makes act → IsAt w.machine realm → Yields V (outcome_of limits (used_vmids w.machine) act realm (map (seen w.machine) (named act)))
+  vmids : (act : Act) (realm : Option Seen) → Makes act → IsAt w.machine realm → Yields V (outcome_of limits.vmids limits.aux (used_vmids w.machine) act realm (map (seen w.machine) (named act)))
   unfolding outcome_of named
   vmids (Take order first) realm makes at = Yields-Ok V _ (vmid_takes _)
   vmids (UnTake order first) realm makes at = Yields-Ok V _ (vmid_frees _)

@@ -100,7 +100,7 @@ module _ (limits : Limits) (w : World) (linked : IsLinked (λ k. cell_at w.machi
   abbrev K : List Update → Type 0
   K = AllKeepZero
 
-  keeps : (act : Act) (realm : Option Seen) → is_guest_write act ≡ false → IsAt w.machine realm → Yields K (outcome_of limits (used_vmids w.machine) act realm (map (seen w.machine) (named act)))
+  keeps : (act : Act) (realm : Option Seen) → is_guest_write act ≡ false → IsAt w.machine realm → Yields K (outcome_of limits.vmids limits.aux (used_vmids w.machine) act realm (map (seen w.machine) (named act)))
   unfolding outcome_of named
   keeps (Take order first) realm plain at = Yields-Ok K _ (zero_takes _)
   keeps (UnTake order first) realm plain at = Yields-Ok K _ (zero_frees _)
@@ -142,7 +142,7 @@ module _ (limits : Limits) (w : World) (linked : IsLinked (λ k. cell_at w.machi
   keeps (Exit m) (Some rd) plain at = Yields-with_realm K _ _ (λ d is. Yields-with_rec K _ _ _ (λ rec there. Yields-check K _ _ _ (λ _. Yields-Ok K _ (realm_zero rd at, tt))))
   keeps (Poke m ipa o v) realm plain at = cc
 
-  keeps_zero : (act : Act) (realm : Option Seen) → IsAt w.machine realm → Yields Z (outcome_of limits (used_vmids w.machine) act realm (map (seen w.machine) (named act)))
+  keeps_zero : (act : Act) (realm : Option Seen) → IsAt w.machine realm → Yields Z (outcome_of limits.vmids limits.aux (used_vmids w.machine) act realm (map (seen w.machine) (named act)))
   unfolding outcome_of named
   keeps_zero (Poke m ipa o v) None at = Yields-Err Z _
   keeps_zero (Poke m ipa o v) (Some rd) at = Yields-with_realm Z _ _ (λ d is. Yields-with_rec Z _ _ _ (λ rec there. Yields-check Z _ _ _ (λ _. Yields-check Z _ _ _ (λ _.

@@ -8,7 +8,7 @@ use Rattle.granule_addr.specs.declared.root.Root.{Root}
 use Rattle.realm_model.specs.declared.act.Act.{Act}
 use Rattle.realm_model.specs.declared.act.Act.TheVariants.{Take, UnTake, Fill, Peek, Delegate, Undelegate, Realm, UnRealm, Activate, Rtt, UnRtt, Ripas, Data, Unknown, UnData, Rec, UnRec, Enter, Exit, Poke}
 use Rattle.realm_model.specs.Rows.{Row, row_at}
-use Rattle.realm_model.specs.Machine.{Limits, Seen, RealmRow}
+use Rattle.realm_model.specs.Machine.{Seen, RealmRow}
 use Rattle.realm_model.specs.Update.{Outcome, Lease, Free}
 use Rattle.realm_model.specs.Command.Check.{error_input, is_undelegated}
 use Rattle.realm_model.specs.Command.Granule.{granule_delegate, granule_undelegate, host_fill, host_peek}
@@ -34,29 +34,30 @@ abbrev pub on_realm : Option Seen → (Seen → Outcome) → Outcome
 on_realm None f = Err error_input
 on_realm (Some rd) f = f rd
 
--- What comes of an act, by the VMIDs in use, the realm of its build and the granules that it names.
+-- What comes of an act, by how many VMIDs there are and how many auxiliary granules a REC has, the VMIDs in use, the realm
+-- of the act's build and the granules that it names.
 -- Take and UnTake are no commands of the monitor: a block is leased, or it is given back.
-unfoldable pub outcome_of : Limits → List ℕ → Act → Option Seen → List Seen → Outcome
-outcome_of limits used (Take order first) realm gs = Ok (map (λ g. Lease g.number) gs)
-outcome_of limits used (UnTake order first) realm gs = Ok (map (λ g. Free g.number) gs)
-outcome_of limits used (Fill granule value) realm gs = on_one gs (λ g. host_fill g value)
-outcome_of limits used (Peek granule offset byte) realm gs = on_one gs host_peek
-outcome_of limits used (Delegate granule) realm gs = on_one gs granule_delegate
-outcome_of limits used (Undelegate granule) realm gs = on_one gs granule_undelegate
-outcome_of limits used (Realm rd root vmid) realm gs = on_more gs (λ d tables. realm_create limits.vmids used d tables root vmid)
-outcome_of limits used (UnRealm rd root vmid) realm gs = on_one gs realm_destroy
-outcome_of limits used Activate realm gs = on_realm realm realm_activate
-outcome_of limits used (Rtt granule ipa level) realm gs = on_realm realm (λ rd. on_one gs (λ g. rtt_create rd g ipa level))
-outcome_of limits used (UnRtt granule ipa level) realm gs = on_realm realm (λ rd. rtt_destroy rd ipa level)
-outcome_of limits used (Ripas ipa count) realm gs = on_realm realm (λ rd. rtt_init_ripas rd ipa count)
-outcome_of limits used (Data granule ipa source) realm gs = on_realm realm (λ rd. on_two gs (λ g s. data_create rd g ipa s))
-outcome_of limits used (Unknown granule ipa) realm gs = on_realm realm (λ rd. on_one gs (λ g. data_create_unknown rd g ipa))
-outcome_of limits used (UnData granule ipa) realm gs = on_realm realm (λ rd. data_destroy rd ipa)
-outcome_of limits used (Rec granule auxiliaries number) realm gs = on_realm realm (λ rd. on_more gs (λ g aux. rec_create limits.aux rd g aux))
-outcome_of limits used (UnRec granule auxiliaries number) realm gs = on_realm realm (λ rd. rec_destroy rd number)
-outcome_of limits used (Enter number) realm gs = on_realm realm (λ rd. rec_enter rd number)
-outcome_of limits used (Exit number) realm gs = on_realm realm (λ rd. rec_exit rd number)
-outcome_of limits used (Poke number ipa offset value) realm gs = on_realm realm (λ rd. guest_write rd number ipa offset value)
+unfoldable pub outcome_of : ℕ → ℕ → List ℕ → Act → Option Seen → List Seen → Outcome
+outcome_of vmids aux used (Take order first) realm gs = Ok (map (λ g. Lease g.number) gs)
+outcome_of vmids aux used (UnTake order first) realm gs = Ok (map (λ g. Free g.number) gs)
+outcome_of vmids aux used (Fill granule value) realm gs = on_one gs (λ g. host_fill g value)
+outcome_of vmids aux used (Peek granule offset byte) realm gs = on_one gs host_peek
+outcome_of vmids aux used (Delegate granule) realm gs = on_one gs granule_delegate
+outcome_of vmids aux used (Undelegate granule) realm gs = on_one gs granule_undelegate
+outcome_of vmids aux used (Realm rd root vmid) realm gs = on_more gs (λ d tables. realm_create vmids used d tables root vmid)
+outcome_of vmids aux used (UnRealm rd root vmid) realm gs = on_one gs realm_destroy
+outcome_of vmids aux used Activate realm gs = on_realm realm realm_activate
+outcome_of vmids aux used (Rtt granule ipa level) realm gs = on_realm realm (λ rd. on_one gs (λ g. rtt_create rd g ipa level))
+outcome_of vmids aux used (UnRtt granule ipa level) realm gs = on_realm realm (λ rd. rtt_destroy rd ipa level)
+outcome_of vmids aux used (Ripas ipa count) realm gs = on_realm realm (λ rd. rtt_init_ripas rd ipa count)
+outcome_of vmids aux used (Data granule ipa source) realm gs = on_realm realm (λ rd. on_two gs (λ g s. data_create rd g ipa s))
+outcome_of vmids aux used (Unknown granule ipa) realm gs = on_realm realm (λ rd. on_one gs (λ g. data_create_unknown rd g ipa))
+outcome_of vmids aux used (UnData granule ipa) realm gs = on_realm realm (λ rd. data_destroy rd ipa)
+outcome_of vmids aux used (Rec granule auxiliaries number) realm gs = on_realm realm (λ rd. on_more gs (λ g others. rec_create aux rd g others))
+outcome_of vmids aux used (UnRec granule auxiliaries number) realm gs = on_realm realm (λ rd. rec_destroy rd number)
+outcome_of vmids aux used (Enter number) realm gs = on_realm realm (λ rd. rec_enter rd number)
+outcome_of vmids aux used (Exit number) realm gs = on_realm realm (λ rd. rec_exit rd number)
+outcome_of vmids aux used (Poke number ipa offset value) realm gs = on_realm realm (λ rd. guest_write rd number ipa offset value)
 
 -- ---- what an act's own fields say besides
 

@@ -20,7 +20,7 @@ named_cells world act = map (seen world.machine) (named act)
 -- what comes of an event's command in a world
 abbrev pub outcome_in : Limits → World → Event → Outcome
 outcome_in limits world event =
-    outcome_of limits (used_vmids world.machine) event.act (realm_of event.build world) (named_cells world event.act)
+    outcome_of limits.vmids limits.aux (used_vmids world.machine) event.act (realm_of event.build world) (named_cells world event.act)
 
 -- The build is there, the granules named are leased by it (for a Take by nobody), the act's own numbers are in range, and
 -- what it says fits what is there.
