@@ -20,7 +20,7 @@ use Rattle.realm_model.proofs.Reaching.{step_says_reached}
 use Rattle.realm_model.proofs.RealmOf.{IsAt, IsAt-realm_of}
 use Rattle.rmi_monitor.specs.View.{MonitorView, Answers, after_command}
 use Rattle.realm_acts.specs.declared.place.Place.{Place}
-use Rattle.realm_acts.specs.Performing.{is_command, limits_of, realm_on, outcome_on}
+use Rattle.realm_acts.specs.Performing.{is_command, realm_on, outcome_on}
 use Rattle.realm_acts.specs.Mirror.{IsMirror, IsPlaceOf, IsAsked, IsPerformed, PerformedIsStep, rd_of}
 
 -- ---- of an act that is a command
