@@ -140,6 +140,9 @@ class Sources:
         found = {name for name in self.printed for form in forms if re.fullmatch(form, name)}
         if len(found) > 1 and block:
             found = {name for name in found if block.fits(name.split("::")[-2])}
+            # (the words of From<Error> are in the name of From<AllocError> too)
+            letters = sum(map(len, block.words))
+            found = {name for name in found if len(name.split("::")[-2].replace("_", "")) == letters} or found
         return found.pop() if len(found) == 1 else ""
 
     def merged(self, edits):
