@@ -4,7 +4,7 @@ PLAN ?= plans/first.toml
 CRATE ?=
 JOBS ?= 2
 
-.PHONY: allocations help planted run test try wrong-bodies
+.PHONY: allocations bench help planted run test try wrong-bodies
 
 help: ## lists the targets
 	@grep -E '^[a-z-]+:.*## ' $(MAKEFILE_LIST) | sed 's/:.*## /  /'
@@ -22,6 +22,9 @@ test: ## the whole gate from nothing: proofs, must-fail edits, tests, and what t
 
 allocations: ## refuses each allocation of the program in turn, over each plan (needs a C compiler)
 	@tests/allocations
+
+bench: ## CPU time and peak memory of the built program over plans of several shapes, beside plain Rust (needs rustc)
+	@bench/run
 
 wrong-bodies: ## tries the must-fail edits of CRATE, several in one check: the prover has to refuse each
 	@tests/wrong-bodies --jobs $(JOBS) $(CRATE)

@@ -6,14 +6,15 @@ ghost use Rattle.realm_program.specs.declared.fault.Fault.TheVariants.{Device};
 
 use crate::fault::Fault;
 use crate::told::Told;
-use page_arena::{BuildError, PlainStore};
+use buddy::BuddyArena;
+use page_arena::BuildError;
 use realm_host::{Host, Settings};
 use realm_plan::{Plan, push_map, run_turns};
 use std::alloc::{AllocError, Global};
 use std::io::{Read, Write};
 
 // A host of the plan's size, over pages that are all free.
-fn boot(alloc: Global, plan: &Plan) -> Result<Host<PlainStore>, AllocError>
+fn boot(alloc: Global, plan: &Plan) -> Result<Host<BuddyArena>, AllocError>
     ensures { IfOk result (λ host. host ≡ opening_host (plan_view plan.now)) }
 {
     let settings = Settings::new(
@@ -22,7 +23,7 @@ fn boot(alloc: Global, plan: &Plan) -> Result<Host<PlainStore>, AllocError>
         plan.history,
         plan.builds.len() as u8,
     ).unwrap();
-    let store = match PlainStore::build(alloc, plan.pages) {
+    let store = match BuddyArena::build(alloc, plan.pages) {
         Ok(store) => store,
         Err(BuildError::Memory(error)) => return Err(error),
         Err(BuildError::BadSize) => unreachable!(),
