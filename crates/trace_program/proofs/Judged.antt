@@ -49,39 +49,45 @@ module _ (input left after : Option (List ℕ)) (bench : Now) (count answers : �
 module _ (input left : Option (List ℕ)) (bench : Now) (count answers : ℕ) (line : List ℕ) (u : IsAgreedUnderway input left bench count answers line) (end : IsAtEnd left) where
   pub judged_all : (text : List ℕ) → length line ≡ 0 → text ≡ decimal answers ++ codes " answers agree\n" → IsJudged input left Agree text
   judged_all text none told = let s = u.so_far in
-    let lines : lines_in u.read ≡ s.lines = lines_without u.read s.lines s.rest s.cut (none_kept line s.rest s.is_kept none) in record {
-      read = u.read;
-      consumed = u.consumed;
-      judged = (end, subst (λ (ls : List (List ℕ)). AllAgree (map kept_of ls) text) (sym lines)
-          (record { last = bench; agreed = s.agreed; told = told ∙ ap (λ n. decimal n ++ codes " answers agree\n") s.answered }));
-    }
+      let lines : lines_in u.read ≡ s.lines = lines_without u.read s.lines s.rest s.cut (none_kept line s.rest s.is_kept none) in record {
+        read = u.read;
+        consumed = u.consumed;
+        judged = (
+          end,
+          subst (λ (ls : List (List ℕ)). AllAgree (map kept_of ls) text) (sym lines)
+              (record { last = bench; agreed = s.agreed; told = told ∙ ap (λ n. decimal n ++ codes " answers agree\n") s.answered }),
+        );
+      }
 
   pub judged_last : (after : Now) (count_after answers_after : ℕ) (line_after text : List ℕ) → 0 < length line → CountsLine bench count answers line after count_after answers_after line_after
       → text ≡ decimal answers_after ++ codes " answers agree\n" → IsJudged input left Agree text
   judged_last after count_after answers_after line_after text some w told = let s = u.so_far in
-    let lines : lines_in u.read ≡ s.lines ++ s.rest ∷ [] = lines_with u.read s.lines s.rest s.cut (some_kept line s.rest s.is_kept some) in record {
-      read = u.read;
-      consumed = u.consumed;
-      judged = (end, subst (λ (ls : List (List ℕ)). AllAgree (map kept_of ls) text) (sym lines) (record {
-        last = after;
-        agreed = kept_agreed s.lines s.rest line bench s.is_kept s.agreed after w.agreed;
-        told = told ∙ ap (λ n. decimal n ++ codes " answers agree\n") (kept_answers s.lines s.rest line bench s.is_kept s.agreed answers answers_after s.answered w.answered);
-      }));
-    }
+      let lines : lines_in u.read ≡ s.lines ++ s.rest ∷ [] = lines_with u.read s.lines s.rest s.cut (some_kept line s.rest s.is_kept some) in record {
+        read = u.read;
+        consumed = u.consumed;
+        judged = (
+          end,
+          subst (λ (ls : List (List ℕ)). AllAgree (map kept_of ls) text) (sym lines) (record {
+            last = after;
+            agreed = kept_agreed s.lines s.rest line bench s.is_kept s.agreed after w.agreed;
+            told = told ∙ ap (λ n. decimal n ++ codes " answers agree\n") (kept_answers s.lines s.rest line bench s.is_kept s.agreed answers answers_after s.answered w.answered);
+          }),
+        );
+      }
 
   pub judged_differs : (text : List ℕ) → 0 < length line → Differs bench (count + 1) line text → IsJudged input left Differ text
   judged_differs text some d = let s = u.so_far in
-    let lines : lines_in u.read ≡ s.lines ++ s.rest ∷ [] = lines_with u.read s.lines s.rest s.cut (some_kept line s.rest s.is_kept some) in record {
-      read = u.read;
-      consumed = u.consumed;
-      judged = record {
-        front = u.read;
-        ahead = [];
-        split = sym (append-nil u.read);
-        ends = inr (end, refl);
-        first = subst (λ (ls : List (List ℕ)). LastDiffers (map kept_of ls) text) (sym lines) (kept_differs s.lines s.rest line bench s.is_kept s.agreed count text s.counted d);
-      };
-    }
+      let lines : lines_in u.read ≡ s.lines ++ s.rest ∷ [] = lines_with u.read s.lines s.rest s.cut (some_kept line s.rest s.is_kept some) in record {
+        read = u.read;
+        consumed = u.consumed;
+        judged = record {
+          front = u.read;
+          ahead = [];
+          split = sym (append-nil u.read);
+          ends = inr (end, refl);
+          first = subst (λ (ls : List (List ℕ)). LastDiffers (map kept_of ls) text) (sym lines) (kept_differs s.lines s.rest line bench s.is_kept s.agreed count text s.counted d);
+        };
+      }
 
 -- what is told where all agree
 pub agreement_judged : {A E : Type 0} (verdict : A → Verdict) (items : A → List ℕ) (input left : Option (List ℕ)) (told : List ℕ) (r : Result A E)

@@ -1,7 +1,9 @@
-use Rattle.std.proofs.Common.{◌∙◌, sym, ap, subst, map}
+use Rattle.std.proofs.Common.{◌≡◌, ◌∙◌, false, sym, ap, subst, map}
+use Rattle.std.specs.Prelude.{IsSome, is_some}
+use Rattle.std.proofs.lemmas.Bool.{false≢true}
 use Rattle.std.proofs.lemmas.Result.{err_from_is_err_and}
 use Rattle.clap.specs.Words.{App, HasKind, Kinds, fault_of, is_simple, is_simple_and_free, subcommand_of}
-use Rattle.trace_program.proofs.Words.{rmitrace_is_simple, rmitrace_is_free, name_of_rows, name_in, check_is_asked, answer_is_asked}
+use Rattle.trace_program.proofs.Words.{rmitrace_is_simple, rmitrace_is_free, name_of_rows, check_is_asked, answer_is_asked}
 use Rattle.trace_program.proofs.line.Asked.of.Goals as goal
 
 pub returns-in_err-matches-clause-kinds : goal.returns-in_err-matches-clause-kinds
@@ -21,7 +23,16 @@ returns-clause-kinds c =
     ∙ c.in_ok-matches.ensures.kinds (ap is_simple_and_free c.in_ok-program.ensures ∙ rmitrace_is_free)
 
 pub returns-then-is_some-clause-ok : goal.returns-then-is_some-clause-ok
-returns-then-is_some-clause-ok c = check_is_asked (map (λ w. w.now) c.args.words.now) ?
+returns-then-is_some-clause-ok c =
+    let words = map (λ w. w.now) c.args.words.now in
+    let found = (c.in_ok-matches.ensures.ok.2 (ap is_simple c.in_ok-program.ensures ∙ rmitrace_is_simple)).1 ∙ ap (λ (a : App). subcommand_of a words) c.in_ok-program.ensures in
+    let there : IsSome c.subcommand_matches.result = sym c.is_some.ensures ∙ c.if-is_some.true in
+    check_is_asked words (sym (name_of_rows c.in_ok-matches.matches _ found) ∙ c.subcommand_matches.ensures.found.0 there)
 
 pub returns-clause-ok : goal.returns-clause-ok
-returns-clause-ok c = answer_is_asked (map (λ w. w.now) c.args.words.now) (returns-clause-kinds c) ?
+returns-clause-ok c =
+    let words = map (λ w. w.now) c.args.words.now in
+    let found = (c.in_ok-matches.ensures.ok.2 (ap is_simple c.in_ok-program.ensures ∙ rmitrace_is_simple)).1 ∙ ap (λ (a : App). subcommand_of a words) c.in_ok-program.ensures in
+    let none : is_some c.subcommand_matches.result ≡ false = sym c.is_some.ensures ∙ c.if-is_some.false in
+    answer_is_asked words (returns-clause-kinds c)
+    (λ is. false≢true (sym none ∙ c.subcommand_matches.ensures.found.1 (name_of_rows c.in_ok-matches.matches _ found ∙ is)))
