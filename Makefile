@@ -16,9 +16,10 @@ try: ## builds the program with nothing proved, and replays PLAN
 run: ## proves what has to be, builds the program, and replays PLAN
 	@cd crates/realmhost && rt run -- replay < $(abspath $(PLAN))
 
-test: ## the whole gate from nothing: proofs, must-fail edits, tests, and what the built program says
+test: ## the whole gate from nothing: proofs, must-fail edits, tests, and what the built programs say
 	rt ci
 	tests/program
+	tests/traces
 
 allocations: ## refuses each allocation of the program in turn, over each plan (needs a C compiler)
 	@tests/allocations

@@ -4,3 +4,7 @@ pub mod Parts
 pub mod Sessions
 pub mod SoFar
 pub mod Underway
+pub mod Found
+pub mod Agreed
+pub mod Judged
+pub mod Words

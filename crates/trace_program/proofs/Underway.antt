@@ -13,7 +13,7 @@ use Rattle.trace_program.proofs.SoFar.{keeps_same, so_far_none, stopped, front_m
 
 -- ---- reads
 
-consumes_none : (old : Option (List ℕ)) → Consumes old old []
+pub consumes_none : (old : Option (List ℕ)) → Consumes old old []
 consumes_none None = tt
 consumes_none (Some xs) = refl
 
@@ -23,14 +23,14 @@ consumes_more (Some xs) None c front more h k = absurd h
 consumes_more (Some xs) (Some ys) None front more h k = absurd k
 consumes_more (Some xs) (Some ys) (Some zs) front more h k = h ∙ ap (λ t. front ++ t) k ∙ sym (append_assoc front more zs)
 
-consumes_keeps : (a b c : Option (List ℕ)) (front : List ℕ) → Consumes a b front → Keeps b c → Consumes a c front
+pub consumes_keeps : (a b c : Option (List ℕ)) (front : List ℕ) → Consumes a b front → Keeps b c → Consumes a c front
 consumes_keeps None b c front h k = tt
 consumes_keeps (Some xs) None c front h k = absurd h
 consumes_keeps (Some xs) (Some ys) None front h k = absurd k
 consumes_keeps (Some xs) (Some ys) (Some zs) front h k = h ∙ ap (λ t. front ++ t) (sym k)
 
 -- a read that gives nothing
-consumes_nothing : (left after : Option (List ℕ)) (part : List ℕ) → part ≡ [] → Consumes left after part → Keeps left after
+pub consumes_nothing : (left after : Option (List ℕ)) (part : List ℕ) → part ≡ [] → Consumes left after part → Keeps left after
 consumes_nothing None after part none h = tt
 consumes_nothing (Some xs) None part none h = absurd h
 consumes_nothing (Some xs) (Some ys) part none h = sym (h ∙ ap (λ t. t ++ ys) none)

@@ -3,3 +3,7 @@ pub mod Readings
 pub mod Session
 pub mod Input
 pub mod Answering
+pub mod Verdict
+pub mod Checking
+pub mod Program
+pub mod Stop

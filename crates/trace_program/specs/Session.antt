@@ -42,11 +42,15 @@ IsAnswer line.Remark old given new = (given ≡ None) × (new ≡ old)
 IsAnswer line.Neither old given new = IsNoCommand old given new
 IsAnswer (line.Request request) old given new = IsPerformed request old given new
 
--- a line as it is written: a remark is repeated; else what is asked, and the answer if there is one
+-- what is asked in a line: all of a remark, and else what stands before the answer
+abbrev pub asked_with : List ℕ → Line → List ℕ
+asked_with bytes line.Remark = bytes
+asked_with bytes _ = before_answer (text_of bytes)
+
+-- a line as it is written: what is asked, and the answer if there is one
 abbrev pub written_with : List ℕ → Line → Option Answer → List ℕ
-written_with bytes line.Remark given = repeated_line bytes
-written_with bytes _ (Some a) = answered_line (before_answer (text_of bytes)) a
-written_with bytes _ None = repeated_line (before_answer (text_of bytes))
+written_with bytes line (Some a) = answered_line (asked_with bytes line) a
+written_with bytes line None = repeated_line (asked_with bytes line)
 
 -- what is written for a line
 pub record IsTold (old : Now) (bytes text : List ℕ) (new : Now) : Type 0 where

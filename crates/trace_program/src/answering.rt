@@ -1,5 +1,5 @@
 //! Lines in, the same lines with their answers out.
-ghost use Rattle.std.specs.Prelude.{◌≡◌, ◌≤◌, ◌++◌, ◌⊎◌, ℕ, List, [], ◌∷◌, Option, false, true, ◌↔◌, Err, OnOk, OnErr};
+ghost use Rattle.std.specs.Prelude.{◌≡◌, ◌≤◌, ◌+◌, ◌^◌, ◌++◌, ◌⊎◌, ℕ, List, [], ◌∷◌, Option, false, true, ◌↔◌, Err, OnOk, OnErr};
 ghost use Rattle.std.specs.Io.KnownBytes.{Keeps, IsAtEnd};
 ghost use Rattle.trace_program.specs.Answering.{IsSoFar, IsUnderway, Writes, WritesFront};
 ghost use Rattle.trace_program.specs.Input.{kept_of, AreAnswered, IsCutShort, AreCutShort};
@@ -15,7 +15,7 @@ use told_device::Told;
 const KEPT: usize = MOST_LINE + 1;
 
 // Keeps a byte of a line, unless enough of it is kept.
-fn keep(line: &mut Vec<u8>, byte: u8) -> Result<(), AllocError>
+pub fn keep(line: &mut Vec<u8>, byte: u8) -> Result<(), AllocError>
     ensures { OnOk result ((rest : List ℕ) → line.old.items ≡ kept_of rest → line.new.items ≡ kept_of (rest ++ byte ∷ [])) }
 {
     if line.len() < KEPT {
@@ -129,6 +129,7 @@ pub fn answer<R: Read, W: Write>(
     ensures err { OnErr result (AreCutShort (R.remaining input.old.device) (R.remaining input.new.device)
         (W.contents output.old.device) (W.contents output.new.device)) }
     ensures failed { ((input.new.failed ≡ true) ⊎ (output.new.failed ≡ true)) → result ≡ Err Device }
+    ensures device { result ≡ Err Device → (input.new.failed ≡ true) ⊎ (output.new.failed ≡ true) ⊎ (2 ^ 64 ≤ input.new.reads + 1) }
 {
     let mut answering = Answering {
         session: Session::new(),

@@ -17,6 +17,20 @@ pub enum Fault {
     Device,
 }
 
+impl Fault {
+    ghost use Rattle.trace_program.specs.Stop.{status_of};
+
+    /// The exit status of the program.
+    pub fn status(&self) -> u8
+        ensures { result ≡ status_of self.now }
+    {
+        match self {
+            Fault::Memory => 3,
+            Fault::Device => 5,
+        }
+    }
+}
+
 impl From<DeviceFailed> for Fault {
     ghost from_gives = { λ _ fault. fault ≡ Device };
 

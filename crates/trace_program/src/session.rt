@@ -1,12 +1,32 @@
 //! The lines of a trace, one after another.
 ghost use Rattle.std.specs.Prelude.{◌≡◌, ◌++◌, List, ℕ, None, IfOk, OnOk, OnErr};
-ghost use Rattle.trace_program.specs.Session.{IsOpening, IsPerformed, IsAnswer, IsTold};
+ghost use Rattle.trace_program.specs.Session.{IsOpening, IsPerformed, IsAnswer, IsTold, written_with};
 ghost use Rattle.rmi_bench.specs.Machine.{is_machine};
 
 use crate::{perform, read};
 use rmi_bench::{Bench, OpenError};
 use rmi_trace::{Answer, Line, Opening, Request, cut_answer, parse, push_answered, push_line};
 use std::alloc::{AllocError, Global};
+
+/// Appends what is written for a line that is given this answer: a remark as it is, and else what it asks, and the answer.
+pub fn push_told(
+    text: &mut Vec<u8>,
+    bytes: &[u8],
+    line: &Line,
+    given: &Option<Answer>,
+) -> Result<(), AllocError>
+    ensures ok { OnOk result (text.new.items ≡ text.old.items ++ written_with bytes.now line.now given.now) }
+    ensures err { OnErr result (text.new.items ≡ text.old.items) }
+{
+    let asked = match line {
+        Line::Remark => bytes,
+        _ => cut_answer(bytes).0,
+    };
+    match given {
+        Some(answer) => push_answered(text, asked, answer),
+        None => push_line(text, asked),
+    }
+}
 
 /// What the lines of a trace have come to.
 #[derive(Drop)]
@@ -81,13 +101,6 @@ impl Session {
     {
         let line = parse(bytes);
         let given = self.answer(alloc, &line)?;
-        let asked = match &line {
-            Line::Remark => bytes,
-            _ => cut_answer(bytes).0,
-        };
-        match given {
-            Some(answer) => push_answered(text, asked, &answer),
-            None => push_line(text, asked),
-        }
+        push_told(text, bytes, &line, &given)
     }
 }

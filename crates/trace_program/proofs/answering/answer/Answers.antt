@@ -8,6 +8,7 @@ pub reads-init : goal.reads-init
 reads-init g c = record {
   readable = c.requires.readable;
   writable = c.requires.writable;
+  asked = omega arith;
   underway = rw (c.new.ensures, c.new-2.ensures.items) (underway_none _ _);
 }
 
@@ -37,6 +38,7 @@ pub reads-preserved : goal.reads-preserved
 reads-preserved g c = record {
   readable = c.in_ok-n.ensures.told;
   writable = c.in_ok-take_bytes.ensures.fine;
+  asked = grind (arith, c.reads.invariant.asked, c.in_ok-n.ensures.counted, c.reads.auto.counter-end, c.reads-test.true);
   underway = underway_more _ _ _ _ _ _ _ _ _ _ _ c.reads.invariant.underway c.in_ok-n.ensures.bytes.0 c.in_ok-take_bytes.ensures.ok;
 }
 

@@ -1,0 +1,239 @@
+//! Lines in, and whether the answers in them are those of the rules.
+ghost use Rattle.std.specs.Prelude.{◌≡◌, ◌≤◌, ◌<◌, ◌+◌, ◌^◌, ◌++◌, ◌⊎◌, ◌↔◌, ℕ, List, [], ◌∷◌, codes, decimal, length, Option, false, true, Err, IsTrue, IfOk, OnErr, IfSome, IfNone};
+ghost use Rattle.std.specs.Option.{option_copied};
+ghost use Rattle.std.specs.Io.KnownBytes.{Keeps, IsAtEnd};
+ghost use Rattle.rmi_trace.specs.Answers.{repeated_line};
+ghost use Rattle.trace_program.specs.Session.{written_with};
+ghost use Rattle.trace_program.specs.Verdict.{stated_with, IsRight, Differs, IsJudged, IsChecked, IsCheckedInPart};
+ghost use Rattle.trace_program.specs.Checking.{CountsLine, IsAgreedSoFar, IsAgreedUnderway, StopsAtFeed};
+ghost use Rattle.trace_program.specs.declared.fault.Fault.TheVariants.{Memory, Device};
+ghost use Rattle.trace_program.specs.declared.checking.Verdict.TheVariants.{Agree};
+
+use crate::answering::keep;
+use crate::session::push_told;
+use crate::{Fault, Session};
+use rmi_trace::{Answer, Line, cut_answer, parse, push_line};
+use std::alloc::{AllocError, Global};
+use std::io::{Read, Write};
+use told_device::Told;
+
+/// Whether the answers that stand in a trace are those of the rules.
+#[derive(Clone, Copy, Debug, PartialEq, Eq)]
+pub enum Verdict {
+    /// All are.
+    Agree,
+    /// One is not.
+    Differ,
+}
+
+// A verdict, and its text.
+#[derive(Drop)]
+struct Judged {
+    verdict: Verdict,
+    text: Vec<u8>,
+}
+
+// The answer that stands in a line.
+fn stated<'a>(bytes: &'a [u8], line: &Line) -> Option<&'a [u8]>
+    ensures { option_copied result ≡ stated_with bytes.now line.now }
+{
+    match line {
+        Line::Remark => None,
+        _ => cut_answer(bytes).1,
+    }
+}
+
+// Whether the answer that stands there, if one does, is the one that is given.
+fn is_right(stated: Option<&[u8]>, given: &Option<Answer>) -> bool
+    ensures { IsTrue result ↔ IsRight (option_copied stated.entry) given.now }
+{
+    match (stated, given) {
+        (None, _) => true,
+        (Some(stated), Some(answer)) => stated == answer.text().as_slice(),
+        (Some(_), None) => false,
+    }
+}
+
+// The verdict where all answers are right.
+fn agreement(alloc: Global, answers: u128) -> Result<Judged, AllocError>
+    ensures verdict { IfOk result (λ judged. judged.verdict ≡ Agree) }
+    ensures text { IfOk result (λ judged. judged.text.items ≡ decimal answers ++ codes " answers agree\n") }
+{
+    let mut buffer = itoa::Buffer::new();
+    let mut text = Vec::from_slice(alloc, buffer.format(answers).as_bytes())?;
+    text.extend_from_slice(b" answers agree\n")?;
+    Ok(Judged {
+        verdict: Verdict::Agree,
+        text,
+    })
+}
+
+// What is told of the line of that number.
+fn difference(
+    alloc: Global,
+    number: u128,
+    bytes: &[u8],
+    line: &Line,
+    given: &Option<Answer>,
+) -> Result<Vec<u8>, AllocError>
+    ensures { IfOk result (λ text. text.items ≡ codes "line " ++ repeated_line (decimal number) ++ repeated_line bytes.now ++ written_with bytes.now line.now given.now) }
+{
+    let mut buffer = itoa::Buffer::new();
+    let mut text = Vec::from_slice(alloc, b"line ")?;
+    push_line(&mut text, buffer.format(number).as_bytes())?;
+    push_line(&mut text, bytes)?;
+    push_told(&mut text, bytes, line, given)?;
+    Ok(text)
+}
+
+// A trace that is being checked: what its lines have come to, what is kept of the next line, how many lines there were, and
+// how many of them had an answer.
+#[derive(Drop)]
+struct Checking {
+    session: Session,
+    line: Vec<u8>,
+    count: u128,
+    answers: u128,
+}
+
+impl Checking {
+    // Ends the line. If its answer is wrong, that is told.
+    fn end_line(&mut self, alloc: Global) -> Result<Option<Vec<u8>>, AllocError>
+        requires few { self.old.answers ≤ self.old.count }
+        requires room { self.old.count + 1 < 2 ^ 100 }
+        ensures agreed { IfOk result (λ d. IfNone d (CountsLine self.old.session.bench self.old.count self.old.answers self.old.line.items
+            self.new.session.bench self.new.count self.new.answers self.new.line.items)) }
+        ensures few { IfOk result (λ d. IfNone d (self.new.answers ≤ self.new.count)) }
+        ensures one { IfOk result (λ d. IfNone d (self.new.count ≤ self.old.count + 1)) }
+        ensures differs { IfOk result (λ d. IfSome d (λ text. Differs self.old.session.bench (self.old.count + 1) self.old.line.items text.items)) }
+    {
+        let line = parse(&self.line);
+        let given = self.session.answer(alloc, &line)?;
+        let stated = stated(&self.line, &line);
+        self.count += 1;
+        if !is_right(stated, &given) {
+            let text = difference(alloc, self.count, &self.line, &line, &given)?;
+            return Ok(Some(text));
+        }
+        if stated.is_some() {
+            self.answers += 1;
+        }
+        self.line.clear();
+        Ok(None)
+    }
+
+    // Takes a byte of the input.
+    fn take_byte(&mut self, alloc: Global, byte: u8) -> Result<Option<Vec<u8>>, AllocError>
+        requires few { self.old.answers ≤ self.old.count }
+        requires room { self.old.count + 1 < 2 ^ 100 }
+        ensures agreed { (read : List ℕ) → IsAgreedSoFar read self.old.session.bench self.old.count self.old.answers self.old.line.items
+            → IfOk result (λ d. IfNone d (IsAgreedSoFar (read ++ byte ∷ []) self.new.session.bench self.new.count self.new.answers self.new.line.items)) }
+        ensures few { IfOk result (λ d. IfNone d (self.new.answers ≤ self.new.count)) }
+        ensures one { IfOk result (λ d. IfNone d (self.new.count ≤ self.old.count + 1)) }
+        ensures differs { (read : List ℕ) → IsAgreedSoFar read self.old.session.bench self.old.count self.old.answers self.old.line.items
+            → IfOk result (λ d. IfSome d (λ text. StopsAtFeed (read ++ byte ∷ []) text.items)) }
+    {
+        if byte == b'\n' {
+            return self.end_line(alloc);
+        }
+        keep(&mut self.line, byte)?;
+        Ok(None)
+    }
+
+    // Takes bytes of the input.
+    fn take_bytes(&mut self, alloc: Global, part: &[u8]) -> Result<Option<Vec<u8>>, AllocError>
+        requires few { self.old.answers ≤ self.old.count }
+        requires room { self.old.count + length part.now < 2 ^ 100 }
+        ensures agreed { (read : List ℕ) → IsAgreedSoFar read self.old.session.bench self.old.count self.old.answers self.old.line.items
+            → IfOk result (λ d. IfNone d (IsAgreedSoFar (read ++ part.now) self.new.session.bench self.new.count self.new.answers self.new.line.items)) }
+        ensures few { IfOk result (λ d. IfNone d (self.new.answers ≤ self.new.count)) }
+        ensures most { IfOk result (λ d. IfNone d (self.new.count ≤ self.old.count + length part.now)) }
+        ensures differs { (read : List ℕ) → IsAgreedSoFar read self.old.session.bench self.old.count self.old.answers self.old.line.items
+            → IfOk result (λ d. IfSome d (λ text. StopsAtFeed (read ++ part.now) text.items)) }
+    {
+        'bytes: for byte in part {
+            if let Some(text) = self.take_byte(alloc, *byte)? {
+                return Ok(Some(text));
+            }
+        }
+        Ok(None)
+    }
+
+    // Ends the last line, which has no line feed, unless it is empty, and gives the verdict.
+    fn end(&mut self, alloc: Global) -> Result<Judged, AllocError>
+        requires few { self.old.answers ≤ self.old.count }
+        requires room { self.old.count + 1 < 2 ^ 100 }
+        ensures { (input left : Option (List ℕ)) → IsAgreedUnderway input left self.old.session.bench self.old.count self.old.answers self.old.line.items
+            → IsAtEnd left → IfOk result (λ judged. IsJudged input left judged.verdict judged.text.items) }
+    {
+        if self.line.is_empty() {
+            return agreement(alloc, self.answers);
+        }
+        match self.end_line(alloc)? {
+            Some(text) => Ok(Judged {
+                verdict: Verdict::Differ,
+                text,
+            }),
+            None => agreement(alloc, self.answers),
+        }
+    }
+}
+
+// Reads the lines of a trace, up to the first whose answer is wrong, or to their end.
+fn judge<R: Read>(alloc: Global, input: &mut Told<R>) -> Result<Judged, Fault>
+    requires { input.old.failed ≡ false }
+    ensures judged { IfOk result (λ judged. IsJudged (R.remaining input.old.device) (R.remaining input.new.device) judged.verdict judged.text.items) }
+    ensures failed { (input.new.failed ≡ true) → result ≡ Err Device }
+    ensures device { result ≡ Err Device → (input.new.failed ≡ true) ⊎ (2 ^ 64 ≤ input.new.reads + 1) }
+{
+    let mut checking = Checking {
+        session: Session::new(),
+        line: Vec::new(alloc),
+        count: 0,
+        answers: 0,
+    };
+    let mut buf = [0u8; 4096];
+    'reads: for _ in 0..u64::MAX {
+        let n = input.read(&mut buf)?;
+        if n == 0 {
+            return Ok(checking.end(alloc)?);
+        }
+        match checking.take_bytes(alloc, &buf[..n])? {
+            None => {}
+            Some(text) => {
+                return Ok(Judged {
+                    verdict: Verdict::Differ,
+                    text,
+                });
+            }
+        }
+    }
+    Err(Fault::Device)
+}
+
+/// Reads the lines of a trace, and writes whether the answers that stand in them are those of the rules.
+///
+/// It reads up to the first line whose answer is wrong, and writes that line's number, the line, and the line as it is
+/// answered; or to the end, and writes how many lines have an answer. A line with no answer is only performed. Memory is
+/// taken for a fresh machine, for a line, of which no more than 65,537 bytes are kept, and for what is written. Errors:
+/// Memory, where a growth was refused, and nothing is written; Device, where a read failed, and nothing is written, or a
+/// write, and then a front of the text is, or after 2^64 - 1 reads.
+pub fn check<R: Read, W: Write>(
+    alloc: Global,
+    input: &mut Told<R>,
+    output: &mut Told<W>,
+) -> Result<Verdict, Fault>
+    requires readable { input.old.failed ≡ false }
+    requires writable { output.old.failed ≡ false }
+    ensures ok { IfOk result (λ verdict. IsChecked (R.remaining input.old.device) (R.remaining input.new.device)
+        (W.contents output.old.device) (W.contents output.new.device) verdict) }
+    ensures err { OnErr result (Keeps (W.contents output.old.device) (W.contents output.new.device)
+        ⊎ IsCheckedInPart (R.remaining input.old.device) (R.remaining input.new.device) (W.contents output.old.device) (W.contents output.new.device)) }
+    ensures memory { result ≡ Err Memory → Keeps (W.contents output.old.device) (W.contents output.new.device) }
+    ensures failed { ((input.new.failed ≡ true) ⊎ (output.new.failed ≡ true)) → result ≡ Err Device }
+    ensures device { result ≡ Err Device → (input.new.failed ≡ true) ⊎ (output.new.failed ≡ true) ⊎ (2 ^ 64 ≤ input.new.reads + 1) }
+{
+    let judged = judge(alloc, input)?;
+    output.write_whole(&judged.text)?;
+    Ok(judged.verdict)
+}
