@@ -55,12 +55,30 @@ fn halves<S: PageStore + Drop>(rt: &impl Abort, both: &mut Beside<S>) {
     both.counts(rt);
 }
 
+// Blocks by their number: one that is not aligned is refused, and so is one that is partly taken.
+fn named<S: PageStore + Drop>(rt: &impl Abort, both: &mut Beside<S>) {
+    let (page, half, whole) = (order(rt, 0), order(rt, 1), order(rt, 2));
+    assert!(rt; !both.take_at(rt, half, granule(rt, 1)), "1 is no multiple of 2");
+    assert!(rt; !both.take_at(rt, whole, granule(rt, 2)), "2 is no multiple of 4");
+    assert!(rt; both.take_at(rt, half, granule(rt, 2)));
+    assert!(rt; !both.take_at(rt, page, granule(rt, 2)), "it is taken");
+    assert!(rt; both.take(rt, whole).is_none(), "a half of it is taken");
+    assert_eq!(rt; both.store().free_count(), 2);
+    assert_eq!(rt; both.take(rt, half), Some(granule(rt, 0)));
+    assert!(rt; both.take(rt, page).is_none(), "all are taken");
+    assert_eq!(rt; both.store().free_count(), 0);
+}
+
 #[test]
 fn four_pages(rt: HostRuntime) -> Result<(), Fail> {
     let arena = BuddyArena::build(rt.alloc(), 4)?;
     halves(&rt, &mut Beside::new(rt.alloc(), arena)?);
+    let arena = BuddyArena::build(rt.alloc(), 4)?;
+    named(&rt, &mut Beside::new(rt.alloc(), arena)?);
     let plain = PlainStore::build(rt.alloc(), 4)?;
     halves(&rt, &mut Beside::new(rt.alloc(), plain)?);
+    let plain = PlainStore::build(rt.alloc(), 4)?;
+    named(&rt, &mut Beside::new(rt.alloc(), plain)?);
     Ok(())
 }
 
@@ -120,6 +138,8 @@ fn sizes(rt: HostRuntime) {
     for pages in [0, 4097] {
         let arena = BuddyArena::build(rt.alloc(), pages);
         assert!(rt; matches!(arena, Err(BuildError::BadSize)));
+        let plain = PlainStore::build(rt.alloc(), pages);
+        assert!(rt; matches!(plain, Err(BuildError::BadSize)));
     }
     for pages in [1, 4096] {
         let arena = BuddyArena::build(rt.alloc(), pages).ok();
@@ -127,5 +147,9 @@ fn sizes(rt: HostRuntime) {
         crosses(&arena);
         assert_eq!(rt; arena.pages(), pages);
         assert_eq!(rt; arena.free_count(), pages);
+        let plain = PlainStore::build(rt.alloc(), pages).ok();
+        let plain = plain.expect(&rt, "there is memory");
+        assert_eq!(rt; plain.pages(), pages);
+        assert_eq!(rt; plain.free_count(), pages);
     }
 }
