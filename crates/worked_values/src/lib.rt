@@ -6,6 +6,8 @@
 #![tactic(auto)]
 
 #[cfg(test)]
+mod built;
+#[cfg(test)]
 mod devices;
 #[cfg(test)]
 mod measurement;
@@ -15,8 +17,6 @@ mod memory;
 mod monitor;
 #[cfg(test)]
 mod numbers;
-#[cfg(test)]
-mod page_store;
 #[cfg(test)]
 mod refusals;
 #[cfg(test)]

@@ -1,17 +1,20 @@
+use crate::built::Built;
+use buddy::BuddyArena;
 use granule_addr::{BuildId, Order};
 use page_arena::PlainStore;
 use realm_host::{Answer, Cmd, Host, Refusal, Settings, Step};
 use realm_model::{Rmi, Status};
 use realm_plan::push_turn;
+use std::alloc::Global;
+use std::process::Abort;
 use std::test::Fail;
 
 // What a program that runs plans cannot ask: a build that the host has not got.
-#[test]
-fn there_is_no_such_build(rt: HostRuntime) -> Result<(), Fail> {
-    let store = PlainStore::build(rt.alloc(), 1)?;
+fn there_is_no_such_build<S: Built>(rt: &impl Abort, alloc: Global) -> Result<(), Fail> {
+    let store = S::built(alloc, 1)?;
     let settings = Settings::new(1, 0, 16, 2).ok_or("settings")?;
     let third = BuildId::new(2).ok_or("build 2")?;
-    let Ok(mut host) = Host::boot(rt.alloc(), settings, store) else {
+    let Ok(mut host) = Host::boot(alloc, settings, store) else {
         assert!(rt; false);
         return Ok(());
     };
@@ -21,6 +24,12 @@ fn there_is_no_such_build(rt: HostRuntime) -> Result<(), Fail> {
     );
     assert_eq!(rt; host.undo(third), Err(Refusal::NoBuild));
     Ok(())
+}
+
+#[test]
+fn there_is_none_over_both_stores(rt: HostRuntime) -> Result<(), Fail> {
+    there_is_no_such_build::<PlainStore>(&rt, rt.alloc())?;
+    there_is_no_such_build::<BuddyArena>(&rt, rt.alloc())
 }
 
 #[test]

@@ -1,14 +1,16 @@
-//! A monitor of eight granules that are all taken, and its commands by numbers. A command answers its result word.
+//! A monitor of eight granules that are all taken, over any store, and its commands by numbers. A command answers its
+//! result word.
 ghost use Rattle.std.specs.Prelude.{◌≡◌, ◌<◌, ◌≤◌, ◌^◌, length, IfSome};
 ghost use Rattle.std.specs.Bool.{OnTrue};
 ghost use Rattle.std.specs.List.{All};
 ghost use Rattle.realm_model.specs.Machine.{RealmRow, cell_at};
 ghost use Rattle.rmi_monitor.specs.View.{AreAllTaken, IsRec};
 
+use crate::built::Built;
 use crate::wanted::equal;
 use arrayvec::ArrayVec;
 use granule_addr::{Gran, Order, PageOff, RecNo, Vmid};
-use page_arena::{PageStore, PlainStore};
+use page_arena::PageStore;
 use realm_model::{GranuleState, Rmi};
 use rmi_monitor::Monitor;
 use std::alloc::Global;
@@ -17,11 +19,11 @@ use std::process::Abort;
 use std::test::Fail;
 
 #[derive(Drop)]
-pub struct Bench {
-    monitor: Monitor<PlainStore>,
+pub struct Bench<S: PageStore + Drop> {
+    monitor: Monitor<S>,
 }
 
-impl Model for Bench {
+impl<S: PageStore + Drop> Model for Bench<S> {
     ghost use Rattle.rmi_monitor.specs.View.{MonitorView, AreAllTaken};
     ghost use Rattle.rmi_monitor.specs.Codes.{monitor_code};
 
@@ -61,18 +63,18 @@ fn lowest() -> Gran
 }
 
 // Takes a whole machine.
-fn take_all(monitor: &mut Monitor<PlainStore>, order: Order) -> bool
+fn take_all<S: PageStore>(monitor: &mut Monitor<S>, order: Order) -> bool
     requires { length monitor.old.machine ≡ 2 ^ order }
     ensures { OnTrue result (AreAllTaken monitor.new (2 ^ order)) }
 {
     monitor.take_at(order, lowest())
 }
 
-impl Bench {
-    pub fn new(rt: &impl Abort, alloc: Global, aux: u8) -> Result<Bench, Fail>
+impl<S: Built> Bench<S> {
+    pub fn new(rt: &impl Abort, alloc: Global, aux: u8) -> Result<Bench<S>, Fail>
         requires { aux ≤ 16 }
     {
-        let store = PlainStore::build(alloc, 8)?;
+        let store = S::built(alloc, 8)?;
         let mut monitor = match Monitor::build(alloc, 2, aux, store) {
             Ok(monitor) => monitor,
             Err((error, _store)) => return Err(error.into()),
@@ -92,10 +94,10 @@ impl Bench {
     }
 
     /// With a realm of RD 0, no tables below its root, and DELEGATED granules 2 to 4.
-    pub fn with_realm(rt: &impl Abort, alloc: Global, aux: u8) -> Result<Bench, Fail>
+    pub fn with_realm(rt: &impl Abort, alloc: Global, aux: u8) -> Result<Bench<S>, Fail>
         requires { aux ≤ 16 }
     {
-        let mut bench = Bench::new(rt, alloc, aux)?;
+        let mut bench = Bench::<S>::new(rt, alloc, aux)?;
         bench.delegate_below(rt, 5);
         equal(rt, "a realm", bench.create(0, 1, 1), 0);
         Ok(bench)
