@@ -1,12 +1,12 @@
 -- What has been read and agreed, one byte after another.
-use Rattle.std.proofs.Common.{◌≡◌, ℕ, ◌+◌, ◌<◌, ◌==◌, true, false, List, [], ◌∷◌, ◌++◌, length, map, suc, get_or, take, drop, Option, Some, None, refl, sym, ap, ◌∙◌, subst, append_assoc, ◌⊎◌, inl, inr, length-append}
+use Rattle.std.proofs.Common.{◌≡◌, ℕ, ◌+◌, ◌<◌, ◌==◌, true, false, List, [], ◌∷◌, ◌++◌, length, map, suc, get_or, take, drop, None, refl, sym, ap, ◌∙◌, subst, append_assoc, length-append}
 use mathlib.Core.List.{append-nil}
 use Rattle.std.specs.Prelude.{filter, is_some}
 use Rattle.std.proofs.Math.Seq.{take-suc}
 use Rattle.std.proofs.lemmas.List.{take-append-drop, map-append, length-map}
 use Rattle.std.proofs.lemmas.List.Elements.{filter-append}
 use Rattle.trace_program.specs.Session.{Now}
-use Rattle.trace_program.specs.Input.{parts_of, lines_in, kept_of}
+use Rattle.trace_program.specs.Input.{kept_of}
 use Rattle.trace_program.specs.Verdict.{stated_in, IsAgreed, Differs, AreAgreed, answers_in, LastDiffers}
 use Rattle.trace_program.specs.Checking.{IsAgreedSoFar, CountsLine, StopsAtFeed}
 use Rattle.trace_program.proofs.Kept.{kept_none}

@@ -1,8 +1,8 @@
 -- An input that is being checked, and where that ends.
-use Rattle.std.proofs.Common.{◌≡◌, ℕ, ◌+◌, ◌<◌, List, [], ◌∷◌, ◌++◌, length, map, Option, Some, None, refl, sym, ap, ◌∙◌, subst, ◌⊎◌, inl, inr, codes, decimal}
+use Rattle.std.proofs.Common.{◌≡◌, ℕ, ◌+◌, ◌<◌, List, [], ◌∷◌, ◌++◌, length, map, Option, None, refl, sym, ap, ◌∙◌, subst, inl, inr, codes, decimal}
 use mathlib.Core.List.{append-nil}
 use Rattle.std.specs.Prelude.{Result, Ok, Err, IfOk}
-use Rattle.std.specs.Io.KnownBytes.{Keeps, Consumes, IsAtEnd}
+use Rattle.std.specs.Io.KnownBytes.{Consumes, IsAtEnd}
 use Rattle.trace_program.specs.Session.{Now}
 use Rattle.trace_program.specs.Input.{lines_in, kept_of}
 use Rattle.trace_program.specs.Verdict.{Differs, AllAgree, LastDiffers, IsJudged}

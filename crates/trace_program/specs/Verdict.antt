@@ -1,5 +1,5 @@
 -- Whether the answers that stand in a trace are those that the rules give.
-use Rattle.std.specs.Prelude.{◌≡◌, ℕ, ◌+◌, Bool, List, [], ◌∷◌, ◌++◌, codes, decimal, length, map, filter, is_some, Option, Some, None, ◌⊎◌}
+use Rattle.std.specs.Prelude.{◌≡◌, ℕ, ◌+◌, List, [], ◌∷◌, ◌++◌, codes, decimal, length, map, filter, is_some, Option, Some, None, ◌⊎◌}
 use Rattle.std.specs.Io.KnownBytes.{Consumes, IsAtEnd, Appends}
 use Rattle.told_device.specs.Whole.{AppendsFront}
 use Rattle.rmi_trace.specs.Answers.{repeated_line, answer_text}

@@ -1,4 +1,4 @@
-use Rattle.std.proofs.Common.{◌≡◌, ◌<◌, ◌≤◌, [], take, length, arith}
+use Rattle.std.proofs.Common.{◌≡◌, ◌<◌, [], take, length, arith}
 use Rattle.std.proofs.lemmas.Grind.{common_steps}
 use Rattle.trace_program.proofs.Found.{at_none, at_some}
 use Rattle.trace_program.proofs.Judged.{agreed_underway_none, agreed_underway_more, agreed_underway_at_end, judged_in_part}

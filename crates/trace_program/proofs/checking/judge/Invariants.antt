@@ -1,4 +1,4 @@
-use Rattle.std.proofs.Common.{◌≡◌, ◌≤◌, ◌*◌, ◌+◌, false}
+use Rattle.std.proofs.Common.{◌≡◌, ◌≤◌, ◌*◌, false}
 use Rattle.trace_program.specs.Checking.{IsAgreedUnderway}
 use Rattle.trace_program.proofs.checking.judge.Given as goal
 

@@ -1,4 +1,4 @@
-use Rattle.std.proofs.Common.{◌≡◌, ◌≤◌, ◌+◌, ℕ, List, ◌++◌, take}
+use Rattle.std.proofs.Common.{◌≤◌, ◌+◌, ℕ, List, ◌++◌, take}
 use Rattle.trace_program.specs.Checking.{IsAgreedSoFar}
 use Rattle.trace_program.proofs.checking.Checking.take_bytes.Given as goal
 
