@@ -58,8 +58,14 @@ fn halves<S: PageStore + Drop>(rt: &impl Abort, both: &mut Beside<S>) {
 // Blocks by their number: one that is not aligned is refused, and so is one that is partly taken.
 fn named<S: PageStore + Drop>(rt: &impl Abort, both: &mut Beside<S>) {
     let (page, half, whole) = (order(rt, 0), order(rt, 1), order(rt, 2));
-    assert!(rt; !both.take_at(rt, half, granule(rt, 1)), "1 is no multiple of 2");
-    assert!(rt; !both.take_at(rt, whole, granule(rt, 2)), "2 is no multiple of 4");
+    assert!(rt;
+        !both.take_at(rt, half, granule(rt, 1)),
+        "1 is no multiple of 2"
+    );
+    assert!(rt;
+        !both.take_at(rt, whole, granule(rt, 2)),
+        "2 is no multiple of 4"
+    );
     assert!(rt; both.take_at(rt, half, granule(rt, 2)));
     assert!(rt; !both.take_at(rt, page, granule(rt, 2)), "it is taken");
     assert!(rt; both.take(rt, whole).is_none(), "a half of it is taken");
