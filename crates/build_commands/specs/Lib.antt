@@ -1,0 +1,5 @@
+pub mod Desk
+pub mod Needs
+pub mod Checks
+pub mod Acts
+pub mod Replies
