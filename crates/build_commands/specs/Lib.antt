@@ -1,5 +1,6 @@
 pub mod Desk
 pub mod Needs
 pub mod Checks
+pub mod Found
 pub mod Acts
 pub mod Replies
