@@ -1,0 +1,4 @@
+pub mod Runs
+pub mod Tables
+pub mod Refused
+pub mod FoundNext

@@ -1,5 +1,5 @@
 //! The act of a command.
-ghost use Rattle.std.specs.Prelude.{◌≡◌, ◌≤◌, length, slice_get, drop, Some, None, if◌then◌else◌};
+ghost use Rattle.std.specs.Prelude.{◌≡◌, ◌≤◌, ◌&&◌, length, slice_get, drop, Some, None, if◌then◌else◌};
 ghost use Rattle.realm_model.specs.declared.act.Act.TheVariants as acts;
 ghost use Rattle.build_commands.specs.Needs.{operands};
 ghost use Rattle.build_commands.specs.Acts.{is_ipa, is_level, act_if, root_of, act_of};

@@ -1,5 +1,5 @@
 //! The checks of a command, in the order of the refusals' numbers.
-ghost use Rattle.std.specs.Prelude.{◌≡◌, ◌<◌, Some, None, MatchResult, IfOk};
+ghost use Rattle.std.specs.Prelude.{◌≡◌, ◌<◌, Some, None, IfOk, IfErr};
 ghost use Rattle.build_commands.specs.Checks.{AreFound, checked, build_checks, order_checks, realm_checks, journal_checks, room_checks, vmid_checks, state_checks, checks_of, first_that_holds};
 
 use crate::pages::granules_of;
@@ -95,9 +95,8 @@ pub fn check_needs<D: Desk>(
     build: BuildId,
     cmd: &Cmd,
 ) -> Result<ArrayVec<Gran, 17>, Refusal>
-    ensures refusal { MatchResult result
-        (λ granules. first_that_holds (checks_of (D.seen desk.now) build cmd.now) ≡ None)
-        (λ refusal. first_that_holds (checks_of (D.seen desk.now) build cmd.now) ≡ Some refusal) }
+    ensures none { IfOk result (λ granules. first_that_holds (checks_of (D.seen desk.now) build cmd.now) ≡ None) }
+    ensures refusal { IfErr result (λ refusal. first_that_holds (checks_of (D.seen desk.now) build cmd.now) ≡ Some refusal) }
     ensures granules { IfOk result (λ granules. AreFound (D.seen desk.now) build cmd.now granules.items) }
     ensures there { IfOk result (λ granules. build < (D.seen desk.now).builds) }
 {

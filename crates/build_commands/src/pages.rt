@@ -1,5 +1,5 @@
 //! The granules of the pages that a command names.
-ghost use Rattle.std.specs.Prelude.{◌≡◌, ◌+◌, ◌<◌, ◌≤◌, ℕ, List, [], ◌∷◌, length, IsOk, Some, MatchResult};
+ghost use Rattle.std.specs.Prelude.{◌≡◌, ◌+◌, ◌<◌, ◌≤◌, ℕ, List, [], ◌∷◌, length, IsOk, Some, IfOk, IfErr};
 ghost use Rattle.std.specs.List.{range_with_len};
 ghost use Rattle.granule_addr.specs.Ipa.{is_width};
 ghost use Rattle.build_commands.specs.Needs.{operands, tables_named};
@@ -77,38 +77,51 @@ fn tables_named(width: u8) -> u16
     }
 }
 
-// The granules of the pages that a command names, or the refusal of the first that the build has not got.
+// The pages that a command names.
 #[tactic(auto, unfolding(crate::specs::Needs::operands))]
+fn find_operands<D: Desk>(
+    desk: &D,
+    build: BuildId,
+    cmd: &Cmd,
+    found: &mut ArrayVec<Gran, 17>,
+) -> Result<(), Refusal>
+    requires there { build < (D.seen desk.now).builds }
+    requires none { found.old.items ≡ [] }
+    ensures { AreFoundNext (D.seen desk.now) build (operands cmd.now) found.old.items result found.new.items }
+{
+    match cmd {
+        Cmd::Fill { page, .. }
+        | Cmd::Peek { page, .. }
+        | Cmd::Delegate { page }
+        | Cmd::Rtt { page, .. }
+        | Cmd::Unknown { page, .. } => find(desk, build, *page, found),
+        Cmd::Data { page, source, .. } => {
+            find(desk, build, *page, found)?;
+            find(desk, build, *source, found)
+        }
+        Cmd::Realm { rd, root, width } => {
+            find(desk, build, *rd, found)?;
+            find_run(desk, build, *root, tables_named(*width), found)
+        }
+        Cmd::Rec { page, auxiliaries } => {
+            find(desk, build, *page, found)?;
+            find_all(desk, build, auxiliaries.as_slice(), found)
+        }
+        _ => Ok(()),
+    }
+}
+
+// The granules of the pages that a command names, or the refusal of the first that the build has not got.
 pub(crate) fn granules_of<D: Desk>(
     desk: &D,
     build: BuildId,
     cmd: &Cmd,
 ) -> Result<ArrayVec<Gran, 17>, Refusal>
     requires { build < (D.seen desk.now).builds }
-    ensures { MatchResult result
-        (λ granules. AreFound (D.seen desk.now) build cmd.now granules.items)
-        (λ refusal. first_that_holds (page_checks (D.seen desk.now) build (operands cmd.now)) ≡ Some refusal) }
+    ensures ok { IfOk result (λ granules. AreFound (D.seen desk.now) build cmd.now granules.items) }
+    ensures err { IfErr result (λ refusal. first_that_holds (page_checks (D.seen desk.now) build (operands cmd.now)) ≡ Some refusal) }
 {
     let mut granules = ArrayVec::new();
-    match cmd {
-        Cmd::Fill { page, .. }
-        | Cmd::Peek { page, .. }
-        | Cmd::Delegate { page }
-        | Cmd::Rtt { page, .. }
-        | Cmd::Unknown { page, .. } => find(desk, build, *page, &mut granules)?,
-        Cmd::Data { page, source, .. } => {
-            find(desk, build, *page, &mut granules)?;
-            find(desk, build, *source, &mut granules)?;
-        }
-        Cmd::Realm { rd, root, width } => {
-            find(desk, build, *rd, &mut granules)?;
-            find_run(desk, build, *root, tables_named(*width), &mut granules)?;
-        }
-        Cmd::Rec { page, auxiliaries } => {
-            find(desk, build, *page, &mut granules)?;
-            find_all(desk, build, auxiliaries.as_slice(), &mut granules)?;
-        }
-        _ => {}
-    }
+    find_operands(desk, build, cmd, &mut granules)?;
     Ok(granules)
 }
