@@ -2,3 +2,4 @@ pub mod Runs
 pub mod Tables
 pub mod Refused
 pub mod FoundNext
+pub mod ActOf

@@ -4,3 +4,4 @@ pub mod Checks
 pub mod Found
 pub mod Acts
 pub mod Replies
+pub mod Laws

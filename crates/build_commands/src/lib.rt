@@ -10,6 +10,7 @@ mod act;
 mod checks;
 mod cmd;
 mod desk;
+pub mod law;
 mod needs;
 mod pages;
 mod picked;
