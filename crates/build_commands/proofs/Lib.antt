@@ -3,3 +3,4 @@ pub mod Tables
 pub mod Refused
 pub mod FoundNext
 pub mod ActOf
+pub mod Picks
