@@ -109,12 +109,12 @@ module _ (picked : Picked) where
   poke number ipa offset value gs act long e = of_equal (Poke number ipa offset value) gs (acts.Poke number ipa offset value) act (act_in_range (is_ipa ipa) (acts.Poke number ipa offset value) act e) (record { command = refl; forward = refl; names = sym (none_left gs long); paired = refl; room = refl })
 
   -- commands on more
-  data : (page ipa source : ℕ) (gs : List ℕ) (act : Act) → length gs ≡ 2 → act_of (Data page ipa source) gs picked ≡ Some act → IsOfCommand (Data page ipa source) gs act
+  data_of : (page ipa source : ℕ) (gs : List ℕ) (act : Act) → length gs ≡ 2 → act_of (Data page ipa source) gs picked ≡ Some act → IsOfCommand (Data page ipa source) gs act
   unfolding act_of named is_reverse reverse_of room_taken needs_of
-  data page ipa source [] act long e = cc
-  data page ipa source (g ∷ []) act long e = cc
-  data page ipa source (g ∷ s ∷ []) act long e = of_equal (Data page ipa source) (g ∷ s ∷ []) (acts.Data g ipa s) act (act_in_range (is_ipa ipa) (acts.Data g ipa s) act e) (record { command = refl; forward = refl; names = refl; paired = refl; room = refl })
-  data page ipa source (g ∷ s ∷ h ∷ gs) act long e = absurd (omega arith)
+  data_of page ipa source [] act long e = cc
+  data_of page ipa source (g ∷ []) act long e = cc
+  data_of page ipa source (g ∷ s ∷ []) act long e = of_equal (Data page ipa source) (g ∷ s ∷ []) (acts.Data g ipa s) act (act_in_range (is_ipa ipa) (acts.Data g ipa s) act e) (record { command = refl; forward = refl; names = refl; paired = refl; room = refl })
+  data_of page ipa source (g ∷ s ∷ h ∷ gs) act long e = absurd (omega arith)
 
   realm : (rd root width : ℕ) (gs : List ℕ) (act : Act) → act_of (Realm rd root width) gs picked ≡ Some act → IsOfCommand (Realm rd root width) gs act
   unfolding act_of named is_reverse reverse_of room_taken needs_of
@@ -137,7 +137,7 @@ module _ (picked : Picked) where
   of_command (Realm rd root width) gs act long e = realm rd root width gs act e
   of_command (Rtt page ipa level) gs act long e = rtt page ipa level gs act long e
   of_command (Ripas ipa count) gs act long e = ripas ipa count gs act long e
-  of_command (Data page ipa source) gs act long e = data page ipa source gs act long e
+  of_command (Data page ipa source) gs act long e = data_of page ipa source gs act long e
   of_command (Unknown page ipa) gs act long e = unknown page ipa gs act long e
   of_command (Rec page auxiliaries) gs act long e = rec page auxiliaries gs act e
   of_command Activate gs act long e = activate gs act long e

@@ -4,3 +4,4 @@ pub mod Refused
 pub mod FoundNext
 pub mod ActOf
 pub mod Picks
+pub mod NoAct
