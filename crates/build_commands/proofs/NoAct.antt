@@ -1,11 +1,11 @@
 -- Numbers that stand in no act fail an input check.
 use Rattle.std.proofs.Common.{◌≡◌, ℕ, zero, suc, ◌-◌, ◌^◌, ◌<◌, ◌≤◌, true, false, Bool, cond, not, List, [], ◌∷◌, length, Option, Some, None, Ok, Err, refl, sym, ap, ◌∙◌, arith}
-use Rattle.std.specs.Prelude.{◌&&◌, ◌==◌, nat_le}
+use Rattle.std.specs.Prelude.{◌&&◌, ◌||◌, ◌==◌, ◌%◌, nat_le}
 use Rattle.std.specs.FinMap.{get}
-use Rattle.std.proofs.lemmas.Bool.{and_parts, ltb-true, lt-ltb, leb-true}
+use Rattle.std.proofs.lemmas.Bool.{and_parts, and_from, eqb-true, ltb-true, lt-ltb, leb-true, le-leb}
 use Rattle.std.proofs.Math.Bool.{and-false}
 use Rattle.std.proofs.Math.Pow.{pow_mono}
-use Rattle.granule_addr.specs.Ipa.{is_width, is_protected_at, widest_space}
+use Rattle.granule_addr.specs.Ipa.{is_width, is_protected_at, covered_count, widest_space}
 use Rattle.arrayvec.specs.ArrayVec.{ArrayVec}
 use Rattle.realm_model.specs.declared.act.Act.{Act}
 use Rattle.realm_model.specs.Machine.{RealmRow, RecRow, Seen}
@@ -69,11 +69,15 @@ unprotected ipa width wide bad = not_so (is_protected_at ipa width) (λ good.
     clash (is_ipa ipa) (lt-ltb ipa widest_space (omega arith)) bad)
 
 no_place : (ipa level : ℕ) → is_level level ≡ false → is_table_place ipa level ≡ false
-no_place ipa zero bad = refl
-no_place ipa (suc zero) bad = cc
-no_place ipa (suc (suc zero)) bad = cc
-no_place ipa (suc (suc (suc zero))) bad = cc
-no_place ipa (suc (suc (suc (suc level)))) bad = refl
+no_place ipa level bad = by_both (level == 2) refl (level == 3) refl
+  where
+    in_range : 1 ≤ level → level ≤ 3 → ⊥
+    in_range low high = clash (is_level level) (and_from (nat_le 1 level) (nat_le level 3) (le-leb 1 level low) (le-leb level 3 high)) bad
+
+    by_both : (two : Bool) → (level == 2) ≡ two → (three : Bool) → (level == 3) ≡ three → is_table_place ipa level ≡ false
+    by_both true is_two three is_three = let same : level ≡ 2 = eqb-true level 2 is_two in absurd (in_range (omega arith) (omega arith))
+    by_both false is_two true is_three = let same : level ≡ 3 = eqb-true level 3 is_three in absurd (in_range (omega arith) (omega arith))
+    by_both false is_two false is_three = λ i. (is_two i || is_three i) && ipa % covered_count (level - 1) == 0
 
 -- ---- commands
 
