@@ -1,0 +1,7 @@
+pub mod Runs
+pub mod Tables
+pub mod Refused
+pub mod FoundNext
+pub mod ActOf
+pub mod Picks
+pub mod NoAct
