@@ -1,0 +1,4 @@
+pub mod Written
+pub mod Steps
+pub mod Asked
+pub mod Answers
