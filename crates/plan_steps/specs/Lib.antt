@@ -2,3 +2,4 @@ pub mod Written
 pub mod Steps
 pub mod Asked
 pub mod Answers
+pub mod Lines
