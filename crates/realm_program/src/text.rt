@@ -7,8 +7,9 @@ ghost use Rattle.realm_program.specs.declared.fault.Fault.TheVariants.{Device};
 use crate::fault::Fault;
 use crate::told::Told;
 use page_arena::{BuildError, PlainStore};
+use plan_runs::{push_map, run_turns};
 use realm_host::{Host, Settings};
-use realm_plan::{Plan, push_map, run_turns};
+use realm_plan::Plan;
 use std::alloc::{AllocError, Global};
 use std::io::{Read, Write};
 
