@@ -1,0 +1,27 @@
+//! What builds ask for: the commands as values, what each needs of its build, and the act that it asks for.
+//!
+//! A command names pages by the build's own numbers. One table, `Needs`, has a row for each command, and one list of
+//! checks is made of it: `check_needs` answers the granules of the pages named, or the refusal with the lowest number.
+//! `act_of` makes the act of granules and of what was picked; `law` says how that act fits its command. What a host keeps
+//! of its builds is behind the trait `Desk`.
+#![tactic(auto)]
+
+mod act;
+mod checks;
+mod cmd;
+mod desk;
+pub mod law;
+mod needs;
+mod pages;
+mod picked;
+mod refusal;
+mod reply;
+
+pub use act::act_of;
+pub use checks::check_needs;
+pub use cmd::{Cmd, Step};
+pub use desk::Desk;
+pub use needs::{Needs, Wants};
+pub use picked::Picked;
+pub use refusal::Refusal;
+pub use reply::{Reply, reply_of};

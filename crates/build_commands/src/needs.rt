@@ -1,0 +1,67 @@
+//! What a command needs of its build.
+ghost use Rattle.std.specs.Prelude.{◌≡◌};
+ghost use Rattle.build_commands.specs.Needs.{needs_of, needs_but_vmid};
+
+use crate::Cmd;
+
+/// Whether a command wants its build to have a realm.
+#[derive(Clone, Copy, Debug, PartialEq, Eq)]
+pub enum Wants {
+    Either,
+    Realm,
+    NoRealm,
+}
+
+/// What a command needs of its build, a row of the table.
+#[derive(Clone, Copy, Debug, PartialEq, Eq)]
+pub struct Needs {
+    /// whether there has to be a realm
+    pub realm: Wants,
+    /// whether the act stays open, and so wants an entry in the journal
+    pub paired: bool,
+    /// how many entries of the build's room it takes: for its event, and for the reverse or the exit that it will want
+    pub room: u16,
+    /// whether it picks a VMID
+    pub vmid: bool,
+}
+
+// Needs but for a VMID.
+fn but_vmid(realm: Wants, paired: bool, room: u16) -> Needs
+    ensures { result ≡ needs_but_vmid realm paired room }
+{
+    Needs {
+        realm,
+        paired,
+        room,
+        vmid: false,
+    }
+}
+
+impl Cmd {
+    /// What the command needs of its build.
+    #[tactic(auto, unfolding(crate::specs::Needs::needs_of))]
+    pub fn needs(&self) -> Needs
+        ensures { result ≡ needs_of self.now }
+    {
+        match self {
+            Cmd::Take { .. } | Cmd::Delegate { .. } => but_vmid(Wants::Either, true, 2),
+            Cmd::Fill { .. } | Cmd::Peek { .. } => but_vmid(Wants::Either, false, 1),
+            Cmd::Realm { .. } => Needs {
+                realm: Wants::NoRealm,
+                paired: true,
+                room: 2,
+                vmid: true,
+            },
+            Cmd::Rtt { .. } | Cmd::Data { .. } | Cmd::Unknown { .. } | Cmd::Rec { .. } => {
+                but_vmid(Wants::Realm, true, 2)
+            }
+            Cmd::Ripas { .. } | Cmd::Activate | Cmd::Poke { .. } => but_vmid(
+                Wants::Realm,
+                false,
+                1,
+            ),
+            Cmd::Enter { .. } => but_vmid(Wants::Realm, false, 2),
+            Cmd::Exit { .. } => but_vmid(Wants::Realm, false, 0),
+        }
+    }
+}

@@ -1,0 +1,13 @@
+//! What is picked or read for a command before its act is known.
+use granule_addr::{RecNo, Vmid};
+
+/// The answers that an act holds: each is read by the commands that get it, and is any where a command gets none.
+#[derive(Clone, Copy, Debug, PartialEq, Eq)]
+pub struct Picked {
+    /// for a realm that is made: the lowest VMID that none uses
+    pub vmid: Vmid,
+    /// for a REC that is made: the next number of its realm
+    pub number: RecNo,
+    /// for a byte that is read: the byte
+    pub byte: u8,
+}
