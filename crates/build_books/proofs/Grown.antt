@@ -56,6 +56,11 @@ rec_paired : (granule : ℕ) (aux : _) (number : ℕ) → is_paired (Rec granule
 unfolding reverse_of
 rec_paired granule aux number = refl
 
+-- there is room for what takes none
+room_fits : (used taken capacity : ℕ) → used ≤ capacity → (0 < taken → used + taken ≤ capacity) → used + taken ≤ capacity
+room_fits used zero capacity fits room = omega arith
+room_fits used (suc taken) capacity fits room = room (omega arith)
+
 -- what a list says of its elements is what it said, where one is set to another of which the same is said
 map-set : {X Y : Type 0} (f : X → Y) (xs : List X) (place : ℕ) (x y : X) → slice_get xs place ≡ Some x → f y ≡ f x → map f (set xs place y) ≡ map f xs
 map-set f [] place x y there same = refl
@@ -102,7 +107,8 @@ module _ (builds : List Build) (leases : Stacks) (vmids : Vmids) (aux capacity :
   -- ---- the room of the build
 
   used_after : used_room build later can.next ≤ capacity
-  used_after = subst (λ n. n ≤ capacity) (sym (room_follows host.limits events.items world can.next kept.legal at_world build act can.turn can.stepped)) can.room
+  used_after = subst (λ n. n ≤ capacity) (sym (room_follows host.limits events.items world can.next kept.legal at_world build act can.turn can.stepped))
+      (room_fits (used host build) (room_taken act) capacity (kept.room build there).used can.room)
 
   entries_after : open_entries build later ≡ pushed (open_entries build events.items) act
   entries_after = open_entries-own events.items event

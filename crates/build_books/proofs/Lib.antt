@@ -8,3 +8,6 @@ pub mod RoomFollows
 pub mod VmidsFollow
 pub mod PagesFollow
 pub mod Grown
+pub mod Desks
+pub mod Readings
+pub mod Empty

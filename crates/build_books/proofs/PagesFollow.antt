@@ -14,7 +14,7 @@ use Rattle.realm_model.specs.Undoing.{by}
 use Rattle.realm_model.proofs.Pages.{pages_of-take, pages_of-untake, pages_of-same}
 use Rattle.realm_acts.proofs.Ranges.{of_all_range}
 use Rattle.build_books.specs.Kept.{pages_after, CanFollowPages}
-use Rattle.std.proofs.lemmas.List.Elements.{All-drop}
+use Rattle.std.proofs.lemmas.List.Elements.{All-tail}
 
 length-block : (order first : ℕ) → length (block order first) ≡ 2 ^ order
 length-block order first = length-range_with_len first (2 ^ order)
@@ -40,6 +40,11 @@ block_below order first most all =
     let last = of_all_range (λ page. page < most) first (2 ^ order) all (first + 2 ^ order - 1) (omega arith) (omega arith) in
     omega arith
 
+-- what holds of each page of two lists holds of the second
+later_pages : (most : ℕ) (xs ys : List ℕ) → All (λ page. page < most) (xs ++ ys) → All (λ page. page < most) ys
+later_pages most [] ys all = all
+later_pages most (x ∷ xs) ys all = later_pages most xs ys (All-tail (λ page. page < most) x (xs ++ ys) all)
+
 pub can_follow_pages : (history : List Event) (leases : Stacks) (build : ℕ) (act : Act) → stack_of leases build ≡ pages_of build history
     → IsInTurn history (by build act) → length (pages_of build (history ++ by build act ∷ [])) ≤ leases.room
     → All (λ page. page < leases.room) (pages_of build (history ++ by build act ∷ [])) → leases.room ≤ 4096 → CanFollowPages leases build act
@@ -48,7 +53,7 @@ can_follow_pages history leases build (Take order first) stack turn room inside 
     let long = ap length grown ∙ length-append (pages_of build history) (block order first) in
     let size = length-block order first in
     let same = ap length stack in
-    let end = block_below order first leases.room (All-append-right (λ page. page < leases.room) (pages_of build history) (block order first) (subst (All (λ page. page < leases.room)) grown inside)) in
+    let end = block_below order first leases.room (later_pages leases.room (pages_of build history) (block order first) (subst (All (λ page. page < leases.room)) grown inside)) in
     (omega arith, omega arith)
 can_follow_pages history leases build (UnTake order first) stack turn room inside few =
     let long = ap length (pages_of-untake build history order first turn) ∙ length-append (pages_of build (history ++ by build (UnTake order first) ∷ [])) (block order first) in

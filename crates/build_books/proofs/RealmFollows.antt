@@ -98,6 +98,18 @@ module _ (limits : Limits) (history : List Event) (w : World) (legal : IsLegal l
   rd_is : rd_of build w ≡ head_of (rds_open build history)
   rd_is = rd_of_makers (realm_of build w) (with_row build 0 w.leases w.machine) ∙ ap head_of (sym rds_are)
 
+  -- a build that has nothing open has no realm
+  pub no_realm : open_entries build history ≡ [] → realm_of build w ≡ None
+  no_realm none = none_of (realm_of build w) (with_row build 0 w.leases w.machine) (sym rds_are ∙ ap (flat_map rd_made) none)
+    where
+      of_row : (rd : ℕ) (d : Option RealmRow) → is_some d ≡ true → flat_map rd_made (elim d [ Some realm ↦ maker rd realm ∷ [] | None ↦ [] ]) ≡ [] → ⊥
+      of_row rd None some e = cc
+      of_row rd (Some realm) some e = cc
+
+      none_of : (o : Option Seen) → ((rd : Seen) → o ≡ Some rd → is_some rd.cell.descriptor ≡ true) → flat_map rd_made (makers o) ≡ [] → o ≡ None
+      none_of None row e = refl
+      none_of (Some rd) row e = absurd (of_row rd.number rd.cell.descriptor (row rd refl) e)
+
 module _ (limits : Limits) (history : List Event) (w v : World) (legal : IsLegal limits history) (at_w : replay limits history ≡ Some w) (build : ℕ) where
   module _ (act : Act) (turn : IsInTurn history (by build act)) (s : step limits w (by build act) ≡ Some v) where
     abbrev later : List Event

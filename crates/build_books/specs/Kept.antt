@@ -84,13 +84,13 @@ CanFollowPages leases build _ = Unit {0}
 
 -- ---- what is recorded
 
--- An act of a build can be recorded: it is in turn and a step, the build has the room that it takes, and can have it open
--- where it has a reverse.
+-- An act of a build can be recorded: it is in turn and a step, the build has the room that it takes, if it takes any, and can
+-- have it open where it has a reverse.
 pub record CanRecord (host : HostView) (build : ℕ) (act : Act) : Type 0 where
   pub turn : IsInTurn host.history (by build act)
   pub next : World
   pub stepped : step host.limits (world_of host) (by build act) ≡ Some next
-  pub room : used host build + room_taken act ≤ host.capacity
+  pub room : 0 < room_taken act → used host build + room_taken act ≤ host.capacity
   pub few_open : is_paired act ≡ true → length (open_of host build) < 512
 
 -- ---- what is kept

@@ -1,5 +1,6 @@
 -- The VMIDs that a host's realms have.
-use Rattle.std.specs.Prelude.{◌≡◌, ◌<◌, ℕ, Bool, true, false, not, ◌&&◌, nat_le}
+use Rattle.std.specs.Prelude.{◌≡◌, ℕ, Bool, true, false, Option, not, ◌&&◌, nat_le}
+use Rattle.std.specs.List.{find, range_with_len}
 use Rattle.leases.specs.Vmids.{Vmids, is_free, IsMarked}
 use Rattle.realm_model.specs.declared.act.Act.{Act}
 use Rattle.realm_model.specs.declared.act.Act.TheVariants.{Realm, UnRealm}
@@ -10,10 +11,9 @@ use Rattle.build_books.specs.View.{HostView, world_of}
 abbrev pub is_vmid_free : HostView → ℕ → Bool
 is_vmid_free host vmid = nat_le 1 vmid && nat_le vmid host.limits.vmids && not (is_vmid_used (world_of host).machine vmid)
 
--- and no lower one is so
-pub record IsLowestUnused (host : HostView) (vmid : ℕ) : Type 0 where
-  pub free : is_vmid_free host vmid ≡ true
-  pub lower : (other : ℕ) → other < vmid → is_vmid_free host other ≡ false
+-- the lowest such VMID, where there is one
+abbrev pub lowest_vmid : HostView → Option ℕ
+lowest_vmid host = find (is_vmid_free host) (range_with_len 1 host.limits.vmids)
 
 -- ---- after an act
 

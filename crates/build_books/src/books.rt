@@ -1,5 +1,5 @@
 //! The history, and what is kept beside it.
-ghost use Rattle.std.specs.Prelude.{◌≡◌, ℕ, ◌<◌, ◌≤◌, [], length, replicate, true, false, nat_lt, None, IfOk, IfSome, IfNone, option_map, slice_index_or};
+ghost use Rattle.std.specs.Prelude.{◌≡◌, ℕ, ◌<◌, ◌≤◌, [], length, replicate, nat_lt, None, IfOk, IfSome, option_map};
 ghost use Rattle.std.specs.Bool.{OnFalse};
 ghost use Rattle.std.specs.List.{last_or};
 ghost use Rattle.realm_model.specs.History.{acts_of, IsLegal, LeavesNoTrace};
@@ -11,12 +11,14 @@ ghost use Rattle.realm_acts.specs.Performing.{rec_granule};
 ghost use Rattle.leases.specs.Stacks.{stack_of, with_stack};
 ghost use Rattle.build_books.specs.View.{world_of, open_of, used, pages_of_build, granule_of_page, with_event};
 ghost use Rattle.build_books.specs.Kept.{new_build, pages_after, CanFollowPages, CanRecord, HasRoom};
-ghost use Rattle.build_books.specs.Vmids.{IsLowestUnused, is_vmid_free, CanFollowVmids, IsVmidsAfter};
+ghost use Rattle.realm_acts.specs.Mirror.{IsPlaceOf};
+ghost use Rattle.build_books.specs.Vmids.{lowest_vmid, CanFollowVmids, IsVmidsAfter};
 ghost use Rattle.build_books.specs.Booted.{booted};
 
 use crate::build::Build;
 use granule_addr::{BuildId, Gran, RecNo, Vmid};
 use leases::{Leases, VmidPool};
+use realm_acts::Place;
 use realm_model::{Act, Event};
 use std::alloc::{AllocError, Global};
 use std::marker::Model;
@@ -24,10 +26,10 @@ use std::marker::Model;
 /// The events of all builds in their order, and what they leave of each build.
 #[derive(Drop)]
 pub struct Books {
-    history: Vec<Event>,
-    builds: Vec<Build>,
-    leases: Leases,
-    vmids: VmidPool,
+    pub(crate) history: Vec<Event>,
+    pub(crate) builds: Vec<Build>,
+    pub(crate) leases: Leases,
+    pub(crate) vmids: VmidPool,
     aux: u8,
     capacity: u16,
 }
@@ -136,16 +138,9 @@ impl Books {
     pub fn has_build(&self, build: BuildId) -> bool
         ensures there { result ≡ nat_lt build self.now.limits.builds }
         ensures none { OnFalse result (acts_of build self.now.history ≡ []) }
+        ensures no_realm { OnFalse result (realm_of build (world_of self.now) ≡ None) }
     {
         (build.number() as usize) < self.builds.len()
-    }
-
-    /// Whether a build is in abort.
-    pub fn is_aborting(&self, build: BuildId) -> bool
-        requires { build < self.now.limits.builds }
-        ensures { result ≡ slice_index_or self.now.aborting build false }
-    {
-        self.builds[build.number() as usize].aborting
     }
 
     /// How much of its room a build has used: an entry for each event, one for each act that is open, and one for each REC
@@ -181,7 +176,8 @@ impl Books {
     /// The RD of a build's realm.
     pub fn realm(&self, build: BuildId) -> Option<Gran>
         requires { build < self.now.limits.builds }
-        ensures { result ≡ rd_of build (world_of self.now) }
+        ensures value { result ≡ rd_of build (world_of self.now) }
+        ensures inside { IfSome result (λ rd. rd < self.now.limits.pages) }
     {
         self.builds[build.number() as usize].realm
     }
@@ -195,6 +191,24 @@ impl Books {
         kept.recs.granule(number)
     }
 
+    /// Where an act of a build is performed: the RD of the build's realm, and the REC there that the act names.
+    pub fn place(&self, build: BuildId, act: &Act) -> Place
+        requires { build < self.now.limits.builds }
+        ensures { IsPlaceOf (world_of self.now) build act.now result }
+    {
+        let rec = match act {
+            Act::UnRec { number, .. }
+            | Act::Enter { number }
+            | Act::Exit { number }
+            | Act::Poke { number, .. } => self.rec(build, *number),
+            _ => None,
+        };
+        Place {
+            realm: self.realm(build),
+            rec,
+        }
+    }
+
     /// How many RECs of a build's realm run.
     pub fn running(&self, build: BuildId) -> u16
         requires { build < self.now.limits.builds }
@@ -205,8 +219,7 @@ impl Books {
 
     /// The lowest VMID that no realm has; `None` comes exactly where each is a realm's.
     pub fn lowest_vmid(&self) -> Option<Vmid>
-        ensures lowest { IfSome result (IsLowestUnused self.now) }
-        ensures none { IfNone result ((vmid : ℕ) → is_vmid_free self.now vmid ≡ false) }
+        ensures { result ≡ lowest_vmid self.now }
     {
         self.vmids.lowest_free()
     }
@@ -214,7 +227,8 @@ impl Books {
     /// The granule of a build's page.
     pub fn page(&self, build: BuildId, page: u16) -> Option<Gran>
         requires { build < self.now.limits.builds }
-        ensures { result ≡ granule_of_page self.now build page }
+        ensures value { result ≡ granule_of_page self.now build page }
+        ensures inside { IfSome result (λ granule. granule < self.now.limits.pages) }
     {
         self.leases.page(build, page)
     }

@@ -8,6 +8,7 @@
 
 mod books;
 mod build;
+
 mod mark;
 mod recs;
 
