@@ -1,0 +1,5 @@
+pub mod Runs
+pub mod Tables
+pub mod Refused
+pub mod FoundNext
+pub mod ActOf

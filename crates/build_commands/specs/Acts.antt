@@ -1,5 +1,5 @@
 -- The act that a command asks for.
-use Rattle.std.specs.Prelude.{ℕ, nat_le, nat_lt, List, [], ◌∷◌, Bool, cond, ◌&&◌, Option, Some, None}
+use Rattle.std.specs.Prelude.{ℕ, nat_le, nat_lt, List, [], ◌∷◌, drop, slice_get, Bool, cond, ◌&&◌, Option, Some, None, option_map, option_and_then}
 use Rattle.std.specs.Str.{bytes_eq}
 use Rattle.granule_addr.specs.Ipa.{is_width, widest_space}
 use Rattle.granule_addr.specs.Root.{starting_tables}
@@ -10,18 +10,9 @@ use Rattle.build_commands.specs.declared.cmd.Cmd.{Cmd}
 use Rattle.build_commands.specs.declared.cmd.Cmd.TheVariants.{Take, Fill, Peek, Delegate, Realm, Rtt, Ripas, Data, Unknown, Rec, Activate, Enter, Exit, Poke}
 use Rattle.build_commands.specs.declared.picked.Picked.{Picked}
 
--- ---- the granules of a command, by how many it names
-
-abbrev pub of_one : List ℕ → (ℕ → Option Act) → Option Act
-of_one [] f = None
-of_one (g ∷ gs) f = f g
-
-abbrev pub of_more : List ℕ → (ℕ → List ℕ → Option Act) → Option Act
-of_more [] f = None
-of_more (g ∷ gs) f = f g gs
-
-abbrev pub of_two : List ℕ → (ℕ → ℕ → Option Act) → Option Act
-of_two gs f = of_more gs (λ g rest. of_one rest (λ h. f g h))
+-- the granule of the operand at that place, counted from 0
+abbrev pub of_granule : List ℕ → ℕ → (ℕ → Option Act) → Option Act
+of_granule gs place f = option_and_then f (slice_get gs place)
 
 -- ---- numbers that can stand in an act
 
@@ -54,16 +45,16 @@ root_of width (first ∷ rest) =
 -- A Take has none either: it is no command of the monitor, and the store picks its block.
 unfoldable pub act_of : Cmd → List ℕ → Picked → Option Act
 act_of (Take order) gs picked = None
-act_of (Fill page value) gs picked = of_one gs (λ g. Some (acts.Fill g value))
-act_of (Peek page offset) gs picked = of_one gs (λ g. Some (acts.Peek g offset picked.byte))
-act_of (Delegate page) gs picked = of_one gs (λ g. Some (acts.Delegate g))
+act_of (Fill page value) gs picked = of_granule gs 0 (λ g. Some (acts.Fill g value))
+act_of (Peek page offset) gs picked = of_granule gs 0 (λ g. Some (acts.Peek g offset picked.byte))
+act_of (Delegate page) gs picked = of_granule gs 0 (λ g. Some (acts.Delegate g))
 act_of (Realm rd root width) gs picked =
-    of_more gs (λ d tables. elim (root_of width tables) [ Some r ↦ Some (acts.Realm d r picked.vmid) | None ↦ None ])
-act_of (Rtt page ipa level) gs picked = of_one gs (λ g. act_if (is_ipa ipa && is_level level) (acts.Rtt g ipa level))
+    of_granule gs 0 (λ g. option_map (λ tables. acts.Realm g tables picked.vmid) (root_of width (drop 1 gs)))
+act_of (Rtt page ipa level) gs picked = of_granule gs 0 (λ g. act_if (is_ipa ipa && is_level level) (acts.Rtt g ipa level))
 act_of (Ripas ipa count) gs picked = act_if (is_ipa ipa) (acts.Ripas ipa count)
-act_of (Data page ipa source) gs picked = of_two gs (λ g s. act_if (is_ipa ipa) (acts.Data g ipa s))
-act_of (Unknown page ipa) gs picked = of_one gs (λ g. act_if (is_ipa ipa) (acts.Unknown g ipa))
-act_of (Rec page auxiliaries) gs picked = of_more gs (λ g rest. Some (acts.Rec g (record { items = rest }) picked.number))
+act_of (Data page ipa source) gs picked = of_granule gs 0 (λ g. of_granule gs 1 (λ from. act_if (is_ipa ipa) (acts.Data g ipa from)))
+act_of (Unknown page ipa) gs picked = of_granule gs 0 (λ g. act_if (is_ipa ipa) (acts.Unknown g ipa))
+act_of (Rec page auxiliaries) gs picked = of_granule gs 0 (λ g. Some (acts.Rec g (record { items = drop 1 gs }) picked.number))
 act_of Activate gs picked = Some acts.Activate
 act_of (Enter number) gs picked = Some (acts.Enter number)
 act_of (Exit number) gs picked = Some (acts.Exit number)

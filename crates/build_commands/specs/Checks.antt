@@ -1,5 +1,5 @@
 -- When a command is refused before the store or the monitor is asked: one list of checks for all commands, by their needs.
-use Rattle.std.specs.Prelude.{◌≡◌, ℕ, nat_lt, nat_le, List, [], ◌∷◌, ◌++◌, map, Bool, true, false, not, cond, Option, Some, None, is_none, Result, Ok, Err}
+use Rattle.std.specs.Prelude.{ℕ, nat_lt, nat_le, List, [], ◌∷◌, ◌++◌, map, Bool, true, false, not, cond, Option, Some, None, is_none, Result, Ok, Err}
 use Rattle.build_commands.specs.declared.cmd.Cmd.{Cmd}
 use Rattle.build_commands.specs.declared.cmd.Cmd.TheVariants.{Take}
 use Rattle.build_commands.specs.declared.needs.Needs.{Needs}
@@ -7,7 +7,7 @@ use Rattle.build_commands.specs.declared.needs.Wants.{Wants}
 use Rattle.build_commands.specs.declared.needs.Wants.TheVariants.{Either, Realm as ARealm, NoRealm as NoneOf}
 use Rattle.build_commands.specs.declared.refusal.Refusal.{Refusal}
 use Rattle.build_commands.specs.declared.refusal.Refusal.TheVariants.{NoBuild, Aborting, BadOrder, NotLeased, RealmThere, NoRealm, JournalFull, HistoryFull, NoVmid}
-use Rattle.build_commands.specs.Desk.{DeskView, granule_of_page}
+use Rattle.build_commands.specs.Desk.{DeskView, granule_of_page, AreGranulesOf}
 use Rattle.build_commands.specs.Needs.{operands, needs_of}
 
 -- whether a refusal holds, and the refusal
@@ -70,6 +70,6 @@ first_that_holds (check ∷ checks) = cond check.0 (Some check.1) (first_that_ho
 abbrev pub checked : List Check → Result (Unit {0}) Refusal
 checked checks = elim (first_that_holds checks) [ Some refusal ↦ Err refusal | None ↦ Ok tt ]
 
--- the granules of the pages that a command names, each of them there
+-- the granules are those of the pages that a command names
 abbrev pub AreFound : DeskView → ℕ → Cmd → List ℕ → Type 0
-AreFound desk build cmd granules = map (granule_of_page desk build) (operands cmd) ≡ map (λ granule. Some granule) granules
+AreFound desk build cmd granules = AreGranulesOf desk build (operands cmd) granules

@@ -1,5 +1,5 @@
 -- What the checks of a command see of a host.
-use Rattle.std.specs.Prelude.{ℕ, List, Bool, Option, slice_get}
+use Rattle.std.specs.Prelude.{◌≡◌, ℕ, List, map, Bool, Option, Some, slice_get}
 
 -- How many builds there are; of each build, whether it is in abort, its pages, whether it has a realm, how many acts it has
 -- open, and how much of its room is left; and whether a VMID is free.
@@ -15,3 +15,7 @@ pub record DeskView : Type 0 where
 -- the granule of a build's page
 abbrev pub granule_of_page : DeskView → ℕ → ℕ → Option ℕ
 granule_of_page desk build page = slice_get (desk.pages build) page
+
+-- the granules are those of a build's pages, each of them there
+abbrev pub AreGranulesOf : DeskView → ℕ → List ℕ → List ℕ → Type 0
+AreGranulesOf desk build pages granules = map (granule_of_page desk build) pages ≡ map (λ granule. Some granule) granules

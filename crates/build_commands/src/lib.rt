@@ -6,16 +6,22 @@
 //! of its builds is behind the trait `Desk`.
 #![tactic(auto)]
 
+mod act;
+mod checks;
 mod cmd;
 mod desk;
+pub mod law;
 mod needs;
+mod pages;
 mod picked;
 mod refusal;
 mod reply;
 
+pub use act::act_of;
+pub use checks::check_needs;
 pub use cmd::{Cmd, Step};
 pub use desk::Desk;
 pub use needs::{Needs, Wants};
 pub use picked::Picked;
 pub use refusal::Refusal;
-pub use reply::Reply;
+pub use reply::{Reply, reply_of};

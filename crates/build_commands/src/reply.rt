@@ -1,5 +1,9 @@
 //! What a build is told.
+ghost use Rattle.std.specs.Prelude.{◌≡◌};
+ghost use Rattle.build_commands.specs.Replies.{reply_of};
+
 use granule_addr::{RecNo, Vmid};
+use realm_model::Act;
 
 /// The reply to an accepted command.
 #[derive(Clone, Copy, Debug, PartialEq, Eq)]
@@ -13,4 +17,17 @@ pub enum Reply {
     Vmid(Vmid),
     /// The number of the REC that was made.
     Number(RecNo),
+}
+
+/// The reply to an act of a build that had so many pages before it.
+pub fn reply_of(page_count: u16, act: &Act) -> Reply
+    ensures { result ≡ reply_of page_count act.now }
+{
+    match act {
+        Act::Take { .. } => Reply::FirstPage(page_count),
+        Act::Peek { byte, .. } => Reply::Byte(*byte),
+        Act::Realm { vmid, .. } => Reply::Vmid(*vmid),
+        Act::Rec { number, .. } => Reply::Number(*number),
+        _ => Reply::Done,
+    }
 }

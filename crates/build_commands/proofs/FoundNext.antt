@@ -1,0 +1,77 @@
+-- Pages that are found one after another.
+use Rattle.std.proofs.Common.{◌≡◌, ℕ, ◌+◌, ◌<◌, List, [], ◌∷◌, ◌++◌, map, length, take, drop, get_or, Option, Some, None, Ok, Err, refl, sym, ap, ◌∙◌, subst, append_assoc, arith}
+use Rattle.std.specs.Prelude.{Result}
+use Rattle.std.proofs.lemmas.List.{map-append, length-append, take_more, take-append-drop}
+use Rattle.build_commands.specs.declared.refusal.Refusal.{Refusal}
+use Rattle.build_commands.specs.declared.refusal.Refusal.TheVariants.{NotLeased}
+use Rattle.build_commands.specs.Desk.{DeskView, granule_of_page, AreGranulesOf}
+use Rattle.build_commands.specs.Checks.{first_that_holds, page_checks}
+use Rattle.build_commands.specs.Found.{AreFoundNext}
+use Rattle.build_commands.proofs.Refused.{first_passes, first_stops, all_there, one_missing}
+
+module _ (desk : DeskView) (build : ℕ) where
+  abbrev found : ℕ → Option ℕ
+  found page = granule_of_page desk build page
+
+  checks_append : (xs ys : List ℕ) → first_that_holds (page_checks desk build (xs ++ ys)) ≡ first_that_holds (page_checks desk build xs ++ page_checks desk build ys)
+  checks_append xs ys = ap first_that_holds (map-append _ xs ys)
+
+  -- none yet
+  pub none_next : (gs : List ℕ) → AreFoundNext desk build [] gs (Ok tt) gs
+  none_next gs = (omega arith, λ before old. ap (λ (ps : List ℕ). map found ps) (append_nil before) ∙ old)
+    where
+      append_nil : (xs : List ℕ) → xs ++ [] ≡ xs
+      append_nil [] = refl
+      append_nil (x ∷ xs) = ap (λ r. x ∷ r) (append_nil xs)
+
+  -- one more
+  pub page_there : (page granule : ℕ) (old new : List ℕ) → found page ≡ Some granule → new ≡ old ++ granule ∷ [] → AreFoundNext desk build (page ∷ []) old (Ok tt) new
+  page_there page granule old new some is = (
+    ap (λ (gs : List ℕ). length gs) is ∙ length-append old (granule ∷ []),
+    λ before had.
+      map-append found before (page ∷ [])
+      ∙ (λ i. had i ++ some i ∷ [])
+      ∙ sym (map-append (λ g. Some g) old (granule ∷ []))
+      ∙ ap (λ (gs : List ℕ). map (λ g. Some g) gs) (sym is),
+  )
+
+  pub page_missing : (page : ℕ) (old new : List ℕ) → found page ≡ None → AreFoundNext desk build (page ∷ []) old (Err (NotLeased page)) new
+  page_missing page old new none = λ before had.
+      checks_append before (page ∷ [])
+      ∙ first_passes (page_checks desk build before) (page_checks desk build (page ∷ [])) (all_there desk build before old had)
+      ∙ one_missing desk build page [] none
+
+  -- some, and then some more: what comes of these is what comes of both
+  pub next_after : (ps qs a b c d : List ℕ) (result : Result (Unit {0}) Refusal) → AreFoundNext desk build ps a (Ok tt) b → AreFoundNext desk build qs b result c
+      → c ≡ d → AreFoundNext desk build (ps ++ qs) a result d
+  next_after ps qs a b c d (Ok done) one two same = (
+    (let l = length-append ps qs in let x = one.0 in let y = two.0 in let z = ap (λ (gs : List ℕ). length gs) same in omega arith),
+    λ before had.
+      ap (λ (pages : List ℕ). map found pages) (sym (append_assoc before ps qs))
+      ∙ two.1 (before ++ ps) (one.1 before had)
+      ∙ ap (λ (gs : List ℕ). map (λ g. Some g) gs) same,
+  )
+  next_after ps qs a b c d (Err refusal) one two same = λ before had.
+      ap (λ (pages : List ℕ). first_that_holds (page_checks desk build pages)) (sym (append_assoc before ps qs)) ∙ two (before ++ ps) (one.1 before had)
+
+  pub first_missing : (ps qs : List ℕ) (refusal : Refusal) (a b c : List ℕ) → AreFoundNext desk build ps a (Err refusal) b → AreFoundNext desk build (ps ++ qs) a (Err refusal) c
+  first_missing ps qs refusal a b c one = λ before had.
+      ap (λ (pages : List ℕ). first_that_holds (page_checks desk build pages)) (sym (append_assoc before ps qs))
+      ∙ checks_append (before ++ ps) qs
+      ∙ first_stops (page_checks desk build (before ++ ps)) (page_checks desk build qs) refusal (one before had)
+
+  -- a page of a list is missing, and those before it are there
+  pub missing_at : (pages : List ℕ) (i page d : ℕ) (refusal : Refusal) (a b c : List ℕ) → i < length pages → page ≡ get_or pages i d
+      → AreFoundNext desk build (take i pages) a (Ok tt) b → AreFoundNext desk build (page ∷ []) b (Err refusal) c → AreFoundNext desk build pages a (Err refusal) c
+  missing_at pages i page d refusal a b c within at one two =
+      let here : take (i + 1) pages ≡ take i pages ++ page ∷ [] = take_more pages i d within ∙ ap (λ (p : ℕ). take i pages ++ p ∷ []) (sym at) in
+      let whole : (take i pages ++ page ∷ []) ++ drop (i + 1) pages ≡ pages = ap (λ (ps : List ℕ). ps ++ drop (i + 1) pages) (sym here) ∙ take-append-drop (i + 1) pages in
+      let two_missing : AreFoundNext desk build (take i pages ++ page ∷ []) a (Err refusal) c = next_after (take i pages) (page ∷ []) a b c c (Err refusal) one two refl in
+      subst (λ (ps : List ℕ). AreFoundNext desk build ps a (Err refusal) c) whole (first_missing (take i pages ++ page ∷ []) (drop (i + 1) pages) refusal a c c two_missing)
+
+  -- all are there
+  pub all_found : (pages : List ℕ) (new : List ℕ) → AreFoundNext desk build pages [] (Ok tt) new → AreGranulesOf desk build pages new
+  all_found pages new next = next.1 [] refl
+
+  pub one_not_found : (pages : List ℕ) (refusal : Refusal) (new : List ℕ) → AreFoundNext desk build pages [] (Err refusal) new → first_that_holds (page_checks desk build pages) ≡ Some refusal
+  one_not_found pages refusal new next = next [] refl

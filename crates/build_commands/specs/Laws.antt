@@ -1,0 +1,62 @@
+-- How the act of a command fits the command, and what comes of it.
+use Rattle.std.specs.Prelude.{◌≡◌, ◌==◌, ℕ, List, length, slice_index, Bool, true, false, Option, Some, None, Err}
+use Rattle.std.specs.List.{All}
+use Rattle.realm_model.specs.declared.act.Act.{Act}
+use Rattle.realm_model.specs.declared.act.Act.TheVariants.{Take as TakeAct, UnTake}
+use Rattle.realm_model.specs.Machine.{Limits, Seen}
+use Rattle.realm_model.specs.Update.{Outcome}
+use Rattle.realm_model.specs.Act.{named, is_paired, is_reverse}
+use Rattle.realm_model.specs.Room.{room_taken}
+use Rattle.realm_model.specs.Command.Check.{error_input}
+use Rattle.realm_model.specs.Outcome.{outcome_of, realm_is, fits}
+use Rattle.build_commands.specs.declared.cmd.Cmd.{Cmd}
+use Rattle.build_commands.specs.declared.cmd.Cmd.TheVariants.{Peek, Realm, Rec}
+use Rattle.build_commands.specs.declared.picked.Picked.{Picked}
+use Rattle.build_commands.specs.Needs.{operands, needs_of}
+use Rattle.build_commands.specs.Acts.{act_of}
+
+-- the act is a command of the monitor: it leases no block, and gives none back
+abbrev pub is_of_monitor : Act → Bool
+is_of_monitor (TakeAct order first) = false
+is_of_monitor (UnTake order first) = false
+is_of_monitor _ = true
+
+-- The act is a forward command of the monitor, names the granules, is paired where its command is, and takes the room that
+-- its command needs.
+pub record IsOfCommand (cmd : Cmd) (granules : List ℕ) (act : Act) : Type 0 where
+  pub command : is_of_monitor act ≡ true
+  pub forward : is_reverse act ≡ false
+  pub names : named act ≡ granules
+  pub paired : is_paired act ≡ (needs_of cmd).paired
+  pub room : room_taken act ≡ (needs_of cmd).room
+
+-- so of the act of each command, for as many granules as it has operands
+abbrev pub ActIsOfCommand : Cmd → List ℕ → Picked → Act → Type 0
+ActIsOfCommand cmd granules picked act = length granules ≡ length (operands cmd) → act_of cmd granules picked ≡ Some act → IsOfCommand cmd granules act
+
+-- ---- what is there
+
+-- What was picked for a command is what is there, by the realm of its build and its granules: the byte of a Peek is that of
+-- the page, a Realm is the build's first, the number of a Rec is the realm's next.
+abbrev pub IsThere : Cmd → Picked → Option Seen → List Seen → Type 0
+IsThere (Peek page offset) picked realm cells = All (λ (g : Seen). slice_index g.cell.bytes offset ≡ picked.byte) cells
+IsThere (Realm rd root width) picked realm cells = realm ≡ None
+IsThere (Rec page auxiliaries) picked realm cells = realm_is realm (λ d r. picked.number == r.next) ≡ true
+IsThere _ picked realm cells = Unit {0}
+
+-- so what the act says of it fits
+abbrev pub ActFits : Cmd → List ℕ → Picked → Act → Option Seen → List Seen → Type 0
+ActFits cmd granules picked act realm cells = act_of cmd granules picked ≡ Some act → IsThere cmd picked realm cells → fits act realm cells ≡ true
+
+-- ---- what comes of a command
+
+-- What comes of the command of the monitor that a command asks for: what comes of its act, and an input error where its
+-- numbers stand in no act.
+abbrev pub outcome_of_act : Limits → List ℕ → Option Act → Option Seen → List Seen → Outcome
+outcome_of_act limits used None realm cells = Err error_input
+outcome_of_act limits used (Some act) realm cells = outcome_of limits used act realm cells
+
+-- It does not depend on the byte or the number that was picked.
+abbrev pub OutcomeIsAnyPicks : Limits → List ℕ → Cmd → List ℕ → Picked → Picked → Option Seen → List Seen → Type 0
+OutcomeIsAnyPicks limits used cmd granules one other realm cells =
+    one.vmid ≡ other.vmid → outcome_of_act limits used (act_of cmd granules one) realm cells ≡ outcome_of_act limits used (act_of cmd granules other) realm cells

@@ -1,0 +1,171 @@
+//! The act of a command.
+ghost use Rattle.std.specs.Prelude.{◌≡◌, ◌≤◌, ◌&&◌, length, slice_get, drop, Some, None, if◌then◌else◌};
+ghost use Rattle.realm_model.specs.declared.act.Act.TheVariants as acts;
+ghost use Rattle.build_commands.specs.Needs.{operands};
+ghost use Rattle.build_commands.specs.Acts.{is_ipa, is_level, act_if, root_of, act_of};
+
+use crate::{Cmd, Picked};
+use arrayvec::ArrayVec;
+use granule_addr::{Gran, IpaGran, IpaWidth, Level, PageOff, RecNo, Root};
+use realm_model::Act;
+
+// The widest address space that a realm may have, in bits.
+const WIDEST: u8 = 43;
+
+// The IPA granule of that number, where the widest address space has it.
+fn ipa_of(number: u32) -> Option<IpaGran>
+    ensures { result ≡ (if is_ipa number then Some number else None) }
+{
+    IpaGran::new(number, WIDEST)
+}
+
+fn granule_at(granules: &[Gran], place: usize) -> Option<Gran>
+    ensures { result ≡ slice_get granules.now place }
+{
+    granules.get(place).copied()
+}
+
+// The granules but the first.
+fn auxiliaries_of(granules: &[Gran]) -> ArrayVec<Gran, 16>
+    requires some { 1 ≤ length granules.now }
+    requires few { length granules.now ≤ 17 }
+    ensures { result.items ≡ drop 1 granules.now }
+{
+    let mut auxiliaries = ArrayVec::new();
+    for granule in &granules[1..] {
+        auxiliaries.push(*granule);
+    }
+    auxiliaries
+}
+
+// The starting tables of a realm of that width, where it may have it and they are adjacent, in that order.
+fn starting_tables(width: u8, tables: &[Gran]) -> Option<Root>
+    ensures { result ≡ root_of width tables.now }
+{
+    let first = granule_at(tables, 0)?;
+    let width = IpaWidth::new(width)?;
+    if tables.len() != width.start_count() as usize {
+        return None;
+    }
+    let mut number = first.number();
+    'tables: for table in tables {
+        if table.number() != number {
+            return None;
+        }
+        number += 1;
+    }
+    Some(Root { first, width })
+}
+
+fn rtt_act(granule: Gran, ipa: u32, level: u8) -> Option<Act>
+    ensures { result ≡ act_if (is_ipa ipa && is_level level) (acts.Rtt granule ipa level) }
+{
+    let ipa = ipa_of(ipa)?;
+    let level = Level::new(level)?;
+    Some(Act::Rtt {
+        granule,
+        ipa,
+        level,
+    })
+}
+
+fn ripas_act(ipa: u32, count: u16) -> Option<Act>
+    ensures { result ≡ act_if (is_ipa ipa) (acts.Ripas ipa count) }
+{
+    let ipa = ipa_of(ipa)?;
+    Some(Act::Ripas { ipa, count })
+}
+
+fn data_act(granule: Gran, ipa: u32, source: Gran) -> Option<Act>
+    ensures { result ≡ act_if (is_ipa ipa) (acts.Data granule ipa source) }
+{
+    let ipa = ipa_of(ipa)?;
+    Some(Act::Data {
+        granule,
+        ipa,
+        source,
+    })
+}
+
+fn unknown_act(granule: Gran, ipa: u32) -> Option<Act>
+    ensures { result ≡ act_if (is_ipa ipa) (acts.Unknown granule ipa) }
+{
+    let ipa = ipa_of(ipa)?;
+    Some(Act::Unknown { granule, ipa })
+}
+
+fn poke_act(number: RecNo, ipa: u32, offset: PageOff, value: u8) -> Option<Act>
+    ensures { result ≡ act_if (is_ipa ipa) (acts.Poke number ipa offset value) }
+{
+    let ipa = ipa_of(ipa)?;
+    Some(Act::Poke {
+        number,
+        ipa,
+        offset,
+        value,
+    })
+}
+
+// The act of a command that names pages.
+#[tactic(auto, unfolding(crate::specs::Acts::act_of, crate::specs::Needs::operands))]
+fn act_on_pages(cmd: &Cmd, granules: &[Gran], picked: Picked) -> Option<Act>
+    requires some { 1 ≤ length (operands cmd.now) }
+    requires few { length granules.now ≤ 17 }
+    ensures { result ≡ act_of cmd.now granules.now picked }
+{
+    let granule = granule_at(granules, 0)?;
+    match cmd {
+        Cmd::Fill { value, .. } => Some(Act::Fill {
+            granule,
+            value: *value,
+        }),
+        Cmd::Peek { offset, .. } => Some(Act::Peek {
+            granule,
+            offset: *offset,
+            byte: picked.byte,
+        }),
+        Cmd::Delegate { .. } => Some(Act::Delegate { granule }),
+        Cmd::Realm { width, .. } => {
+            let root = starting_tables(*width, &granules[1..])?;
+            Some(Act::Realm {
+                rd: granule,
+                root,
+                vmid: picked.vmid,
+            })
+        }
+        Cmd::Rtt { ipa, level, .. } => rtt_act(granule, *ipa, *level),
+        Cmd::Data { ipa, .. } => data_act(granule, *ipa, granule_at(granules, 1)?),
+        Cmd::Unknown { ipa, .. } => unknown_act(granule, *ipa),
+        Cmd::Rec { .. } => Some(Act::Rec {
+            granule,
+            auxiliaries: auxiliaries_of(granules),
+            number: picked.number,
+        }),
+        _ => None,
+    }
+}
+
+/// The act that a command asks for, of the granules of its operands and of what was picked for it.
+///
+/// None where a number of the command can stand in no act: an IPA granule from 2^31 on, a level outside 1 to 3, a width
+/// outside 39 to 43, or starting tables that are not adjacent granules. The command is refused with RMI_ERROR_INPUT
+/// then. A Take has none either: the store picks its block.
+#[tactic(auto, unfolding(crate::specs::Acts::act_of, crate::specs::Needs::operands))]
+pub fn act_of(cmd: &Cmd, granules: &ArrayVec<Gran, 17>, picked: Picked) -> Option<Act>
+    ensures { result ≡ act_of cmd.now granules.now.items picked }
+{
+    match cmd {
+        Cmd::Take { .. } => None,
+        Cmd::Ripas { ipa, count } => ripas_act(*ipa, *count),
+        Cmd::Activate => Some(Act::Activate),
+        Cmd::Enter { number } => Some(Act::Enter { number: *number }),
+        Cmd::Exit { number } => Some(Act::Exit { number: *number }),
+        Cmd::Poke {
+            number,
+            ipa,
+            offset,
+            value,
+        } => poke_act(*number, *ipa, *offset, *value),
+        _ => act_on_pages(cmd, granules.as_slice(), picked),
+    }
+}

@@ -1,0 +1,108 @@
+//! The checks of a command, in the order of the refusals' numbers.
+ghost use Rattle.std.specs.Prelude.{◌≡◌, ◌<◌, Some, None, IfOk, IfErr};
+ghost use Rattle.build_commands.specs.Checks.{AreFound, checked, build_checks, order_checks, realm_checks, journal_checks, room_checks, vmid_checks, state_checks, checks_of, first_that_holds};
+
+use crate::pages::granules_of;
+use crate::{Cmd, Desk, Needs, Refusal, Wants};
+use arrayvec::ArrayVec;
+use granule_addr::{BuildId, Gran};
+
+// How many acts a build can have open.
+const JOURNAL_ROOM: u16 = 512;
+
+// 1 and 2: the build is there and not in abort.
+fn check_build<D: Desk>(desk: &D, build: BuildId) -> Result<(), Refusal>
+    ensures { result ≡ checked (build_checks (D.seen desk.now) build) }
+{
+    if !desk.has_build(build) {
+        return Err(Refusal::NoBuild);
+    }
+    if desk.is_aborting(build) {
+        return Err(Refusal::Aborting);
+    }
+    Ok(())
+}
+
+// 3: a block is not too large.
+fn check_order(cmd: &Cmd) -> Result<(), Refusal>
+    ensures { result ≡ checked (order_checks cmd.now) }
+{
+    match cmd {
+        Cmd::Take { order } if *order > 9 => Err(Refusal::BadOrder),
+        _ => Ok(()),
+    }
+}
+
+// 5 and 6: the build has a realm, or none.
+fn check_realm<D: Desk>(desk: &D, build: BuildId, wants: Wants) -> Result<(), Refusal>
+    requires { build < (D.seen desk.now).builds }
+    ensures { result ≡ checked (realm_checks (D.seen desk.now) build wants) }
+{
+    match wants {
+        Wants::NoRealm if desk.has_realm(build) => Err(Refusal::RealmThere),
+        Wants::Realm if !desk.has_realm(build) => Err(Refusal::NoRealm),
+        _ => Ok(()),
+    }
+}
+
+// 9: one more act may be open.
+fn check_journal<D: Desk>(desk: &D, build: BuildId, paired: bool) -> Result<(), Refusal>
+    requires { build < (D.seen desk.now).builds }
+    ensures { result ≡ checked (journal_checks (D.seen desk.now) build paired) }
+{
+    if paired && desk.open_count(build) >= JOURNAL_ROOM {
+        return Err(Refusal::JournalFull);
+    }
+    Ok(())
+}
+
+// 10: the build has so much of its room left.
+fn check_room<D: Desk>(desk: &D, build: BuildId, needed: u16) -> Result<(), Refusal>
+    requires { build < (D.seen desk.now).builds }
+    ensures { result ≡ checked (room_checks (D.seen desk.now) build needed) }
+{
+    if desk.room_left(build) < needed {
+        return Err(Refusal::HistoryFull);
+    }
+    Ok(())
+}
+
+// 12: a VMID is free.
+fn check_vmid<D: Desk>(desk: &D, wanted: bool) -> Result<(), Refusal>
+    ensures { result ≡ checked (vmid_checks (D.seen desk.now) wanted) }
+{
+    if wanted && !desk.has_vmid() {
+        return Err(Refusal::NoVmid);
+    }
+    Ok(())
+}
+
+// 5 to 12: what is asked of the build's state.
+fn check_state<D: Desk>(desk: &D, build: BuildId, needs: &Needs) -> Result<(), Refusal>
+    requires { build < (D.seen desk.now).builds }
+    ensures { result ≡ checked (state_checks (D.seen desk.now) build needs.now) }
+{
+    check_realm(desk, build, needs.realm)?;
+    check_journal(desk, build, needs.paired)?;
+    check_room(desk, build, needs.room)?;
+    check_vmid(desk, needs.vmid)
+}
+
+/// The granules of the pages that a command names, in their order; or the refusal with the lowest number of those that
+/// apply to it and hold, but for those that the store and the monitor decide: 11 and 13.
+pub fn check_needs<D: Desk>(
+    desk: &D,
+    build: BuildId,
+    cmd: &Cmd,
+) -> Result<ArrayVec<Gran, 17>, Refusal>
+    ensures none { IfOk result (λ granules. first_that_holds (checks_of (D.seen desk.now) build cmd.now) ≡ None) }
+    ensures refusal { IfErr result (λ refusal. first_that_holds (checks_of (D.seen desk.now) build cmd.now) ≡ Some refusal) }
+    ensures granules { IfOk result (λ granules. AreFound (D.seen desk.now) build cmd.now granules.items) }
+    ensures there { IfOk result (λ granules. build < (D.seen desk.now).builds) }
+{
+    check_build(desk, build)?;
+    check_order(cmd)?;
+    let granules = granules_of(desk, build, cmd)?;
+    check_state(desk, build, &cmd.needs())?;
+    Ok(granules)
+}

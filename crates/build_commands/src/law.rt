@@ -1,0 +1,23 @@
+//! Laws of the acts of commands.
+ghost use Rattle.std.specs.Prelude.{◌≡◌, ℕ, List, Option};
+ghost use Rattle.realm_model.specs.declared.act.Act.{Act};
+ghost use Rattle.realm_model.specs.Machine.{Limits, Seen};
+ghost use Rattle.build_commands.specs.declared.cmd.Cmd.{Cmd};
+ghost use Rattle.build_commands.specs.declared.picked.Picked.{Picked};
+ghost use Rattle.build_commands.specs.Laws.{ActIsOfCommand, ActFits, OutcomeIsAnyPicks};
+
+/// The act of a command is a forward command of the monitor. It names the granules of the operands, is paired where the
+/// table says so, and takes the room that the table says.
+pub fn act_is_that_of_its_command()
+    ensures { (cmd : Cmd) (granules : List ℕ) (picked : Picked) (act : Act) → ActIsOfCommand cmd granules picked act }
+{}
+
+/// Where what was picked is what is there, what the act says of it fits.
+pub fn act_fits_what_is_there()
+    ensures { (cmd : Cmd) (granules : List ℕ) (picked : Picked) (act : Act) (realm : Option Seen) (cells : List Seen) → ActFits cmd granules picked act realm cells }
+{}
+
+/// What the monitor answers to a command does not depend on the byte or the number that was picked for it.
+pub fn outcome_is_of_any_picks()
+    ensures { (limits : Limits) (used : List ℕ) (cmd : Cmd) (granules : List ℕ) (one other : Picked) (realm : Option Seen) (cells : List Seen) → OutcomeIsAnyPicks limits used cmd granules one other realm cells }
+{}
