@@ -1,15 +1,14 @@
 -- The lines of a map, one after the other.
-use Rattle.std.proofs.Common.{◌≡◌, ℕ, zero, suc, ◌+◌, ◌<◌, List, [], ◌∷◌, ◌++◌, length, Some, sum, ap, sym, ◌∙◌, slice_index, append_assoc, arith}
+use Rattle.std.proofs.Common.{◌≡◌, ℕ, zero, suc, ◌+◌, ◌<◌, List, [], ◌∷◌, ◌++◌, length, Some, sum, ap, sym, ◌∙◌, slice_index, arith}
 use Rattle.std.specs.Prelude.{option_map, slice_get, unwrap_or}
 use Rattle.std.specs.List.{flat_map, range_with_len}
 use Rattle.std.proofs.lemmas.List.{flat_map_more}
 use Rattle.std.proofs.lemmas.Option.{slice_get-get_or}
 use Rattle.build_books.specs.View.{HostView, world_of, pages_of_build}
-use Rattle.realm_host.specs.Readings.{realm_at}
 use Rattle.realm_model.specs.Machine.{cell_at}
 use Rattle.realm_model.specs.declared.states.GranuleState.{GranuleState}
 use Rattle.plan_steps.specs.Lines.{page_line}
-use Rattle.plan_runs.specs.Run.{page_text, pages_text, realm_text, build_text}
+use Rattle.plan_runs.specs.Run.{page_text}
 
 range_more : (a n k : ℕ) → a + n ≡ k → range_with_len a (n + 1) ≡ range_with_len a n ++ k ∷ []
 range_more a zero k is_last = ap (λ j. j ∷ []) (omega arith)
@@ -40,14 +39,3 @@ page_line_is host build page state total inside is_state is_total =
     ap (λ s. page_line build page s total) (ap (λ o. unwrap_or o state) (is_state ∙ ap (option_map (λ g. (cell_at (world_of host).machine g).state)) found))
     ∙ ap (λ n. page_line build page (cell_at (world_of host).machine (slice_index (pages_of_build host build) page)).state n)
     (ap (λ o. unwrap_or o total) (is_total ∙ ap (option_map (λ g. sum (cell_at (world_of host).machine g).bytes)) found))
-
--- the lines of a build's pages, and then that of its realm
-pub build_text_more :
-    (host : HostView) (build : ℕ) (old between line new : List ℕ)
-    → between ≡ old ++ pages_text host build
-    → new ≡ between ++ line
-    → line ≡ realm_text build (realm_at (world_of host) build)
-    → new ≡ old ++ build_text host build
-build_text_more host build old between line new so_far appended is_line =
-    appended ∙ ap (λ t. t ++ line) so_far ∙ append_assoc old (pages_text host build) line
-    ∙ ap (λ l. old ++ (pages_text host build ++ l)) is_line
