@@ -4,3 +4,5 @@ pub mod Fields
 pub mod Maxima
 pub mod Spelled
 pub mod Grammars
+pub mod Rows
+pub mod UpTo

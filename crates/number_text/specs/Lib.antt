@@ -1,3 +1,5 @@
 pub mod Numbers
 pub mod Ranges
+pub mod Rows
+pub mod Written
 pub mod Grammar

@@ -8,4 +8,4 @@ mod number;
 mod range;
 
 pub use number::{cut_at_space, numbers_of};
-pub use range::at_most;
+pub use range::{at_most, up_to};

@@ -1,6 +1,9 @@
 //! Numbers in their ranges.
 ghost use Rattle.std.specs.Prelude.{◌≡◌, IfSome, IfNone};
 ghost use Rattle.number_text.specs.Ranges.{AreAtMost};
+ghost use Rattle.number_text.specs.Rows.{up_to};
+
+use arrayvec::ArrayVec;
 
 /// The numbers, where there is one for each maximum, and each is at most that.
 pub fn at_most<const N: usize>(numbers: &[u32], maxima: [u32; N]) -> Option<[u32; N]>
@@ -14,6 +17,23 @@ pub fn at_most<const N: usize>(numbers: &[u32], maxima: [u32; N]) -> Option<[u32
         if found[i] > maxima[i] {
             return None;
         }
+    }
+    Some(found)
+}
+
+/// The numbers, where there are no more than `MOST`, and each is at most the maximum.
+pub fn up_to<const MOST: usize>(numbers: &[u32], maximum: u16) -> Option<ArrayVec<u16, MOST>>
+    ensures { result ≡ up_to MOST maximum numbers.now }
+{
+    if numbers.len() > MOST {
+        return None;
+    }
+    let mut found = ArrayVec::new();
+    for number in numbers {
+        if *number > u32::from(maximum) {
+            return None;
+        }
+        found.push(*number as u16);
     }
     Some(found)
 }

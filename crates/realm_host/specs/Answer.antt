@@ -7,53 +7,52 @@ use Rattle.realm_model.specs.declared.act.Act.TheVariants as acts
 use Rattle.realm_model.specs.Act.{reverse_of}
 use Rattle.realm_model.specs.History.{IsLegal}
 use Rattle.realm_model.specs.Undoing.{by}
-use Rattle.realm_host.specs.declared.refusal.Refusal.{Refusal}
+use Rattle.build_commands.specs.declared.cmd.Cmd.{Cmd}
+use Rattle.build_commands.specs.declared.cmd.Cmd.TheVariants.{Take}
+use Rattle.build_commands.specs.declared.cmd.Step.{Step}
+use Rattle.build_commands.specs.declared.cmd.Step.TheVariants.{Ask, Undo}
+use Rattle.build_commands.specs.declared.refusal.Refusal.{Refusal}
+use Rattle.build_commands.specs.declared.reply.Reply.{Reply}
+use Rattle.build_commands.specs.Replies.{reply_of}
+use Rattle.build_books.specs.View.{HostView, open_of, pages_of_build, with_event}
 use Rattle.realm_host.specs.declared.reply.Answer.{Answer}
 use Rattle.realm_host.specs.declared.reply.Answer.TheVariants.{Replied, Undone as WasUndone, Refused}
-use Rattle.realm_host.specs.declared.reply.Reply.{Reply}
-use Rattle.realm_host.specs.declared.reply.Reply.TheVariants.{Done, FirstPage}
 use Rattle.realm_host.specs.declared.reply.Undone.{Undone}
-use Rattle.realm_host.specs.declared.step.Cmd.{Cmd}
-use Rattle.realm_host.specs.declared.step.Cmd.TheVariants.{Take, Fill, Delegate}
-use Rattle.realm_host.specs.declared.step.Step.{Step}
-use Rattle.realm_host.specs.declared.step.Step.TheVariants.{Ask, Undo}
-use Rattle.realm_host.specs.View.{HostView, open_of, pages_of_build, granule_of_page, with_event}
+use Rattle.realm_host.specs.Picks.{act_asked}
 use Rattle.realm_host.specs.Refusals.{refusal_of}
 
--- The act is that of the step, its page numbers turned into granules by the build's pages. The block of a Take is any.
--- An undo is the reverse of the newest act that the build has open.
+-- The act is that of the step, its page numbers turned into granules by the build's pages. The block of a Take is any; of
+-- what else is picked there is one. An undo is the reverse of the newest act that the build has open.
 abbrev pub IsActOf : HostView → ℕ → Step → Act → Type 0
 IsActOf host build (Ask (Take order)) act = (first : ℕ) × (act ≡ acts.Take order first)
-IsActOf host build (Ask (Fill page value)) act =
-    (granule : ℕ) × (granule_of_page host build page ≡ Some granule) × (act ≡ acts.Fill granule value)
-IsActOf host build (Ask (Delegate page)) act =
-    (granule : ℕ) × (granule_of_page host build page ≡ Some granule) × (act ≡ acts.Delegate granule)
+IsActOf host build (Ask cmd) act = act_asked host build cmd ≡ Some act
 IsActOf host build Undo act = option_and_then reverse_of (last_or None (open_of host build)) ≡ Some act
 
--- A Take is told the number of the first new page, and other commands that they are done.
-abbrev pub reply_of : HostView → ℕ → Cmd → Reply
-reply_of host build (Take order) = FirstPage (length (pages_of_build host build))
-reply_of host build _ = Done
-
--- An undo is told the kind of the act that was open, and how many are left.
-abbrev pub IsUndone : HostView → ℕ → Undone → Type 0
-IsUndone host build undone =
-    (option_and_then act_kind (last_or None (open_of host build)) ≡ Some undone.kind)
-    × (undone.left ≡ length (open_of host build) - 1)
-
--- No refusal holds, and one event that is legal ends the history.
-pub record IsAccepted (host : HostView) (build : ℕ) (step : Step) (new : HostView) : Type 0 where
+-- No refusal holds, and the one event of the act, which is legal, ends the history.
+pub record IsAccepted (host : HostView) (build : ℕ) (step : Step) (act : Act) (new : HostView) : Type 0 where
   pub not_refused : refusal_of host build step ≡ None
-  pub act : Act
   pub act_of : IsActOf host build step act
   pub legal : IsLegal host.limits (host.history ++ by build act ∷ [])
   pub grows : new ≡ with_event host build act
 
+-- The reply is that to the act.
+pub record IsReplied (host : HostView) (build : ℕ) (cmd : Cmd) (reply : Reply) (new : HostView) : Type 0 where
+  pub act : Act
+  pub accepted : IsAccepted host build (Ask cmd) act new
+  pub reply_is : reply ≡ reply_of (length (pages_of_build host build)) act
+
+-- An undo is told the kind of the act that was open, and how many are left.
+pub record IsUndone (host : HostView) (build : ℕ) (undone : Undone) (new : HostView) : Type 0 where
+  pub act : Act
+  pub accepted : IsAccepted host build Undo act new
+  pub kind : option_and_then act_kind (last_or None (open_of host build)) ≡ Some undone.kind
+  pub left : undone.left ≡ length (open_of host build) - 1
+
 -- A step gets the refusal that holds, and nothing changes; or the reply, and its one event is recorded.
 abbrev pub IsAnswer : HostView → ℕ → Step → Answer → HostView → Type 0
 IsAnswer host build step (Refused refusal) new = (refusal_of host build step ≡ Some refusal) × (new ≡ host)
-IsAnswer host build (Ask cmd) (Replied reply) new = (reply ≡ reply_of host build cmd) × IsAccepted host build (Ask cmd) new
-IsAnswer host build Undo (WasUndone undone) new = IsUndone host build undone × IsAccepted host build Undo new
+IsAnswer host build (Ask cmd) (Replied reply) new = IsReplied host build cmd reply new
+IsAnswer host build Undo (WasUndone undone) new = IsUndone host build undone new
 IsAnswer host build _ _ new = ⊥
 
 -- what `command` and `undo` return, as an answer

@@ -1,8 +1,8 @@
 pub mod Settings
-pub mod View
-pub mod Codes
-pub mod Books
-pub mod Whole
+pub mod Host
+pub mod Readings
+pub mod Picks
 pub mod Refusals
 pub mod Answer
-pub mod Reversal
+pub mod PairLaw
+pub mod Acting

@@ -1,48 +1,42 @@
 -- When the host refuses: the checks of each step, in the order of the refusals' numbers.
-use Rattle.std.specs.Prelude.{ℕ, ◌+◌, nat_lt, nat_le, List, [], ◌∷◌, length, Bool, true, not, ◌&&◌, cond, Option, Some, None, is_none, Result, Ok, Err}
-use Rattle.std.specs.List.{list_any, list_all, range_with_len}
-use Rattle.realm_model.specs.Machine.{Seen, seen}
-use Rattle.realm_model.specs.Update.{Outcome}
+use Rattle.std.specs.Prelude.{ℕ, nat_lt, nat_le, List, [], ◌∷◌, ◌++◌, length, Bool, true, false, not, ◌&&◌, Option, Some, None, Ok, Err}
+use Rattle.std.specs.List.{list_any, list_all, last_or, range_with_len}
 use Rattle.realm_model.specs.Act.{block}
 use Rattle.realm_model.specs.Outcome.{is_block_start}
-use Rattle.realm_model.specs.Command.Granule.{granule_delegate, host_fill}
-use Rattle.realm_model.specs.World.{World, is_leased_to}
-use Rattle.realm_host.specs.declared.refusal.Refusal.{Refusal}
-use Rattle.realm_host.specs.declared.refusal.Refusal.TheVariants.{NoBuild, BadOrder, NotLeased, NothingToUndo, JournalFull, HistoryFull, NoBlock, Rmi}
-use Rattle.realm_host.specs.declared.step.Cmd.TheVariants.{Take, Fill, Delegate}
-use Rattle.realm_host.specs.declared.step.Step.{Step}
-use Rattle.realm_host.specs.declared.step.Step.TheVariants.{Ask, Undo}
-use Rattle.realm_host.specs.View.{HostView, world_of, open_of, granule_of_page, used}
+use Rattle.realm_model.specs.Running.{is_running}
+use Rattle.realm_model.specs.Update.{Outcome}
+use Rattle.realm_model.specs.World.{World, is_leased_to, realm_of}
+use Rattle.build_commands.specs.declared.cmd.Cmd.{Cmd}
+use Rattle.build_commands.specs.declared.cmd.Cmd.TheVariants.{Take}
+use Rattle.build_commands.specs.declared.cmd.Step.{Step}
+use Rattle.build_commands.specs.declared.cmd.Step.TheVariants.{Ask, Undo}
+use Rattle.build_commands.specs.declared.refusal.Refusal.{Refusal}
+use Rattle.build_commands.specs.declared.refusal.Refusal.TheVariants.{NoBuild, NothingToUndo, RecRunning, NoBlock, Rmi}
+use Rattle.build_commands.specs.Checks.{Check, checks_of, first_that_holds}
+use Rattle.build_books.specs.View.{HostView, world_of, open_of}
+use Rattle.build_books.specs.Desk.{desk_of}
+use Rattle.realm_host.specs.Picks.{outcome_asked}
 
--- whether a refusal holds, and the refusal
-abbrev pub Check : Type 0
-Check = Bool × Refusal
-
--- ---- the checks, by number
+-- ---- by number; those of a command but 11 and 13 are its checks by its needs
 
 -- 1
 abbrev pub no_build : HostView → ℕ → Check
 no_build host build = (nat_le host.limits.builds build, NoBuild)
 
--- 3
-abbrev pub bad_order : ℕ → Check
-bad_order order = (nat_lt 9 order, BadOrder)
-
--- 4
-abbrev pub not_leased : HostView → ℕ → ℕ → Check
-not_leased host build page = (is_none (granule_of_page host build page), NotLeased page)
-
 -- 7
 abbrev pub nothing_to_undo : HostView → ℕ → Check
 nothing_to_undo host build = (nat_lt (length (open_of host build)) 1, NothingToUndo)
 
--- 9
-abbrev pub journal_full : HostView → ℕ → Check
-journal_full host build = (nat_le 512 (length (open_of host build)), JournalFull)
+-- the newest act that a build has open made a REC that runs
+abbrev pub is_newest_running : HostView → ℕ → Bool
+is_newest_running host build = elim (last_or None (open_of host build)) [
+  | Some act ↦ is_running (realm_of build (world_of host)) act
+  | None ↦ false
+]
 
--- 10: kept room would be touched by a step that needs so much
-abbrev pub history_full : HostView → ℕ → ℕ → Check
-history_full host build needed = (nat_lt host.capacity (used host build + needed), HistoryFull)
+-- 8
+abbrev pub rec_running : HostView → ℕ → Check
+rec_running host build = (is_newest_running host build, RecRunning)
 
 -- an aligned block of the order begins there, and nobody leases a granule of it
 abbrev pub is_free_block : World → ℕ → ℕ → Bool
@@ -58,33 +52,18 @@ abbrev pub refused_by : Outcome → List Check
 refused_by (Ok updates) = []
 refused_by (Err rmi) = (true, Rmi rmi) ∷ []
 
-abbrev pub refused_on : Option ℕ → HostView → (Seen → Outcome) → List Check
-refused_on None host command = []
-refused_on (Some granule) host command = refused_by (command (seen (world_of host).machine granule))
+-- 11 of a Take, and 13 of any other command
+abbrev pub last_checks : HostView → ℕ → Cmd → List Check
+last_checks host build (Take order) = no_block host order ∷ []
+last_checks host build cmd = refused_by (outcome_asked host build cmd)
 
 -- ---- the checks of a step
 
--- A paired command needs room for its event and for that of its reverse, another command for its event. A reverse has
--- kept its room, and the monitor refuses none.
-abbrev pub checks_of : HostView → ℕ → Step → List Check
-checks_of host build (Ask (Take order)) =
-    no_build host build ∷ bad_order order ∷ journal_full host build ∷ history_full host build 2 ∷ no_block host order ∷ []
-checks_of host build (Ask (Fill page value)) =
-    no_build host build ∷ not_leased host build page ∷ history_full host build 1
-    ∷ refused_on (granule_of_page host build page) host (λ g. host_fill g value)
-checks_of host build (Ask (Delegate page)) =
-    no_build host build ∷ not_leased host build page ∷ journal_full host build ∷ history_full host build 2
-    ∷ refused_on (granule_of_page host build page) host granule_delegate
-checks_of host build Undo = no_build host build ∷ nothing_to_undo host build ∷ []
-
-abbrev pub first_that_holds : List Check → Option Refusal
-first_that_holds [] = None
-first_that_holds (check ∷ checks) = cond check.0 (Some check.1) (first_that_holds checks)
+-- A reverse has kept its room, and the monitor refuses none but that of a REC that runs.
+abbrev pub checks_of_step : HostView → ℕ → Step → List Check
+checks_of_step host build (Ask cmd) = checks_of (desk_of host) build cmd ++ last_checks host build cmd
+checks_of_step host build Undo = no_build host build ∷ nothing_to_undo host build ∷ rec_running host build ∷ []
 
 -- The refusal of a step: of those that apply to it and hold, the one with the lowest number.
 unfoldable pub refusal_of : HostView → ℕ → Step → Option Refusal
-refusal_of host build step = first_that_holds (checks_of host build step)
-
--- a check that holds refuses
-abbrev pub checked : Check → Result (Unit {0}) Refusal
-checked check = cond check.0 (Err check.1) (Ok tt)
+refusal_of host build step = first_that_holds (checks_of_step host build step)

@@ -1,73 +1,54 @@
 //! Commands of builds.
-ghost use Rattle.std.specs.Prelude.{◌≡◌};
+ghost use Rattle.std.specs.Prelude.{◌≡◌, ◌<◌, None};
+ghost use Rattle.build_commands.specs.declared.cmd.Cmd.TheVariants as cmd;
+ghost use Rattle.build_commands.specs.declared.cmd.Step.TheVariants.{Ask};
+ghost use Rattle.build_commands.specs.Checks.{checks_of, first_that_holds};
+ghost use Rattle.build_books.specs.Desk.{desk_of};
 ghost use Rattle.realm_host.specs.Answer.{IsAnswer, replied};
-ghost use Rattle.realm_host.specs.declared.step.Step.TheVariants.{Ask};
-ghost use Rattle.realm_host.specs.declared.step.Cmd.TheVariants as cmd;
 
 use crate::{Cmd, Host, Refusal, Reply};
+use build_commands::{act_of, check_needs, reply_of};
 use granule_addr::{BuildId, Order};
 use page_arena::PageStore;
-use realm_model::Act;
+use realm_model::Rmi;
 
 impl<S: PageStore> Host<S> {
     /// Performs a command of a build.
     ///
     /// The answer is the lowest-numbered refusal that applies and holds, and then nothing changes; or the reply, and
-    /// one event ends the history.
+    /// one event ends the history. No memory is taken, and nothing is looked through.
     pub fn command(&mut self, build: BuildId, cmd: Cmd) -> Result<Reply, Refusal>
         ensures { IsAnswer self.old build (Ask cmd) (replied result) self.new }
     {
-        match cmd {
-            Cmd::Take { order } => self.take(build, order),
-            Cmd::Fill { page, value } => self.fill(build, page, value),
-            Cmd::Delegate { page } => self.delegate(build, page),
+        let granules = check_needs(&self.books, build, &cmd)?;
+        if let Cmd::Take { order } = cmd {
+            return self.take(build, order);
         }
+        let picked = match self.picked_for(build, &cmd, granules.as_slice()) {
+            Ok(picked) => picked,
+            Err(rmi) => return Err(Refusal::Rmi(rmi)),
+        };
+        let Some(act) = act_of(&cmd, &granules, picked) else {
+            return Err(Refusal::Rmi(Rmi::INPUT));
+        };
+        let reply = reply_of(self.books.page_count(build), &act);
+        if let Err(rmi) = self.act(build, act) {
+            return Err(Refusal::Rmi(rmi));
+        }
+        Ok(reply)
     }
 
-    // A block of free pages is leased.
+    // A block of free pages is leased, for a Take that passed its checks.
     fn take(&mut self, build: BuildId, order: u8) -> Result<Reply, Refusal>
+        requires there { build < self.old.limits.builds }
+        requires passed { first_that_holds (checks_of (desk_of self.old) build (cmd.Take order)) ≡ None }
         ensures { IsAnswer self.old build (Ask (cmd.Take order)) (replied result) self.new }
     {
-        self.check_build(build)?;
-        let Some(order) = Order::new(order) else {
-            return Err(Refusal::BadOrder);
-        };
-        self.check_journal(build)?;
-        self.check_room(build, 2)?;
+        let order = Order::new(order).unwrap();
         let page = self.books.page_count(build);
-        let Some(first) = self.monitor.take(order) else {
+        if self.take_block(build, order).is_none() {
             return Err(Refusal::NoBlock(order));
-        };
-        self.books.record(build, Act::Take { order, first });
+        }
         Ok(Reply::FirstPage(page))
-    }
-
-    // Every byte of a page gets a value.
-    fn fill(&mut self, build: BuildId, page: u16, value: u8) -> Result<Reply, Refusal>
-        ensures { IsAnswer self.old build (Ask (cmd.Fill page value)) (replied result) self.new }
-    {
-        self.check_build(build)?;
-        let granule = self.check_page(build, page)?;
-        self.check_room(build, 1)?;
-        if let Err(rmi) = self.monitor.host_fill(granule, value) {
-            return Err(Refusal::Rmi(rmi));
-        }
-        self.books.record(build, Act::Fill { granule, value });
-        Ok(Reply::Done)
-    }
-
-    // A page is delegated.
-    fn delegate(&mut self, build: BuildId, page: u16) -> Result<Reply, Refusal>
-        ensures { IsAnswer self.old build (Ask (cmd.Delegate page)) (replied result) self.new }
-    {
-        self.check_build(build)?;
-        let granule = self.check_page(build, page)?;
-        self.check_journal(build)?;
-        self.check_room(build, 2)?;
-        if let Err(rmi) = self.monitor.granule_delegate(granule) {
-            return Err(Refusal::Rmi(rmi));
-        }
-        self.books.record(build, Act::Delegate { granule });
-        Ok(Reply::Done)
     }
 }

@@ -1,16 +1,20 @@
 //! The host, its memory, and what can be read of it.
-ghost use Rattle.std.specs.Prelude.{◌≡◌, ◌<◌, ℕ, [], length, replicate, true, IfOk, IfErr, IfSome, option_map, sum};
+ghost use Rattle.std.specs.Prelude.{◌≡◌, ◌<◌, ℕ, length, replicate, true, IfOk, IfErr, IfSome, option_map, sum};
 ghost use Rattle.granule_addr.specs.Page.{zero_page};
 ghost use Rattle.realm_model.specs.Machine.{cell_at};
 ghost use Rattle.realm_model.specs.World.{free_set};
-ghost use Rattle.realm_model.specs.History.{LeavesNoTrace};
-ghost use Rattle.realm_host.specs.View.{booted, world_of, pages_of_build, granule_of_page};
+ghost use Rattle.realm_model.specs.History.{IsLegal, LeavesNoTrace};
+ghost use Rattle.build_books.specs.View.{world_of, pages_of_build, granule_of_page};
+ghost use Rattle.build_books.specs.Kept.{HasRoom};
+ghost use Rattle.realm_acts.specs.Mirror.{rd_of};
+ghost use Rattle.realm_host.specs.Host.{booted_by};
+ghost use Rattle.realm_host.specs.Readings.{realm_at, measurement_at};
 
 use crate::Settings;
-use crate::books::Books;
-use granule_addr::{BuildId, Gran};
+use build_books::Books;
+use granule_addr::{BuildId, Gran, Vmid};
 use page_arena::PageStore;
-use realm_model::{Event, GranuleState};
+use realm_model::{Event, GranuleState, RealmState};
 use rmi_monitor::Monitor;
 use std::alloc::{AllocError, Global};
 use std::marker::Model;
@@ -23,17 +27,17 @@ pub struct Host<S: PageStore> {
 }
 
 impl<S: PageStore> Model for Host<S> {
-    ghost use Rattle.realm_host.specs.View.{HostView};
-    ghost use Rattle.realm_host.specs.Codes.{host_code};
-    ghost use Rattle.realm_host.specs.Whole.{host_of, IsWhole};
+    ghost use Rattle.build_books.specs.View.{HostView};
+    ghost use Rattle.build_books.specs.Codes.{host_code};
+    ghost use Rattle.realm_host.specs.Host.{IsWhole};
 
     ghost Value = { HostView };
 
     ghost coded = { host_code };
 
-    ghost view = { λ h. host_of h.monitor h.books };
+    ghost view = { λ h. h.books };
 
-    ghost invariant = { λ h. IsWhole h.monitor h.books };
+    ghost invariant = { λ h. IsWhole h.books h.monitor };
 }
 
 impl<S: PageStore> Host<S> {
@@ -41,10 +45,17 @@ impl<S: PageStore> Host<S> {
     pub fn boot(alloc: Global, settings: Settings, store: S) -> Result<Host<S>, (AllocError, S)>
         requires zero { S.page_bytes store ≡ replicate (length (S.page_bytes store)) zero_page }
         requires free { S.free_flags store ≡ replicate (length (S.page_bytes store)) true }
-        ensures ok { IfOk result (λ h. h ≡ booted settings (length (S.page_bytes store))) }
+        ensures ok { IfOk result (λ h. h ≡ booted_by settings (length (S.page_bytes store))) }
         ensures err { IfErr result (λ e. e.1 ≡ store) }
     {
-        let books = match Books::build(alloc, settings.builds, store.pages(), settings.history) {
+        let books = match Books::build(
+            alloc,
+            store.pages(),
+            settings.vmids,
+            settings.aux,
+            settings.builds,
+            settings.history,
+        ) {
             Ok(books) => books,
             Err(error) => return Err((error, store)),
         };
@@ -54,10 +65,13 @@ impl<S: PageStore> Host<S> {
         }
     }
 
-    /// The accepted commands of all builds, in their order. Each build can be left out of them: what is left is a legal
-    /// history too, and leads to the world without that build.
+    /// The accepted commands of all builds, in their order: a legal history, in which no build has used more than its room
+    /// or has more than 512 acts open. Each build can be left out of it: what is left is a legal history too, and leads to
+    /// the world without that build.
     pub fn history(&self) -> &[Event]
         ensures events { result.now ≡ self.now.history }
+        ensures legal { IsLegal self.now.limits self.now.history }
+        ensures room { (build : ℕ) → HasRoom self.now build }
         ensures no_trace { (build : ℕ) → LeavesNoTrace self.now.limits self.now.history build }
     {
         self.books.history()
@@ -90,6 +104,24 @@ impl<S: PageStore> Host<S> {
         Some(self.monitor.byte_sum(granule))
     }
 
+    /// The state and the VMID of a build's realm; None where it has none.
+    pub fn realm_view(&self, build: BuildId) -> Option<(RealmState, Vmid)>
+        ensures { result ≡ realm_at (world_of self.now) build }
+    {
+        let rd = self.rd(build)?;
+        let realm = self.monitor.realm(rd)?;
+        Some((realm.state(), realm.vmid()))
+    }
+
+    /// The measurement of a build's realm; None where it has none. RMM 1.0, Realm Initial Measurement.
+    pub fn measurement(&self, build: BuildId) -> Option<[u8; 32]>
+        ensures { result ≡ measurement_at (world_of self.now) build }
+    {
+        let rd = self.rd(build)?;
+        let realm = self.monitor.realm(rd)?;
+        Some(*realm.measurement())
+    }
+
     /// How many pages nobody leases.
     pub fn free_count(&self) -> u16
         ensures { result ≡ length (free_set (world_of self.now)) }
@@ -104,6 +136,18 @@ impl<S: PageStore> Host<S> {
     {
         if self.books.has_build(build) {
             self.books.page(build, page)
+        } else {
+            None
+        }
+    }
+
+    // The RD of a build's realm.
+    fn rd(&self, build: BuildId) -> Option<Gran>
+        ensures value { result ≡ rd_of build (world_of self.now) }
+        ensures inside { IfSome result (λ rd. rd < self.now.limits.pages) }
+    {
+        if self.books.has_build(build) {
+            self.books.realm(build)
         } else {
             None
         }

@@ -1,24 +1,21 @@
 //! The host of realm builds: commands, undo, and a history that each build can be left out of.
 //!
-//! A host is seen as its limits, the capacity of its history, and its history. All else that it holds is a function of
-//! these: the world is the replay of the history, each journal is what its build has open, each page stack is the
-//! build's pages.
+//! A host is seen as its limits, the room that each build has in its history, the history, which builds are in abort, and
+//! the mark of each. All else that it holds is a function of these: the world is the replay of the history, and the books
+//! keep of each build what the history has of it.
 #![tactic(auto)]
 
-mod books;
-mod build;
-mod checks;
+mod act;
+mod block;
 mod command;
 mod host;
-mod refusal;
+mod picks;
 mod reply;
 mod settings;
-mod step;
 mod undo;
 
+pub use build_commands::{Cmd, Refusal, Reply, Step};
 pub use build_journal::Kind;
 pub use host::Host;
-pub use refusal::Refusal;
-pub use reply::{Answer, Reply, Undone};
+pub use reply::{Answer, Undone};
 pub use settings::Settings;
-pub use step::{Cmd, Step};

@@ -1,14 +1,6 @@
 //! What the host answers.
-use crate::Refusal;
+use build_commands::{Refusal, Reply};
 use build_journal::Kind;
-
-/// The reply to an accepted command.
-#[derive(Clone, Copy, Debug, PartialEq, Eq)]
-pub enum Reply {
-    Done,
-    /// The build's number of the first page that was taken.
-    FirstPage(u16),
-}
 
 /// What an undo did: the kind of the act that was reversed, and how many the build has open after it.
 #[derive(Clone, Copy, Debug, PartialEq, Eq)]

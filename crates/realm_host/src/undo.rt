@@ -1,48 +1,75 @@
 //! Undo: the reverse of a build's newest open act.
-ghost use Rattle.std.specs.Prelude.{◌≡◌};
+ghost use Rattle.std.specs.Prelude.{◌≡◌, ◌<◌, Some, None};
+ghost use Rattle.std.specs.Bool.{OnTrue};
+ghost use Rattle.std.specs.Result.{OnOk};
+ghost use Rattle.realm_model.specs.Running.{is_running};
+ghost use Rattle.realm_model.specs.World.{realm_of};
+ghost use Rattle.std.specs.List.{last_or};
+ghost use Rattle.build_commands.specs.declared.cmd.Step.TheVariants.{Undo};
+ghost use Rattle.build_books.specs.View.{world_of, open_of};
+ghost use Rattle.realm_host.specs.Acting.{IsBack, IsRecorded};
 ghost use Rattle.realm_host.specs.Answer.{IsAnswer, undone};
-ghost use Rattle.realm_host.specs.Reversal.{CanReverse, reversed_monitor};
-ghost use Rattle.realm_host.specs.declared.step.Step.TheVariants.{Undo};
+ghost use Rattle.realm_host.specs.PairLaw.{LeadsBack};
 
 use crate::{Host, Refusal, Undone};
 use build_journal::{kind_of, reverse_of};
 use granule_addr::BuildId;
 use page_arena::PageStore;
 use realm_model::Act;
-use rmi_monitor::Monitor;
-
-// Performs a reverse act. The monitor accepts it.
-fn reverse<S: PageStore>(monitor: &mut Monitor<S>, back: &Act)
-    requires { CanReverse monitor.old back.now }
-    ensures { monitor.new ≡ reversed_monitor monitor.old back.now }
-{
-    match back {
-        Act::UnTake { order, first } => monitor.give(*first, *order),
-        Act::Undelegate { granule } => {
-            let Ok(()) = monitor.granule_undelegate(*granule) else {
-                unreachable!()
-            };
-        }
-        _ => unreachable!(),
-    }
-}
 
 impl<S: PageStore> Host<S> {
     /// Reverses the newest act that a build has open, whatever other builds did since.
     ///
-    /// Refused with NoBuild, or with NothingToUndo where the build has nothing open; then nothing changes.
+    /// Refused with NoBuild, with NothingToUndo where the build has nothing open, or with RecRunning where that act made a
+    /// REC that runs; then nothing changes. An undo right after the act that it reverses leads back to a world that owns
+    /// the same.
     pub fn undo(&mut self, build: BuildId) -> Result<Undone, Refusal>
-        ensures { IsAnswer self.old build Undo (undone result) self.new }
+        ensures answer { IsAnswer self.old build Undo (undone result) self.new }
+        ensures pair { OnOk result (LeadsBack self.old build self.new) }
     {
-        self.check_build(build)?;
+        if !self.books.has_build(build) {
+            return Err(Refusal::NoBuild);
+        }
         let Some(newest) = self.books.newest(build) else {
             return Err(Refusal::NothingToUndo);
         };
+        if self.is_running(build, newest) {
+            return Err(Refusal::RecRunning);
+        }
         let kind = kind_of(newest).unwrap();
         let back = reverse_of(newest).unwrap();
         let left = self.books.open_count(build) - 1;
-        reverse(&mut self.monitor, &back);
-        self.books.record(build, back);
+        self.reverse(build, back);
         Ok(Undone { kind, left })
+    }
+
+    // Whether the REC that a build's newest open act made runs.
+    fn is_running(&self, build: BuildId, newest: &Act) -> bool
+        requires { last_or None (open_of self.now build) ≡ Some newest.now }
+        ensures { result ≡ is_running (realm_of build (world_of self.now)) newest.now }
+    {
+        let Act::Rec { granule, .. } = newest else {
+            return false;
+        };
+        match self.monitor.rec_at(*granule) {
+            Some(rec) => !rec.is_ready(),
+            None => false,
+        }
+    }
+
+    // Performs a reverse. The monitor refuses none but that of a REC that runs.
+    fn reverse(&mut self, build: BuildId, back: Act)
+        requires there { build < self.old.limits.builds }
+        requires back { IsBack self.old build back }
+        ensures { IsRecorded self.old build back self.new }
+    {
+        match back {
+            Act::UnTake { order, first } => self.give_back(build, order, first),
+            _ => {
+                let Ok(()) = self.act(build, back) else {
+                    unreachable!()
+                };
+            }
+        }
     }
 }

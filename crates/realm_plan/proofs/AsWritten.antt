@@ -3,8 +3,10 @@ use Rattle.std.proofs.Common.{◌≡◌, ℕ, ◌+◌, List, [], ◌∷◌, leng
 use Rattle.std.specs.Prelude.{nat_lt, IfOk}
 use Rattle.std.proofs.lemmas.Bool.{cases_Bool}
 use Rattle.toml.specs.Data.{Members}
-use Rattle.realm_host.specs.declared.step.Step.{Step}
-use Rattle.realm_plan.specs.Step.{spelling, step_of}
+use Rattle.plan_steps.specs.Steps.{step_of}
+use Rattle.plan_steps.specs.Written.{spelling}
+use Rattle.plan_steps.specs.declared.step.PlanStep.{PlanStep}
+use Rattle.plan_steps.proofs.StepTexts.{text_of_step}
 use Rattle.realm_plan.specs.Contents.{Contents, contents_of}
 use Rattle.realm_plan.specs.Outcome.{◌>>=◌, or_fault, Gives}
 use Rattle.realm_plan.specs.Plan.{Plan, steps_of, builds_of, order_of, numbers_of, lengths_of, plan_of_contents, document_of, plan_of}
@@ -15,7 +17,6 @@ use Rattle.realm_plan.specs.declared.fault.PlanFault.TheVariants as fault
 use Rattle.realm_plan.specs.declared.fault.PlanError.{PlanError}
 use Rattle.realm_plan.specs.declared.limits.Numbers.{Numbers}
 use Rattle.realm_plan.specs.declared.plan.Plan as code
-use Rattle.realm_plan.proofs.StepOf.{text_of_step}
 
 bind_ok : {A B : Type 0} (f : A → Result B PlanFault) (r : Result A PlanFault) (y : B) → r >>= f ≡ Ok y → (x : A) × (r ≡ Ok x) × (f x ≡ Ok y)
 bind_ok f (Ok x) y e = (x, refl, e)
@@ -25,21 +26,21 @@ or_fault_ok : {A : Type 0} (k : PlanFault) (o : Option A) (x : A) → or_fault k
 or_fault_ok k None x e = absurd (cc)
 or_fault_ok k (Some y) x e = cc
 
-spelled_first : (text : List ℕ) (texts : List (List ℕ)) (step : Step) (more steps : List Step) → text ≡ spelling step → map spelling more ≡ texts → step ∷ more ≡ steps → map spelling steps ≡ text ∷ texts
+spelled_first : (text : List ℕ) (texts : List (List ℕ)) (step : PlanStep) (more steps : List PlanStep) → text ≡ spelling step → map spelling more ≡ texts → step ∷ more ≡ steps → map spelling steps ≡ text ∷ texts
 spelled_first text texts step more steps here go_on same = rw (← same, here, ← go_on) refl
 
-steps_as_written : (b k : ℕ) (texts : List (List ℕ)) (steps : List Step) → steps_of b k texts ≡ Ok steps → map spelling steps ≡ texts
+steps_as_written : (b k : ℕ) (texts : List (List ℕ)) (steps : List PlanStep) → steps_of b k texts ≡ Ok steps → map spelling steps ≡ texts
 steps_as_written b k [] steps e = let none : steps ≡ [] = cc in rw none refl
 steps_as_written b k (text ∷ texts) steps e =
     let found = bind_ok _ (or_fault (fault.Step b k) (step_of text)) steps e in
     let more = bind_ok _ (steps_of b (k + 1) texts) steps found.2 in
     let step : step_of text ≡ Some found.0 = or_fault_ok (fault.Step b k) (step_of text) found.0 found.1 in
-    spelled_first text texts found.0 more.0 steps (text_of_step text found.0 step).spelled (steps_as_written b (k + 1) texts more.0 more.1) (cc)
+    spelled_first text texts found.0 more.0 steps (text_of_step text found.0 step).is_spelled (steps_as_written b (k + 1) texts more.0 more.1) (cc)
 
-builds_first : (texts : List (List ℕ)) (others : List (List (List ℕ))) (steps : List Step) (more builds : List (List Step)) → map spelling steps ≡ texts → map (map spelling) more ≡ others → steps ∷ more ≡ builds → map (map spelling) builds ≡ texts ∷ others
+builds_first : (texts : List (List ℕ)) (others : List (List (List ℕ))) (steps : List PlanStep) (more builds : List (List PlanStep)) → map spelling steps ≡ texts → map (map spelling) more ≡ others → steps ∷ more ≡ builds → map (map spelling) builds ≡ texts ∷ others
 builds_first texts others steps more builds here go_on same = rw (← same, ← here, ← go_on) refl
 
-builds_as_written : (b : ℕ) (texts : List (List (List ℕ))) (builds : List (List Step)) → builds_of b texts ≡ Ok builds → map (map spelling) builds ≡ texts
+builds_as_written : (b : ℕ) (texts : List (List (List ℕ))) (builds : List (List PlanStep)) → builds_of b texts ≡ Ok builds → map (map spelling) builds ≡ texts
 builds_as_written b [] builds e = let none : builds ≡ [] = cc in rw none refl
 builds_as_written b (texts ∷ others) builds e =
     let found = bind_ok _ (steps_of b 0 texts) builds e in
@@ -47,17 +48,17 @@ builds_as_written b (texts ∷ others) builds e =
     builds_first texts others found.0 more.0 builds (steps_as_written b 0 texts found.0 found.1) (builds_as_written (b + 1) others more.0 more.1) (cc)
 
 -- what comes after the steps are read, one bind after another
-abbrev ends : Contents → List (List Step) → List ℕ → Numbers → Result Plan PlanFault
+abbrev ends : Contents → List (List PlanStep) → List ℕ → Numbers → Result Plan PlanFault
 ends c builds order n =
     lengths_of builds order >>= (λ _. Ok (record { pages = n.pages; vmids = n.vmids; aux = n.aux; history = n.history; builds = builds; order = order }))
 
-abbrev after_order : Contents → List (List Step) → List ℕ → Result Plan PlanFault
+abbrev after_order : Contents → List (List PlanStep) → List ℕ → Result Plan PlanFault
 after_order c builds order = numbers_of c >>= ends c builds order
 
-abbrev after_builds : Contents → List (List Step) → Result Plan PlanFault
+abbrev after_builds : Contents → List (List PlanStep) → Result Plan PlanFault
 after_builds c builds = order_of (length builds) 0 c.order >>= after_order c builds
 
-same_builds : (c : Contents) (builds : List (List Step)) (p : Plan) → after_builds c builds ≡ Ok p → p.builds ≡ builds
+same_builds : (c : Contents) (builds : List (List PlanStep)) (p : Plan) → after_builds c builds ≡ Ok p → p.builds ≡ builds
 same_builds c builds p e =
     let order = bind_ok (after_order c builds) (order_of (length builds) 0 c.order) p e in
     let n = bind_ok (ends c builds order.0) (numbers_of c) p order.2 in

@@ -1,13 +1,4 @@
 pub mod AsWritten
-pub mod Cuts
-pub mod Decimals
 pub mod Documents
-pub mod Fields
 pub mod Fronts
-pub mod Maxima
-pub mod StepLaws
-pub mod StepOf
-pub mod StepTexts
 pub mod Views
-pub mod Runs
-pub mod MapLines

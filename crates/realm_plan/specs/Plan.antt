@@ -4,8 +4,8 @@ use Rattle.std.specs.List.{list_all}
 use Rattle.std.specs.Str.{is_utf8}
 use Rattle.toml.specs.Data.{Members}
 use Rattle.toml.specs.Parse.{parse_document}
-use Rattle.realm_host.specs.declared.step.Step.{Step}
-use Rattle.realm_plan.specs.Step.{step_of}
+use Rattle.plan_steps.specs.Steps.{step_of}
+use Rattle.plan_steps.specs.declared.step.PlanStep.{PlanStep}
 use Rattle.realm_plan.specs.Contents.{Contents, contents_of}
 use Rattle.realm_plan.specs.Outcome.{◌>>=◌, or_fault}
 use Rattle.realm_plan.specs.declared.fault.PlanFault.{PlanFault}
@@ -15,12 +15,12 @@ use Rattle.realm_plan.specs.declared.limits.Numbers.{Numbers}
 -- ---- steps and turns
 
 -- the steps of build b from its k-th text on, or the first text that is none
-abbrev pub steps_of : ℕ → ℕ → List (List ℕ) → Result (List Step) PlanFault
+abbrev pub steps_of : ℕ → ℕ → List (List ℕ) → Result (List PlanStep) PlanFault
 steps_of b k [] = Ok []
 steps_of b k (text ∷ texts) = or_fault (fault.Step b k) (step_of text) >>= (λ s. steps_of b (k + 1) texts >>= (λ ss. Ok (s ∷ ss)))
 
 -- the builds from the b-th on
-abbrev pub builds_of : ℕ → List (List (List ℕ)) → Result (List (List Step)) PlanFault
+abbrev pub builds_of : ℕ → List (List (List ℕ)) → Result (List (List PlanStep)) PlanFault
 builds_of b [] = Ok []
 builds_of b (texts ∷ more) = steps_of b 0 texts >>= (λ ss. builds_of (b + 1) more >>= (λ bs. Ok (ss ∷ bs)))
 
@@ -54,7 +54,7 @@ numbers_of c =
     Ok (record { pages = pages; vmids = vmids; aux = aux; history = history })))))
 
 -- 1 to 8 builds, each of up to 1024 steps, and up to 16384 turns
-unfoldable pub lengths_of : List (List Step) → List ℕ → Result (Unit {0}) PlanFault
+unfoldable pub lengths_of : List (List PlanStep) → List ℕ → Result (Unit {0}) PlanFault
 lengths_of builds order =
     within (nat_le 1 (length builds) && nat_le (length builds) 8) >>= (λ _.
     within (list_all (λ steps. nat_le (length steps) 1024) builds) >>= (λ _.
@@ -67,7 +67,7 @@ pub record Plan : Type 0 where
   pub vmids : ℕ
   pub aux : ℕ
   pub history : ℕ
-  pub builds : List (List Step)
+  pub builds : List (List PlanStep)
   pub order : List ℕ
 
 -- Steps before turns, and turns before limits.

@@ -8,7 +8,7 @@ ghost use Rattle.realm_plan.specs.Plan.{between as between_at, within as within_
 use crate::contents::Contents;
 use crate::fault::{PlanError, PlanFault};
 use granule_addr::MOST_PAGES;
-use realm_host::Step;
+use plan_steps::PlanStep;
 
 /// The most builds of a plan.
 pub const MOST_BUILDS: usize = 8;
@@ -73,7 +73,7 @@ pub fn numbers_of(contents: &Contents<'_>) -> Result<Numbers, PlanError>
 }
 
 /// Whether no build has more steps than it may.
-fn are_short(builds: &[Vec<Step>]) -> bool
+fn are_short(builds: &[Vec<PlanStep>]) -> bool
     ensures { result ≡ list_all (λ steps. nat_le (vec_len steps) 1024) builds.now }
 {
     builds.iter().all(|steps| steps.len() <= MOST_STEPS)
@@ -81,7 +81,7 @@ fn are_short(builds: &[Vec<Step>]) -> bool
 
 /// The fault of lengths that are outside their limits.
 #[tactic(auto, using(crate::proofs::Views::item_views), unfolding(crate::specs::Plan::lengths_of))]
-pub fn lengths_of(builds: &[Vec<Step>], order: &[usize]) -> Result<(), PlanError>
+pub fn lengths_of(builds: &[Vec<PlanStep>], order: &[usize]) -> Result<(), PlanError>
     ensures value { Gives (λ n. n) result (lengths_of (map (λ b. b.items) builds.now) order.now) }
     ensures builds { OnOk result ((1 ≤ length builds.now) × (length builds.now ≤ 8)) }
     ensures steps { OnOk result (All (λ steps. vec_len steps ≤ 1024) builds.now) }

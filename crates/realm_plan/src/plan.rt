@@ -5,7 +5,7 @@ use crate::contents::Contents;
 use crate::fault::{PlanError, PlanFault};
 use crate::limits::{lengths_of, numbers_of};
 use crate::turns::{builds_of, order_of};
-use realm_host::Step;
+use plan_steps::PlanStep;
 use std::alloc::Global;
 use toml::Table;
 
@@ -22,7 +22,7 @@ pub struct Plan {
     /// The events that the history holds for each build.
     pub history: u16,
     /// The steps of each build.
-    pub builds: Vec<Vec<Step>>,
+    pub builds: Vec<Vec<PlanStep>>,
     /// The build of each turn.
     pub order: Vec<usize>,
     pub ghost pages_in_limits: { (1 ≤ pages) × (pages ≤ 4096) },
@@ -37,12 +37,12 @@ pub struct Plan {
 
 impl Plan {
     ghost use Rattle.toml.specs.View.{table_view};
+    ghost use Rattle.plan_steps.specs.Written.{spelling};
     ghost use Rattle.realm_plan.specs.declared.fault.PlanFault.TheVariants.{Syntax};
     ghost use Rattle.realm_plan.specs.ContentsView.{contents_view};
     ghost use Rattle.realm_plan.specs.Outcome.{Gives, or_fault};
     ghost use Rattle.realm_plan.specs.Plan.{document_of, plan_of_contents, plan_of};
     ghost use Rattle.realm_plan.specs.PlanView.{plan_view};
-    ghost use Rattle.realm_plan.specs.Step.{spelling};
     ghost use Rattle.realm_plan.specs.Written.{written_steps};
 
     /// The document that the bytes are.

@@ -4,12 +4,11 @@ ghost use Rattle.realm_plan.specs.Outcome.{Gives};
 ghost use Rattle.realm_plan.specs.Plan.{steps_of, builds_of, build_named as build_named_at, order_of};
 
 use crate::fault::{PlanError, PlanFault};
-use crate::step::step_from_text;
-use realm_host::Step;
+use plan_steps::{PlanStep, step_from_text};
 use std::alloc::Global;
 
 /// The steps of one build.
-fn steps_of(alloc: Global, build: usize, texts: &[&str]) -> Result<Vec<Step>, PlanError>
+fn steps_of(alloc: Global, build: usize, texts: &[&str]) -> Result<Vec<PlanStep>, PlanError>
     ensures { Gives (λ v. v.items) result (steps_of build 0 (map (λ t. t.now) texts.now)) }
 {
     let mut found = Vec::new(alloc);
@@ -23,7 +22,7 @@ fn steps_of(alloc: Global, build: usize, texts: &[&str]) -> Result<Vec<Step>, Pl
 }
 
 /// The steps of each build.
-pub fn builds_of(alloc: Global, texts: &[Vec<&str>]) -> Result<Vec<Vec<Step>>, PlanError>
+pub fn builds_of(alloc: Global, texts: &[Vec<&str>]) -> Result<Vec<Vec<PlanStep>>, PlanError>
     ensures { Gives (λ v. map (λ b. b.items) v.items) result
         (builds_of 0 (map (λ b. map (λ t. t.now) b.items) texts.now)) }
 {

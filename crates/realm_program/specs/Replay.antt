@@ -1,20 +1,17 @@
 -- What a replay prints, and how it ends.
 use Rattle.std.specs.Prelude.{◌≡◌, ℕ, Bool, true, false, List, [], ◌++◌, length, Option, IfSome, Result, Ok, Err}
 use Rattle.std.specs.Io.KnownBytes.{Appends, Keeps}
-use Rattle.realm_host.specs.View.{HostView}
+use Rattle.build_books.specs.View.{HostView}
+use Rattle.build_books.specs.Booted.{booted}
 use Rattle.realm_plan.specs.Plan.{Plan, plan_of}
-use Rattle.realm_plan.specs.Run.{IsToldRun, map_text}
+use Rattle.plan_runs.specs.Run.{IsToldRun, map_text}
 use Rattle.realm_program.specs.Whole.{AppendsFront}
 use Rattle.realm_program.specs.declared.fault.Fault.{Fault}
 use Rattle.realm_program.specs.declared.fault.Fault.TheVariants.{Plan as PlanIsFaulty, Memory, Device}
 
 -- the host on which a plan is run
 abbrev pub opening_host : Plan → HostView
-opening_host plan = record {
-  limits = record { pages = plan.pages; vmids = plan.vmids; aux = plan.aux; builds = length plan.builds };
-  capacity = plan.history;
-  history = [];
-}
+opening_host plan = booted plan.pages plan.vmids plan.aux (length plan.builds) plan.history
 
 -- The text of some run of the plan: the lines of its turns, and the map of the world that it ends in.
 pub record IsText (plan : Plan) (text : List ℕ) : Type 0 where

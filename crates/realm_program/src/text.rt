@@ -8,8 +8,9 @@ use crate::fault::Fault;
 use crate::told::Told;
 use buddy::BuddyArena;
 use page_arena::BuildError;
+use plan_runs::{push_map, run_turns};
 use realm_host::{Host, Settings};
-use realm_plan::{Plan, push_map, run_turns};
+use realm_plan::Plan;
 use std::alloc::{AllocError, Global};
 use std::io::{Read, Write};
 

@@ -3,14 +3,16 @@ use Rattle.std.proofs.Common.{◌≡◌, true, eqb, not, Some, refl}
 use Rattle.std.specs.List.{list_all}
 use Rattle.std.proofs.lemmas.Bool.{le-leb}
 use Rattle.number_text.specs.Numbers.{AreNumbers}
+use Rattle.number_text.specs.Written.{u8, u16, u32}
 use Rattle.number_text.proofs.Cuts.{HasNoSpace}
 use Rattle.number_text.proofs.Spelled.{no_space_from_test}
+use Rattle.number_text.proofs.UpTo.{up_to-items, few_from_test}
 use Rattle.rmi_trace.specs.declared.request.Command.{Command}
 use Rattle.rmi_trace.specs.declared.request.Command.TheVariants.{GranuleDelegate, GranuleUndelegate, HostFill, HostPeek, RealmCreate, RealmActivate, RealmDestroy, RttCreate, RttDestroy, RttInitRipas, DataCreate, DataCreateUnknown, DataDestroy, RecCreate, RecEnter, RecExit, RecDestroy, GuestWrite}
 use Rattle.rmi_trace.specs.declared.request.Request.TheVariants as request
 use Rattle.rmi_trace.specs.Commands.{command_at}
-use Rattle.rmi_trace.specs.Written.{u8, u16, u32, written_command, IsInRange}
-use Rattle.rmi_trace.proofs.Auxiliaries.{auxiliaries_at-items, few_from_test, few_with_auxiliaries}
+use Rattle.rmi_trace.specs.Written.{written_command, IsInRange}
+use Rattle.rmi_trace.proofs.Auxiliaries.{few_with_auxiliaries}
 
 pub command_means : (c : Command) → IsInRange (request.Command c) → command_at (written_command c).word (written_command c).numbers ≡ Some c
 command_means (GranuleDelegate g) h = rw (le-leb g u16 h.at_most.0) refl
@@ -27,7 +29,7 @@ command_means (DataCreate rd g ipa source) h = rw (le-leb rd u16 h.at_most.0, le
 command_means (DataCreateUnknown rd g ipa) h = rw (le-leb rd u16 h.at_most.0, le-leb g u16 h.at_most.1.0, le-leb ipa u32 h.at_most.1.1.0) refl
 command_means (DataDestroy rd ipa) h = rw (le-leb rd u16 h.at_most.0, le-leb ipa u32 h.at_most.1.0) refl
 command_means (RecCreate rd g auxiliaries) h =
-    rw (le-leb rd u16 h.at_most.0, le-leb g u16 h.at_most.1.0, auxiliaries_at-items auxiliaries h.counts h.at_most.1.1) refl
+    rw (le-leb rd u16 h.at_most.0, le-leb g u16 h.at_most.1.0, up_to-items 16 u16 auxiliaries h.counts h.at_most.1.1) refl
 command_means (RecEnter rec) h = rw (le-leb rec u16 h.at_most.0) refl
 command_means (RecExit rec) h = rw (le-leb rec u16 h.at_most.0) refl
 command_means (RecDestroy rec) h = rw (le-leb rec u16 h.at_most.0) refl
@@ -42,4 +44,4 @@ command_word c = no_space_from_test (written_command c).word (no_space_test c)
 
 pub command_numbers : (c : Command) → IsInRange (request.Command c) → AreNumbers 18 (written_command c).numbers
 command_numbers (RecCreate rd g auxiliaries) h = few_with_auxiliaries rd g auxiliaries.items h.counts h.at_most
-command_numbers c h = few_from_test (written_command c).numbers (written_command c).maxima h.at_most refl
+command_numbers c h = few_from_test 18 (written_command c).numbers (written_command c).maxima h.at_most refl

@@ -2,15 +2,16 @@
 use Rattle.std.proofs.Common.{◌≡◌, ℕ, List, [], ◌∷◌, true, false, cond, leb, ◌&&◌, Some, None, option_map, codes, refl, subst}
 use Rattle.std.proofs.lemmas.Bool.{leb-true, and_parts}
 use Rattle.number_text.specs.Ranges.{AreAtMost}
+use Rattle.number_text.specs.Rows.{one, two, three, four, up_to}
+use Rattle.number_text.specs.Written.{u8, u16, u32}
 use Rattle.number_text.proofs.Grammars.{Spells, map_some}
+use Rattle.number_text.proofs.Rows.{one_makes, two_makes, three_makes, four_makes, choose, either}
+use Rattle.number_text.proofs.UpTo.{up_to-some}
 use Rattle.rmi_trace.specs.declared.request.Command.{Command}
 use Rattle.rmi_trace.specs.declared.request.Command.TheVariants.{GranuleDelegate, GranuleUndelegate, HostFill, HostPeek, RealmCreate, RealmActivate, RealmDestroy, RttCreate, RttDestroy, RttInitRipas, DataCreate, DataCreateUnknown, DataDestroy, RecCreate, RecEnter, RecExit, RecDestroy, GuestWrite}
 use Rattle.rmi_trace.specs.declared.request.Request.TheVariants as request
-use Rattle.rmi_trace.specs.Commands.{auxiliaries_at, rec_create_at, granule_command_at, realm_command_at, table_command_at, data_command_at, rec_command_at, command_at}
-use Rattle.rmi_trace.specs.Rows.{one, two, three, four}
-use Rattle.rmi_trace.specs.Written.{u8, u16, u32, written_command, HasCounts, IsInRange}
-use Rattle.rmi_trace.proofs.Rows.{one_makes, two_makes, three_makes, four_makes, choose, either}
-use Rattle.rmi_trace.proofs.Auxiliaries.{auxiliaries_at-some}
+use Rattle.rmi_trace.specs.Commands.{rec_create_at, granule_command_at, realm_command_at, table_command_at, data_command_at, rec_command_at, command_at}
+use Rattle.rmi_trace.specs.Written.{written_command, HasCounts, IsInRange}
 
 abbrev pub SpellsCommand : List ℕ → List ℕ → Command → Type 0
 SpellsCommand word ns c = Spells (λ it. (written_command it).word) (λ it. (written_command it).numbers) (λ it. IsInRange (request.Command it)) word ns c
@@ -50,11 +51,11 @@ data_spells word ns c =
 rec_create_spells : (ns : List ℕ) (c : Command) → rec_create_at ns ≡ Some c → SpellsCommand (codes "rec_create") ns c
 rec_create_spells [] c e = absurd (cc)
 rec_create_spells (rd ∷ []) c e = absurd (cc)
-rec_create_spells (rd ∷ granule ∷ more) c e = elim (leb rd u16 && leb granule u16) as (λ t. leb rd u16 && leb granule u16 ≡ t → cond t (option_map (λ it. RecCreate rd granule it) (auxiliaries_at more)) None ≡ Some c → SpellsCommand (codes "rec_create") (rd ∷ granule ∷ more) c) [
+rec_create_spells (rd ∷ granule ∷ more) c e = elim (leb rd u16 && leb granule u16) as (λ t. leb rd u16 && leb granule u16 ≡ t → cond t (option_map (λ it. RecCreate rd granule it) (up_to 16 u16 more)) None ≡ Some c → SpellsCommand (codes "rec_create") (rd ∷ granule ∷ more) c) [
   | true ↦ λ test made_it.
       let parts = and_parts (leb rd u16) (leb granule u16) test in
-      let found = map_some (λ it. RecCreate rd granule it) (auxiliaries_at more) c made_it in
-      let are = auxiliaries_at-some more found.0 found.1 in
+      let found = map_some (λ it. RecCreate rd granule it) (up_to 16 u16 more) c made_it in
+      let are = up_to-some 16 u16 more found.0 found.1 in
       let same : RecCreate rd granule (record { items = more }) ≡ c = cc in
       subst (SpellsCommand (codes "rec_create") (rd ∷ granule ∷ more)) same
       (made (RecCreate rd granule (record { items = more })) (leb-true rd u16 parts.0, (leb-true granule u16 parts.1, are.small)) are.few)

@@ -1,5 +1,4 @@
 -- words and their numbers
-pub mod Rows
 pub mod Auxiliaries
 pub mod CommandMeans
 pub mod CommandSpells

@@ -4,9 +4,13 @@ use Rattle.std.specs.List.{list_all}
 use Rattle.std.proofs.lemmas.Bool.{le-leb, leb-true, and_parts}
 use Rattle.number_text.specs.Numbers.{AreNumbers}
 use Rattle.number_text.specs.Ranges.{AreAtMost}
+use Rattle.number_text.specs.Rows.{one, two}
+use Rattle.number_text.specs.Written.{u16}
 use Rattle.number_text.proofs.Cuts.{HasNoSpace}
 use Rattle.number_text.proofs.Spelled.{no_space_from_test}
 use Rattle.number_text.proofs.Grammars.{Spells, IsGrammar, test_from_some, map_some}
+use Rattle.number_text.proofs.Rows.{one_makes, two_makes, choose, either}
+use Rattle.number_text.proofs.UpTo.{few_from_test}
 use Rattle.rmi_trace.specs.declared.request.Opening.{Opening}
 use Rattle.rmi_trace.specs.declared.request.Reading.{Reading}
 use Rattle.rmi_trace.specs.declared.request.Reading.TheVariants as reading
@@ -14,10 +18,7 @@ use Rattle.rmi_trace.specs.declared.request.Request.{Request}
 use Rattle.rmi_trace.specs.declared.request.Request.TheVariants as request
 use Rattle.rmi_trace.specs.Commands.{command_at}
 use Rattle.rmi_trace.specs.Requests.{reading_at, machine_at, opening_at, request_at}
-use Rattle.rmi_trace.specs.Rows.{one, two}
-use Rattle.rmi_trace.specs.Written.{u16, written_reading, written_opening, written_request, IsInRange}
-use Rattle.rmi_trace.proofs.Rows.{one_makes, two_makes, choose, either}
-use Rattle.rmi_trace.proofs.Auxiliaries.{few_from_test}
+use Rattle.rmi_trace.specs.Written.{written_reading, written_opening, written_request, IsInRange}
 use Rattle.rmi_trace.proofs.CommandMeans.{command_means, command_word, command_numbers}
 use Rattle.rmi_trace.proofs.CommandSpells.{command_spells}
 
@@ -58,8 +59,8 @@ reading_word : (r : Reading) → HasNoSpace (written_reading r).word
 reading_word r = no_space_from_test (written_reading r).word (no_space_test r)
 
 reading_numbers : (r : Reading) → IsInRange (request.Reading r) → AreNumbers 18 (written_reading r).numbers
-reading_numbers (reading.Word g i) h = few_from_test (g ∷ i ∷ []) (u16 ∷ u16 ∷ []) h.at_most refl
-reading_numbers r h = few_from_test (written_reading r).numbers (written_reading r).maxima h.at_most refl
+reading_numbers (reading.Word g i) h = few_from_test 18 (g ∷ i ∷ []) (u16 ∷ u16 ∷ []) h.at_most refl
+reading_numbers r h = few_from_test 18 (written_reading r).numbers (written_reading r).maxima h.at_most refl
 
 -- ---- openings
 
@@ -130,7 +131,7 @@ one_word (request.Command c) = command_word c
 one_word (request.Reading r) = reading_word r
 
 few_numbers : (r : Request) → IsInRange r → AreNumbers 18 (written_request r).numbers
-few_numbers (request.Opening o) h = few_from_test (written_opening o).numbers (written_opening o).maxima h.at_most refl
+few_numbers (request.Opening o) h = few_from_test 18 (written_opening o).numbers (written_opening o).maxima h.at_most refl
 few_numbers (request.Command c) h = command_numbers c h
 few_numbers (request.Reading r) h = reading_numbers r h
 

@@ -1,13 +1,11 @@
 -- The command that is written with a word and its numbers, as a function: a row for each word.
-use Rattle.std.specs.Prelude.{ℕ, nat_le, ◌&&◌, List, ◌∷◌, codes, length, if◌then◌else◌, Option, Some, None, option_map}
-use Rattle.std.specs.List.{list_all}
+use Rattle.std.specs.Prelude.{ℕ, nat_le, ◌&&◌, List, ◌∷◌, codes, if◌then◌else◌, Option, Some, None, option_map}
 use Rattle.std.specs.Option.{option_or}
 use Rattle.std.specs.Str.{bytes_eq}
-use Rattle.arrayvec.specs.ArrayVec.{ArrayVec}
+use Rattle.number_text.specs.Rows.{one, two, three, four, up_to}
+use Rattle.number_text.specs.Written.{u8, u16, u32}
 use Rattle.rmi_trace.specs.declared.request.Command.{Command}
 use Rattle.rmi_trace.specs.declared.request.Command.TheVariants.{GranuleDelegate, GranuleUndelegate, HostFill, HostPeek, RealmCreate, RealmActivate, RealmDestroy, RttCreate, RttDestroy, RttInitRipas, DataCreate, DataCreateUnknown, DataDestroy, RecCreate, RecEnter, RecExit, RecDestroy, GuestWrite}
-use Rattle.rmi_trace.specs.Rows.{one, two, three, four}
-use Rattle.rmi_trace.specs.Written.{u8, u16, u32}
 
 abbrev pub granule_command_at : List ℕ → List ℕ → Option Command
 granule_command_at word ns =
@@ -38,13 +36,10 @@ data_command_at word ns =
     else if bytes_eq word (codes "data_destroy") then two u16 u32 (λ rd ipa. DataDestroy rd ipa) ns
     else None
 
--- up to 16 auxiliaries
-abbrev pub auxiliaries_at : List ℕ → Option (ArrayVec ℕ)
-auxiliaries_at ns = if nat_le (length ns) 16 && list_all (λ n. nat_le n u16) ns then Some (record { items = ns }) else None
-
+-- with up to 16 auxiliaries
 abbrev pub rec_create_at : List ℕ → Option Command
 rec_create_at (rd ∷ granule ∷ more) =
-    if nat_le rd u16 && nat_le granule u16 then option_map (λ auxiliaries. RecCreate rd granule auxiliaries) (auxiliaries_at more) else None
+    if nat_le rd u16 && nat_le granule u16 then option_map (λ auxiliaries. RecCreate rd granule auxiliaries) (up_to 16 u16 more) else None
 rec_create_at _ = None
 
 abbrev pub rec_command_at : List ℕ → List ℕ → Option Command

@@ -2,13 +2,13 @@
 use Rattle.std.specs.Prelude.{ℕ, nat_le, ◌&&◌, List, [], ◌∷◌, codes, if◌then◌else◌, Option, Some, None, option_map}
 use Rattle.std.specs.Option.{option_or}
 use Rattle.std.specs.Str.{bytes_eq}
+use Rattle.number_text.specs.Rows.{one, two}
+use Rattle.number_text.specs.Written.{u16}
 use Rattle.rmi_trace.specs.declared.request.Opening.{Opening}
 use Rattle.rmi_trace.specs.declared.request.Reading.{Reading}
 use Rattle.rmi_trace.specs.declared.request.Reading.TheVariants as reading
 use Rattle.rmi_trace.specs.declared.request.Request.{Request}
 use Rattle.rmi_trace.specs.declared.request.Request.TheVariants as request
-use Rattle.rmi_trace.specs.Rows.{one, two}
-use Rattle.rmi_trace.specs.Written.{u16}
 use Rattle.rmi_trace.specs.Commands.{command_at}
 
 abbrev pub reading_at : List ℕ → List ℕ → Option Reading

@@ -3,6 +3,7 @@ use Rattle.std.specs.Prelude.{◌≡◌, ℕ, ◌≤◌, List, [], ◌∷◌, co
 use Rattle.arrayvec.specs.ArrayVec.{array_vec_len}
 use Rattle.number_text.specs.Grammar.{spelled}
 use Rattle.number_text.specs.Ranges.{AreAtMost}
+use Rattle.number_text.specs.Written.{Written, written, u8, u16, u32}
 use Rattle.rmi_trace.specs.declared.request.Command.{Command}
 use Rattle.rmi_trace.specs.declared.request.Command.TheVariants.{GranuleDelegate, GranuleUndelegate, HostFill, HostPeek, RealmCreate, RealmActivate, RealmDestroy, RttCreate, RttDestroy, RttInitRipas, DataCreate, DataCreateUnknown, DataDestroy, RecCreate, RecEnter, RecExit, RecDestroy, GuestWrite}
 use Rattle.rmi_trace.specs.declared.request.Opening.{Opening}
@@ -10,25 +11,6 @@ use Rattle.rmi_trace.specs.declared.request.Reading.{Reading}
 use Rattle.rmi_trace.specs.declared.request.Reading.TheVariants as reading
 use Rattle.rmi_trace.specs.declared.request.Request.{Request}
 use Rattle.rmi_trace.specs.declared.request.Request.TheVariants as request
-
--- a word and its numbers, each with the greatest that it can be
-pub record Written : Type 0 where
-  pub word : List ℕ
-  pub numbers : List ℕ
-  pub maxima : List ℕ
-
-abbrev pub written : List ℕ → List ℕ → List ℕ → Written
-written word numbers maxima = record { word = word; numbers = numbers; maxima = maxima }
-
--- the greatest number of 8, 16 and 32 bits
-abbrev pub u8 : ℕ
-u8 = 255
-
-abbrev pub u16 : ℕ
-u16 = 65535
-
-abbrev pub u32 : ℕ
-u32 = 4294967295
 
 abbrev pub written_command : Command → Written
 written_command (GranuleDelegate granule) = written (codes "granule_delegate") (granule ∷ []) (u16 ∷ [])

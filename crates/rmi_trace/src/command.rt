@@ -1,10 +1,9 @@
 //! The command that a word and its numbers are.
 ghost use Rattle.std.specs.Prelude.{◌≡◌};
-ghost use Rattle.rmi_trace.specs.Commands.{auxiliaries_at, rec_create_at, granule_command_at, realm_command_at, table_command_at, data_command_at, rec_command_at, command_at};
+ghost use Rattle.rmi_trace.specs.Commands.{rec_create_at, granule_command_at, realm_command_at, table_command_at, data_command_at, rec_command_at, command_at};
 
 use crate::request::Command;
-use arrayvec::ArrayVec;
-use number_text::at_most;
+use number_text::{at_most, up_to};
 
 // The greatest number of each type of operand.
 pub const U8: u32 = 255;
@@ -134,23 +133,6 @@ fn data_command(word: &str, numbers: &[u32]) -> Option<Command>
     }
 }
 
-// The granules of these numbers, of which there are at most 16.
-fn auxiliaries_of(numbers: &[u32]) -> Option<ArrayVec<u16, 16>>
-    ensures { result ≡ auxiliaries_at numbers.now }
-{
-    if numbers.len() > 16 {
-        return None;
-    }
-    let mut granules = ArrayVec::new();
-    for number in numbers {
-        if *number > U16 {
-            return None;
-        }
-        granules.push(*number as u16);
-    }
-    Some(granules)
-}
-
 fn rec_create(numbers: &[u32]) -> Option<Command>
     ensures { result ≡ rec_create_at numbers.now }
 {
@@ -161,7 +143,7 @@ fn rec_create(numbers: &[u32]) -> Option<Command>
     Some(Command::RecCreate {
         rd: rd as u16,
         granule: granule as u16,
-        auxiliaries: auxiliaries_of(more)?,
+        auxiliaries: up_to(more, U16 as u16)?,
     })
 }
 

@@ -2,9 +2,10 @@ use crate::built::Built;
 use buddy::BuddyArena;
 use granule_addr::{BuildId, Order};
 use page_arena::PlainStore;
+use plan_runs::push_turn;
+use plan_steps::PlanStep;
 use realm_host::{Answer, Cmd, Host, Refusal, Settings, Step};
 use realm_model::{Rmi, Status};
-use realm_plan::push_turn;
 use std::alloc::Global;
 use std::process::Abort;
 use std::test::Fail;
@@ -56,12 +57,17 @@ fn refusals_are_told(rt: HostRuntime) -> Result<(), Fail> {
     };
     for (refusal, text) in [
         (Refusal::NoBuild, "there is no such build"),
+        (Refusal::Aborting, "the build is being aborted"),
         (Refusal::BadOrder, "a block has at most 512 pages"),
         (Refusal::NotLeased(12), "the build has no page 12"),
+        (Refusal::RealmThere, "the build has a realm"),
+        (Refusal::NoRealm, "the build has no realm"),
         (Refusal::NothingToUndo, "there is nothing to undo"),
+        (Refusal::RecRunning, "a REC is running"),
         (Refusal::JournalFull, "the journal is full"),
         (Refusal::HistoryFull, "the history is full"),
         (Refusal::NoBlock(order), "no block of order 9 is free"),
+        (Refusal::NoVmid, "no VMID is free"),
         (Refusal::Rmi(rtt), "the monitor refused: Rtt, index 2"),
     ] {
         let told = format!(in rt.alloc(); "{refusal}")?;
@@ -73,16 +79,13 @@ fn refusals_are_told(rt: HostRuntime) -> Result<(), Fail> {
 #[test]
 fn lines_of_refusals_that_no_plan_meets(rt: HostRuntime) -> Result<(), Fail> {
     let build = BuildId::new(7).ok_or("build 7")?;
-    let rtt = Rmi {
-        status: Status::Rtt,
-        index: 1,
-    };
+    let undo = PlanStep::Whole(Step::Undo);
     for (refusal, line) in [
         (Refusal::NoBuild, "7 undo = no 1 NoBuild\n"),
-        (Refusal::Rmi(rtt), "7 undo = no 13 Rmi 4 1\n"),
+        (Refusal::Aborting, "7 undo = no 2 Aborting\n"),
     ] {
         let mut text = String::new(rt.alloc());
-        push_turn(&mut text, build, &Step::Undo, Answer::Refused(refusal))?;
+        push_turn(&mut text, build, &undo, Answer::Refused(refusal))?;
         assert_eq!(rt; text.as_str(), line);
     }
     Ok(())

@@ -1,0 +1,13 @@
+pub mod Totals
+pub mod Halving
+pub mod Worlds
+pub mod Made
+pub mod RealmFollows
+pub mod RecsFollow
+pub mod RoomFollows
+pub mod VmidsFollow
+pub mod PagesFollow
+pub mod Grown
+pub mod Desks
+pub mod Readings
+pub mod Empty

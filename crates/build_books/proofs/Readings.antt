@@ -1,0 +1,81 @@
+-- What is read of books.
+use Rattle.std.proofs.Common.{◌≡◌, ℕ, ◌+◌, ◌<◌, ◌≤◌, Bool, true, false, List, [], length, Option, Some, None, refl, sym, ap, ◌∙◌, subst, arith}
+use Rattle.std.specs.Prelude.{nat_lt, slice_get, option_map, IfSome}
+use Rattle.std.specs.Bool.{OnFalse}
+use Rattle.std.specs.List.{flat_map, sum_by}
+use Rattle.std.proofs.lemmas.Bool.{ltb-false, ltb-true}
+use Rattle.std.proofs.lemmas.Option.{slice_get_within, get_or_from_slice_get}
+use Rattle.std.proofs.lemmas.List.Elements.{All-get_or}
+use Rattle.leases.specs.Stacks.{Stacks}
+use Rattle.leases.specs.Vmids.{Vmids}
+use Rattle.realm_model.specs.Machine.{Seen}
+use Rattle.realm_model.specs.World.{World, realm_of}
+use Rattle.realm_model.specs.History.{acts_of, open_entries, unmatched, pages_of, IsLegal}
+use Rattle.realm_model.specs.Room.{room_taken}
+use Rattle.realm_model.proofs.Leases.{leased}
+use Rattle.realm_model.proofs.Pages.{pages_are_leased}
+use Rattle.realm_model.proofs.RealmOf.{IsHeld, IsHeld-realm_of}
+use Rattle.realm_model.proofs.Reached.{sized_reached}
+use Rattle.realm_model.proofs.Room.{room_is_sum}
+use Rattle.realm_acts.specs.Mirror.{rd_of}
+use Rattle.build_books.specs.declared.build.Build.{Build}
+use Rattle.build_books.specs.View.{HostView, world_of, open_of, used, granule_of_page}
+use Rattle.build_books.specs.Kept.{HasRoom, IsKept}
+use Rattle.build_books.proofs.RealmFollows.{no_realm}
+use Rattle.build_books.proofs.Totals.{acts_of-past}
+use Rattle.build_books.proofs.Worlds.{world_is}
+use Rattle.std.specs.Global.{Vec}
+use Rattle.realm_model.specs.declared.act.Event.{Event}
+
+-- a build with no events has nothing open
+pub none_open : (build : ℕ) (history : List Event) → acts_of build history ≡ [] → open_entries build history ≡ []
+unfolding open_entries
+none_open build history none = ap unmatched none
+
+if_some : (o : Option ℕ) (P : ℕ → Type 0) → ((x : ℕ) → o ≡ Some x → P x) → IfSome o P
+if_some None P each = tt
+if_some (Some x) P each = each x refl
+
+module _ (host : HostView) (builds : List Build) (leases : Stacks) (vmids : Vmids) (events : Vec Event) (kept : IsKept host builds leases vmids events) where
+  abbrev world : World
+  world = world_of host
+
+  pub no_acts : (build : ℕ) → host.limits.builds ≤ build → acts_of build host.history ≡ []
+  no_acts build past = acts_of-past host.limits.builds build host.history kept.of_builds past
+
+  pub realm_past : (build : ℕ) → host.limits.builds ≤ build → realm_of build world ≡ None
+  realm_past build past =
+      no_realm host.limits host.history world kept.legal (world_is host kept.legal) build (none_open build host.history (no_acts build past))
+
+  -- a build that is not there has used no room
+  pub has_room : (build : ℕ) → HasRoom host build
+  has_room build = at (nat_lt build host.limits.builds) refl
+    where
+      at : (t : Bool) → nat_lt build host.limits.builds ≡ t → HasRoom host build
+      at true is = kept.room build (ltb-true build host.limits.builds is)
+      at false is =
+          let past = ltb-false build host.limits.builds is in
+          let none = no_acts build past in
+          let sum = room_is_sum host.limits host.history world build kept.legal (world_is host kept.legal) in
+          let zero : sum_by room_taken (acts_of build host.history) ≡ 0 = ap (sum_by room_taken) none in
+          let opened = ap length (none_open build host.history none) in
+          record { used = omega (arith, sum, zero); few_open = omega (arith, opened) }
+
+  -- a page lies inside the machine
+  pub page_inside : (build page : ℕ) → IfSome (granule_of_page host build page) (λ granule. granule < host.limits.pages)
+  page_inside build page = if_some (granule_of_page host build page) (λ granule. granule < host.limits.pages) (λ granule there.
+      let pages = pages_are_leased host.limits build host.history world kept.legal (world_is host kept.legal) in
+      let within : page < length (pages_of build host.history) = slice_get_within (pages_of build host.history) page granule there in
+      subst (λ n. n < host.limits.pages) (get_or_from_slice_get (pages_of build host.history) page granule 0 there)
+      (All-get_or (λ n. n < host.limits.pages) (pages_of build host.history) page 0 within pages.inside))
+
+  -- and so does an RD
+  pub rd_inside : (build : ℕ) → IfSome (rd_of build world) (λ rd. rd < host.limits.pages)
+  rd_inside build = at (realm_of build world) (IsHeld-realm_of build world)
+    where
+      at : (o : Option Seen) → IsHeld build world.leases o → IfSome (option_map (λ (rd : Seen). rd.number) o) (λ rd. rd < host.limits.pages)
+      at None held = tt
+      at (Some rd) held =
+          let sized = sized_reached host.limits host.history world (world_is host kept.legal) in
+          let within = slice_get_within world.leases rd.number (Some build) (leased (Some build) world.leases rd.number held) in
+          omega (arith, within, sized.leases)

@@ -1,0 +1,63 @@
+-- The RECs of a build's realm after one more act of the build.
+use Rattle.std.proofs.Common.{◌≡◌, ℕ, ◌+◌, ◌-◌, ◌<◌, ◌≤◌, true, false, List, [], ◌∷◌, ◌++◌, length, take, Some, refl, sym, ap, ◌∙◌, subst, arith}
+use Rattle.std.specs.List.{flat_map}
+use Rattle.std.proofs.lemmas.List.{length-append, get_or_append_left, get_or-append-add}
+use Rattle.std.proofs.Math.Seq.{take-append_seam}
+use Rattle.std.proofs.lemmas.Option.{same_Some}
+use Rattle.realm_model.specs.declared.act.Act.{Act}
+use Rattle.realm_model.specs.declared.act.Act.TheVariants.{Take, Delegate, Realm, Rtt, Data, Unknown, Rec, UnRec}
+use Rattle.realm_model.specs.declared.act.Event.{Event}
+use Rattle.realm_model.specs.Act.{is_reverse, reverse_of}
+use Rattle.realm_model.specs.History.{open_entries, IsInTurn}
+use Rattle.realm_model.specs.Undoing.{by}
+use Rattle.realm_acts.specs.RecsOpen.{rec_made, recs_open, number_at, IsRising}
+use Rattle.build_books.specs.Recs.{IsAbove}
+use Rattle.build_books.specs.Kept.{recs_after}
+use Rattle.build_books.proofs.Made.{opens, closes, stays}
+
+abbrev rec_removed : Act → List (ℕ × ℕ)
+rec_removed (UnRec granule auxiliaries number) = (number, granule) ∷ []
+rec_removed _ = []
+
+same_rec : (newest act : Act) → reverse_of newest ≡ Some act → rec_made newest ≡ rec_removed act
+unfolding reverse_of
+same_rec (Take order first) act is = ap rec_removed (same_Some _ _ is)
+same_rec (Delegate granule) act is = ap rec_removed (same_Some _ _ is)
+same_rec (Realm rd root vmid) act is = ap rec_removed (same_Some _ _ is)
+same_rec (Rtt granule ipa level) act is = ap rec_removed (same_Some _ _ is)
+same_rec (Data granule ipa source) act is = ap rec_removed (same_Some _ _ is)
+same_rec (Unknown granule ipa) act is = ap rec_removed (same_Some _ _ is)
+same_rec (Rec granule auxiliaries number) act is = ap rec_removed (same_Some _ _ is)
+same_rec _ act is = cc
+
+all_but_last : (recs left : List (ℕ × ℕ)) (rec : ℕ × ℕ) → recs ≡ left ++ rec ∷ [] → left ≡ take (length recs - 1) recs
+all_but_last recs left rec e =
+    let long : length recs ≡ length left + 1 = ap length e ∙ length-append left (rec ∷ []) in
+    let count : length recs - 1 ≡ length left = omega arith in
+    sym (take-append_seam left (rec ∷ [])) ∙ (λ i. take (sym count i) (sym e i))
+
+pub recs_follow : (history : List Event) (build : ℕ) (act : Act) → IsInTurn history (by build act)
+    → recs_open build (history ++ by build act ∷ []) ≡ recs_after (recs_open build history) act
+unfolding reverse_of is_reverse
+recs_follow history build (Rec granule auxiliaries number) turn = opens rec_made rec_removed same_rec history build (Rec granule auxiliaries number) turn refl
+recs_follow history build (UnRec granule auxiliaries number) turn =
+    all_but_last (recs_open build history) _ (number, granule) (closes rec_made rec_removed same_rec history build (UnRec granule auxiliaries number) turn refl refl)
+recs_follow history build act turn = stays rec_made rec_removed same_rec history build act turn refl refl
+
+-- ---- no more RECs than open acts
+
+pub few_recs : (acts : List Act) → length (flat_map rec_made acts) ≤ length acts
+few_recs [] = omega arith
+few_recs (Rec granule auxiliaries number ∷ acts) = let rest = few_recs acts in omega arith
+few_recs (_ ∷ acts) = let rest = few_recs acts in omega arith
+
+-- the number of a REC that comes last is above the others
+pub above_others : (recs : List (ℕ × ℕ)) (number granule : ℕ) → IsRising (recs ++ (number, granule) ∷ []) → IsAbove recs number
+above_others recs number granule rising i inside =
+    let long : length (recs ++ (number, granule) ∷ []) ≡ length recs + 1 = length-append recs ((number, granule) ∷ []) in
+    let less = rising i (length recs) inside (omega arith) in
+    let before : number_at (recs ++ (number, granule) ∷ []) i ≡ number_at recs i = ap (λ (r : ℕ × ℕ). r.0) (get_or_append_left recs ((number, granule) ∷ []) (0, 0) i inside) in
+    let place : length recs ≡ length recs + 0 = omega arith in
+    let last : number_at (recs ++ (number, granule) ∷ []) (length recs) ≡ number =
+    ap (number_at (recs ++ (number, granule) ∷ [])) place ∙ ap (λ (r : ℕ × ℕ). r.0) (get_or-append-add recs ((number, granule) ∷ []) 0 (0, 0)) in
+    omega (arith, less, before, last)

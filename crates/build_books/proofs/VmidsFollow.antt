@@ -1,0 +1,68 @@
+-- The VMIDs in use after one more act.
+use Rattle.std.proofs.Common.{◌≡◌, ℕ, ◌%◌, ◌==◌, Bool, true, false, cond, not, ◌&&◌, List, ◌∷◌, map, Ok, Err, Some, refl, sym, ap, ◌∙◌, ⊎_elim}
+use Rattle.std.specs.Prelude.{nat_le}
+use Rattle.std.specs.List.{list_all}
+use Rattle.std.proofs.lemmas.Bool.{and_parts, cases_eq}
+use Rattle.granule_addr.specs.Ipa.{is_width}
+use Rattle.granule_addr.specs.Root.{start_count, starting_tables}
+use Rattle.granule_addr.specs.declared.root.Root.{Root}
+use Rattle.leases.specs.Vmids.{Vmids, is_free, is_used}
+use Rattle.realm_model.specs.declared.act.Act.{Act}
+use Rattle.realm_model.specs.declared.act.Act.TheVariants.{Realm, UnRealm}
+use Rattle.realm_model.specs.declared.act.Event.{Event}
+use Rattle.realm_model.specs.declared.rmi.Rmi.{Rmi}
+use Rattle.realm_model.specs.Machine.{Limits, Machine, Seen, seen}
+use Rattle.realm_model.specs.Update.{Outcome, Update}
+use Rattle.realm_model.specs.Act.{named}
+use Rattle.realm_model.specs.Command.Check.{check, is_delegated}
+use Rattle.realm_model.specs.Command.Realm.{is_start}
+use Rattle.realm_model.specs.Outcome.{outcome_of}
+use Rattle.realm_model.specs.World.{World}
+use Rattle.realm_model.specs.Step.{step, used_vmids, outcome_in}
+use Rattle.realm_model.specs.StepLaw.{IsStep}
+use Rattle.realm_model.specs.Undoing.{by}
+use Rattle.realm_model.proofs.StepSays.{step_is}
+use Rattle.realm_acts.specs.VmidsUsed.{is_vmid_used, VmidsFollow}
+use Rattle.build_books.specs.Vmids.{CanFollowVmids, IsVmidsAfter}
+
+passed : (t : Bool) (rmi : Rmi) (o : Outcome) (us : List Update) → check t rmi o ≡ Ok us → t ≡ true
+unfolding check
+passed true rmi o us e = refl
+passed false rmi o us e = cc
+
+-- the VMID of a realm that is made is in range, and no realm has it
+free_for : (limits : Limits) (w : World) (build rd : ℕ) (root : Root) (vmid : ℕ) (us : List Update) → outcome_in limits w (by build (Realm rd root vmid)) ≡ Ok us
+    → (nat_le 1 vmid && nat_le vmid limits.vmids && not (is_vmid_used w.machine vmid)) ≡ true
+unfolding outcome_of named
+free_for limits w build rd root vmid us e =
+    let all = passed _ _ _ us e in
+    (and_parts (list_all (is_start (seen w.machine rd)) (map (seen w.machine) (starting_tables root))) _
+    (and_parts (is_delegated (seen w.machine rd)) _
+    (and_parts (root.first % start_count root.width == 0) _
+    (and_parts (is_width root.width) _ all).1).1).1).1
+
+module _ (limits : Limits) (w : World) (vmids : Vmids) (range : vmids.vmids ≡ limits.vmids)
+    (are : (vmid : ℕ) → is_used vmids vmid ≡ is_vmid_used w.machine vmid) where
+  pub can_follow_vmids : (build : ℕ) (act : Act) (v : World) → step limits w (by build act) ≡ Some v → CanFollowVmids vmids act
+  can_follow_vmids build (Realm rd root vmid) v s =
+      let is = step_is limits w v (by build (Realm rd root vmid)) s in
+      (λ i. nat_le 1 vmid && nat_le vmid (range i) && not (are vmid i)) ∙ free_for limits w build rd root vmid is.updates is.outcome
+  can_follow_vmids build _ v s = tt
+
+  pub vmids_are_after : (act : Act) (new : Vmids) (machine : Machine) → IsVmidsAfter act vmids new → VmidsFollow act w.machine machine
+      → (vmid : ℕ) → is_used new vmid ≡ is_vmid_used machine vmid
+  vmids_are_after (Realm rd root used) new machine after follow vmid = ⊎_elim
+      (λ same. ap (is_used new) same ∙ after.one ∙ sym follow.one ∙ ap (is_vmid_used machine) (sym same))
+      (λ other. after.others vmid other ∙ are vmid ∙ sym (follow.others vmid other))
+      (cases_eq vmid used)
+  vmids_are_after (UnRealm rd root used) new machine after follow vmid = ⊎_elim
+      (λ same. ap (is_used new) same ∙ after.one ∙ sym follow.one ∙ ap (is_vmid_used machine) (sym same))
+      (λ other. after.others vmid other ∙ are vmid ∙ sym (follow.others vmid other))
+      (cases_eq vmid used)
+  vmids_are_after act new machine after follow vmid = ap (λ (v : Vmids). is_used v vmid) after ∙ are vmid ∙ sym (follow vmid)
+
+-- there are as many VMIDs as before
+pub same_range : (act : Act) (old new : Vmids) → IsVmidsAfter act old new → new.vmids ≡ old.vmids
+same_range (Realm rd root used) old new after = after.range
+same_range (UnRealm rd root used) old new after = after.range
+same_range act old new after = ap (λ (v : Vmids). v.vmids) after

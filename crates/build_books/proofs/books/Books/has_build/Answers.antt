@@ -1,0 +1,29 @@
+use Rattle.std.proofs.Common.{◌≡◌, ◌≤◌, Bool, true, false, None, [], length, refl, subst, arith}
+use Rattle.std.specs.Bool.{OnFalse}
+use Rattle.std.specs.Prelude.{nat_lt}
+use Rattle.std.proofs.lemmas.Bool.{ltb-false}
+use Rattle.realm_model.specs.World.{realm_of}
+use Rattle.realm_model.specs.History.{acts_of}
+use Rattle.build_books.specs.View.{HostView, world_of}
+use Rattle.build_books.proofs.Readings.{no_acts, realm_past}
+use Rattle.build_books.proofs.books.Books.has_build.Goals as goal
+
+on_false : (t : Bool) (P : Type 0) → (t ≡ false → P) → OnFalse t P
+on_false true P h = tt
+on_false false P h = h refl
+
+pub returns-clause-none : goal.returns-clause-none
+returns-clause-none c =
+    on_false (nat_lt c.number.result c.len.result) (acts_of c.args.build c.args.self.now.history ≡ []) (λ e.
+    let known = ltb-false c.number.result c.len.result e in
+    let past : length c.self.inside.builds.items ≤ c.args.build = omega (arith, known, c.len.ensures, c.number.ensures.value) in
+    subst (λ (h : HostView). acts_of c.args.build h.history ≡ []) c.self.view_is
+    (no_acts _ c.self.inside.builds.items c.self.inside.leases c.self.inside.vmids c.self.inside.history c.self.invariant c.args.build past))
+
+pub returns-clause-no_realm : goal.returns-clause-no_realm
+returns-clause-no_realm c =
+    on_false (nat_lt c.number.result c.len.result) (realm_of c.args.build (world_of c.args.self.now) ≡ None) (λ e.
+    let known = ltb-false c.number.result c.len.result e in
+    let past : length c.self.inside.builds.items ≤ c.args.build = omega (arith, known, c.len.ensures, c.number.ensures.value) in
+    subst (λ (h : HostView). realm_of c.args.build (world_of h) ≡ None) c.self.view_is
+    (realm_past _ c.self.inside.builds.items c.self.inside.leases c.self.inside.vmids c.self.inside.history c.self.invariant c.args.build past))

@@ -1,0 +1,17 @@
+use Rattle.std.proofs.Common.{ℕ, subst}
+use Rattle.realm_model.specs.History.{LeavesNoTrace}
+use Rattle.realm_model.proofs.LeftOut.{leaves_no_trace}
+use Rattle.build_books.specs.View.{HostView}
+use Rattle.build_books.specs.Kept.{HasRoom}
+use Rattle.build_books.proofs.Readings.{has_room}
+use Rattle.build_books.proofs.books.Books.history.Goals as goal
+
+pub returns-clause-room : goal.returns-clause-room
+returns-clause-room c =
+    subst (λ (h : HostView). (build : ℕ) → HasRoom h build) c.self.view_is
+    (λ build. has_room _ c.self.inside.builds.items c.self.inside.leases c.self.inside.vmids c.self.inside.history c.self.invariant build)
+
+pub returns-clause-no_trace : goal.returns-clause-no_trace
+returns-clause-no_trace c =
+    subst (λ (h : HostView). (build : ℕ) → LeavesNoTrace h.limits h.history build) c.self.view_is
+    (λ build. leaves_no_trace _ _ build c.self.invariant.legal)

@@ -1,0 +1,6 @@
+pub mod View
+pub mod Codes
+pub mod Recs
+pub mod Vmids
+pub mod Booted
+pub mod Kept

@@ -1,0 +1,255 @@
+//! The history, and what is kept beside it.
+ghost use Rattle.std.specs.Prelude.{◌≡◌, ℕ, ◌<◌, ◌≤◌, [], length, replicate, nat_lt, None, IfOk, IfSome, option_map};
+ghost use Rattle.std.specs.Bool.{OnFalse};
+ghost use Rattle.std.specs.List.{last_or};
+ghost use Rattle.realm_model.specs.History.{acts_of, IsLegal, LeavesNoTrace};
+ghost use Rattle.realm_model.specs.Act.{is_paired};
+ghost use Rattle.realm_model.specs.World.{realm_of};
+ghost use Rattle.realm_model.specs.Running.{running_count};
+ghost use Rattle.realm_acts.specs.Mirror.{rd_of};
+ghost use Rattle.realm_acts.specs.Performing.{rec_granule};
+ghost use Rattle.leases.specs.Stacks.{stack_of, with_stack};
+ghost use Rattle.build_books.specs.View.{world_of, open_of, used, pages_of_build, granule_of_page, with_event};
+ghost use Rattle.build_books.specs.Kept.{new_build, pages_after, CanFollowPages, CanRecord, HasRoom};
+ghost use Rattle.realm_acts.specs.Mirror.{IsPlaceOf};
+ghost use Rattle.build_books.specs.Vmids.{lowest_vmid, CanFollowVmids, IsVmidsAfter};
+ghost use Rattle.build_books.specs.Booted.{booted};
+
+use crate::build::Build;
+use granule_addr::{BuildId, Gran, RecNo, Vmid};
+use leases::{Leases, VmidPool};
+use realm_acts::Place;
+use realm_model::{Act, Event};
+use std::alloc::{AllocError, Global};
+use std::marker::Model;
+
+/// The events of all builds in their order, and what they leave of each build.
+#[derive(Drop)]
+pub struct Books {
+    pub(crate) history: Vec<Event>,
+    pub(crate) builds: Vec<Build>,
+    pub(crate) leases: Leases,
+    pub(crate) vmids: VmidPool,
+    aux: u8,
+    capacity: u16,
+}
+
+impl Model for Books {
+    ghost use Rattle.build_books.specs.View.{HostView};
+    ghost use Rattle.build_books.specs.Codes.{host_code};
+    ghost use Rattle.build_books.specs.Kept.{books_of, IsKept};
+
+    ghost Value = { HostView };
+
+    ghost coded = { host_code };
+
+    ghost view = { λ b. books_of b.builds.items b.leases b.vmids b.aux b.capacity b.history.items };
+
+    ghost invariant = { λ b. IsKept (books_of b.builds.items b.leases b.vmids b.aux b.capacity b.history.items) b.builds.items b.leases b.vmids b.history };
+}
+
+// What is kept of so many builds that have no events.
+fn new_builds(alloc: Global, count: u8) -> Result<Vec<Build>, AllocError>
+    ensures { IfOk result (λ builds. builds.items ≡ replicate count new_build) }
+{
+    let mut builds = Vec::with_capacity(alloc, count as usize)?;
+    for _i in 0..count {
+        builds.push(Build::build(alloc)?)?;
+    }
+    Ok(builds)
+}
+
+// The pages of a build follow an act: those of a block that is taken go on top, those of one given back are gone.
+fn follow_pages(leases: &mut Leases, build: BuildId, act: &Act)
+    requires there { build < length leases.old.stacks }
+    requires can_follow { CanFollowPages leases.old build act.now }
+    ensures { leases.new ≡ with_stack leases.old build (pages_after (stack_of leases.old build) act.now) }
+{
+    match act {
+        Act::Take { order, first } => leases.push_block(build, *first, *order),
+        Act::UnTake { order, .. } => leases.pop_block(build, *order),
+        _ => {}
+    }
+}
+
+// The VMIDs in use follow an act: a realm that is made has its own, and one that ends has it no more.
+fn follow_vmids(vmids: &mut VmidPool, act: &Act)
+    requires { CanFollowVmids vmids.old act.now }
+    ensures { IsVmidsAfter act.now vmids.old vmids.new }
+{
+    match act {
+        Act::Realm { vmid, .. } => {
+            vmids.claim(*vmid);
+        }
+        Act::UnRealm { vmid, .. } => vmids.give_back(*vmid),
+        _ => {}
+    }
+}
+
+impl Books {
+    /// Books of so many builds with room for `capacity` events of each, over a machine of so many pages, VMIDs and
+    /// auxiliaries of a REC.
+    pub fn build(
+        alloc: Global,
+        pages: u16,
+        vmids: u8,
+        aux: u8,
+        builds: u8,
+        capacity: u16,
+    ) -> Result<Books, AllocError>
+        requires few_builds { builds ≤ 8 }
+        requires few_pages { pages ≤ 4096 }
+        requires few_events { capacity ≤ 16384 }
+        ensures { IfOk result (λ books. books ≡ booted pages vmids aux builds capacity) }
+    {
+        let leases = Leases::build(alloc, builds, pages)?;
+        let kept = new_builds(alloc, builds)?;
+        let history = Vec::with_capacity(alloc, builds as usize * capacity as usize)?;
+        Ok(Books {
+            history,
+            builds: kept,
+            leases,
+            vmids: VmidPool::new(vmids),
+            aux,
+            capacity,
+        })
+    }
+
+    /// The events so far: a legal history. No build has used more than its room in it, or has more than 512 acts open; and
+    /// each build can be left out of it.
+    pub fn history(&self) -> &[Event]
+        ensures events { result.now ≡ self.now.history }
+        ensures legal { IsLegal self.now.limits self.now.history }
+        ensures room { (build : ℕ) → HasRoom self.now build }
+        ensures no_trace { (build : ℕ) → LeavesNoTrace self.now.limits self.now.history build }
+    {
+        self.history.as_slice()
+    }
+
+    /// How much room each build has in the history.
+    pub fn capacity(&self) -> u16
+        ensures value { result ≡ self.now.capacity }
+        ensures few { result ≤ 16384 }
+    {
+        self.capacity
+    }
+
+    /// Whether there is such a build.
+    pub fn has_build(&self, build: BuildId) -> bool
+        ensures there { result ≡ nat_lt build self.now.limits.builds }
+        ensures none { OnFalse result (acts_of build self.now.history ≡ []) }
+        ensures no_realm { OnFalse result (realm_of build (world_of self.now) ≡ None) }
+    {
+        (build.number() as usize) < self.builds.len()
+    }
+
+    /// How much of its room a build has used: an entry for each event, one for each act that is open, and one for each REC
+    /// that runs.
+    pub fn used(&self, build: BuildId) -> u16
+        requires { build < self.now.limits.builds }
+        ensures value { result ≡ used self.now build }
+        ensures fits { result ≤ self.now.capacity }
+    {
+        let kept = &self.builds[build.number() as usize];
+        kept.events + kept.journal.len() + kept.running
+    }
+
+    /// How many acts a build has open.
+    pub fn open_count(&self, build: BuildId) -> u16
+        requires { build < self.now.limits.builds }
+        ensures value { result ≡ length (open_of self.now build) }
+        ensures fits { result ≤ 512 }
+    {
+        self.builds[build.number() as usize].journal.len()
+    }
+
+    /// The newest act that a build has open.
+    pub fn newest(&self, build: BuildId) -> Option<&Act>
+        requires { build < self.now.limits.builds }
+        ensures value { option_map (λ act. act.now) result ≡ last_or None (open_of self.now build) }
+        ensures paired { IfSome result (λ act. is_paired act.now ≡ true) }
+    {
+        let kept = &self.builds[build.number() as usize];
+        kept.journal.newest()
+    }
+
+    /// The RD of a build's realm.
+    pub fn realm(&self, build: BuildId) -> Option<Gran>
+        requires { build < self.now.limits.builds }
+        ensures value { result ≡ rd_of build (world_of self.now) }
+        ensures inside { IfSome result (λ rd. rd < self.now.limits.pages) }
+    {
+        self.builds[build.number() as usize].realm
+    }
+
+    /// The granule of the REC of that number in a build's realm.
+    pub fn rec(&self, build: BuildId, number: RecNo) -> Option<Gran>
+        requires { build < self.now.limits.builds }
+        ensures { result ≡ rec_granule (realm_of build (world_of self.now)) number }
+    {
+        let kept = &self.builds[build.number() as usize];
+        kept.recs.granule(number)
+    }
+
+    /// Where an act of a build is performed: the RD of the build's realm, and the REC there that the act names.
+    pub fn place(&self, build: BuildId, act: &Act) -> Place
+        requires { build < self.now.limits.builds }
+        ensures { IsPlaceOf (world_of self.now) build act.now result }
+    {
+        let rec = match act {
+            Act::UnRec { number, .. }
+            | Act::Enter { number }
+            | Act::Exit { number }
+            | Act::Poke { number, .. } => self.rec(build, *number),
+            _ => None,
+        };
+        Place {
+            realm: self.realm(build),
+            rec,
+        }
+    }
+
+    /// How many RECs of a build's realm run.
+    pub fn running(&self, build: BuildId) -> u16
+        requires { build < self.now.limits.builds }
+        ensures { result ≡ running_count (realm_of build (world_of self.now)) }
+    {
+        self.builds[build.number() as usize].running
+    }
+
+    /// The lowest VMID that no realm has; `None` comes exactly where each is a realm's.
+    pub fn lowest_vmid(&self) -> Option<Vmid>
+        ensures { result ≡ lowest_vmid self.now }
+    {
+        self.vmids.lowest_free()
+    }
+
+    /// The granule of a build's page.
+    pub fn page(&self, build: BuildId, page: u16) -> Option<Gran>
+        requires { build < self.now.limits.builds }
+        ensures value { result ≡ granule_of_page self.now build page }
+        ensures inside { IfSome result (λ granule. granule < self.now.limits.pages) }
+    {
+        self.leases.page(build, page)
+    }
+
+    /// How many pages a build has.
+    pub fn page_count(&self, build: BuildId) -> u16
+        requires { build < self.now.limits.builds }
+        ensures { result ≡ length (pages_of_build self.now build) }
+    {
+        self.leases.count(build)
+    }
+
+    /// Records an act of a build as the last event. No memory is taken.
+    pub fn record(&mut self, build: BuildId, act: Act)
+        requires there { build < self.old.limits.builds }
+        requires can { CanRecord self.old build act }
+        ensures { self.new ≡ with_event self.old build act }
+    {
+        follow_pages(&mut self.leases, build, &act);
+        follow_vmids(&mut self.vmids, &act);
+        self.builds[build.number() as usize].follow(&act);
+        self.history.push_reserved(Event { build, act });
+    }
+}

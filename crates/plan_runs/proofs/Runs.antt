@@ -1,0 +1,88 @@
+-- Runs that get one more turn.
+use Rattle.std.proofs.Common.{◌≡◌, ℕ, ◌+◌, List, [], ◌∷◌, ◌++◌, length, Some, None, refl, ap, ◌∙◌, slice_index, slice_set, subst, ◌≤◌, take}
+use Rattle.std.specs.List.{flat_map}
+use Rattle.std.proofs.lemmas.List.{flat_map_more, take_all}
+use Rattle.build_books.specs.View.{HostView}
+use Rattle.realm_host.specs.Answer.{IsAnswer}
+use Rattle.realm_host.specs.declared.reply.Answer.{Answer}
+use Rattle.plan_steps.specs.Asked.{asked}
+use Rattle.plan_steps.specs.Lines.{idle_line}
+use Rattle.plan_steps.specs.declared.step.PlanStep.{PlanStep}
+use Rattle.realm_plan.specs.Plan.{Plan}
+use Rattle.plan_runs.specs.Text.{turn_line}
+use Rattle.plan_runs.specs.Run.{Position, Turn, start, step_after, IsTurn, IsRun, IsToldTurn, IsToldRun, turn_text}
+
+-- a turn without a step
+pub idle_turn :
+    (plan : Plan) (at : Position) (id build : ℕ) (old new : List ℕ)
+    → id ≡ build
+    → step_after plan build (slice_index at.done build) ≡ None
+    → new ≡ old ++ idle_line id
+    → IsToldTurn plan at build at old new
+idle_turn plan at id build old new is_id no_step appended = record {
+  turn = record { build = build; told = None };
+  of_build = refl;
+  is_turn = rw no_step (refl, refl);
+  appended = appended ∙ ap (λ b. old ++ idle_line b) is_id;
+}
+
+-- a turn with a step and its answer
+pub answered_turn :
+    (plan : Plan) (from : Position) (id build : ℕ) (step : PlanStep) (answer : Answer) (host : HostView) (old new : List ℕ)
+    → id ≡ build
+    → step_after plan build (slice_index from.done build) ≡ Some step
+    → IsAnswer from.host id (asked step) answer host
+    → new ≡ old ++ turn_line id step answer
+    → IsToldTurn plan from build (record { host = host; done = slice_set from.done build (slice_index from.done build + 1) }) old new
+answered_turn plan from id build step answer host old new is_id is_step is_answer appended = record {
+  turn = record { build = build; told = Some (step, answer) };
+  of_build = refl;
+  is_turn = rw is_step (answer, refl, subst (λ b. IsAnswer from.host b (asked step) answer host) is_id is_answer, refl);
+  appended = appended ∙ ap (λ b. old ++ turn_line b step answer) is_id;
+}
+
+-- a run and one more turn
+pub IsRun-more :
+    (plan : Plan) (order : List ℕ) (from : Position) (turns : List Turn) (at : Position) (build : ℕ) (turn : Turn) (to : Position)
+    → IsRun plan order from turns at
+    → turn.build ≡ build
+    → IsTurn plan at turn to
+    → IsRun plan (order ++ build ∷ []) from (turns ++ turn ∷ []) to
+IsRun-more plan [] from [] at build turn to run of_build is_turn =
+    (of_build, to, subst (λ p. IsTurn plan p turn to) run is_turn, refl)
+IsRun-more plan [] from (t ∷ turns) at build turn to run of_build is_turn = elim run [ ]
+IsRun-more plan (b ∷ order) from [] at build turn to run of_build is_turn = elim run [ ]
+IsRun-more plan (b ∷ order) from (t ∷ turns) at build turn to run of_build is_turn =
+    (run.0, run.1, run.2, IsRun-more plan order run.1 turns at build turn to run.3 of_build is_turn)
+
+-- A front of the turns leads here, and its lines were appended.
+pub record IsToldFront (plan : Plan) (order : List ℕ) (from : HostView) (to : Position) (old new : List ℕ) : Type 0 where
+  pub turns : List Turn
+  pub is_run : IsRun plan order (start from) turns to
+  pub appended : new ≡ old ++ flat_map turn_text turns
+
+-- one more turn
+pub IsToldFront-more :
+    (plan : Plan) (order : List ℕ) (from : HostView) (at : Position) (build : ℕ) (to : Position) (old between new : List ℕ)
+    → IsToldFront plan order from at old between
+    → IsToldTurn plan at build to between new
+    → IsToldFront plan (order ++ build ∷ []) from to old new
+IsToldFront-more plan order from at build to old between new front told = record {
+  turns = front.turns ++ told.turn ∷ [];
+  is_run = IsRun-more plan order (start from) front.turns at build told.turn to front.is_run told.of_build told.is_turn;
+  appended = told.appended ∙ ap (λ t. t ++ turn_text told.turn) front.appended ∙ flat_map_more turn_text old front.turns told.turn;
+}
+
+-- all turns
+pub IsToldRun-whole :
+    (plan : Plan) (i : ℕ) (from : HostView) (at : Position) (old new : List ℕ)
+    → length plan.order ≤ i
+    → IsToldFront plan (take i plan.order) from at old new
+    → IsToldRun plan from at.host old new
+IsToldRun-whole plan i from at old new done front = record {
+  turns = front.turns;
+  end = at;
+  is_run = subst (λ order. IsRun plan order (start from) front.turns at) (take_all i plan.order done) front.is_run;
+  host = refl;
+  appended = front.appended;
+}

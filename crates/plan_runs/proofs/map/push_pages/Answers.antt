@@ -1,0 +1,14 @@
+use Rattle.std.proofs.Common.{string_bytes, ◌<◌, ◌∙◌, subst, sym}
+use Rattle.plan_runs.specs.Run.{page_text}
+use Rattle.plan_steps.specs.Lines.{page_line}
+use Rattle.plan_runs.proofs.MapLines.{lines_more, page_line_is}
+use Rattle.plan_runs.proofs.map.push_pages.Goals as goal
+
+pub loop-page-preserved : goal.loop-page-preserved
+loop-page-preserved g c =
+    lines_more (page_text c.args.host.now c.args.build) c.loop-page.page (string_bytes c.args.text.now) (string_bytes c.loop-page.text)
+    (page_line c.args.build c.loop-page.page c.unwrap-state.result c.unwrap-sum.result) (string_bytes c.push_page.new.text)
+    c.loop-page.invariant
+    c.in_ok-push_page.ensures
+    (page_line_is c.args.host.now c.args.build c.loop-page.page c.unwrap-state.result c.unwrap-sum.result
+    (subst (λ n. c.loop-page.page < n) c.page_count-page-end.ensures c.loop-page-test.true) (sym c.unwrap-state.ensures ∙ c.page_state.ensures) (sym c.unwrap-sum.ensures ∙ c.page_sum.ensures))

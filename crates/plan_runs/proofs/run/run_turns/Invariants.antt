@@ -1,0 +1,8 @@
+use Rattle.std.proofs.Common.{string_bytes, take}
+use Rattle.realm_plan.specs.PlanView.{plan_view}
+use Rattle.plan_runs.proofs.Runs.{IsToldFront}
+use Rattle.plan_runs.proofs.run.run_turns.Given as goal
+
+abbrev pub invariant-loop-build : goal.invariant-loop-build
+invariant-loop-build g l =
+    IsToldFront (plan_view l.plan) (take l.build-index l.plan.order.items) l.fn.host (record { host = l.host; done = l.done }) (string_bytes l.fn.text) (string_bytes l.text)

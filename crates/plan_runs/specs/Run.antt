@@ -1,0 +1,100 @@
+-- The runs of a plan, and what is printed of one.
+use Rattle.std.specs.Prelude.{◌≡◌, ℕ, ◌+◌, List, [], ◌∷◌, ◌++◌, length, replicate, sum, Option, Some, None, slice_get, slice_index, slice_set, option_and_then}
+use Rattle.std.specs.List.{flat_map, range_with_len}
+use Rattle.build_books.specs.View.{HostView, world_of, pages_of_build}
+use Rattle.realm_host.specs.Answer.{IsAnswer}
+use Rattle.realm_host.specs.Readings.{realm_at}
+use Rattle.realm_host.specs.declared.reply.Answer.{Answer}
+use Rattle.realm_model.specs.Machine.{cell_at}
+use Rattle.realm_model.specs.World.{free_set}
+use Rattle.realm_model.specs.declared.states.RealmState.{RealmState}
+use Rattle.plan_steps.specs.Asked.{asked}
+use Rattle.plan_steps.specs.Lines.{idle_line, page_line, realm_line, free_line}
+use Rattle.plan_steps.specs.declared.step.PlanStep.{PlanStep}
+use Rattle.realm_plan.specs.Plan.{Plan}
+use Rattle.plan_runs.specs.Text.{turn_line}
+
+-- ---- runs
+
+-- How far a run is: the host, and how many steps each build has done.
+pub record Position : Type 0 where
+  pub host : HostView
+  pub done : List ℕ
+
+-- What is told of a turn: the build, and its step with the answer, or nothing where it has no step left.
+pub record Turn : Type 0 where
+  pub build : ℕ
+  pub told : Option (PlanStep × Answer)
+
+-- no build has done a step
+abbrev pub start : HostView → Position
+start host = record { host = host; done = replicate 8 0 }
+
+-- the step of a build that comes after so many, if there is one
+abbrev pub step_after : Plan → ℕ → ℕ → Option PlanStep
+step_after plan build done = option_and_then (λ steps. slice_get steps done) (slice_get plan.builds build)
+
+-- Without a step nothing changes. A step gets the answer that the host gives, and is used up.
+abbrev pub IsTurnOf : Option PlanStep → Position → Turn → Position → Type 0
+IsTurnOf None from turn to = (turn.told ≡ None) × (to ≡ from)
+IsTurnOf (Some step) from turn to =
+    (answer : Answer)
+    × (turn.told ≡ Some (step, answer))
+    × IsAnswer from.host turn.build (asked step) answer to.host
+    × (to.done ≡ slice_set from.done turn.build (slice_index from.done turn.build + 1))
+
+abbrev pub IsTurn : Plan → Position → Turn → Position → Type 0
+IsTurn plan from turn to = IsTurnOf (step_after plan turn.build (slice_index from.done turn.build)) from turn to
+
+-- The turns of these builds, one after the other.
+abbrev pub IsRun : Plan → List ℕ → Position → List Turn → Position → Type 0
+IsRun plan [] from [] to = to ≡ from
+IsRun plan (build ∷ order) from (turn ∷ turns) to =
+    (turn.build ≡ build) × (between : Position) × IsTurn plan from turn between × IsRun plan order between turns to
+IsRun plan _ from _ to = ⊥
+
+-- ---- what is printed
+
+abbrev pub told_text : ℕ → Option (PlanStep × Answer) → List ℕ
+told_text build None = idle_line build
+told_text build (Some told) = turn_line build told.0 told.1
+
+abbrev pub turn_text : Turn → List ℕ
+turn_text turn = told_text turn.build turn.told
+
+-- the line of a build's page
+abbrev pub page_text : HostView → ℕ → ℕ → List ℕ
+page_text host build page =
+    let cell = cell_at (world_of host).machine (slice_index (pages_of_build host build) page) in
+    page_line build page cell.state (sum cell.bytes)
+
+-- the lines of a build's pages, in rising number
+abbrev pub pages_text : HostView → ℕ → List ℕ
+pages_text host build = flat_map (page_text host build) (range_with_len 0 (length (pages_of_build host build)))
+
+-- the line of a build's realm, where it has one
+abbrev pub realm_text : ℕ → Option (RealmState × ℕ) → List ℕ
+realm_text build None = []
+realm_text build (Some realm) = realm_line build realm.0 realm.1
+
+abbrev pub build_text : HostView → ℕ → List ℕ
+build_text host build = pages_text host build ++ realm_text build (realm_at (world_of host) build)
+
+-- The map: the pages of each build in rising number, then its realm, and last how many pages nobody leases.
+abbrev pub map_text : HostView → List ℕ
+map_text host = flat_map (build_text host) (range_with_len 0 8) ++ free_line (length (free_set (world_of host)))
+
+-- The turn of a build leads here, and its line was appended.
+pub record IsToldTurn (plan : Plan) (from : Position) (build : ℕ) (to : Position) (old new : List ℕ) : Type 0 where
+  pub turn : Turn
+  pub of_build : turn.build ≡ build
+  pub is_turn : IsTurn plan from turn to
+  pub appended : new ≡ old ++ turn_text turn
+
+-- Some run of the plan's turns, each answer one that the host may give, leads here, and its lines were appended.
+pub record IsToldRun (plan : Plan) (from to : HostView) (old new : List ℕ) : Type 0 where
+  pub turns : List Turn
+  pub end : Position
+  pub is_run : IsRun plan plan.order (start from) turns end
+  pub host : end.host ≡ to
+  pub appended : new ≡ old ++ flat_map turn_text turns

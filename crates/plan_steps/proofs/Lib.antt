@@ -1,0 +1,5 @@
+-- words and their numbers
+pub mod Auxiliaries
+pub mod StepMeans
+pub mod StepSpells
+pub mod StepTexts

@@ -1,0 +1,5 @@
+pub mod Written
+pub mod Steps
+pub mod Asked
+pub mod Answers
+pub mod Lines

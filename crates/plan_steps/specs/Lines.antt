@@ -1,0 +1,48 @@
+-- Lines of an output that tell no answer.
+use Rattle.std.specs.Prelude.{ℕ, List, [], ◌∷◌, ◌++◌, codes}
+use Rattle.std.specs.Fmt.{decimal}
+use Rattle.realm_model.specs.declared.states.GranuleState.{GranuleState}
+use Rattle.realm_model.specs.declared.states.GranuleState.TheVariants as state
+use Rattle.realm_model.specs.declared.states.RealmState.{RealmState}
+use Rattle.realm_model.specs.declared.states.RealmState.TheVariants as realm
+use Rattle.plan_steps.specs.Answers.{then_number}
+
+-- a turn of a build that has no step left
+abbrev pub idle_line : ℕ → List ℕ
+idle_line build = decimal build ++ codes " - idle\n"
+
+abbrev pub state_word : GranuleState → List ℕ
+state_word state.Undelegated = codes "UNDELEGATED"
+state_word state.Delegated = codes "DELEGATED"
+state_word state.Rd = codes "RD"
+state_word state.Rec = codes "REC"
+state_word state.RecAux = codes "REC_AUX"
+state_word state.Data = codes "DATA"
+state_word state.Rtt = codes "RTT"
+
+-- the sum of the bytes is told of a page that the host can read, and of a realm's data
+abbrev pub sum_text : GranuleState → ℕ → List ℕ
+sum_text state.Undelegated sum = then_number sum
+sum_text state.Delegated sum = []
+sum_text state.Rd sum = []
+sum_text state.Rec sum = []
+sum_text state.RecAux sum = []
+sum_text state.Data sum = then_number sum
+sum_text state.Rtt sum = []
+
+-- the build, its number of the page, the state, and the sum of the page's bytes where it is told
+abbrev pub page_line : ℕ → ℕ → GranuleState → ℕ → List ℕ
+page_line build page state sum =
+    decimal build ++ (codes " page" ++ (then_number page ++ (32 ∷ state_word state ++ (sum_text state sum ++ 10 ∷ []))))
+
+abbrev pub realm_word : RealmState → List ℕ
+realm_word realm.New = codes "NEW"
+realm_word realm.Active = codes "ACTIVE"
+
+-- the build, and the state and the VMID of its realm
+abbrev pub realm_line : ℕ → RealmState → ℕ → List ℕ
+realm_line build state vmid = decimal build ++ (codes " realm " ++ (realm_word state ++ (codes " vmid" ++ (then_number vmid ++ 10 ∷ []))))
+
+-- how many pages nobody leases
+abbrev pub free_line : ℕ → List ℕ
+free_line count = codes "free" ++ (then_number count ++ 10 ∷ [])

@@ -1,0 +1,89 @@
+-- The reverse of the newest act that a build has open can be performed, and is not refused.
+use Rattle.std.proofs.Common.{◌≡◌, ℕ, ◌+◌, ◌<◌, true, false, List, [], ◌∷◌, ◌++◌, Option, Some, None, Ok, Err, refl, sym, ap, ◌∙◌, subst, arith}
+use Rattle.std.specs.Prelude.{option_and_then, slice_get}
+use Rattle.std.specs.List.{All, last_or}
+use Rattle.std.proofs.lemmas.Option.{same_Some}
+use Rattle.realm_model.specs.declared.act.Act.{Act}
+use Rattle.realm_model.specs.declared.act.Act.TheVariants.{Take, UnTake, Delegate, Realm, Rtt, Data, Unknown, Rec}
+use Rattle.realm_model.specs.declared.rmi.Rmi.{Rmi}
+use Rattle.realm_model.specs.Act.{named, is_paired, is_reverse, reverse_of}
+use Rattle.realm_model.specs.History.{IsLegal, IsInTurn}
+use Rattle.realm_model.specs.Room.{room_taken}
+use Rattle.realm_model.specs.Step.{step, outcome_in}
+use Rattle.realm_model.specs.StepLaw.{IsStep}
+use Rattle.realm_model.specs.Undoing.{by}
+use Rattle.realm_model.specs.World.{World}
+use Rattle.realm_model.proofs.Progress.{undoable}
+use Rattle.realm_model.proofs.StepSays.{step_is}
+use Rattle.realm_acts.specs.Performing.{is_command}
+use Rattle.realm_acts.specs.Mirror.{IsAsked}
+use Rattle.realm_acts.proofs.Forward.{holder_is}
+use Rattle.build_books.specs.View.{HostView, world_of, open_of}
+use Rattle.build_books.proofs.Worlds.{world_is}
+use Rattle.realm_host.specs.Acting.{HasRoomFor, CanAct, IsBack}
+
+-- the reverse of an act
+pub record IsReverse (back : Act) : Type 0 where
+  pub unpaired : is_paired back ≡ false
+  pub takes_none : room_taken back ≡ 0
+
+reverse_is : (act back : Act) → reverse_of act ≡ Some back → IsReverse back
+unfolding reverse_of is_reverse room_taken
+reverse_is (Take order first) back e = subst IsReverse (same_Some _ _ e) (record { unpaired = refl; takes_none = refl })
+reverse_is (Delegate granule) back e = subst IsReverse (same_Some _ _ e) (record { unpaired = refl; takes_none = refl })
+reverse_is (Realm rd root vmid) back e = subst IsReverse (same_Some _ _ e) (record { unpaired = refl; takes_none = refl })
+reverse_is (Rtt granule ipa level) back e = subst IsReverse (same_Some _ _ e) (record { unpaired = refl; takes_none = refl })
+reverse_is (Data granule ipa source) back e = subst IsReverse (same_Some _ _ e) (record { unpaired = refl; takes_none = refl })
+reverse_is (Unknown granule ipa) back e = subst IsReverse (same_Some _ _ e) (record { unpaired = refl; takes_none = refl })
+reverse_is (Rec granule auxiliaries number) back e = subst IsReverse (same_Some _ _ e) (record { unpaired = refl; takes_none = refl })
+reverse_is _ back e = cc
+
+-- an act that gives a block back is the reverse of its Take
+pub of_take : (act : Act) (order first : ℕ) → reverse_of act ≡ Some (UnTake order first) → act ≡ Take order first
+unfolding reverse_of
+of_take (Take o f) order first e = let same : UnTake o f ≡ UnTake order first = same_Some _ _ e in cc
+of_take (Delegate granule) order first e = let same = same_Some _ _ e in cc
+of_take (Realm rd root vmid) order first e = let same = same_Some _ _ e in cc
+of_take (Rtt granule ipa level) order first e = let same = same_Some _ _ e in cc
+of_take (Data granule ipa source) order first e = let same = same_Some _ _ e in cc
+of_take (Unknown granule ipa) order first e = let same = same_Some _ _ e in cc
+of_take (Rec granule auxiliaries number) order first e = let same = same_Some _ _ e in cc
+of_take _ order first e = cc
+
+module _ (host : HostView) (legal : IsLegal host.limits host.history) (build : ℕ) (back : Act) (is : IsBack host build back) where
+  abbrev world : World
+  world = world_of host
+
+  pub turn : IsInTurn host.history (by build back)
+  turn = λ reverse. ap (option_and_then reverse_of) is.newest_is ∙ is.back_is
+
+  pub room : HasRoomFor host build back
+  room = record {
+    room = λ some. let none = (reverse_is is.newest back is.back_is).takes_none in absurd (omega (arith, some, none));
+    few_open = λ paired. absurd (let unpaired = (reverse_is is.newest back is.back_is).unpaired in cc);
+  }
+
+  pub done : (next : World) × (step host.limits world (by build back) ≡ Some next)
+  done =
+      let undone = undoable host.limits build host.history world is.newest back legal (world_is host legal) is.newest_is is.back_is is.rests in
+      (undone.world, undone.stepped)
+
+  stepped : IsStep host.limits world (by build back) done.0
+  stepped = step_is host.limits world done.0 (by build back) done.1
+
+  pub can_act : is_command back ≡ true → CanAct host build back
+  can_act command = record {
+    asked = record {
+      command = command;
+      there = stepped.build;
+      granules = subst (λ o. All (λ granule. slice_get world.leases granule ≡ Some o) (named back)) (holder_is build back command) stepped.granules;
+      in_range = stepped.in_range;
+      fitting = stepped.fitting;
+    };
+    turn = turn;
+    room = room;
+  }
+
+  -- what comes of it is no refusal
+  pub never_refused : (rmi : Rmi) → outcome_in host.limits world (by build back) ≡ Err rmi → ⊥
+  never_refused rmi e = let done : Ok stepped.updates ≡ Err rmi = sym stepped.outcome ∙ e in cc

@@ -1,0 +1,93 @@
+-- A block that is taken, and one that is given back.
+use Rattle.std.proofs.Common.{◌≡◌, ℕ, ◌+◌, ◌<◌, ◌≤◌, true, false, not, Some, None, refl, sym, ap, ◌∙◌, subst, arith}
+use Rattle.std.specs.List.{last_or}
+use Rattle.page_arena.specs.Block.{IsFreeBlock}
+use Rattle.realm_model.specs.declared.act.Act.{Act}
+use Rattle.realm_model.specs.declared.act.Act.TheVariants.{Take, UnTake}
+use Rattle.realm_model.specs.Act.{is_paired, is_reverse, reverse_of}
+use Rattle.realm_model.specs.History.{open_entries, IsInTurn}
+use Rattle.realm_model.specs.Room.{room_taken}
+use Rattle.realm_model.specs.Undoing.{by}
+use Rattle.rmi_monitor.specs.View.{MonitorView, IsGivable, with_block, without_block}
+use Rattle.realm_acts.specs.Mirror.{IsPerformed}
+use Rattle.realm_acts.specs.Blocks.{IsGivenBack}
+use Rattle.realm_acts.proofs.Blocks.{taken_is_step, given_back_is_step}
+use Rattle.build_books.specs.View.{HostView, world_of, open_of, with_event}
+use Rattle.build_books.specs.Kept.{CanRecord}
+use Rattle.realm_host.specs.Host.{IsWhole}
+use Rattle.realm_host.specs.Refusals.{no_block}
+use Rattle.realm_host.specs.Acting.{HasRoomFor, IsRecorded}
+use Rattle.realm_host.proofs.FreeBlocks.{some_block, none_block}
+use Rattle.realm_host.proofs.Recorded.{can_record, whole_after, is_recorded}
+
+take_forward : (history : _) (build order first : ℕ) → IsInTurn history (by build (Take order first))
+unfolding is_reverse
+take_forward history build order first = λ reverse. absurd reverse
+
+untake_takes_none : (order first : ℕ) → room_taken (UnTake order first) ≡ 0
+unfolding room_taken is_reverse reverse_of
+untake_takes_none order first = refl
+
+untake_unpaired : (order first : ℕ) → is_paired (UnTake order first) ≡ false
+unfolding reverse_of
+untake_unpaired order first = refl
+
+module _ (books : HostView) (monitor : MonitorView) (whole : IsWhole books monitor) (now : HostView) (view_is : books ≡ now) (build order : ℕ) (there_now : build < now.limits.builds) where
+  there : build < books.limits.builds
+  there = subst (λ (h : HostView). build < h.limits.builds) (sym view_is) there_now
+
+  -- ---- it is taken
+
+  pub none_free : ((first : ℕ) → IsFreeBlock monitor.free order first → ⊥) → (no_block now order).0 ≡ true
+  none_free none =
+      subst (λ (h : HostView). (no_block h order).0 ≡ true) view_is
+      (ap not (none_block (world_of books) order (λ first free. none first (subst (λ flags. IsFreeBlock flags order first) (sym whole.mirror.free) free))))
+
+  module _ (low : order ≤ 9) (room_now : (first : ℕ) → HasRoomFor now build (Take order first)) (first : ℕ) (free : IsFreeBlock monitor.free order first) (new : MonitorView)
+      (new_is : new ≡ with_block monitor order first) where
+    pub one_free : (no_block now order).0 ≡ false
+    one_free =
+        subst (λ (h : HostView). (no_block h order).0 ≡ false) view_is
+        (ap not (some_block (world_of books) order first low (subst (λ flags. IsFreeBlock flags order first) whole.mirror.free free)))
+
+    taken : IsPerformed books.limits books.history (world_of books) build (Take order first) new
+    taken = subst (IsPerformed books.limits books.history (world_of books) build (Take order first)) (sym new_is)
+        (taken_is_step books.limits books.history (world_of books) monitor build order first whole.mirror there low free)
+
+    pub can_take : CanRecord books build (Take order first)
+    can_take = can_record books monitor whole now view_is build (Take order first) new taken (take_forward books.history build order first)
+        (subst (λ (h : HostView). HasRoomFor h build (Take order first)) (sym view_is) (room_now first))
+
+    module _ (new_books : HostView) (recorded : new_books ≡ with_event books build (Take order first)) where
+      pub whole_taken : IsWhole new_books new
+      whole_taken = whole_after books monitor whole now view_is build (Take order first) new taken new_books recorded
+
+      pub take_recorded : IsRecorded now build (Take order first) new_books
+      take_recorded = is_recorded books monitor whole now view_is build (Take order first) new taken new_books recorded
+
+  -- ---- it is given back
+
+  module _ (first : ℕ) (newest : last_or None (open_of now build) ≡ Some (Take order first)) where
+    given : IsGivenBack books.limits books.history (world_of books) monitor build order first
+    given = given_back_is_step books.limits books.history (world_of books) monitor build order first whole.mirror
+        (subst (λ (h : HostView). last_or None (open_of h build) ≡ Some (Take order first)) (sym view_is) newest)
+
+    pub givable : IsGivable monitor order first
+    givable = given.givable
+
+    module _ (new : MonitorView) (new_is : new ≡ without_block monitor order first) where
+      back : IsPerformed books.limits books.history (world_of books) build (UnTake order first) new
+      back = subst (IsPerformed books.limits books.history (world_of books) build (UnTake order first)) (sym new_is) given.performed
+
+      pub can_give : CanRecord books build (UnTake order first)
+      can_give = can_record books monitor whole now view_is build (UnTake order first) new back given.turn (record {
+        room = λ some. let none = untake_takes_none order first in absurd (omega (arith, some, none));
+        few_open = λ paired. absurd (let unpaired = untake_unpaired order first in cc);
+      })
+
+      module _ (new_books : HostView) (recorded : new_books ≡ with_event books build (UnTake order first)) where
+        pub whole_given : IsWhole new_books new
+        whole_given = whole_after books monitor whole now view_is build (UnTake order first) new back new_books recorded
+
+        pub give_recorded : IsRecorded now build (UnTake order first) new_books
+        give_recorded = is_recorded books monitor whole now view_is build (UnTake order first) new back new_books recorded

@@ -1,0 +1,133 @@
+-- What follows where no check of a command holds.
+use Rattle.std.proofs.Common.{◌≡◌, ℕ, zero, suc, ◌+◌, ◌-◌, ◌<◌, ◌≤◌, Bool, true, false, not, cond, List, [], ◌∷◌, ◌++◌, length, map, Option, Some, None, refl, sym, ap, ◌∙◌, subst, arith}
+use Rattle.std.specs.Prelude.{is_some, nat_lt, nat_le, slice_get}
+use Rattle.std.specs.List.{All, filter_map}
+use Rattle.std.proofs.lemmas.Bool.{leb-false, ltb-false}
+use Rattle.std.proofs.lemmas.Option.{same_Some}
+use Rattle.std.proofs.lemmas.List.Elements.{All-nil, All-cons}
+use Rattle.build_commands.specs.declared.cmd.Cmd.{Cmd}
+use Rattle.build_commands.specs.declared.needs.Wants.{Wants}
+use Rattle.build_commands.specs.declared.needs.Wants.TheVariants.{Either, Realm as ARealm, NoRealm as NoneOf}
+use Rattle.build_commands.specs.declared.refusal.Refusal.{Refusal}
+use Rattle.build_commands.specs.Desk.{DeskView, granule_of_page}
+use Rattle.build_commands.specs.Needs.{operands, needs_of}
+use Rattle.build_commands.specs.Checks.{Check, build_checks, order_checks, page_checks, realm_checks, journal_checks, room_checks, vmid_checks, state_checks, checks_of, first_that_holds}
+
+-- ---- lists of checks
+
+pub passes : (checks more : List Check) → first_that_holds checks ≡ None → first_that_holds (checks ++ more) ≡ first_that_holds more
+passes [] more none = refl
+passes (check ∷ checks) more none = at check.0 refl none
+  where
+    at : (t : Bool) → check.0 ≡ t → cond t (Some check.1) (first_that_holds checks) ≡ None
+        → cond check.0 (Some check.1) (first_that_holds (checks ++ more)) ≡ first_that_holds more
+    at true is e = cc
+    at false is e = ap (λ t. cond t (Some check.1) (first_that_holds (checks ++ more))) is ∙ passes checks more e
+
+pub stops : (checks more : List Check) (refusal : Refusal) → first_that_holds checks ≡ Some refusal → first_that_holds (checks ++ more) ≡ Some refusal
+stops [] more refusal some = cc
+stops (check ∷ checks) more refusal some = at check.0 refl some
+  where
+    at : (t : Bool) → check.0 ≡ t → cond t (Some check.1) (first_that_holds checks) ≡ Some refusal
+        → cond check.0 (Some check.1) (first_that_holds (checks ++ more)) ≡ Some refusal
+    at true is e = ap (λ t. cond t (Some check.1) (first_that_holds (checks ++ more))) is ∙ e
+    at false is e = ap (λ t. cond t (Some check.1) (first_that_holds (checks ++ more))) is ∙ stops checks more refusal e
+
+first_none : (checks more : List Check) → first_that_holds (checks ++ more) ≡ None → first_that_holds checks ≡ None
+first_none [] more none = refl
+first_none (check ∷ checks) more none = at check.0 refl none
+  where
+    at : (t : Bool) → check.0 ≡ t → cond t (Some check.1) (first_that_holds (checks ++ more)) ≡ None → cond check.0 (Some check.1) (first_that_holds checks) ≡ None
+    at true is e = cc
+    at false is e = ap (λ t. cond t (Some check.1) (first_that_holds checks)) is ∙ first_none checks more e
+
+rest_none : (checks more : List Check) → first_that_holds (checks ++ more) ≡ None → first_that_holds more ≡ None
+rest_none checks more none = sym (passes checks more (first_none checks more none)) ∙ none
+
+pub head_false : (check : Check) (checks : List Check) → first_that_holds (check ∷ checks) ≡ None → check.0 ≡ false
+head_false check checks none = at check.0 refl none
+  where
+    at : (t : Bool) → check.0 ≡ t → cond t (Some check.1) (first_that_holds checks) ≡ None → check.0 ≡ false
+    at true is e = cc
+    at false is e = is
+
+-- ---- the checks of a command
+
+not_false : (t : Bool) → not t ≡ false → t ≡ true
+not_false true e = refl
+not_false false e = cc
+
+-- the realm that is wanted is there, or not
+abbrev pub IsWanted : Wants → Bool → Type 0
+IsWanted Either there = Unit {0}
+IsWanted NoneOf there = there ≡ false
+IsWanted ARealm there = there ≡ true
+
+module _ (desk : DeskView) (build : ℕ) (cmd : Cmd) (none : first_that_holds (checks_of desk build cmd) ≡ None) where
+  states : first_that_holds (state_checks desk build (needs_of cmd)) ≡ None
+  unfolding checks_of
+  states =
+      rest_none (page_checks desk build (operands cmd)) _
+      (rest_none (order_checks cmd) _ (rest_none (build_checks desk build) _ none))
+
+  pub not_aborting : desk.aborting build ≡ false
+  unfolding checks_of
+  not_aborting = head_false _ [] (rest_none ((nat_le desk.builds build, Rattle.build_commands.specs.declared.refusal.Refusal.TheVariants.NoBuild) ∷ []) _ (first_none (build_checks desk build) _ none))
+
+  pub order_fits : first_that_holds (order_checks cmd) ≡ None
+  unfolding checks_of
+  order_fits = first_none (order_checks cmd) _ (rest_none (build_checks desk build) _ none)
+
+  after_realm : first_that_holds (journal_checks desk build (needs_of cmd).paired ++ (room_checks desk build (needs_of cmd).room ++ vmid_checks desk (needs_of cmd).vmid)) ≡ None
+  unfolding state_checks
+  after_realm = rest_none (realm_checks desk build (needs_of cmd).realm) _ states
+
+  pub realm_wanted : IsWanted (needs_of cmd).realm (desk.realm build)
+  unfolding state_checks
+  realm_wanted = at (needs_of cmd).realm (first_none (realm_checks desk build (needs_of cmd).realm) _ states)
+    where
+      at : (wants : Wants) → first_that_holds (realm_checks desk build wants) ≡ None → IsWanted wants (desk.realm build)
+      at Either e = tt
+      at NoneOf e = head_false _ [] e
+      at ARealm e = not_false (desk.realm build) (head_false _ [] e)
+
+  pub journal_fits : (needs_of cmd).paired ≡ true → desk.opened build < 512
+  journal_fits paired = at (needs_of cmd).paired paired (first_none (journal_checks desk build (needs_of cmd).paired) _ after_realm)
+    where
+      at : (p : Bool) → p ≡ true → first_that_holds (journal_checks desk build p) ≡ None → desk.opened build < 512
+      at true is e = leb-false 512 (desk.opened build) (head_false _ [] e)
+      at false is e = cc
+
+  pub room_fits : (needs_of cmd).room ≤ desk.left build
+  room_fits =
+      ltb-false (desk.left build) (needs_of cmd).room
+      (head_false _ [] (first_none (room_checks desk build (needs_of cmd).room) _ (rest_none (journal_checks desk build (needs_of cmd).paired) _ after_realm)))
+
+-- ---- the granules of its operands
+
+pub named_are : (f : ℕ → Option ℕ) (pages granules : List ℕ) → map f pages ≡ map (λ g. Some g) granules → filter_map f pages ≡ granules
+named_are f [] [] e = refl
+named_are f [] (g ∷ gs) e = cc
+named_are f (p ∷ ps) [] e = cc
+named_are f (p ∷ ps) (g ∷ gs) e =
+    let head : f p ≡ Some g = cc in
+    let tail : map f ps ≡ map (λ (h : ℕ). Some h) gs = cc in
+    ap (λ (o : Option ℕ). elim o [ Some x ↦ x ∷ filter_map f ps | None ↦ filter_map f ps ]) head ∙ ap (λ rest. g ∷ rest) (named_are f ps gs tail)
+
+pub as_many : (f : ℕ → Option ℕ) (pages granules : List ℕ) → map f pages ≡ map (λ g. Some g) granules → length granules ≡ length pages
+as_many f [] [] e = refl
+as_many f [] (g ∷ gs) e = cc
+as_many f (p ∷ ps) [] e = cc
+as_many f (p ∷ ps) (g ∷ gs) e =
+    let tail : map f ps ≡ map (λ (h : ℕ). Some h) gs = cc in
+    ap suc (as_many f ps gs tail)
+
+pub all_found : (f : ℕ → Option ℕ) (P : ℕ → Type 0) → ((page granule : ℕ) → f page ≡ Some granule → P granule) → (pages granules : List ℕ)
+    → map f pages ≡ map (λ g. Some g) granules → All P granules
+all_found f P each [] [] e = All-nil P
+all_found f P each [] (g ∷ gs) e = cc
+all_found f P each (p ∷ ps) [] e = cc
+all_found f P each (p ∷ ps) (g ∷ gs) e =
+    let head : f p ≡ Some g = cc in
+    let tail : map f ps ≡ map (λ (h : ℕ). Some h) gs = cc in
+    All-cons P g gs (each p g head) (all_found f P each ps gs tail)

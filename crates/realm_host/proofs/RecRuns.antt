@@ -1,0 +1,136 @@
+-- Whether the REC that an act made runs, by what stands at its granule.
+use Rattle.std.proofs.Common.{◌≡◌, ℕ, ◌<◌, Bool, true, false, not, List, [], ◌∷◌, ◌++◌, Option, Some, None, length, refl, sym, ap, ◌∙◌, subst}
+use Rattle.std.specs.Prelude.{option_map, option_and_then, is_some, slice_get}
+use Rattle.std.specs.FinMap.{get}
+use Rattle.std.specs.List.{last_or, flat_map}
+use Rattle.std.proofs.lemmas.Option.{same_Some}
+use Rattle.std.proofs.lemmas.List.Concat.{flat_map-append}
+use Rattle.arrayvec.specs.declared.array_vec.ArrayVec.{ArrayVec}
+use Rattle.realm_model.specs.declared.act.Act.{Act}
+use Rattle.realm_model.specs.declared.act.Act.TheVariants.{Rec}
+use Rattle.realm_model.specs.declared.act.Event.{Event}
+use Rattle.realm_model.specs.declared.states.RecState.{RecState}
+use Rattle.realm_model.specs.declared.states.GranuleState.{GranuleState}
+use Rattle.realm_model.specs.declared.states.GranuleState.TheVariants.{Rec as InRec}
+use Rattle.realm_model.specs.Command.Check.{is_ready}
+use Rattle.realm_model.specs.Machine.{Limits, Machine, Cell, RealmRow, RecRow, Seen, seen, cell_at}
+use Rattle.realm_model.specs.Ownership.{granules_of_rec}
+use Rattle.realm_model.specs.Reachable.{IsReachable}
+use Rattle.realm_model.specs.Roles.{Role, AsRec, target}
+use Rattle.realm_model.specs.Running.{rec_runs, is_rec_running, is_running}
+use Rattle.realm_model.specs.History.{open_entries, replay, IsLegal}
+use Rattle.realm_model.proofs.Reachable.{reachable_worlds}
+use Rattle.realm_model.proofs.RealmOf.{IsAt, IsAt-realm_of}
+use Rattle.realm_acts.specs.Performing.{rec_granule}
+use Rattle.realm_acts.specs.RecsOpen.{rec_made, recs_open, granule_in, IsRising}
+use Rattle.realm_acts.proofs.RecLists.{push_same, last_is_new}
+use Rattle.realm_acts.proofs.RecsOpen.{recs_are_open}
+use Rattle.realm_model.specs.World.{World, realm_of}
+use Rattle.realm_objects.specs.Attributes.{RecAttributes}
+use Rattle.rmi_monitor.specs.View.{IsRec, rec_in}
+use Rattle.rmi_monitor.specs.Named.{rec_named, rec_attributes_of, rec_attributes_at}
+use Rattle.rmi_monitor.proofs.RecNamed.{named_some, named_none}
+
+-- a REC stands at the granule
+abbrev pub state_runs : Option RecAttributes → Bool
+state_runs None = false
+state_runs (Some rec) = not (is_ready rec.state)
+
+number_of : Role → ℕ
+number_of (AsRec number) = number
+number_of _ = 0
+
+module _ (limits : Limits) (world : World) (sound : IsReachable limits world) (granule : ℕ) where
+  target_is : (rd number : ℕ) (is : IsRec world.machine rd number granule) → target is.realm (AsRec number) ≡ Some (granule, InRec)
+  target_is rd number is =
+      ap (λ (o : Option RecRow). option_map (λ (rec : ℕ × _). (rec.0, InRec)) (option_map granules_of_rec o)) is.numbered ∙ ap (λ g. Some (g, InRec)) is.is
+
+  -- a granule is one REC of one realm
+  same_rd : (rd number other n : ℕ) → IsRec world.machine rd number granule → IsRec world.machine other n granule → rd ≡ other
+  same_rd rd number other n a b =
+      let at_a = sound.names rd a.realm a.there (AsRec number) granule InRec (target_is rd number a) in
+      let at_b = sound.names other b.realm b.there (AsRec n) granule InRec (target_is other n b) in
+      same_Some _ _ (sym at_a.1 ∙ at_b.1)
+
+  same_number : (rd number other n : ℕ) → IsRec world.machine rd number granule → IsRec world.machine other n granule → number ≡ n
+  unfolding number_of
+  same_number rd number other n a b =
+      let rds = same_rd rd number other n a b in
+      let realms : a.realm ≡ b.realm = same_Some _ _ (sym a.there ∙ ap (λ k. (cell_at world.machine k).descriptor) rds ∙ b.there) in
+      ap number_of (sound.once rd a.realm a.there (AsRec number) (AsRec n) granule InRec InRec (target_is rd number a)
+      (ap (λ (r : RealmRow). target r (AsRec n)) realms ∙ target_is other n b))
+
+  -- so that is the one that is found
+  found : (rd number : ℕ) → IsRec world.machine rd number granule → rec_named world.machine granule ≡ Some (rd, number)
+  found rd number is = at (rec_named world.machine granule) refl
+    where
+      at : (o : Option (ℕ × ℕ)) → rec_named world.machine granule ≡ o → o ≡ Some (rd, number)
+      at None none = absurd (named_none world.machine granule none rd number is)
+      at (Some named) some =
+          let other = named_some world.machine granule named.0 named.1 some in
+          λ i. Some (same_rd named.0 named.1 rd number other is i, same_number named.0 named.1 rd number other is i)
+
+  pub runs_as : (rd number : ℕ) (is : IsRec world.machine rd number granule) → state_runs (rec_attributes_at world.machine granule) ≡ is_rec_running (Some is.rec)
+  runs_as rd number is =
+      ap (λ o. state_runs (option_and_then (λ (named : ℕ × ℕ). option_map (rec_attributes_of named.1) (rec_in world.machine named.0 named.1)) o)) (found rd number is)
+      ∙ ap (λ o. state_runs (option_map (rec_attributes_of number) (option_and_then (λ (realm : RealmRow). get realm.recs number) o))) is.there
+      ∙ ap (λ o. state_runs (option_map (rec_attributes_of number) o)) is.numbered
+
+-- ---- of the newest act that a build has open
+
+record Front (acts : List Act) (act : Act) : Type 0 where
+  front : List Act
+  is : acts ≡ front ++ act ∷ []
+
+front_of : (acts : List Act) (act : Act) → last_or None acts ≡ Some act → Front acts act
+front_of [] act e = cc
+front_of (x ∷ acts) act e = from x acts e
+  where
+    from : (x : Act) (acts : List Act) → last_or (Some x) acts ≡ Some act → Front (x ∷ acts) act
+    from x [] e = record { front = []; is = ap (λ (a : Act). a ∷ []) (same_Some _ _ e) }
+    from x (y ∷ acts) e = let rest = from y acts e in record { front = x ∷ rest.front; is = ap (λ (l : List Act). x ∷ l) rest.is }
+
+module _ (limits : Limits) (history : List Event) (world : World) (legal : IsLegal limits history) (at_world : replay limits history ≡ Some world) (build granule number : ℕ)
+    (aux : ArrayVec ℕ 16 (Unit {0})) (newest : last_or None (open_entries build history) ≡ Some (Rec granule aux number)) where
+  pub granule_is : rec_granule (realm_of build world) number ≡ Some granule
+  granule_is =
+      let opened = recs_are_open limits history world build legal at_world in
+      let split = front_of (open_entries build history) (Rec granule aux number) newest in
+      let recs : recs_open build history ≡ flat_map rec_made split.front ++ (number, granule) ∷ [] = ap (flat_map rec_made) split.is ∙ flat_map-append rec_made split.front (Rec granule aux number ∷ []) in
+      let rising : IsRising (flat_map rec_made split.front ++ (number, granule) ∷ []) = subst IsRising recs opened.rising in
+      opened.granules number ∙ ap (λ rs. granule_in rs number) recs
+      ∙ push_same (flat_map rec_made split.front) number granule (last_is_new (flat_map rec_made split.front) number granule rising)
+
+  record There : Type 0 where
+    rd : Seen
+    realm_is : realm_of build world ≡ Some (seen world.machine rd.number)
+    rec : IsRec world.machine rd.number number granule
+
+  rec_there : There
+  rec_there = at (realm_of build world) refl (IsAt-realm_of build world) granule_is
+    where
+      by_rec : (rd : Seen) (realm : RealmRow) → (cell_at world.machine rd.number).descriptor ≡ Some realm → (o : Option RecRow) → get realm.recs number ≡ o
+          → option_map (λ (rec : RecRow). rec.granule) o ≡ Some granule → IsRec world.machine rd.number number granule
+      by_rec rd realm there None numbered e = cc
+      by_rec rd realm there (Some rec) numbered e = record { realm = realm; there = there; rec = rec; numbered = numbered; is = same_Some _ _ e }
+
+      by_row : (rd : Seen) (o : Option RealmRow) → (cell_at world.machine rd.number).descriptor ≡ o
+          → option_map (λ (rec : RecRow). rec.granule) (option_and_then (λ (row : RealmRow). get row.recs number) o) ≡ Some granule → IsRec world.machine rd.number number granule
+      by_row rd None there e = cc
+      by_row rd (Some realm) there e = by_rec rd realm there (get realm.recs number) refl e
+
+      at : (o : Option Seen) → realm_of build world ≡ o → IsAt world.machine o → rec_granule o number ≡ Some granule → There
+      at None is there e = cc
+      at (Some rd) is there e = record {
+        rd = rd;
+        realm_is = is ∙ (λ i. Some (record { number = rd.number; cell = sym there i }));
+        rec = by_row rd rd.cell.descriptor (ap (λ (c : Cell). c.descriptor) there) e;
+      }
+
+  pub runs_is : state_runs (rec_attributes_at world.machine granule) ≡ is_running (realm_of build world) (Rec granule aux number)
+  runs_is =
+      let found = rec_there in
+      runs_as limits world (reachable_worlds limits history world at_world) granule found.rd.number number found.rec
+      ∙ sym (ap (λ o. rec_runs o number) found.realm_is
+      ∙ ap (λ o. elim o [ Some (realm : RealmRow) ↦ is_rec_running (get realm.recs number) | None ↦ false ]) found.rec.there
+      ∙ ap is_rec_running found.rec.numbered)

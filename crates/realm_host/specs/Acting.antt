@@ -1,0 +1,49 @@
+-- What is recorded of an act, and what it needs.
+use Rattle.std.specs.Prelude.{◌≡◌, ℕ, ◌+◌, ◌<◌, ◌≤◌, [], ◌∷◌, ◌++◌, length, true, false, Bool, Option, Some, None, Result, Ok, Err}
+use Rattle.std.specs.List.{last_or}
+use Rattle.realm_model.specs.declared.act.Act.{Act}
+use Rattle.realm_model.specs.declared.act.Act.TheVariants.{Take}
+use Rattle.realm_model.specs.declared.rmi.Rmi.{Rmi}
+use Rattle.realm_model.specs.Act.{is_paired, reverse_of}
+use Rattle.realm_model.specs.History.{IsLegal, IsInTurn}
+use Rattle.realm_model.specs.Room.{room_taken}
+use Rattle.realm_model.specs.Running.{is_running}
+use Rattle.realm_model.specs.Step.{outcome_in}
+use Rattle.realm_model.specs.World.{realm_of}
+use Rattle.realm_model.specs.Undoing.{by}
+use Rattle.realm_acts.specs.Mirror.{IsAsked}
+use Rattle.build_books.specs.View.{HostView, world_of, open_of, used, with_event}
+use Rattle.realm_host.specs.Refusals.{no_block}
+
+-- the build has the room that an act takes, if it takes any, and can have it open where it has a reverse
+pub record HasRoomFor (host : HostView) (build : ℕ) (act : Act) : Type 0 where
+  pub room : 0 < room_taken act → used host build + room_taken act ≤ host.capacity
+  pub few_open : is_paired act ≡ true → length (open_of host build) < 512
+
+-- the act is asked for, in turn, and there is room for it
+pub record CanAct (host : HostView) (build : ℕ) (act : Act) : Type 0 where
+  pub asked : IsAsked host.limits (world_of host) build act
+  pub turn : IsInTurn host.history (by build act)
+  pub room : HasRoomFor host build act
+
+-- one event, which is legal, ends the history
+pub record IsRecorded (host : HostView) (build : ℕ) (act : Act) (new : HostView) : Type 0 where
+  pub legal : IsLegal host.limits (host.history ++ by build act ∷ [])
+  pub grows : new ≡ with_event host build act
+
+-- The act is recorded, or refused as what comes of it, and then nothing changes.
+abbrev pub IsActed : HostView → ℕ → Act → Result (Unit {0}) Rmi → HostView → Type 0
+IsActed host build act (Ok done) new = IsRecorded host build act new
+IsActed host build act (Err rmi) new = (outcome_in host.limits (world_of host) (by build act) ≡ Err rmi) × (new ≡ host)
+
+-- A free block is leased; or there is none, and nothing changes.
+abbrev pub IsBlockTaken : HostView → ℕ → ℕ → Option ℕ → HostView → Type 0
+IsBlockTaken host build order (Some first) new = ((no_block host order).0 ≡ false) × IsRecorded host build (Take order first) new
+IsBlockTaken host build order None new = ((no_block host order).0 ≡ true) × (new ≡ host)
+
+-- the act is the reverse of the newest that the build has open, which made no REC that runs
+pub record IsBack (host : HostView) (build : ℕ) (back : Act) : Type 0 where
+  pub newest : Act
+  pub newest_is : last_or None (open_of host build) ≡ Some newest
+  pub back_is : reverse_of newest ≡ Some back
+  pub rests : is_running (realm_of build (world_of host)) newest ≡ false

@@ -1,0 +1,23 @@
+//! An act, performed and recorded: all commands but a Take go through here, and their reverses.
+ghost use Rattle.realm_host.specs.Acting.{CanAct, IsActed};
+
+use crate::Host;
+use granule_addr::BuildId;
+use page_arena::PageStore;
+use realm_acts::perform;
+use realm_model::{Act, Rmi};
+
+impl<S: PageStore> Host<S> {
+    // Performs an act that is asked for, and records it. A refusal changes nothing.
+    pub(crate) fn act(&mut self, build: BuildId, act: Act) -> Result<(), Rmi>
+        requires { CanAct self.old build act }
+        ensures { IsActed self.old build act result self.new }
+    {
+        let place = self.books.place(build, &act);
+        if let Err(rmi) = perform(&mut self.monitor, place, &act) {
+            return Err(rmi);
+        }
+        self.books.record(build, act);
+        Ok(())
+    }
+}

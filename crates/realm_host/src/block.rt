@@ -1,0 +1,34 @@
+//! Blocks of pages, taken and given back.
+ghost use Rattle.std.specs.Prelude.{◌≡◌, ℕ, ◌<◌, Some, None};
+ghost use Rattle.std.specs.List.{last_or};
+ghost use Rattle.realm_model.specs.declared.act.Act.TheVariants as acts;
+ghost use Rattle.build_books.specs.View.{open_of};
+ghost use Rattle.realm_host.specs.Acting.{HasRoomFor, IsBlockTaken, IsRecorded};
+
+use crate::Host;
+use granule_addr::{BuildId, Gran, Order};
+use page_arena::PageStore;
+use realm_model::Act;
+
+impl<S: PageStore> Host<S> {
+    // Leases a free block; None where there is none of that order.
+    pub(crate) fn take_block(&mut self, build: BuildId, order: Order) -> Option<Gran>
+        requires there { build < self.old.limits.builds }
+        requires room { (first : ℕ) → HasRoomFor self.old build (acts.Take order first) }
+        ensures { IsBlockTaken self.old build order result self.new }
+    {
+        let first = self.monitor.take(order)?;
+        self.books.record(build, Act::Take { order, first });
+        Some(first)
+    }
+
+    // Gives back the block that a build has taken last.
+    pub(crate) fn give_back(&mut self, build: BuildId, order: Order, first: Gran)
+        requires there { build < self.old.limits.builds }
+        requires newest { last_or None (open_of self.old build) ≡ Some (acts.Take order first) }
+        ensures { IsRecorded self.old build (acts.UnTake order first) self.new }
+    {
+        self.monitor.give(first, order);
+        self.books.record(build, Act::UnTake { order, first });
+    }
+}
