@@ -1,5 +1,5 @@
 //! The history, and what is kept beside it.
-ghost use Rattle.std.specs.Prelude.{◌≡◌, ℕ, ◌<◌, ◌≤◌, [], length, replicate, nat_lt, None, IfOk, IfSome, option_map};
+ghost use Rattle.std.specs.Prelude.{◌≡◌, ℕ, ◌<◌, ◌≤◌, [], length, replicate, true, nat_lt, None, IfOk, IfSome, option_map};
 ghost use Rattle.std.specs.Bool.{OnFalse};
 ghost use Rattle.std.specs.List.{last_or};
 ghost use Rattle.realm_model.specs.History.{acts_of, IsLegal, LeavesNoTrace};
