@@ -29,10 +29,10 @@ module _ (desk : DeskView) (build : ℕ) where
   page_there page granule old new some is = (
     ap (λ (gs : List ℕ). length gs) is ∙ length-append old (granule ∷ []),
     λ before had.
-      map-append found before (page ∷ [])
-      ∙ (λ i. had i ++ some i ∷ [])
-      ∙ sym (map-append (λ g. Some g) old (granule ∷ []))
-      ∙ ap (λ (gs : List ℕ). map (λ g. Some g) gs) (sym is),
+        map-append found before (page ∷ [])
+        ∙ (λ i. had i ++ some i ∷ [])
+        ∙ sym (map-append (λ g. Some g) old (granule ∷ []))
+        ∙ ap (λ (gs : List ℕ). map (λ g. Some g) gs) (sym is),
   )
 
   pub page_missing : (page : ℕ) (old new : List ℕ) → found page ≡ None → AreFoundNext desk build (page ∷ []) old (Err (NotLeased page)) new
@@ -47,9 +47,9 @@ module _ (desk : DeskView) (build : ℕ) where
   next_after ps qs a b c d (Ok done) one two same = (
     (let l = length-append ps qs in let x = one.0 in let y = two.0 in let z = ap (λ (gs : List ℕ). length gs) same in omega arith),
     λ before had.
-      ap (λ (pages : List ℕ). map found pages) (sym (append_assoc before ps qs))
-      ∙ two.1 (before ++ ps) (one.1 before had)
-      ∙ ap (λ (gs : List ℕ). map (λ g. Some g) gs) same,
+        ap (λ (pages : List ℕ). map found pages) (sym (append_assoc before ps qs))
+        ∙ two.1 (before ++ ps) (one.1 before had)
+        ∙ ap (λ (gs : List ℕ). map (λ g. Some g) gs) same,
   )
   next_after ps qs a b c d (Err refusal) one two same = λ before had.
       ap (λ (pages : List ℕ). first_that_holds (page_checks desk build pages)) (sym (append_assoc before ps qs)) ∙ two (before ++ ps) (one.1 before had)

@@ -1,16 +1,20 @@
 -- How the act of a command fits the command, and what comes of it.
 use Rattle.std.specs.Prelude.{◌≡◌, ◌==◌, ℕ, List, length, slice_index, Bool, true, false, Option, Some, None, Err}
 use Rattle.std.specs.List.{All}
+use Rattle.granule_addr.specs.Ipa.{is_width}
 use Rattle.realm_model.specs.declared.act.Act.{Act}
 use Rattle.realm_model.specs.declared.act.Act.TheVariants.{Take as TakeAct, UnTake}
-use Rattle.realm_model.specs.Machine.{Limits, Seen}
+use Rattle.realm_model.specs.Machine.{Limits, RealmRow, Seen}
 use Rattle.realm_model.specs.Update.{Outcome}
 use Rattle.realm_model.specs.Act.{named, is_paired, is_reverse}
 use Rattle.realm_model.specs.Room.{room_taken}
 use Rattle.realm_model.specs.Command.Check.{error_input}
-use Rattle.realm_model.specs.Outcome.{outcome_of, realm_is, fits}
+use Rattle.realm_model.specs.Command.Table.{rtt_create, rtt_init_ripas}
+use Rattle.realm_model.specs.Command.Data.{data_create, data_create_unknown}
+use Rattle.realm_model.specs.Command.Rec.{guest_write}
+use Rattle.realm_model.specs.Outcome.{outcome_of, on_one, on_two, realm_is, fits}
 use Rattle.build_commands.specs.declared.cmd.Cmd.{Cmd}
-use Rattle.build_commands.specs.declared.cmd.Cmd.TheVariants.{Peek, Realm, Rec}
+use Rattle.build_commands.specs.declared.cmd.Cmd.TheVariants.{Peek, Realm, Rtt, Ripas, Data, Unknown, Rec, Poke}
 use Rattle.build_commands.specs.declared.picked.Picked.{Picked}
 use Rattle.build_commands.specs.Needs.{operands, needs_of}
 use Rattle.build_commands.specs.Acts.{act_of}
@@ -60,3 +64,24 @@ outcome_of_act limits used (Some act) realm cells = outcome_of limits used act r
 abbrev pub OutcomeIsAnyPicks : Limits → List ℕ → Cmd → List ℕ → Picked → Picked → Option Seen → List Seen → Type 0
 OutcomeIsAnyPicks limits used cmd granules one other realm cells =
     one.vmid ≡ other.vmid → outcome_of_act limits used (act_of cmd granules one) realm cells ≡ outcome_of_act limits used (act_of cmd granules other) realm cells
+
+-- ---- numbers that stand in no act
+
+-- the realm has a width that realms have
+abbrev pub HasWidth : Seen → Type 0
+HasWidth rd = (realm : RealmRow) → rd.cell.descriptor ≡ Some realm → is_width realm.root.width ≡ true
+
+-- A command of the monitor on a realm and granules, with the numbers as they are written, is refused with RMI_ERROR_INPUT.
+abbrev pub IsInputError : Cmd → Seen → List Seen → Type 0
+IsInputError (Rtt page ipa level) rd cells = on_one cells (λ g. rtt_create rd g ipa level) ≡ Err error_input
+IsInputError (Ripas ipa count) rd cells = rtt_init_ripas rd ipa count ≡ Err error_input
+IsInputError (Data page ipa source) rd cells = on_two cells (λ g s. data_create rd g ipa s) ≡ Err error_input
+IsInputError (Unknown page ipa) rd cells = on_one cells (λ g. data_create_unknown rd g ipa) ≡ Err error_input
+IsInputError (Poke number ipa offset value) rd cells = guest_write rd number ipa offset value ≡ Err error_input
+IsInputError _ rd cells = Unit {0}
+
+-- So where an IPA granule or a level of a command on a realm stands in no act, the monitor would refuse it so, whatever else
+-- is wrong.
+abbrev pub NoActIsInputError : Cmd → List ℕ → Picked → Seen → List Seen → Type 0
+NoActIsInputError cmd granules picked rd cells =
+    length granules ≡ length (operands cmd) → act_of cmd granules picked ≡ None → HasWidth rd → IsInputError cmd rd cells

@@ -1,5 +1,6 @@
 //! The act of a command.
-ghost use Rattle.std.specs.Prelude.{◌≡◌, ◌≤◌, ◌&&◌, length, slice_get, drop, Some, None, if◌then◌else◌};
+ghost use Rattle.std.specs.Prelude.{◌≡◌, ◌≤◌, ◌&&◌, length, slice_get, drop, true, Some, None, IfSome, if◌then◌else◌};
+ghost use Rattle.realm_model.specs.Outcome.{is_in_range};
 ghost use Rattle.realm_model.specs.declared.act.Act.TheVariants as acts;
 ghost use Rattle.build_commands.specs.Needs.{operands};
 ghost use Rattle.build_commands.specs.Acts.{is_ipa, is_level, act_if, root_of, act_of};
@@ -57,8 +58,21 @@ fn starting_tables(width: u8, tables: &[Gran]) -> Option<Root>
     Some(Root { first, width })
 }
 
+fn peek_act(granule: Gran, offset: PageOff, byte: u8) -> Act
+    ensures act { result ≡ acts.Peek granule offset byte }
+    ensures in_range { is_in_range result ≡ true }
+{
+    let _in_page = offset.number();
+    Act::Peek {
+        granule,
+        offset,
+        byte,
+    }
+}
+
 fn rtt_act(granule: Gran, ipa: u32, level: u8) -> Option<Act>
-    ensures { result ≡ act_if (is_ipa ipa && is_level level) (acts.Rtt granule ipa level) }
+    ensures act { result ≡ act_if (is_ipa ipa && is_level level) (acts.Rtt granule ipa level) }
+    ensures in_range { IfSome result (λ act. is_in_range act ≡ true) }
 {
     let ipa = ipa_of(ipa)?;
     let level = Level::new(level)?;
@@ -70,14 +84,16 @@ fn rtt_act(granule: Gran, ipa: u32, level: u8) -> Option<Act>
 }
 
 fn ripas_act(ipa: u32, count: u16) -> Option<Act>
-    ensures { result ≡ act_if (is_ipa ipa) (acts.Ripas ipa count) }
+    ensures act { result ≡ act_if (is_ipa ipa) (acts.Ripas ipa count) }
+    ensures in_range { IfSome result (λ act. is_in_range act ≡ true) }
 {
     let ipa = ipa_of(ipa)?;
     Some(Act::Ripas { ipa, count })
 }
 
 fn data_act(granule: Gran, ipa: u32, source: Gran) -> Option<Act>
-    ensures { result ≡ act_if (is_ipa ipa) (acts.Data granule ipa source) }
+    ensures act { result ≡ act_if (is_ipa ipa) (acts.Data granule ipa source) }
+    ensures in_range { IfSome result (λ act. is_in_range act ≡ true) }
 {
     let ipa = ipa_of(ipa)?;
     Some(Act::Data {
@@ -88,16 +104,19 @@ fn data_act(granule: Gran, ipa: u32, source: Gran) -> Option<Act>
 }
 
 fn unknown_act(granule: Gran, ipa: u32) -> Option<Act>
-    ensures { result ≡ act_if (is_ipa ipa) (acts.Unknown granule ipa) }
+    ensures act { result ≡ act_if (is_ipa ipa) (acts.Unknown granule ipa) }
+    ensures in_range { IfSome result (λ act. is_in_range act ≡ true) }
 {
     let ipa = ipa_of(ipa)?;
     Some(Act::Unknown { granule, ipa })
 }
 
 fn poke_act(number: RecNo, ipa: u32, offset: PageOff, value: u8) -> Option<Act>
-    ensures { result ≡ act_if (is_ipa ipa) (acts.Poke number ipa offset value) }
+    ensures act { result ≡ act_if (is_ipa ipa) (acts.Poke number ipa offset value) }
+    ensures in_range { IfSome result (λ act. is_in_range act ≡ true) }
 {
     let ipa = ipa_of(ipa)?;
+    let _in_page = offset.number();
     Some(Act::Poke {
         number,
         ipa,
@@ -111,7 +130,8 @@ fn poke_act(number: RecNo, ipa: u32, offset: PageOff, value: u8) -> Option<Act>
 fn act_on_pages(cmd: &Cmd, granules: &[Gran], picked: Picked) -> Option<Act>
     requires some { 1 ≤ length (operands cmd.now) }
     requires few { length granules.now ≤ 17 }
-    ensures { result ≡ act_of cmd.now granules.now picked }
+    ensures act { result ≡ act_of cmd.now granules.now picked }
+    ensures in_range { IfSome result (λ act. is_in_range act ≡ true) }
 {
     let granule = granule_at(granules, 0)?;
     match cmd {
@@ -119,11 +139,7 @@ fn act_on_pages(cmd: &Cmd, granules: &[Gran], picked: Picked) -> Option<Act>
             granule,
             value: *value,
         }),
-        Cmd::Peek { offset, .. } => Some(Act::Peek {
-            granule,
-            offset: *offset,
-            byte: picked.byte,
-        }),
+        Cmd::Peek { offset, .. } => Some(peek_act(granule, *offset, picked.byte)),
         Cmd::Delegate { .. } => Some(Act::Delegate { granule }),
         Cmd::Realm { width, .. } => {
             let root = starting_tables(*width, &granules[1..])?;
@@ -149,10 +165,12 @@ fn act_on_pages(cmd: &Cmd, granules: &[Gran], picked: Picked) -> Option<Act>
 ///
 /// None where a number of the command can stand in no act: an IPA granule from 2^31 on, a level outside 1 to 3, a width
 /// outside 39 to 43, or starting tables that are not adjacent granules. The command is refused with RMI_ERROR_INPUT
-/// then. A Take has none either: the store picks its block.
+/// then. A Take has none either: the store picks its block. What no command checks, values and offsets in a page, is in
+/// range.
 #[tactic(auto, unfolding(crate::specs::Acts::act_of, crate::specs::Needs::operands))]
 pub fn act_of(cmd: &Cmd, granules: &ArrayVec<Gran, 17>, picked: Picked) -> Option<Act>
-    ensures { result ≡ act_of cmd.now granules.now.items picked }
+    ensures act { result ≡ act_of cmd.now granules.now.items picked }
+    ensures in_range { IfSome result (λ act. is_in_range act ≡ true) }
 {
     match cmd {
         Cmd::Take { .. } => None,

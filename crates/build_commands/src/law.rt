@@ -4,7 +4,7 @@ ghost use Rattle.realm_model.specs.declared.act.Act.{Act};
 ghost use Rattle.realm_model.specs.Machine.{Limits, Seen};
 ghost use Rattle.build_commands.specs.declared.cmd.Cmd.{Cmd};
 ghost use Rattle.build_commands.specs.declared.picked.Picked.{Picked};
-ghost use Rattle.build_commands.specs.Laws.{ActIsOfCommand, ActFits, OutcomeIsAnyPicks};
+ghost use Rattle.build_commands.specs.Laws.{ActIsOfCommand, ActFits, OutcomeIsAnyPicks, NoActIsInputError};
 
 /// The act of a command is a forward command of the monitor. It names the granules of the operands, is paired where the
 /// table says so, and takes the room that the table says.
@@ -20,4 +20,10 @@ pub fn act_fits_what_is_there()
 /// What the monitor answers to a command does not depend on the byte or the number that was picked for it.
 pub fn outcome_is_of_any_picks()
     ensures { (limits : Limits) (used : List ℕ) (cmd : Cmd) (granules : List ℕ) (one other : Picked) (realm : Option Seen) (cells : List Seen) → OutcomeIsAnyPicks limits used cmd granules one other realm cells }
+{}
+
+/// Where an IPA granule or a level of a command stands in no act, the monitor refuses it with RMI_ERROR_INPUT, whatever else
+/// is wrong.
+pub fn no_act_is_an_input_error()
+    ensures { (cmd : Cmd) (granules : List ℕ) (picked : Picked) (rd : Seen) (cells : List Seen) → NoActIsInputError cmd granules picked rd cells }
 {}

@@ -25,7 +25,7 @@ tables-preserved c = record {
 
 pub returns : goal.returns
 returns c = are_tables c.args.width c.args.tables.now c.in_ok-first.first c.in_ok-width.width c.in_ok-first.ensures c.in_ok-width.ensures (
-      sym (take_all c.tables.table-index c.args.tables.now c.tables-test.false)
-      ∙ c.tables.invariant.run
-      ∙ ap (range_with_len c.in_ok-first.first) (let count = c.start_count.ensures.value in omega arith)
+    sym (take_all c.tables.table-index c.args.tables.now c.tables-test.false)
+    ∙ c.tables.invariant.run
+    ∙ ap (range_with_len c.in_ok-first.first) (let count = c.start_count.ensures.value in omega arith)
     )

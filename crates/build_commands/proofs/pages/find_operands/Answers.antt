@@ -22,7 +22,7 @@ returns-in_err-find-in-Realm g c =
     let desk = g.D.Desk.seen c.args.desk.now in
     let old = c.args.found.now.items in
     rw (told.1, told.2, c.in-Realm.is) (first_missing desk c.args.build (c.in-Realm.rd ∷ []) (range_with_len c.in-Realm.root (tables_named c.in-Realm.width)) c.in_err-find-in-Realm.field-0.0
-      old c.find-in-Realm.new.found.items c.find-in-Realm.new.found.items c.in_err-find-in-Realm.ensures.next)
+    old c.find-in-Realm.new.found.items c.find-in-Realm.new.found.items c.in_err-find-in-Realm.ensures.next)
 
 pub returns-in_err-find-in-Rec : goal.returns-in_err-find-in-Rec
 unfolding operands
@@ -31,4 +31,4 @@ returns-in_err-find-in-Rec g c =
     let desk = g.D.Desk.seen c.args.desk.now in
     let old = c.args.found.now.items in
     rw (told.1, told.2, c.in-Rec.is) (first_missing desk c.args.build (c.in-Rec.page ∷ []) c.in-Rec.auxiliaries.items c.in_err-find-in-Rec.field-0.0
-      old c.find-in-Rec.new.found.items c.find-in-Rec.new.found.items c.in_err-find-in-Rec.ensures.next)
+    old c.find-in-Rec.new.found.items c.find-in-Rec.new.found.items c.in_err-find-in-Rec.ensures.next)
