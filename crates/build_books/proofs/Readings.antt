@@ -1,6 +1,6 @@
 -- What is read of books.
 use Rattle.std.proofs.Common.{◌≡◌, ℕ, ◌+◌, ◌<◌, ◌≤◌, Bool, true, false, List, [], length, get_or, Option, Some, None, refl, sym, ap, ◌∙◌, subst, arith}
-use Rattle.std.specs.Prelude.{nat_lt, slice_get, option_map, IfSome}
+use Rattle.std.specs.Prelude.{nat_lt, slice_get, option_map, IfSome, IsSome}
 use Rattle.std.specs.Bool.{OnFalse}
 use Rattle.std.specs.List.{flat_map, sum_by}
 use Rattle.std.proofs.lemmas.Bool.{ltb-false, ltb-true}
@@ -38,6 +38,13 @@ none_open build history none = ap unmatched none
 if_some : (o : Option ℕ) (P : ℕ → Type 0) → ((x : ℕ) → o ≡ Some x → P x) → IfSome o P
 if_some None P each = tt
 if_some (Some x) P each = each x refl
+
+some_within : (xs : List ℕ) (place : ℕ) → IsSome (slice_get xs place) → place < length xs
+some_within xs place some = at (slice_get xs place) refl some
+  where
+    at : (o : Option ℕ) → slice_get xs place ≡ o → IsSome o → place < length xs
+    at None is h = cc
+    at (Some x) is h = slice_get_within xs place x is
 
 module _ (host : HostView) (builds : List Build) (leases : Stacks) (vmids : Vmids) (events : Vec Event) (kept : IsKept host builds leases vmids events) where
   abbrev world : World
@@ -93,6 +100,16 @@ module _ (host : HostView) (builds : List Build) (leases : Stacks) (vmids : Vmid
     page_told page told is =
         subst (λ (h : HostView). IfSome told (λ granule. granule < h.limits.pages)) view_is
         (subst (λ (o : Option ℕ). IfSome o (λ granule. granule < host.limits.pages)) (sym (is ∙ ap (λ (pages : List ℕ). slice_get pages page) (kept.stacks_are build there))) (page_inside build page))
+
+    -- no build has more pages than the largest machine
+    pub few_told : (page : ℕ) (told : Option ℕ) → told ≡ slice_get (stack_of leases build) page → IsSome told → page < 4096
+    few_told page told is some =
+        let pages = pages_are_leased host.limits build host.history world kept.legal (world_is host kept.legal) in
+        let within : page < length (pages_of build host.history) =
+        some_within (pages_of build host.history) page (subst (λ (o : Option ℕ). IsSome o) (is ∙ ap (λ (ps : List ℕ). slice_get ps page) (kept.stacks_are build there)) some) in
+        let few = kept.few_pages in
+        let count = pages.count in
+        omega (arith, within, few, count)
 
     module _ (number : ℕ) (old : Build) (number_is : number ≡ build) (read : old ≡ get_or builds number old) where
       pub stands : IsBuildOf host.history world build old

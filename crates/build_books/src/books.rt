@@ -26,10 +26,10 @@ use std::marker::Model;
 /// The events of all builds in their order, and what they leave of each build.
 #[derive(Drop)]
 pub struct Books {
-    pub(crate) history: Vec<Event>,
+    history: Vec<Event>,
     pub(crate) builds: Vec<Build>,
     pub(crate) leases: Leases,
-    pub(crate) vmids: VmidPool,
+    vmids: VmidPool,
     aux: u8,
     capacity: u16,
 }
