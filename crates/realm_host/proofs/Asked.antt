@@ -96,7 +96,7 @@ number_fits : (o : Option Seen) → ((rd : Seen) → o ≡ Some rd → is_some r
 number_fits None row some = cc
 number_fits (Some rd) row some = at rd.cell.descriptor (row rd refl)
   where
-    at : (o : Option RealmRow) → is_some o ≡ true → elim o [ Some realm ↦ elim o [ Some (r : RealmRow) ↦ r.next | None ↦ 0 ] == realm.next | None ↦ false ] ≡ true
+    at : (o : Option RealmRow) → is_some o ≡ true → elim o [ Some realm ↦ elim o [ Some r ↦ r.next | None ↦ 0 ] == realm.next | None ↦ false ] ≡ true
     at None some = cc
     at (Some realm) some = eq-eqb realm.next realm.next refl
 
@@ -210,6 +210,12 @@ module _ (host : HostView) (legal : IsLegal host.limits host.history) (build : �
       pub act_refused : (rmi : Rmi) → outcome_in host.limits world (by build act) ≡ Err rmi → refusal_of host build (Ask cmd) ≡ Some (RmiRefusal rmi)
       act_refused rmi e = refused_as rmi (outcome_in_is ∙ e)
 
+      not_refused : (updates : List Update) → outcome_asked host build cmd ≡ Ok updates → refusal_of host build (Ask cmd) ≡ None
+      unfolding refusal_of
+      not_refused updates e =
+          passes (checks_of (desk_of host) build cmd) (last_checks host build cmd) none
+          ∙ ap first_that_holds (last_is host build cmd plain ∙ ap refused_by e)
+
       pub replied_to : (new : HostView) → IsRecorded host build act new → IsReplied host build cmd (reply_of (length (pages_of_build host build)) act) new
       replied_to new recorded =
           let done = done_of host legal build act recorded.legal in
@@ -224,12 +230,6 @@ module _ (host : HostView) (legal : IsLegal host.limits host.history) (build : �
             };
             reply_is = refl;
           }
-        where
-          not_refused : (updates : List Update) → outcome_asked host build cmd ≡ Ok updates → refusal_of host build (Ask cmd) ≡ None
-          unfolding refusal_of
-          not_refused updates e =
-              passes (checks_of (desk_of host) build cmd) (last_checks host build cmd) none
-              ∙ ap first_that_holds (last_is host build cmd plain ∙ ap refused_by e)
 
 -- a check by its needs that holds refuses
 pub refused_by_needs : (host : HostView) (build : ℕ) (cmd : Cmd) (refusal : Refusal) → first_that_holds (checks_of (desk_of host) build cmd) ≡ Some refusal

@@ -11,3 +11,5 @@ pub mod Asked
 pub mod Taken
 pub mod Realms
 pub mod Booted
+pub mod Leased
+pub mod Runs

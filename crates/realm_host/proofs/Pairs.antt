@@ -27,7 +27,6 @@ unfolding after
 one_step limits event w v e = at (step limits w event) e
   where
     at : (o : Option World) → option_and_then (after limits []) o ≡ Some v → o ≡ Some v
-    unfolding after
     at None e = cc
     at (Some x) e = e
 

@@ -1,7 +1,7 @@
 -- A Take that passed its checks.
 use Rattle.std.proofs.Common.{◌≡◌, ℕ, ◌+◌, ◌-◌, ◌<◌, ◌≤◌, Bool, true, false, cond, [], ◌∷◌, length, Option, Some, None, refl, sym, ap, ◌∙◌, arith}
-use Rattle.std.specs.Prelude.{nat_lt, nat_le}
-use Rattle.std.proofs.lemmas.Bool.{ltb-false}
+use Rattle.std.specs.Prelude.{nat_lt, nat_le, if◌then◌else◌}
+use Rattle.std.proofs.lemmas.Bool.{ltb-false, le-leb}
 use Rattle.realm_model.specs.declared.act.Act.TheVariants as acts
 use Rattle.realm_model.specs.Act.{is_paired, reverse_of}
 use Rattle.realm_model.specs.Room.{room_taken}
@@ -36,6 +36,10 @@ module _ (host : HostView) (build order : ℕ) (none : first_that_holds (checks_
     room = λ some. let fits = room_fits (desk_of host) build (cmd.Take order) none in let taken = take_room order first in omega (arith, some, fits, taken);
     few_open = λ paired. journal_fits (desk_of host) build (cmd.Take order) none (take_paired order);
   }
+
+  -- so the number is that of an order
+  pub new_is : (told : Option ℕ) → told ≡ (if nat_le order 9 then Some order else None) → told ≡ Some order
+  new_is told is = is ∙ ap (λ t. cond t (Some order) None) (le-leb order 9 low)
 
   refusal_is : refusal_of host build (Ask (cmd.Take order)) ≡ first_that_holds (no_block host order ∷ [])
   unfolding refusal_of

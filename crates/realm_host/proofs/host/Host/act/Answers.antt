@@ -1,5 +1,5 @@
 use Rattle.realm_host.proofs.Acted.{there, ready, outcome_is, whole_refused, can_be_recorded, whole_done, act_recorded}
-use Rattle.realm_host.proofs.act.Host.act.Goals as goal
+use Rattle.realm_host.proofs.host.Host.act.Goals as goal
 
 pub place-place-requires : goal.place-place-requires
 place-place-requires g c = there c.self.inside.books c.self.inside.monitor c.self.invariant c.args.self.now c.self.view_is c.args.build c.args.act c.requires
