@@ -13,3 +13,4 @@ pub mod Realms
 pub mod Booted
 pub mod Leased
 pub mod Runs
+pub mod Undone

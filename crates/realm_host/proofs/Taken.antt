@@ -1,5 +1,5 @@
 -- A Take that passed its checks.
-use Rattle.std.proofs.Common.{◌≡◌, ℕ, ◌+◌, ◌-◌, ◌<◌, ◌≤◌, Bool, true, false, cond, [], ◌∷◌, length, Option, Some, None, refl, sym, ap, ◌∙◌, arith}
+use Rattle.std.proofs.Common.{◌≡◌, ℕ, ◌+◌, ◌-◌, ◌<◌, ◌≤◌, Bool, true, false, cond, [], ◌∷◌, length, Option, Some, None, refl, sym, ap, ◌∙◌, subst, arith}
 use Rattle.std.specs.Prelude.{nat_lt, nat_le, if◌then◌else◌}
 use Rattle.std.proofs.lemmas.Bool.{ltb-false, le-leb}
 use Rattle.realm_model.specs.declared.act.Act.TheVariants as acts
@@ -16,7 +16,7 @@ use Rattle.build_books.specs.View.{HostView, pages_of_build}
 use Rattle.build_books.specs.Desk.{desk_of}
 use Rattle.realm_host.specs.Refusals.{no_block, refusal_of}
 use Rattle.realm_host.specs.Answer.{IsReplied}
-use Rattle.realm_host.specs.Acting.{HasRoomFor, IsRecorded}
+use Rattle.realm_host.specs.Acting.{HasRoomFor, IsRecorded, IsBlockTaken}
 use Rattle.realm_host.proofs.Checked.{passes, head_false, order_fits, journal_fits, room_fits}
 
 take_paired : (order : ℕ) → (needs_of (cmd.Take order)).paired ≡ true
@@ -60,3 +60,19 @@ module _ (host : HostView) (build order : ℕ) (none : first_that_holds (checks_
     };
     reply_is = refl;
   }
+
+  module _ (number : ℕ) (same : number ≡ order) where
+    pub room_of : (first : ℕ) → HasRoomFor host build (acts.Take number first)
+    room_of first = subst (λ n. HasRoomFor host build (acts.Take n first)) (sym same) (room first)
+
+    pub low_of : number ≤ 9
+    low_of = subst (λ n. n ≤ 9) (sym same) low
+
+    pub told_none : (new : HostView) → IsBlockTaken host build number None new → (refusal_of host build (Ask (cmd.Take order)) ≡ Some (NoBlock number)) × (new ≡ host)
+    told_none new taken = (no_block_there (ap (λ n. (no_block host n).0) (sym same) ∙ taken.0) ∙ ap (λ n. Some (NoBlock n)) (sym same), taken.1)
+
+    pub told_some : (first page : ℕ) (new : HostView) → page ≡ length (pages_of_build host build) → IsBlockTaken host build number (Some first) new
+        → IsReplied host build (cmd.Take order) (FirstPage page) new
+    told_some first page new page_is taken =
+        subst (λ n. IsReplied host build (cmd.Take order) (FirstPage n) new) (sym page_is)
+        (replied_to first new (ap (λ n. (no_block host n).0) (sym same) ∙ taken.0) (subst (λ n. IsRecorded host build (acts.Take n first) new) same taken.1))
