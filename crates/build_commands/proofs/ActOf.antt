@@ -1,9 +1,8 @@
 -- The act of each command.
-use Rattle.std.proofs.Common.{◌≡◌, ℕ, suc, true, false, Bool, cond, List, [], ◌∷◌, ◌++◌, length, drop, Option, Some, None, Err, refl, sym, ap, ◌∙◌, subst, arith}
-use Rattle.std.specs.Prelude.{◌==◌, ◌&&◌, slice_get, slice_index, option_map, option_and_then}
+use Rattle.std.proofs.Common.{◌≡◌, ℕ, true, false, Bool, cond, List, [], ◌∷◌, length, Option, Some, None, refl, sym, ap, ◌∙◌, subst, arith}
+use Rattle.std.specs.Prelude.{◌&&◌, option_map}
 use Rattle.std.specs.Str.{bytes_eq}
-use Rattle.std.specs.List.{All, list_all}
-use Rattle.std.proofs.lemmas.Bool.{and_parts, eq-eqb}
+use Rattle.std.proofs.lemmas.Bool.{and_parts}
 use Rattle.std.proofs.lemmas.Option.{same_Some}
 use Rattle.std.proofs.lemmas.Slice.Eq.{bytes_eq-Decides}
 use Rattle.granule_addr.specs.Ipa.{is_width}
@@ -12,16 +11,14 @@ use Rattle.granule_addr.specs.declared.root.Root.{Root}
 use Rattle.arrayvec.specs.ArrayVec.{ArrayVec}
 use Rattle.realm_model.specs.declared.act.Act.{Act}
 use Rattle.realm_model.specs.declared.act.Act.TheVariants as acts
-use Rattle.realm_model.specs.Machine.{Limits, Seen}
-use Rattle.realm_model.specs.Act.{named, is_paired, is_reverse, reverse_of}
+use Rattle.realm_model.specs.Act.{named, is_reverse, reverse_of}
 use Rattle.realm_model.specs.Room.{room_taken}
-use Rattle.realm_model.specs.Outcome.{outcome_of, realm_is, fits}
 use Rattle.build_commands.specs.declared.cmd.Cmd.{Cmd}
 use Rattle.build_commands.specs.declared.cmd.Cmd.TheVariants.{Take, Fill, Peek, Delegate, Realm, Rtt, Ripas, Data, Unknown, Rec, Activate, Enter, Exit, Poke}
 use Rattle.build_commands.specs.declared.picked.Picked.{Picked}
-use Rattle.build_commands.specs.Needs.{operands, needs_of, tables_named}
-use Rattle.build_commands.specs.Acts.{act_of, act_if, is_ipa, is_level, of_granule, root_of}
-use Rattle.build_commands.specs.Laws.{IsOfCommand, IsThere, outcome_of_act}
+use Rattle.build_commands.specs.Needs.{operands, needs_of}
+use Rattle.build_commands.specs.Acts.{act_of, act_if, is_ipa, is_level, root_of}
+use Rattle.build_commands.specs.Laws.{IsOfCommand}
 
 -- ---- parts of the definition
 

@@ -1,12 +1,11 @@
 -- Numbers that stand in no act fail an input check.
-use Rattle.std.proofs.Common.{◌≡◌, ℕ, zero, suc, ◌-◌, ◌^◌, ◌<◌, ◌≤◌, true, false, Bool, cond, not, List, [], ◌∷◌, length, Option, Some, None, Ok, Err, refl, sym, ap, ◌∙◌, arith}
+use Rattle.std.proofs.Common.{◌≡◌, ℕ, ◌-◌, ◌^◌, ◌<◌, ◌≤◌, true, false, Bool, cond, List, [], ◌∷◌, length, Option, Some, None, Err, refl, sym, ap, ◌∙◌, arith}
 use Rattle.std.specs.Prelude.{◌&&◌, ◌||◌, ◌==◌, ◌%◌, nat_le}
 use Rattle.std.specs.FinMap.{get}
 use Rattle.std.proofs.lemmas.Bool.{and_parts, and_from, eqb-true, ltb-true, lt-ltb, leb-true, le-leb}
 use Rattle.std.proofs.Math.Bool.{and-false}
 use Rattle.std.proofs.Math.Pow.{pow_mono}
 use Rattle.granule_addr.specs.Ipa.{is_width, is_protected_at, covered_count, widest_space}
-use Rattle.arrayvec.specs.ArrayVec.{ArrayVec}
 use Rattle.realm_model.specs.declared.act.Act.{Act}
 use Rattle.realm_model.specs.Machine.{RealmRow, RecRow, Seen}
 use Rattle.realm_model.specs.Rows.{is_table_place}
@@ -17,7 +16,7 @@ use Rattle.build_commands.specs.declared.cmd.Cmd.TheVariants.{Take, Fill, Peek, 
 use Rattle.build_commands.specs.declared.picked.Picked.{Picked}
 use Rattle.build_commands.specs.Needs.{operands}
 use Rattle.build_commands.specs.Acts.{act_of, act_if, is_ipa, is_level}
-use Rattle.build_commands.specs.Laws.{HasWidth, IsInputError, NoActIsInputError}
+use Rattle.build_commands.specs.Laws.{HasWidth, IsInputError}
 
 -- ---- booleans
 
@@ -65,7 +64,7 @@ unprotected : (ipa width : ℕ) → is_width width ≡ true → is_ipa ipa ≡ f
 unprotected ipa width wide bad = not_so (is_protected_at ipa width) (λ good.
     let below : ipa < 2 ^ (width - 13) = ltb-true ipa (2 ^ (width - 13)) good in
     let most : width ≤ 43 = leb-true width 43 (and_parts (nat_le 39 width) (nat_le width 43) wide).1 in
-    let more : 2 ^ (width - 13) ≤ 2 ^ 31 = pow_mono (omega arith) in
+    let more : 2 ^ (width - 13) ≤ 2 ^ 31 = pow_mono {i = width - 13} {j = 31} (omega arith) in
     clash (is_ipa ipa) (lt-ltb ipa widest_space (omega arith)) bad)
 
 no_place : (ipa level : ℕ) → is_level level ≡ false → is_table_place ipa level ≡ false

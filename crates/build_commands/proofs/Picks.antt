@@ -1,20 +1,19 @@
 -- What was picked for a command: what the act says of what is there, and what comes of the act.
-use Rattle.std.proofs.Common.{◌≡◌, ℕ, true, false, Bool, List, [], ◌∷◌, drop, Option, Some, None, refl, sym, ap, ◌∙◌, subst}
-use Rattle.std.specs.Prelude.{◌==◌, ◌&&◌, is_none, slice_index, option_map, slice_get}
+use Rattle.std.proofs.Common.{◌≡◌, ℕ, true, List, [], ◌∷◌, drop, Option, refl, sym, ap, ◌∙◌}
+use Rattle.std.specs.Prelude.{◌==◌, ◌&&◌, is_none, slice_index, option_map}
 use Rattle.std.specs.List.{All, list_all}
 use Rattle.std.proofs.lemmas.Bool.{and_from, eq-eqb}
 use Rattle.std.proofs.lemmas.List.Elements.{All-head, All-tail}
 use Rattle.std.proofs.lemmas.Option.{same_Some}
-use Rattle.arrayvec.specs.ArrayVec.{ArrayVec}
 use Rattle.realm_model.specs.declared.act.Act.{Act}
 use Rattle.realm_model.specs.declared.act.Act.TheVariants as acts
 use Rattle.realm_model.specs.Machine.{Limits, Seen}
-use Rattle.realm_model.specs.Outcome.{outcome_of, realm_is, fits}
+use Rattle.realm_model.specs.Outcome.{outcome_of, fits}
 use Rattle.build_commands.specs.declared.cmd.Cmd.{Cmd}
 use Rattle.build_commands.specs.declared.cmd.Cmd.TheVariants.{Take, Fill, Peek, Delegate, Realm, Rtt, Ripas, Data, Unknown, Rec, Activate, Enter, Exit, Poke}
 use Rattle.build_commands.specs.declared.picked.Picked.{Picked}
-use Rattle.build_commands.specs.Acts.{act_of, act_if, is_ipa, is_level, of_granule, root_of}
-use Rattle.build_commands.specs.Laws.{ActFits, IsThere, OutcomeIsAnyPicks, outcome_of_act}
+use Rattle.build_commands.specs.Acts.{act_of, is_ipa, is_level, of_granule, root_of}
+use Rattle.build_commands.specs.Laws.{ActFits, OutcomeIsAnyPicks, outcome_of_act}
 use Rattle.build_commands.proofs.ActOf.{act_in_range, some_root}
 
 -- ---- what the act says of what is there

@@ -1,4 +1,4 @@
-use Rattle.std.proofs.Common.{sym, ap, ◌∙◌}
+use Rattle.std.proofs.Common.{ap, ◌∙◌}
 use Rattle.std.proofs.lemmas.Result.{err_from_is_err_and}
 use Rattle.build_commands.specs.Needs.{operands, needs_of}
 use Rattle.build_commands.specs.Checks.{checked, build_checks, order_checks, page_checks, state_checks, checks_of}

@@ -1,9 +1,7 @@
-use Rattle.std.proofs.Common.{List, ℕ, Err, ◌∷◌, [], sym, subst}
+use Rattle.std.proofs.Common.{◌∷◌, []}
 use Rattle.std.specs.List.{range_with_len}
 use Rattle.std.proofs.lemmas.Result.{err_from_is_err_and}
-use Rattle.build_commands.specs.declared.cmd.Cmd.{Cmd}
 use Rattle.build_commands.specs.Needs.{operands, tables_named}
-use Rattle.build_commands.specs.Found.{AreFoundNext}
 use Rattle.build_commands.proofs.FoundNext.{first_missing}
 use Rattle.build_commands.proofs.pages.find_operands.Goals as goal
 

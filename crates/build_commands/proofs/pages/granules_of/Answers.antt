@@ -1,4 +1,4 @@
-use Rattle.std.proofs.Common.{List, ℕ, Ok, Err, sym, subst}
+use Rattle.std.proofs.Common.{List, ℕ, Ok, Err, subst}
 use Rattle.std.proofs.lemmas.Result.{err_from_is_err_and}
 use Rattle.build_commands.specs.Needs.{operands}
 use Rattle.build_commands.specs.Found.{AreFoundNext}
