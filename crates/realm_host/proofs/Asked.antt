@@ -74,6 +74,10 @@ abbrev pub is_take : Cmd → Bool
 is_take (Take order) = true
 is_take _ = false
 
+pub plain_of : (cmd : Cmd) → ((order : ℕ) → cmd ≡ Take order → ⊥) → is_take cmd ≡ false
+plain_of (Take order) other = absurd (other order refl)
+plain_of _ other = refl
+
 last_is : (host : HostView) (build : ℕ) (cmd : Cmd) → is_take cmd ≡ false → last_checks host build cmd ≡ refused_by (outcome_asked host build cmd)
 last_is host build (Take order) plain = cc
 last_is host build _ plain = refl
@@ -94,11 +98,11 @@ peek_outcome host build _ granules rmi e = absurd e
 number_fits : (o : Option Seen) → ((rd : Seen) → o ≡ Some rd → is_some rd.cell.descriptor ≡ true) → is_some (option_map (λ (rd : Seen). rd.number) o) ≡ true
     → realm_is o (λ d r. next_number o == r.next) ≡ true
 number_fits None row some = cc
-number_fits (Some rd) row some = at rd.cell.descriptor (row rd refl)
+number_fits (Some rd) row some = at rd.cell.descriptor (row rd refl) (next_number (Some rd)) refl
   where
-    at : (o : Option RealmRow) → is_some o ≡ true → elim o [ Some realm ↦ elim o [ Some r ↦ r.next | None ↦ 0 ] == realm.next | None ↦ false ] ≡ true
-    at None some = cc
-    at (Some realm) some = eq-eqb realm.next realm.next refl
+    at : (d : Option RealmRow) → is_some d ≡ true → (n : ℕ) → n ≡ elim d [ Some realm ↦ realm.next | None ↦ 0 ] → elim d [ Some realm ↦ n == realm.next | None ↦ false ] ≡ true
+    at None some n is = cc
+    at (Some realm) some n is = eq-eqb n realm.next is
 
 none_of : (o : Option Seen) → is_some (option_map (λ (rd : Seen). rd.number) o) ≡ false → o ≡ None
 none_of None e = refl
@@ -108,7 +112,9 @@ there_is : (host : HostView) (build : ℕ) (cmd : Cmd) (gs : List ℕ) → lengt
     → IsThere cmd (picked_for host build cmd gs) (realm_of build (world_of host)) (map (seen (world_of host).machine) gs)
 unfolding operands needs_of
 there_is host build (Peek page offset) [] long wanted = absurd (omega (arith, long))
-there_is host build (Peek page offset) (g ∷ []) long wanted = All-cons _ (seen (world_of host).machine g) [] refl (All-nil _)
+there_is host build (Peek page offset) (g ∷ []) long wanted = 
+    All-cons (λ (x : Seen). slice_index x.cell.bytes offset ≡ slice_index (cell_at (world_of host).machine g).bytes offset) (seen (world_of host).machine g) [] refl
+    (All-nil (λ (x : Seen). slice_index x.cell.bytes offset ≡ slice_index (cell_at (world_of host).machine g).bytes offset))
 there_is host build (Peek page offset) (g ∷ h ∷ gs) long wanted = absurd (omega (arith, long))
 there_is host build (Realm rd root width) gs long wanted = none_of (realm_of build (world_of host)) wanted
 there_is host build (Rec page auxiliaries) gs long wanted =

@@ -1,12 +1,13 @@
 -- The answer to an undo.
 use Rattle.std.proofs.Common.{◌≡◌, ℕ, ◌+◌, ◌-◌, ◌<◌, ◌≤◌, Bool, true, false, cond, List, [], ◌∷◌, ◌++◌, length, Option, Some, None, refl, sym, ap, ◌∙◌, subst, arith}
-use Rattle.std.specs.Prelude.{nat_lt, nat_le, option_and_then, is_some}
+use Rattle.std.specs.Prelude.{nat_lt, nat_le, option_and_then, IsSome}
 use Rattle.std.specs.List.{last_or}
 use Rattle.std.proofs.lemmas.Bool.{ltb-false, ltb-true, le-leb, lt-leb, le-ltb}
 use Rattle.build_journal.specs.Kind.{act_kind}
 use Rattle.build_journal.specs.declared.kind.Kind.{Kind}
 use Rattle.realm_model.specs.declared.act.Act.{Act}
-use Rattle.realm_model.specs.Act.{reverse_of}
+use Rattle.realm_model.specs.declared.act.Act.TheVariants.{Take, Delegate, Realm, Rtt, Data, Unknown, Rec}
+use Rattle.realm_model.specs.Act.{is_paired, reverse_of}
 use Rattle.realm_model.specs.Running.{is_running}
 use Rattle.realm_model.specs.World.{realm_of}
 use Rattle.build_commands.specs.declared.cmd.Step.TheVariants.{Undo}
@@ -83,3 +84,14 @@ module _ (host : HostView) (build : ℕ) where
 
       pub is_back : (back : Act) → reverse_of newest ≡ Some back → is_running (realm_of build (world_of host)) newest ≡ false → IsBack host build back
       is_back back back_is rests = record { newest = newest; newest_is = newest_is; back_is = back_is; rests = rests }
+
+pub has_kind : (act : Act) → is_paired act ≡ true → IsSome (act_kind act)
+unfolding reverse_of
+has_kind (Take order first) p = refl
+has_kind (Delegate granule) p = refl
+has_kind (Realm rd root vmid) p = refl
+has_kind (Rtt granule ipa level) p = refl
+has_kind (Data granule ipa source) p = refl
+has_kind (Unknown granule ipa) p = refl
+has_kind (Rec granule auxiliaries number) p = refl
+has_kind _ p = cc

@@ -1,7 +1,5 @@
 //! Commands of builds.
-ghost use Rattle.std.specs.Prelude.{◌≡◌, ◌<◌, true, None};
-ghost use Rattle.realm_model.specs.Outcome.{is_in_range};
-ghost use Rattle.realm_acts.specs.Performing.{is_command};
+ghost use Rattle.std.specs.Prelude.{◌≡◌, ◌<◌, None};
 ghost use Rattle.build_commands.specs.declared.cmd.Cmd.TheVariants as cmd;
 ghost use Rattle.build_commands.specs.declared.cmd.Step.TheVariants.{Ask};
 ghost use Rattle.build_commands.specs.Checks.{checks_of, first_that_holds};
@@ -12,26 +10,7 @@ use crate::{Cmd, Host, Refusal, Reply};
 use build_commands::{act_of, check_needs, reply_of};
 use granule_addr::{BuildId, Order};
 use page_arena::PageStore;
-use realm_model::{Act, Rmi};
-
-// The numbers of an act of the monitor are in range, since their types have no others.
-fn numbers_fit(act: &Act)
-    ensures { is_command act.now ≡ true → is_in_range act.now ≡ true }
-{
-    match act {
-        Act::Fill { value, .. } => {
-            let _value = *value;
-        }
-        Act::Peek { offset, .. } => {
-            let _offset = offset.number();
-        }
-        Act::Poke { offset, value, .. } => {
-            let _offset = offset.number();
-            let _value = *value;
-        }
-        _ => {}
-    }
-}
+use realm_model::Rmi;
 
 impl<S: PageStore> Host<S> {
     /// Performs a command of a build.
@@ -52,7 +31,6 @@ impl<S: PageStore> Host<S> {
         let Some(act) = act_of(&cmd, &granules, picked) else {
             return Err(Refusal::Rmi(Rmi::INPUT));
         };
-        numbers_fit(&act);
         let reply = reply_of(self.books.page_count(build), &act);
         if let Err(rmi) = self.act(build, act) {
             return Err(Refusal::Rmi(rmi));
