@@ -13,4 +13,4 @@ pub mod Realms
 pub mod Booted
 pub mod Leased
 pub mod Runs
-pub mod Undone
+pub mod UndoAnswers

@@ -5,7 +5,7 @@ use Rattle.std.proofs.lemmas.Bool.{ltb-true}
 use Rattle.realm_model.specs.History.{IsLegal}
 use Rattle.build_books.specs.View.{HostView, open_of}
 use Rattle.realm_host.proofs.Pairs.{leads_back}
-use Rattle.realm_host.proofs.Undone.{no_build_there, nothing_there, rec_runs, undone_is, is_back, has_kind}
+use Rattle.realm_host.proofs.UndoAnswers.{no_build_there, nothing_there, rec_runs, undone_is, is_back, has_kind}
 use Rattle.realm_host.proofs.host.Host.undo.Goals as goal
 
 pub returns-then-not-has_build-clause-answer : goal.returns-then-not-has_build-clause-answer
