@@ -112,7 +112,7 @@ there_is : (host : HostView) (build : ℕ) (cmd : Cmd) (gs : List ℕ) → lengt
     → IsThere cmd (picked_for host build cmd gs) (realm_of build (world_of host)) (map (seen (world_of host).machine) gs)
 unfolding operands needs_of
 there_is host build (Peek page offset) [] long wanted = absurd (omega (arith, long))
-there_is host build (Peek page offset) (g ∷ []) long wanted = 
+there_is host build (Peek page offset) (g ∷ []) long wanted =
     All-cons (λ (x : Seen). slice_index x.cell.bytes offset ≡ slice_index (cell_at (world_of host).machine g).bytes offset) (seen (world_of host).machine g) [] refl
     (All-nil (λ (x : Seen). slice_index x.cell.bytes offset ≡ slice_index (cell_at (world_of host).machine g).bytes offset))
 there_is host build (Peek page offset) (g ∷ h ∷ gs) long wanted = absurd (omega (arith, long))

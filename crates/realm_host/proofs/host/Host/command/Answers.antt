@@ -17,24 +17,27 @@ use Rattle.realm_host.proofs.host.Host.command.Goals as goal
 pub returns-in_err-granules : goal.returns-in_err-granules
 returns-in_err-granules g c =
     let told = err_from_is_err_and c.from_residual.result c.from_residual.ensures.1 in
-    rw (told.1, told.2) (refused_by_needs c.args.self.now c.args.build c.args.cmd _
-    (ap (λ (h : HostView). first_that_holds (checks_of (desk_of h) c.args.build c.args.cmd)) (sym c.self.view_is) ∙ c.in_err-granules.ensures.refusal), refl)
+    rw (told.1, told.2) (
+      refused_by_needs c.args.self.now c.args.build c.args.cmd _
+          (ap (λ (h : HostView). first_that_holds (checks_of (desk_of h) c.args.build c.args.cmd)) (sym c.self.view_is) ∙ c.in_err-granules.ensures.refusal),
+      refl,
+    )
 
 pub picked_for-requires : goal.picked_for-requires
 picked_for-requires g c = record {
   leased = subst (All (λ (x : ℕ). slice_get (world_of c.args.self.now).leases x ≡ Some (Some c.args.build))) (sym c.as_slice.ensures.value) (all_leased c.args.self.now (subst (λ (h : HostView). IsLegal h.limits h.history) c.self.view_is c.self.invariant.mirror.legal) c.args.build c.args.cmd c.in_ok-granules.granules.items (subst (λ (h : HostView). c.args.build < h.limits.builds) c.self.view_is c.in_ok-granules.ensures.there)
-    (ap (λ (h : HostView). first_that_holds (checks_of (desk_of h) c.args.build c.args.cmd)) (sym c.self.view_is) ∙ c.in_ok-granules.ensures.none)
-    (subst (λ (h : HostView). AreFound (desk_of h) c.args.build c.args.cmd c.in_ok-granules.granules.items) c.self.view_is c.in_ok-granules.ensures.granules));
+      (ap (λ (h : HostView). first_that_holds (checks_of (desk_of h) c.args.build c.args.cmd)) (sym c.self.view_is) ∙ c.in_ok-granules.ensures.none)
+      (subst (λ (h : HostView). AreFound (desk_of h) c.args.build c.args.cmd c.in_ok-granules.granules.items) c.self.view_is c.in_ok-granules.ensures.granules));
   named = ap length c.as_slice.ensures.value ∙ long c.args.self.now (subst (λ (h : HostView). IsLegal h.limits h.history) c.self.view_is c.self.invariant.mirror.legal) c.args.build c.args.cmd c.in_ok-granules.granules.items (subst (λ (h : HostView). c.args.build < h.limits.builds) c.self.view_is c.in_ok-granules.ensures.there)
-    (ap (λ (h : HostView). first_that_holds (checks_of (desk_of h) c.args.build c.args.cmd)) (sym c.self.view_is) ∙ c.in_ok-granules.ensures.none)
-    (subst (λ (h : HostView). AreFound (desk_of h) c.args.build c.args.cmd c.in_ok-granules.granules.items) c.self.view_is c.in_ok-granules.ensures.granules);
+      (ap (λ (h : HostView). first_that_holds (checks_of (desk_of h) c.args.build c.args.cmd)) (sym c.self.view_is) ∙ c.in_ok-granules.ensures.none)
+      (subst (λ (h : HostView). AreFound (desk_of h) c.args.build c.args.cmd c.in_ok-granules.granules.items) c.self.view_is c.in_ok-granules.ensures.granules);
 }
 
 pub returns-in-Err : goal.returns-in-Err
 returns-in-Err g c = (
   not_read c.args.self.now (subst (λ (h : HostView). IsLegal h.limits h.history) c.self.view_is c.self.invariant.mirror.legal) c.args.build c.args.cmd c.in_ok-granules.granules.items (subst (λ (h : HostView). c.args.build < h.limits.builds) c.self.view_is c.in_ok-granules.ensures.there)
-    (ap (λ (h : HostView). first_that_holds (checks_of (desk_of h) c.args.build c.args.cmd)) (sym c.self.view_is) ∙ c.in_ok-granules.ensures.none)
-    (subst (λ (h : HostView). AreFound (desk_of h) c.args.build c.args.cmd c.in_ok-granules.granules.items) c.self.view_is c.in_ok-granules.ensures.granules) (plain_of c.args.cmd c.in_default.not-Take) c.in-Err.rmi
+      (ap (λ (h : HostView). first_that_holds (checks_of (desk_of h) c.args.build c.args.cmd)) (sym c.self.view_is) ∙ c.in_ok-granules.ensures.none)
+      (subst (λ (h : HostView). AreFound (desk_of h) c.args.build c.args.cmd c.in_ok-granules.granules.items) c.self.view_is c.in_ok-granules.ensures.granules) (plain_of c.args.cmd c.in_default.not-Take) c.in-Err.rmi
       (subst (λ (gs : List ℕ). IsPeekRefused c.args.self.now c.args.cmd gs c.in-Err.rmi) c.as_slice.ensures.value c.in-Err.ensures.err),
   refl,
 )
@@ -42,8 +45,8 @@ returns-in-Err g c = (
 pub returns-in_default-act_of : goal.returns-in_default-act_of
 returns-in_default-act_of g c = (
   no_act c.args.self.now (subst (λ (h : HostView). IsLegal h.limits h.history) c.self.view_is c.self.invariant.mirror.legal) c.args.build c.args.cmd c.in_ok-granules.granules.items (subst (λ (h : HostView). c.args.build < h.limits.builds) c.self.view_is c.in_ok-granules.ensures.there)
-    (ap (λ (h : HostView). first_that_holds (checks_of (desk_of h) c.args.build c.args.cmd)) (sym c.self.view_is) ∙ c.in_ok-granules.ensures.none)
-    (subst (λ (h : HostView). AreFound (desk_of h) c.args.build c.args.cmd c.in_ok-granules.granules.items) c.self.view_is c.in_ok-granules.ensures.granules) (plain_of c.args.cmd c.in_default.not-Take)
+      (ap (λ (h : HostView). first_that_holds (checks_of (desk_of h) c.args.build c.args.cmd)) (sym c.self.view_is) ∙ c.in_ok-granules.ensures.none)
+      (subst (λ (h : HostView). AreFound (desk_of h) c.args.build c.args.cmd c.in_ok-granules.granules.items) c.self.view_is c.in_ok-granules.ensures.granules) (plain_of c.args.cmd c.in_default.not-Take)
       (ap (act_of c.args.cmd c.in_ok-granules.granules.items) (sym (c.in-Ok.ensures.ok ∙ ap (λ (gs : List ℕ). picked_for c.args.self.now c.args.build c.args.cmd gs) c.as_slice.ensures.value)) ∙ sym c.in_default-act_of.ensures.act),
   refl,
 )
@@ -56,8 +59,8 @@ act-requires g c = can_act c.args.self.now (subst (λ (h : HostView). IsLegal h.
 pub returns-in-Err-act : goal.returns-in-Err-act
 returns-in-Err-act g c = (
   act_refused c.args.self.now (subst (λ (h : HostView). IsLegal h.limits h.history) c.self.view_is c.self.invariant.mirror.legal) c.args.build c.args.cmd c.in_ok-granules.granules.items (subst (λ (h : HostView). c.args.build < h.limits.builds) c.self.view_is c.in_ok-granules.ensures.there)
-    (ap (λ (h : HostView). first_that_holds (checks_of (desk_of h) c.args.build c.args.cmd)) (sym c.self.view_is) ∙ c.in_ok-granules.ensures.none)
-    (subst (λ (h : HostView). AreFound (desk_of h) c.args.build c.args.cmd c.in_ok-granules.granules.items) c.self.view_is c.in_ok-granules.ensures.granules) (plain_of c.args.cmd c.in_default.not-Take) c.in-Some.act (ap (act_of c.args.cmd c.in_ok-granules.granules.items) (sym (c.in-Ok.ensures.ok ∙ ap (λ (gs : List ℕ). picked_for c.args.self.now c.args.build c.args.cmd gs) c.as_slice.ensures.value)) ∙ sym c.in-Some.ensures.act) c.in-Err-act.rmi c.in-Err-act.ensures.0,
+      (ap (λ (h : HostView). first_that_holds (checks_of (desk_of h) c.args.build c.args.cmd)) (sym c.self.view_is) ∙ c.in_ok-granules.ensures.none)
+      (subst (λ (h : HostView). AreFound (desk_of h) c.args.build c.args.cmd c.in_ok-granules.granules.items) c.self.view_is c.in_ok-granules.ensures.granules) (plain_of c.args.cmd c.in_default.not-Take) c.in-Some.act (ap (act_of c.args.cmd c.in_ok-granules.granules.items) (sym (c.in-Ok.ensures.ok ∙ ap (λ (gs : List ℕ). picked_for c.args.self.now c.args.build c.args.cmd gs) c.as_slice.ensures.value)) ∙ sym c.in-Some.ensures.act) c.in-Err-act.rmi c.in-Err-act.ensures.0,
   c.in-Err-act.ensures.1,
 )
 
