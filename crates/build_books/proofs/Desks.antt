@@ -1,6 +1,6 @@
 -- What is kept against what the checks of a command see.
 use Rattle.std.proofs.Common.{◌≡◌, ℕ, zero, suc, ◌+◌, ◌-◌, ◌<◌, ◌≤◌, Bool, true, false, ◌&&◌, not, List, [], ◌∷◌, length, map, get_or, Option, Some, None, refl, sym, ap, ◌∙◌, subst, cond, ⊎_elim, arith}
-use Rattle.std.specs.Prelude.{nat_le, slice_get, is_some}
+use Rattle.std.specs.Prelude.{nat_le, slice_get, is_some, IfSome, IfNone}
 use Rattle.std.specs.List.{find, range_with_len}
 use Rattle.std.proofs.lemmas.Bool.{and_parts, leb-true, cases_eq}
 use Rattle.leases.specs.Vmids.{Vmids, is_free, is_used, IsLowestFree}
@@ -44,9 +44,15 @@ module _ (host : HostView) (vmids : Vmids) (range : vmids.vmids ≡ host.limits.
   pub lowest_is : (vmid : ℕ) → IsLowestFree vmids vmid → Some vmid ≡ lowest_vmid host
   lowest_is vmid lowest =
       let free : is_vmid_free host vmid ≡ true = sym (same_free vmid) ∙ lowest.free in
-      let low = leb-true 1 vmid (and_parts (nat_le 1 vmid) _ free).0 in
-      let high = leb-true vmid host.limits.vmids (and_parts (nat_le vmid host.limits.vmids) _ (and_parts (nat_le 1 vmid) _ free).1).0 in
+      let range = and_parts _ _ (and_parts _ _ free).0 in
+      let low = leb-true 1 vmid range.0 in
+      let high = leb-true vmid host.limits.vmids range.1 in
       sym (find_lowest (is_vmid_free host) 1 host.limits.vmids vmid low (omega arith) free (λ other less. sym (same_free other) ∙ lowest.lower other less))
 
   pub none_is : ((vmid : ℕ) → is_free vmids vmid ≡ false) → None ≡ lowest_vmid host
   none_is none = sym (find_none (is_vmid_free host) 1 host.limits.vmids (λ vmid. sym (same_free vmid) ∙ none vmid))
+
+  -- so is what the pool tells
+  pub told_is : (told : Option ℕ) → IfSome told (IsLowestFree vmids) → IfNone told ((vmid : ℕ) → is_free vmids vmid ≡ false) → told ≡ lowest_vmid host
+  told_is None lowest none = none_is none
+  told_is (Some vmid) lowest none = lowest_is vmid lowest

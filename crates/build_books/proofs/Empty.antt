@@ -87,6 +87,9 @@ module _ (pages vmids aux count capacity : ℕ) (builds : List Build) (leases : 
     marks = (ap (map (λ (b : Build). b.mark)) builds_are ∙ map-replicate (λ (b : Build). b.mark) count new_build) i;
   }
 
+  abbrev limits : Limits
+  limits = record { pages = pages; vmids = vmids; aux = aux; builds = count }
+
   pub kept_empty : count ≤ 8 → pages ≤ 4096 → capacity ≤ 16384 → count * capacity ≤ vec_capacity events
       → IsKept (books_of builds leases pool aux capacity events.items) builds leases pool events
   kept_empty few few_pages small memory =
@@ -113,8 +116,5 @@ module _ (pages vmids aux count capacity : ℕ) (builds : List Build) (leases : 
         memory = memory;
       })
     where
-      abbrev limits : Limits
-      limits = record { pages = pages; vmids = vmids; aux = aux; builds = count }
-
       world_is_opening : world_of (booted pages vmids aux count capacity) ≡ opening limits
       world_is_opening = world_of-replay (booted pages vmids aux count capacity) (opening limits) (replay-nil limits)

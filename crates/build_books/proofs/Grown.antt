@@ -101,7 +101,7 @@ module _ (builds : List Build) (leases : Stacks) (vmids : Vmids) (aux capacity :
   world_after : world_of new_host ≡ can.next
   world_after = world_of-replay new_host can.next grown.world_is
 
-  pages_after_are : PagesAreLeased host.limits build later can.next
+  pages_after_are : PagesAreLeased host.limits later build can.next
   pages_after_are = pages_are_leased host.limits build later can.next grown.legal grown.world_is
 
   -- ---- the room of the build
@@ -152,6 +152,33 @@ module _ (builds : List Build) (leases : Stacks) (vmids : Vmids) (aux capacity :
       let here = is.running in
       omega (arith, one, here)
   can_rec old is _ same = tt
+
+  of_builds : All (λ (e : Event). e.build < length builds) later
+  of_builds = All-push (λ (e : Event). e.build < length builds) events.items event kept.of_builds there
+
+  rooms : (b : ℕ) → b < length builds → HasRoom new_host b
+  rooms b below = ⊎_elim
+      (λ same. subst (HasRoom new_host) (sym same) (record {
+        used = subst (λ (w : World). used_room build later w ≤ capacity) (sym world_after) used_after;
+        few_open = few_after;
+      }))
+      (λ other.
+      let apart : build ≢ b = λ e. other (sym e) in
+      let was = kept.room b below in
+      let realm : realm_of b (world_of new_host) ≡ realm_of b world =
+      ap (realm_of b) world_after
+      ∙ realm_of-other_step host.limits b world can.next event apart (kept_reached host.limits b events.items world at_world).sound.clean can.stepped in
+      let acts = ap length (acts_of-other b events.items event apart) in
+      let entries = ap length (open_entries-other b events.items event apart) in
+      let runs = ap running_count realm in
+      record {
+        used = let room = was.used in omega (arith, room, acts, entries, runs);
+        few_open = let few = was.few_open in omega (arith, few, entries);
+      })
+      (cases_eq b build)
+
+  within : (b : ℕ) → b < length builds → length (acts_of b later) ≤ capacity
+  within b below = let room = (rooms b below).used in omega (arith, room)
 
   module _ (number : ℕ) (old : Build) (number_is : number ≡ build) (read : old ≡ get_or builds number old) where
     stands : slice_get builds build ≡ Some old
@@ -290,30 +317,3 @@ module _ (builds : List Build) (leases : Stacks) (vmids : Vmids) (aux capacity :
         where
           view_path : books_of new_builds new_leases new_vmids aux capacity after.items ≡ new_host
           view_path = view_grows ∙ ap (λ (h : HostView). with_event h build act) (sym view_is)
-
-  of_builds : All (λ (e : Event). e.build < length builds) later
-  of_builds = All-push (λ (e : Event). e.build < length builds) events.items event kept.of_builds there
-
-  rooms : (b : ℕ) → b < length builds → HasRoom new_host b
-  rooms b below = ⊎_elim
-      (λ same. subst (HasRoom new_host) (sym same) (record {
-        used = subst (λ (w : World). used_room build later w ≤ capacity) (sym world_after) used_after;
-        few_open = few_after;
-      }))
-      (λ other.
-      let apart : build ≢ b = λ e. other (sym e) in
-      let was = kept.room b below in
-      let realm : realm_of b (world_of new_host) ≡ realm_of b world =
-      ap (realm_of b) world_after
-      ∙ realm_of-other_step host.limits b world can.next event apart (kept_reached host.limits b events.items world at_world).sound.clean can.stepped in
-      let acts = ap length (acts_of-other b events.items event apart) in
-      let entries = ap length (open_entries-other b events.items event apart) in
-      let runs = ap running_count realm in
-      record {
-        used = let room = was.used in omega (arith, room, acts, entries, runs);
-        few_open = let few = was.few_open in omega (arith, few, entries);
-      })
-      (cases_eq b build)
-
-  within : (b : ℕ) → b < length builds → length (acts_of b later) ≤ capacity
-  within b below = let room = (rooms b below).used in omega (arith, room)

@@ -1,12 +1,12 @@
 -- What is read of books.
-use Rattle.std.proofs.Common.{◌≡◌, ℕ, ◌+◌, ◌<◌, ◌≤◌, Bool, true, false, List, [], length, Option, Some, None, refl, sym, ap, ◌∙◌, subst, arith}
-use Rattle.std.specs.Prelude.{nat_lt, slice_get, option_map, IfSome}
+use Rattle.std.proofs.Common.{◌≡◌, ℕ, ◌+◌, ◌<◌, ◌≤◌, Bool, true, false, List, [], length, get_or, Option, Some, None, refl, sym, ap, ◌∙◌, subst, arith}
+use Rattle.std.specs.Prelude.{nat_lt, slice_get, option_map, IfSome, IsSome}
 use Rattle.std.specs.Bool.{OnFalse}
 use Rattle.std.specs.List.{flat_map, sum_by}
 use Rattle.std.proofs.lemmas.Bool.{ltb-false, ltb-true}
-use Rattle.std.proofs.lemmas.Option.{slice_get_within, get_or_from_slice_get}
+use Rattle.std.proofs.lemmas.Option.{slice_get_within, get_or_from_slice_get, slice_get-get_or}
 use Rattle.std.proofs.lemmas.List.Elements.{All-get_or}
-use Rattle.leases.specs.Stacks.{Stacks}
+use Rattle.leases.specs.Stacks.{Stacks, stack_of}
 use Rattle.leases.specs.Vmids.{Vmids}
 use Rattle.realm_model.specs.Machine.{Seen}
 use Rattle.realm_model.specs.World.{World, realm_of}
@@ -20,7 +20,10 @@ use Rattle.realm_model.proofs.Room.{room_is_sum}
 use Rattle.realm_acts.specs.Mirror.{rd_of}
 use Rattle.build_books.specs.declared.build.Build.{Build}
 use Rattle.build_books.specs.View.{HostView, world_of, open_of, used, granule_of_page}
-use Rattle.build_books.specs.Kept.{HasRoom, IsKept}
+use Rattle.realm_acts.specs.Performing.{rec_granule}
+use Rattle.realm_acts.specs.RecsOpen.{granule_in}
+use Rattle.realm_acts.proofs.RecsOpen.{recs_are_open}
+use Rattle.build_books.specs.Kept.{HasRoom, IsBuildOf, IsKept}
 use Rattle.build_books.proofs.RealmFollows.{no_realm}
 use Rattle.build_books.proofs.Totals.{acts_of-past}
 use Rattle.build_books.proofs.Worlds.{world_is}
@@ -35,6 +38,13 @@ none_open build history none = ap unmatched none
 if_some : (o : Option ℕ) (P : ℕ → Type 0) → ((x : ℕ) → o ≡ Some x → P x) → IfSome o P
 if_some None P each = tt
 if_some (Some x) P each = each x refl
+
+some_within : (xs : List ℕ) (place : ℕ) → IsSome (slice_get xs place) → place < length xs
+some_within xs place some = at (slice_get xs place) refl some
+  where
+    at : (o : Option ℕ) → slice_get xs place ≡ o → IsSome o → place < length xs
+    at None is h = cc
+    at (Some x) is h = slice_get_within xs place x is
 
 module _ (host : HostView) (builds : List Build) (leases : Stacks) (vmids : Vmids) (events : Vec Event) (kept : IsKept host builds leases vmids events) where
   abbrev world : World
@@ -79,3 +89,41 @@ module _ (host : HostView) (builds : List Build) (leases : Stacks) (vmids : Vmid
           let sized = sized_reached host.limits host.history world (world_is host kept.legal) in
           let within = slice_get_within world.leases rd.number (Some build) (leased (Some build) world.leases rd.number held) in
           omega (arith, within, sized.leases)
+
+  -- ---- by what is kept of a build
+
+  module _ (now : HostView) (view_is : host ≡ now) (build : ℕ) (there_now : build < now.limits.builds) (long : length builds ≡ host.limits.builds) where
+    there : build < host.limits.builds
+    there = subst (λ (h : HostView). build < h.limits.builds) (sym view_is) there_now
+
+    pub page_told : (page : ℕ) (told : Option ℕ) → told ≡ slice_get (stack_of leases build) page → IfSome told (λ granule. granule < now.limits.pages)
+    page_told page told is =
+        subst (λ (h : HostView). IfSome told (λ granule. granule < h.limits.pages)) view_is
+        (subst (λ (o : Option ℕ). IfSome o (λ granule. granule < host.limits.pages)) (sym (is ∙ ap (λ (pages : List ℕ). slice_get pages page) (kept.stacks_are build there))) (page_inside build page))
+
+    -- no build has more pages than the largest machine
+    pub few_told : (page : ℕ) (told : Option ℕ) → told ≡ slice_get (stack_of leases build) page → IsSome told → page < 4096
+    few_told page told is some =
+        let pages = pages_are_leased host.limits build host.history world kept.legal (world_is host kept.legal) in
+        let within : page < length (pages_of build host.history) =
+        some_within (pages_of build host.history) page (subst (λ (o : Option ℕ). IsSome o) (is ∙ ap (λ (ps : List ℕ). slice_get ps page) (kept.stacks_are build there)) some) in
+        let few = kept.few_pages in
+        let count = pages.count in
+        omega (arith, within, few, count)
+
+    module _ (number : ℕ) (old : Build) (number_is : number ≡ build) (read : old ≡ get_or builds number old) where
+      pub stands : IsBuildOf host.history world build old
+      stands =
+          kept.builds_are build old
+          (slice_get-get_or builds build old (subst (λ n. build < n) (sym long) there) ∙ ap Some (ap (λ n. get_or builds n old) (sym number_is) ∙ sym read))
+
+      pub rd_told : IfSome old.realm (λ rd. rd < now.limits.pages)
+      rd_told =
+          subst (λ (h : HostView). IfSome old.realm (λ rd. rd < h.limits.pages)) view_is
+          (subst (λ (o : Option ℕ). IfSome o (λ rd. rd < host.limits.pages)) (sym stands.realm) (rd_inside build))
+
+      pub rec_told : (rec : ℕ) (told : Option ℕ) → told ≡ granule_in old.recs rec → told ≡ rec_granule (realm_of build (world_of now)) rec
+      rec_told rec told is =
+          is ∙ ap (λ (recs : List (ℕ × ℕ)). granule_in recs rec) stands.recs
+          ∙ sym ((recs_are_open host.limits host.history world build kept.legal (world_is host kept.legal)).granules rec)
+          ∙ ap (λ (h : HostView). rec_granule (realm_of build (world_of h)) rec) view_is

@@ -56,18 +56,19 @@ head_of [] = None
 head_of (rd ∷ rds) = Some rd
 
 -- a realm that is found has a row
-with_row : (build n : ℕ) (leases : List (Option ℕ)) (machine : Machine) (rd : Seen) → realm_from build n leases machine ≡ Some rd → is_some rd.cell.descriptor ≡ true
+pub with_row : (build n : ℕ) (leases : List (Option ℕ)) (machine : Machine) (rd : Seen) → realm_from build n leases machine ≡ Some rd → is_some rd.cell.descriptor ≡ true
 unfolding realm_from
 with_row build n [] machine rd is = cc
 with_row build n (lease ∷ leases) [] rd is = cc
-with_row build n (lease ∷ leases) (cell ∷ cells) rd is = at (same_lease lease (Some build) && is_some cell.descriptor) refl is
+with_row build n (lease ∷ leases) (cell ∷ cells) rd is = at (same_lease lease (Some build) && is_some cell.descriptor) refl is (with_row build (suc n) leases cells rd)
   where
     at : (t : Bool) → (same_lease lease (Some build) && is_some cell.descriptor) ≡ t
-        → cond t (Some (record { number = n; cell = cell })) (realm_from build (suc n) leases cells) ≡ Some rd → is_some rd.cell.descriptor ≡ true
-    at true both e =
+        → cond t (Some (record { number = n; cell = cell })) (realm_from build (suc n) leases cells) ≡ Some rd
+        → (realm_from build (suc n) leases cells ≡ Some rd → is_some rd.cell.descriptor ≡ true) → is_some rd.cell.descriptor ≡ true
+    at true both e later =
         let same : record { number = n; cell = cell } ≡ rd = same_Some _ _ e in
         ap (λ (s : Seen). is_some s.cell.descriptor) (sym same) ∙ (and_parts _ _ both).1
-    at false both e = with_row build (suc n) leases cells rd e
+    at false both e later = later e
 
 rd_of_makers : (o : Option Seen) → ((rd : Seen) → o ≡ Some rd → is_some rd.cell.descriptor ≡ true)
     → option_map (λ (rd : Seen). rd.number) o ≡ head_of (flat_map rd_made (makers o))
@@ -126,7 +127,7 @@ module _ (limits : Limits) (history : List Event) (w v : World) (legal : IsLegal
         rd_later ∙ ap head_of (stays rd_made rd_removed same_rd history build act turn none_made none_removed)
         ∙ sym (rd_is limits history w legal at_w build)
 
-  rd_follows : (act : Act) → IsInTurn history (by build act) → step limits w (by build act) ≡ Some v → rd_of build v ≡ rd_after (rd_of build w) act
+  pub rd_follows : (act : Act) → IsInTurn history (by build act) → step limits w (by build act) ≡ Some v → rd_of build v ≡ rd_after (rd_of build w) act
   unfolding reverse_of is_reverse
   rd_follows (Realm rd root vmid) turn s =
       let act : Act = Realm rd root vmid in

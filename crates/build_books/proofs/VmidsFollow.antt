@@ -2,7 +2,7 @@
 use Rattle.std.proofs.Common.{◌≡◌, ℕ, ◌%◌, ◌==◌, Bool, true, false, cond, not, ◌&&◌, List, ◌∷◌, map, Ok, Err, Some, refl, sym, ap, ◌∙◌, ⊎_elim}
 use Rattle.std.specs.Prelude.{nat_le}
 use Rattle.std.specs.List.{list_all}
-use Rattle.std.proofs.lemmas.Bool.{and_parts, cases_eq}
+use Rattle.std.proofs.lemmas.Bool.{and_parts, and_from, cases_eq}
 use Rattle.granule_addr.specs.Ipa.{is_width}
 use Rattle.granule_addr.specs.Root.{start_count, starting_tables}
 use Rattle.granule_addr.specs.declared.root.Root.{Root}
@@ -30,16 +30,24 @@ unfolding check
 passed true rmi o us e = refl
 passed false rmi o us e = cc
 
+last_three : (a b c d e f g : Bool) → (a && b && c && d && e && f && g) ≡ true → (e && f && g) ≡ true
+last_three a b c d e f g all =
+    let last = and_parts (a && b && c && d && e && f) g all in
+    let high = and_parts (a && b && c && d && e) f last.0 in
+    let low = and_parts (a && b && c && d) e high.0 in
+    and_from (e && f) g (and_from e f low.1 high.1) last.1
+
 -- the VMID of a realm that is made is in range, and no realm has it
 free_for : (limits : Limits) (w : World) (build rd : ℕ) (root : Root) (vmid : ℕ) (us : List Update) → outcome_in limits w (by build (Realm rd root vmid)) ≡ Ok us
     → (nat_le 1 vmid && nat_le vmid limits.vmids && not (is_vmid_used w.machine vmid)) ≡ true
 unfolding outcome_of named
 free_for limits w build rd root vmid us e =
-    let all = passed _ _ _ us e in
-    (and_parts (list_all (is_start (seen w.machine rd)) (map (seen w.machine) (starting_tables root))) _
-    (and_parts (is_delegated (seen w.machine rd)) _
-    (and_parts (root.first % start_count root.width == 0) _
-    (and_parts (is_width root.width) _ all).1).1).1).1
+    let all : (is_width root.width && root.first % start_count root.width == 0 && is_delegated (seen w.machine rd)
+        && list_all (is_start (seen w.machine rd)) (map (seen w.machine) (starting_tables root)) && nat_le 1 vmid && nat_le vmid limits.vmids
+        && not (is_vmid_used w.machine vmid)) ≡ true = passed _ _ _ us e in
+    last_three (is_width root.width) (root.first % start_count root.width == 0) (is_delegated (seen w.machine rd))
+    (list_all (is_start (seen w.machine rd)) (map (seen w.machine) (starting_tables root))) (nat_le 1 vmid) (nat_le vmid limits.vmids)
+    (not (is_vmid_used w.machine vmid)) all
 
 module _ (limits : Limits) (w : World) (vmids : Vmids) (range : vmids.vmids ≡ limits.vmids)
     (are : (vmid : ℕ) → is_used vmids vmid ≡ is_vmid_used w.machine vmid) where

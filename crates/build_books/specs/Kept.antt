@@ -73,7 +73,7 @@ CanFollowRec build _ = Unit {0}
 pub record CanFollow (build : Build) (act : Act) : Type 0 where
   pub entries : length (pushed build.journal act) ≤ 512
   pub events : build.events < 16384
-  pub running : build.running < 16384
+  pub running : build.running ≤ 16384
   pub rec : CanFollowRec build act
 
 -- there is room for the pages of a block that is taken, and there are those of a block that is given back

@@ -3,4 +3,5 @@ pub mod Codes
 pub mod Recs
 pub mod Vmids
 pub mod Booted
+pub mod Desk
 pub mod Kept

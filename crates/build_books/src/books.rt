@@ -1,5 +1,5 @@
 //! The history, and what is kept beside it.
-ghost use Rattle.std.specs.Prelude.{◌≡◌, ℕ, ◌<◌, ◌≤◌, [], length, replicate, nat_lt, None, IfOk, IfSome, option_map};
+ghost use Rattle.std.specs.Prelude.{◌≡◌, ℕ, ◌<◌, ◌≤◌, [], length, replicate, true, nat_lt, None, IfOk, IfSome, option_map};
 ghost use Rattle.std.specs.Bool.{OnFalse};
 ghost use Rattle.std.specs.List.{last_or};
 ghost use Rattle.realm_model.specs.History.{acts_of, IsLegal, LeavesNoTrace};
@@ -26,10 +26,10 @@ use std::marker::Model;
 /// The events of all builds in their order, and what they leave of each build.
 #[derive(Drop)]
 pub struct Books {
-    pub(crate) history: Vec<Event>,
+    history: Vec<Event>,
     pub(crate) builds: Vec<Build>,
     pub(crate) leases: Leases,
-    pub(crate) vmids: VmidPool,
+    vmids: VmidPool,
     aux: u8,
     capacity: u16,
 }

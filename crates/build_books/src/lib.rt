@@ -8,7 +8,7 @@
 
 mod books;
 mod build;
-
+mod desk;
 mod mark;
 mod recs;
 

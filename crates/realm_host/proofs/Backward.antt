@@ -87,3 +87,20 @@ module _ (host : HostView) (legal : IsLegal host.limits host.history) (build : �
   -- what comes of it is no refusal
   pub never_refused : (rmi : Rmi) → outcome_in host.limits world (by build back) ≡ Err rmi → ⊥
   never_refused rmi e = let done : Ok stepped.updates ≡ Err rmi = sym stepped.outcome ∙ e in cc
+
+pub newest_take : (host : HostView) (build : ℕ) (back : Act) → IsBack host build back → (order first : ℕ) → back ≡ UnTake order first → last_or None (open_of host build) ≡ Some (Take order first)
+newest_take host build back is order first same = is.newest_is ∙ ap (λ (a : Act). Some a) (of_take is.newest order first (is.back_is ∙ ap (λ (a : Act). Some a) same))
+
+reverse_command : (act back : Act) → reverse_of act ≡ Some back → ((order first : ℕ) → back ≡ UnTake order first → ⊥) → is_command back ≡ true
+unfolding reverse_of
+reverse_command (Take order first) back e other = absurd (other order first (sym (same_Some _ _ e)))
+reverse_command (Delegate granule) back e other = ap is_command (sym (same_Some _ _ e))
+reverse_command (Realm rd root vmid) back e other = ap is_command (sym (same_Some _ _ e))
+reverse_command (Rtt granule ipa level) back e other = ap is_command (sym (same_Some _ _ e))
+reverse_command (Data granule ipa source) back e other = ap is_command (sym (same_Some _ _ e))
+reverse_command (Unknown granule ipa) back e other = ap is_command (sym (same_Some _ _ e))
+reverse_command (Rec granule auxiliaries number) back e other = ap is_command (sym (same_Some _ _ e))
+reverse_command _ back e other = cc
+
+pub command_back : (back : Act) (host : HostView) (build : ℕ) → IsBack host build back → ((order first : ℕ) → back ≡ UnTake order first → ⊥) → is_command back ≡ true
+command_back back host build is other = reverse_command is.newest back is.back_is other

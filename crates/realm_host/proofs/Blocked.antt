@@ -1,6 +1,8 @@
 -- A block that is taken, and one that is given back.
-use Rattle.std.proofs.Common.{◌≡◌, ℕ, ◌+◌, ◌<◌, ◌≤◌, true, false, not, Some, None, refl, sym, ap, ◌∙◌, subst, arith}
+use Rattle.std.proofs.Common.{◌≡◌, ℕ, ◌+◌, ◌<◌, ◌≤◌, Bool, true, false, not, List, Some, None, refl, sym, ap, ◌∙◌, subst, arith}
+use Rattle.std.specs.Prelude.{IsTrue}
 use Rattle.std.specs.List.{last_or}
+use Rattle.realm_model.specs.declared.act.Event.{Event}
 use Rattle.page_arena.specs.Block.{IsFreeBlock}
 use Rattle.realm_model.specs.declared.act.Act.{Act}
 use Rattle.realm_model.specs.declared.act.Act.TheVariants.{Take, UnTake}
@@ -20,9 +22,16 @@ use Rattle.realm_host.specs.Acting.{HasRoomFor, IsRecorded}
 use Rattle.realm_host.proofs.FreeBlocks.{some_block, none_block}
 use Rattle.realm_host.proofs.Recorded.{can_record, whole_after, is_recorded}
 
-take_forward : (history : _) (build order first : ℕ) → IsInTurn history (by build (Take order first))
+forward : (order first : ℕ) → is_reverse (Take order first) ≡ false
 unfolding is_reverse
-take_forward history build order first = λ reverse. absurd reverse
+forward order first = refl
+
+take_forward : (history : List Event) (build order first : ℕ) → IsInTurn history (by build (Take order first))
+take_forward history build order first = λ reverse. absurd (never (is_reverse (Take order first)) (forward order first) reverse)
+  where
+    never : (t : Bool) → t ≡ false → IsTrue t → ⊥
+    never true e h = cc
+    never false e h = cc
 
 untake_takes_none : (order first : ℕ) → room_taken (UnTake order first) ≡ 0
 unfolding room_taken is_reverse reverse_of

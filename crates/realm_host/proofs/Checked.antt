@@ -1,7 +1,7 @@
 -- What follows where no check of a command holds.
 use Rattle.std.proofs.Common.{◌≡◌, ℕ, zero, suc, ◌+◌, ◌-◌, ◌<◌, ◌≤◌, Bool, true, false, not, cond, List, [], ◌∷◌, ◌++◌, length, map, Option, Some, None, refl, sym, ap, ◌∙◌, subst, arith}
 use Rattle.std.specs.Prelude.{is_some, nat_lt, nat_le, slice_get}
-use Rattle.std.specs.List.{All, filter_map}
+use Rattle.std.specs.List.{All, filter_map, cons_option}
 use Rattle.std.proofs.lemmas.Bool.{leb-false, ltb-false}
 use Rattle.std.proofs.lemmas.Option.{same_Some}
 use Rattle.std.proofs.lemmas.List.Elements.{All-nil, All-cons}
@@ -9,6 +9,7 @@ use Rattle.build_commands.specs.declared.cmd.Cmd.{Cmd}
 use Rattle.build_commands.specs.declared.needs.Wants.{Wants}
 use Rattle.build_commands.specs.declared.needs.Wants.TheVariants.{Either, Realm as ARealm, NoRealm as NoneOf}
 use Rattle.build_commands.specs.declared.refusal.Refusal.{Refusal}
+use Rattle.build_commands.specs.declared.refusal.Refusal.TheVariants.{RealmThere, NoRealm, JournalFull, HistoryFull}
 use Rattle.build_commands.specs.Desk.{DeskView, granule_of_page}
 use Rattle.build_commands.specs.Needs.{operands, needs_of}
 use Rattle.build_commands.specs.Checks.{Check, build_checks, order_checks, page_checks, realm_checks, journal_checks, room_checks, vmid_checks, state_checks, checks_of, first_that_holds}
@@ -17,29 +18,32 @@ use Rattle.build_commands.specs.Checks.{Check, build_checks, order_checks, page_
 
 pub passes : (checks more : List Check) → first_that_holds checks ≡ None → first_that_holds (checks ++ more) ≡ first_that_holds more
 passes [] more none = refl
-passes (check ∷ checks) more none = at check.0 refl none
+passes (check ∷ checks) more none = at check.0 refl none (passes checks more)
   where
     at : (t : Bool) → check.0 ≡ t → cond t (Some check.1) (first_that_holds checks) ≡ None
+        → (first_that_holds checks ≡ None → first_that_holds (checks ++ more) ≡ first_that_holds more)
         → cond check.0 (Some check.1) (first_that_holds (checks ++ more)) ≡ first_that_holds more
-    at true is e = cc
-    at false is e = ap (λ t. cond t (Some check.1) (first_that_holds (checks ++ more))) is ∙ passes checks more e
+    at true is e rest = cc
+    at false is e rest = ap (λ t. cond t (Some check.1) (first_that_holds (checks ++ more))) is ∙ rest e
 
 pub stops : (checks more : List Check) (refusal : Refusal) → first_that_holds checks ≡ Some refusal → first_that_holds (checks ++ more) ≡ Some refusal
 stops [] more refusal some = cc
-stops (check ∷ checks) more refusal some = at check.0 refl some
+stops (check ∷ checks) more refusal some = at check.0 refl some (stops checks more refusal)
   where
     at : (t : Bool) → check.0 ≡ t → cond t (Some check.1) (first_that_holds checks) ≡ Some refusal
+        → (first_that_holds checks ≡ Some refusal → first_that_holds (checks ++ more) ≡ Some refusal)
         → cond check.0 (Some check.1) (first_that_holds (checks ++ more)) ≡ Some refusal
-    at true is e = ap (λ t. cond t (Some check.1) (first_that_holds (checks ++ more))) is ∙ e
-    at false is e = ap (λ t. cond t (Some check.1) (first_that_holds (checks ++ more))) is ∙ stops checks more refusal e
+    at true is e rest = ap (λ t. cond t (Some check.1) (first_that_holds (checks ++ more))) is ∙ e
+    at false is e rest = ap (λ t. cond t (Some check.1) (first_that_holds (checks ++ more))) is ∙ rest e
 
 first_none : (checks more : List Check) → first_that_holds (checks ++ more) ≡ None → first_that_holds checks ≡ None
 first_none [] more none = refl
-first_none (check ∷ checks) more none = at check.0 refl none
+first_none (check ∷ checks) more none = at check.0 refl none (first_none checks more)
   where
-    at : (t : Bool) → check.0 ≡ t → cond t (Some check.1) (first_that_holds (checks ++ more)) ≡ None → cond check.0 (Some check.1) (first_that_holds checks) ≡ None
-    at true is e = cc
-    at false is e = ap (λ t. cond t (Some check.1) (first_that_holds checks)) is ∙ first_none checks more e
+    at : (t : Bool) → check.0 ≡ t → cond t (Some check.1) (first_that_holds (checks ++ more)) ≡ None
+        → (first_that_holds (checks ++ more) ≡ None → first_that_holds checks ≡ None) → cond check.0 (Some check.1) (first_that_holds checks) ≡ None
+    at true is e rest = cc
+    at false is e rest = ap (λ t. cond t (Some check.1) (first_that_holds checks)) is ∙ rest e
 
 rest_none : (checks more : List Check) → first_that_holds (checks ++ more) ≡ None → first_that_holds more ≡ None
 rest_none checks more none = sym (passes checks more (first_none checks more none)) ∙ none
@@ -64,44 +68,54 @@ IsWanted NoneOf there = there ≡ false
 IsWanted ARealm there = there ≡ true
 
 module _ (desk : DeskView) (build : ℕ) (cmd : Cmd) (none : first_that_holds (checks_of desk build cmd) ≡ None) where
-  states : first_that_holds (state_checks desk build (needs_of cmd)) ≡ None
-  unfolding checks_of
-  states =
-      rest_none (page_checks desk build (operands cmd)) _
-      (rest_none (order_checks cmd) _ (rest_none (build_checks desk build) _ none))
+  abbrev page_part : List Check
+  page_part = page_checks desk build (operands cmd) ++ state_checks desk build (needs_of cmd)
 
-  pub not_aborting : desk.aborting build ≡ false
+  abbrev order_part : List Check
+  order_part = order_checks cmd ++ page_part
+
+  after_build : first_that_holds order_part ≡ None
   unfolding checks_of
-  not_aborting = head_false _ [] (rest_none ((nat_le desk.builds build, Rattle.build_commands.specs.declared.refusal.Refusal.TheVariants.NoBuild) ∷ []) _ (first_none (build_checks desk build) _ none))
+  after_build = rest_none (build_checks desk build) order_part none
+
+  states : first_that_holds (state_checks desk build (needs_of cmd)) ≡ None
+  states =
+      rest_none (page_checks desk build (operands cmd)) (state_checks desk build (needs_of cmd)) (rest_none (order_checks cmd) page_part after_build)
 
   pub order_fits : first_that_holds (order_checks cmd) ≡ None
-  unfolding checks_of
-  order_fits = first_none (order_checks cmd) _ (rest_none (build_checks desk build) _ none)
+  order_fits = first_none (order_checks cmd) page_part after_build
 
-  after_realm : first_that_holds (journal_checks desk build (needs_of cmd).paired ++ (room_checks desk build (needs_of cmd).room ++ vmid_checks desk (needs_of cmd).vmid)) ≡ None
+  abbrev room_part : List Check
+  room_part = room_checks desk build (needs_of cmd).room ++ vmid_checks desk (needs_of cmd).vmid
+
+  abbrev journal_part : List Check
+  journal_part = journal_checks desk build (needs_of cmd).paired ++ room_part
+
+  after_realm : first_that_holds journal_part ≡ None
   unfolding state_checks
-  after_realm = rest_none (realm_checks desk build (needs_of cmd).realm) _ states
+  after_realm = rest_none (realm_checks desk build (needs_of cmd).realm) journal_part states
 
   pub realm_wanted : IsWanted (needs_of cmd).realm (desk.realm build)
   unfolding state_checks
-  realm_wanted = at (needs_of cmd).realm (first_none (realm_checks desk build (needs_of cmd).realm) _ states)
+  realm_wanted = at (needs_of cmd).realm (first_none (realm_checks desk build (needs_of cmd).realm) journal_part states)
     where
       at : (wants : Wants) → first_that_holds (realm_checks desk build wants) ≡ None → IsWanted wants (desk.realm build)
       at Either e = tt
-      at NoneOf e = head_false _ [] e
-      at ARealm e = not_false (desk.realm build) (head_false _ [] e)
+      at NoneOf e = head_false (desk.realm build, RealmThere) [] e
+      at ARealm e = not_false (desk.realm build) (head_false (not (desk.realm build), NoRealm) [] e)
 
   pub journal_fits : (needs_of cmd).paired ≡ true → desk.opened build < 512
-  journal_fits paired = at (needs_of cmd).paired paired (first_none (journal_checks desk build (needs_of cmd).paired) _ after_realm)
+  journal_fits paired = at (needs_of cmd).paired paired (first_none (journal_checks desk build (needs_of cmd).paired) room_part after_realm)
     where
       at : (p : Bool) → p ≡ true → first_that_holds (journal_checks desk build p) ≡ None → desk.opened build < 512
-      at true is e = leb-false 512 (desk.opened build) (head_false _ [] e)
+      at true is e = leb-false 512 (desk.opened build) (head_false (nat_le 512 (desk.opened build), JournalFull) [] e)
       at false is e = cc
 
   pub room_fits : (needs_of cmd).room ≤ desk.left build
   room_fits =
       ltb-false (desk.left build) (needs_of cmd).room
-      (head_false _ [] (first_none (room_checks desk build (needs_of cmd).room) _ (rest_none (journal_checks desk build (needs_of cmd).paired) _ after_realm)))
+      (head_false (nat_lt (desk.left build) (needs_of cmd).room, HistoryFull) []
+      (first_none (room_checks desk build (needs_of cmd).room) (vmid_checks desk (needs_of cmd).vmid) (rest_none (journal_checks desk build (needs_of cmd).paired) room_part after_realm)))
 
 -- ---- the granules of its operands
 
@@ -112,7 +126,7 @@ named_are f (p ∷ ps) [] e = cc
 named_are f (p ∷ ps) (g ∷ gs) e =
     let head : f p ≡ Some g = cc in
     let tail : map f ps ≡ map (λ (h : ℕ). Some h) gs = cc in
-    ap (λ (o : Option ℕ). elim o [ Some x ↦ x ∷ filter_map f ps | None ↦ filter_map f ps ]) head ∙ ap (λ rest. g ∷ rest) (named_are f ps gs tail)
+    ap (λ (o : Option ℕ). cons_option o (filter_map f ps)) head ∙ ap (λ rest. g ∷ rest) (named_are f ps gs tail)
 
 pub as_many : (f : ℕ → Option ℕ) (pages granules : List ℕ) → map f pages ≡ map (λ g. Some g) granules → length granules ≡ length pages
 as_many f [] [] e = refl

@@ -6,3 +6,11 @@ pub mod Blocked
 pub mod Backward
 pub mod Pairs
 pub mod RecRuns
+pub mod Checked
+pub mod Asked
+pub mod Taken
+pub mod Realms
+pub mod Booted
+pub mod Leased
+pub mod Runs
+pub mod UndoAnswers

@@ -22,12 +22,11 @@ use Rattle.realm_host.specs.Acting.{IsBack, IsRecorded}
 use Rattle.realm_host.specs.PairLaw.{LeadsBack}
 use Rattle.realm_host.proofs.Backward.{turn}
 
-one_step : (limits : Limits) (event : Event) (w v : World) → after limits (event ∷ []) w ≡ Some v → step limits w event ≡ Some v
+pub one_step : (limits : Limits) (event : Event) (w v : World) → after limits (event ∷ []) w ≡ Some v → step limits w event ≡ Some v
 unfolding after
 one_step limits event w v e = at (step limits w event) e
   where
     at : (o : Option World) → option_and_then (after limits []) o ≡ Some v → o ≡ Some v
-    unfolding after
     at None e = cc
     at (Some x) e = e
 

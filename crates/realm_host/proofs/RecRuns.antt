@@ -132,5 +132,5 @@ module _ (limits : Limits) (history : List Event) (world : World) (legal : IsLeg
       let found = rec_there in
       runs_as limits world (reachable_worlds limits history world at_world) granule found.rd.number number found.rec
       ∙ sym (ap (λ o. rec_runs o number) found.realm_is
-      ∙ ap (λ o. elim o [ Some (realm : RealmRow) ↦ is_rec_running (get realm.recs number) | None ↦ false ]) found.rec.there
+      ∙ ap (λ o. elim o [ Some realm ↦ is_rec_running (get realm.recs number) | None ↦ false ]) found.rec.there
       ∙ ap is_rec_running found.rec.numbered)

@@ -1,5 +1,5 @@
 //! Blocks of pages, taken and given back.
-ghost use Rattle.std.specs.Prelude.{◌≡◌, ℕ, ◌<◌, Some, None};
+ghost use Rattle.std.specs.Prelude.{◌≡◌, ℕ, ◌<◌, ◌≤◌, Some, None};
 ghost use Rattle.std.specs.List.{last_or};
 ghost use Rattle.realm_model.specs.declared.act.Act.TheVariants as acts;
 ghost use Rattle.build_books.specs.View.{open_of};
@@ -14,12 +14,17 @@ impl<S: PageStore> Host<S> {
     // Leases a free block; None where there is none of that order.
     pub(crate) fn take_block(&mut self, build: BuildId, order: Order) -> Option<Gran>
         requires there { build < self.old.limits.builds }
+        requires low { order ≤ 9 }
         requires room { (first : ℕ) → HasRoomFor self.old build (acts.Take order first) }
         ensures { IsBlockTaken self.old build order result self.new }
     {
-        let first = self.monitor.take(order)?;
-        self.books.record(build, Act::Take { order, first });
-        Some(first)
+        match self.monitor.take(order) {
+            Some(first) => {
+                self.books.record(build, Act::Take { order, first });
+                Some(first)
+            }
+            None => None,
+        }
     }
 
     // Gives back the block that a build has taken last.

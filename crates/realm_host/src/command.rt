@@ -46,9 +46,9 @@ impl<S: PageStore> Host<S> {
     {
         let order = Order::new(order).unwrap();
         let page = self.books.page_count(build);
-        if self.take_block(build, order).is_none() {
-            return Err(Refusal::NoBlock(order));
+        match self.take_block(build, order) {
+            Some(_first) => Ok(Reply::FirstPage(page)),
+            None => Err(Refusal::NoBlock(order)),
         }
-        Ok(Reply::FirstPage(page))
     }
 }

@@ -6,15 +6,17 @@ ghost use Rattle.realm_model.specs.World.{free_set};
 ghost use Rattle.realm_model.specs.History.{IsLegal, LeavesNoTrace};
 ghost use Rattle.build_books.specs.View.{world_of, pages_of_build, granule_of_page};
 ghost use Rattle.build_books.specs.Kept.{HasRoom};
-ghost use Rattle.realm_acts.specs.Mirror.{rd_of};
+ghost use Rattle.std.specs.Option.{option_copied};
+ghost use Rattle.rmi_monitor.specs.View.{attributes_of};
 ghost use Rattle.realm_host.specs.Host.{booted_by};
-ghost use Rattle.realm_host.specs.Readings.{realm_at, measurement_at};
+ghost use Rattle.realm_host.specs.Readings.{row_of, realm_at, measurement_at};
 
 use crate::Settings;
 use build_books::Books;
 use granule_addr::{BuildId, Gran, Vmid};
 use page_arena::PageStore;
 use realm_model::{Event, GranuleState, RealmState};
+use realm_objects::RealmDesc;
 use rmi_monitor::Monitor;
 use std::alloc::{AllocError, Global};
 use std::marker::Model;
@@ -108,8 +110,7 @@ impl<S: PageStore> Host<S> {
     pub fn realm_view(&self, build: BuildId) -> Option<(RealmState, Vmid)>
         ensures { result ≡ realm_at (world_of self.now) build }
     {
-        let rd = self.rd(build)?;
-        let realm = self.monitor.realm(rd)?;
+        let realm = self.realm(build)?;
         Some((realm.state(), realm.vmid()))
     }
 
@@ -117,8 +118,7 @@ impl<S: PageStore> Host<S> {
     pub fn measurement(&self, build: BuildId) -> Option<[u8; 32]>
         ensures { result ≡ measurement_at (world_of self.now) build }
     {
-        let rd = self.rd(build)?;
-        let realm = self.monitor.realm(rd)?;
+        let realm = self.realm(build)?;
         Some(*realm.measurement())
     }
 
@@ -141,15 +141,16 @@ impl<S: PageStore> Host<S> {
         }
     }
 
-    // The RD of a build's realm.
-    fn rd(&self, build: BuildId) -> Option<Gran>
-        ensures value { result ≡ rd_of build (world_of self.now) }
-        ensures inside { IfSome result (λ rd. rd < self.now.limits.pages) }
+    // The realm of a build.
+    pub(crate) fn realm(&self, build: BuildId) -> Option<&RealmDesc>
+        ensures { option_copied result ≡ option_map attributes_of (row_of (world_of self.now) build) }
     {
-        if self.books.has_build(build) {
-            self.books.realm(build)
-        } else {
-            None
+        if !self.books.has_build(build) {
+            return None;
+        }
+        match self.books.realm(build) {
+            Some(rd) => self.monitor.realm(rd),
+            None => None,
         }
     }
 }

@@ -1,5 +1,5 @@
 //! What is picked or read for a command before its act is known.
-ghost use Rattle.std.specs.Prelude.{◌≡◌, ◌<◌, ◌≤◌, Some, IfOk, IfErr, length, slice_get, unwrap_or};
+ghost use Rattle.std.specs.Prelude.{◌≡◌, Some, IfOk, IfErr, length, slice_get, unwrap_or};
 ghost use Rattle.std.specs.List.{All};
 ghost use Rattle.realm_model.specs.Running.{next_number};
 ghost use Rattle.realm_model.specs.World.{realm_of};
@@ -22,7 +22,6 @@ impl<S: PageStore> Host<S> {
         cmd: &Cmd,
         granules: &[Gran],
     ) -> Result<Picked, Rmi>
-        requires there { build < self.now.limits.builds }
         requires leased { All (λ g. slice_get (world_of self.now).leases g ≡ Some (Some build)) granules.now }
         requires named { length granules.now ≡ length (operands cmd.now) }
         ensures ok { IfOk result (λ picked. picked ≡ picked_for self.now build cmd.now granules.now) }
@@ -65,13 +64,9 @@ impl<S: PageStore> Host<S> {
 
     // The number that the next REC of a build's realm gets; 0 where it has none.
     fn number(&self, build: BuildId) -> RecNo
-        requires { build < self.now.limits.builds }
         ensures { result ≡ next_number (realm_of build (world_of self.now)) }
     {
-        let Some(rd) = self.books.realm(build) else {
-            return RecNo::new(0);
-        };
-        match self.monitor.realm(rd) {
+        match self.realm(build) {
             Some(realm) => realm.next_number(),
             None => RecNo::new(0),
         }

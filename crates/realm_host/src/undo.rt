@@ -2,6 +2,7 @@
 ghost use Rattle.std.specs.Prelude.{◌≡◌, ◌<◌, Some, None};
 ghost use Rattle.std.specs.Bool.{OnTrue};
 ghost use Rattle.std.specs.Result.{OnOk};
+ghost use Rattle.realm_model.specs.History.{IsLegal};
 ghost use Rattle.realm_model.specs.Running.{is_running};
 ghost use Rattle.realm_model.specs.World.{realm_of};
 ghost use Rattle.std.specs.List.{last_or};
@@ -60,6 +61,7 @@ impl<S: PageStore> Host<S> {
     // Performs a reverse. The monitor refuses none but that of a REC that runs.
     fn reverse(&mut self, build: BuildId, back: Act)
         requires there { build < self.old.limits.builds }
+        requires legal { IsLegal self.old.limits self.old.history }
         requires back { IsBack self.old build back }
         ensures { IsRecorded self.old build back self.new }
     {

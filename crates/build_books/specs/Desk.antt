@@ -1,0 +1,17 @@
+-- What the checks of a command see of a host.
+use Rattle.std.specs.Prelude.{ℕ, ◌-◌, length, false, is_some, slice_index_or}
+use Rattle.build_commands.specs.Desk.{DeskView}
+use Rattle.realm_acts.specs.Mirror.{rd_of}
+use Rattle.build_books.specs.View.{HostView, world_of, open_of, pages_of_build, used}
+use Rattle.build_books.specs.Vmids.{lowest_vmid}
+
+abbrev pub desk_of : HostView → DeskView
+desk_of host = record {
+  builds = host.limits.builds;
+  aborting = λ build. slice_index_or host.aborting build false;
+  pages = λ build. pages_of_build host build;
+  realm = λ build. is_some (rd_of build (world_of host));
+  opened = λ build. length (open_of host build);
+  left = λ build. host.capacity - used host build;
+  vmid = is_some (lowest_vmid host);
+}

@@ -1,0 +1,71 @@
+-- What is read of a build's realm, by its RD.
+use Rattle.std.proofs.Common.{◌≡◌, ℕ, ◌<◌, length, Option, Some, None, refl, sym, ap, ◌∙◌, subst}
+use Rattle.std.specs.Prelude.{option_map, option_and_then, unwrap_or, IfSome}
+use Rattle.std.proofs.lemmas.Option.{same_Some}
+use Rattle.realm_model.specs.Machine.{Machine, Cell, RealmRow, Seen, cell_at}
+use Rattle.realm_model.specs.World.{World, realm_of}
+use Rattle.realm_model.specs.Running.{next_number}
+use Rattle.realm_model.proofs.Reached.{sized_reached}
+use Rattle.realm_model.proofs.RealmOf.{IsAt, IsAt-realm_of}
+use Rattle.realm_objects.specs.Attributes.{RealmAttributes}
+use Rattle.rmi_monitor.specs.View.{MonitorView, attributes_of}
+use Rattle.realm_acts.specs.Mirror.{rd_of}
+use Rattle.build_books.specs.View.{HostView, world_of}
+use Rattle.realm_host.specs.Host.{IsWhole}
+use Rattle.realm_host.specs.Readings.{row_of}
+
+-- the row of a build's realm stands at its RD
+row_at_rd : (world : World) (build rd : ℕ) → rd_of build world ≡ Some rd → row_of world build ≡ (cell_at world.machine rd).descriptor
+row_at_rd world build rd is = at (realm_of build world) (IsAt-realm_of build world) is
+  where
+    at : (o : Option Seen) → IsAt world.machine o → option_map (λ (s : Seen). s.number) o ≡ Some rd
+        → option_and_then (λ (s : Seen). s.cell.descriptor) o ≡ (cell_at world.machine rd).descriptor
+    at None there e = cc
+    at (Some s) there e =
+        sym (ap (λ (c : Cell). c.descriptor) there) ∙ ap (λ (n : ℕ). (cell_at world.machine n).descriptor) (same_Some _ _ e)
+
+no_row_by_rd : (world : World) (build : ℕ) → rd_of build world ≡ None → row_of world build ≡ None
+no_row_by_rd world build is = at (realm_of build world) is
+  where
+    at : (o : Option Seen) → option_map (λ (s : Seen). s.number) o ≡ None → option_and_then (λ (s : Seen). s.cell.descriptor) o ≡ None
+    at None e = refl
+    at (Some s) e = cc
+
+-- the next number, by the row
+pub next_is : (world : World) (build : ℕ) → next_number (realm_of build world) ≡ unwrap_or (option_map (λ (realm : RealmRow). realm.next) (row_of world build)) 0
+next_is world build = at (realm_of build world)
+  where
+    by_row : (d : Option RealmRow) → elim d [ Some realm ↦ realm.next | None ↦ 0 ] ≡ unwrap_or (option_map (λ (realm : RealmRow). realm.next) d) 0
+    by_row None = refl
+    by_row (Some realm) = refl
+
+    at : (o : Option Seen) → next_number o ≡ unwrap_or (option_map (λ (realm : RealmRow). realm.next) (option_and_then (λ (rd : Seen). rd.cell.descriptor) o)) 0
+    at None = refl
+    at (Some rd) = by_row rd.cell.descriptor
+
+module _ (books : HostView) (monitor : MonitorView) (whole : IsWhole books monitor) (now : HostView) (view_is : books ≡ now) where
+  pub long : length monitor.machine ≡ books.limits.pages
+  long = ap length whole.mirror.machine ∙ (sized_reached books.limits books.history (world_of books) whole.mirror.world_is).machine
+
+  -- what lies inside the machine of the limits lies inside that of the monitor
+  pub inside : (granule : ℕ) → granule < now.limits.pages → granule < length monitor.machine
+  inside granule below = subst (λ n. granule < n) (sym long) (subst (λ (h : HostView). granule < h.limits.pages) (sym view_is) below)
+
+  module _ (build : ℕ) where
+    pub rd_inside : (rd : ℕ) → rd < books.limits.pages → rd < length monitor.machine
+    rd_inside rd below = subst (λ n. rd < n) (sym long) below
+
+    pub there_is : (rd : ℕ) (told : Option RealmAttributes) → Some rd ≡ rd_of build (world_of books) → told ≡ option_map attributes_of (cell_at monitor.machine rd).descriptor
+        → told ≡ option_map attributes_of (row_of (world_of now) build)
+    there_is rd told rd_is is =
+        is ∙ ap (λ (m : Machine). option_map attributes_of (cell_at m rd).descriptor) whole.mirror.machine
+        ∙ ap (option_map attributes_of) (sym (row_at_rd (world_of books) build rd (sym rd_is)))
+        ∙ ap (λ (h : HostView). option_map attributes_of (row_of (world_of h) build)) view_is
+
+    pub none_by_rd : None ≡ rd_of build (world_of books) → None ≡ option_map attributes_of (row_of (world_of now) build)
+    none_by_rd none =
+        sym (ap (option_map attributes_of) (no_row_by_rd (world_of books) build (sym none)))
+        ∙ ap (λ (h : HostView). option_map attributes_of (row_of (world_of h) build)) view_is
+
+    pub none_there : realm_of build (world_of books) ≡ None → None ≡ option_map attributes_of (row_of (world_of now) build)
+    none_there none = none_by_rd (sym (ap (option_map (λ (rd : Seen). rd.number)) none))
