@@ -43,8 +43,8 @@ free_for : (limits : Limits) (w : World) (build rd : ℕ) (root : Root) (vmid : 
 unfolding outcome_of named
 free_for limits w build rd root vmid us e =
     let all : (is_width root.width && root.first % start_count root.width == 0 && is_delegated (seen w.machine rd)
-        && list_all (is_start (seen w.machine rd)) (map (seen w.machine) (starting_tables root)) && nat_le 1 vmid && nat_le vmid limits.vmids
-        && not (is_vmid_used w.machine vmid)) ≡ true = passed _ _ _ us e in
+    && list_all (is_start (seen w.machine rd)) (map (seen w.machine) (starting_tables root)) && nat_le 1 vmid && nat_le vmid limits.vmids
+    && not (is_vmid_used w.machine vmid)) ≡ true = passed _ _ _ us e in
     last_three (is_width root.width) (root.first % start_count root.width == 0) (is_delegated (seen w.machine rd))
     (list_all (is_start (seen w.machine rd)) (map (seen w.machine) (starting_tables root))) (nat_le 1 vmid) (nat_le vmid limits.vmids)
     (not (is_vmid_used w.machine vmid)) all

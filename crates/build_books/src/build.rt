@@ -48,7 +48,11 @@ impl Build {
         match act {
             Act::Realm { rd, .. } => self.realm = Some(*rd),
             Act::UnRealm { .. } => self.realm = None,
-            Act::Rec { granule, number, .. } => self.recs.push(*number, *granule),
+            Act::Rec {
+                granule,
+                number,
+                ..
+            } => self.recs.push(*number, *granule),
             Act::UnRec { .. } => self.recs.pop(),
             Act::Enter { .. } => self.running += 1,
             Act::Exit { .. } => self.running -= 1,
