@@ -58,7 +58,7 @@ ActFits cmd granules picked act realm cells = act_of cmd granules picked ≡ Som
 -- numbers stand in no act.
 abbrev pub outcome_of_act : Limits → List ℕ → Option Act → Option Seen → List Seen → Outcome
 outcome_of_act limits used None realm cells = Err error_input
-outcome_of_act limits used (Some act) realm cells = outcome_of limits used act realm cells
+outcome_of_act limits used (Some act) realm cells = outcome_of limits.vmids limits.aux used act realm cells
 
 -- It does not depend on the byte or the number that was picked.
 abbrev pub OutcomeIsAnyPicks : Limits → List ℕ → Cmd → List ℕ → Picked → Picked → Option Seen → List Seen → Type 0

@@ -210,7 +210,7 @@ module _ (host : HostView) (legal : IsLegal host.limits host.history) (build : �
       outcome_in_is =
           outcome_is
           ∙ ap (λ (o : Option Act). outcome_of_act host.limits (used_vmids world.machine) o (realm_of build world) (map (seen world.machine) granules)) is
-          ∙ ap (λ (gs : List ℕ). outcome_of host.limits (used_vmids world.machine) act (realm_of build world) (map (seen world.machine) gs))
+          ∙ ap (λ (gs : List ℕ). outcome_of host.limits.vmids host.limits.aux (used_vmids world.machine) act (realm_of build world) (map (seen world.machine) gs))
           (sym (of_command (picked_for host build cmd granules) cmd granules act long is).names)
 
       pub act_refused : (rmi : Rmi) → outcome_in host.limits world (by build act) ≡ Err rmi → refusal_of host build (Ask cmd) ≡ Some (RmiRefusal rmi)
