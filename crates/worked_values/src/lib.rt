@@ -10,6 +10,8 @@ mod built;
 #[cfg(test)]
 mod devices;
 #[cfg(test)]
+mod host;
+#[cfg(test)]
 mod measurement;
 #[cfg(test)]
 mod memory;
