@@ -1,5 +1,5 @@
-//! The same design in plain Rust with nothing proved, as a baseline: raw pages that are written when first lent for
-//! writing, lists of free blocks by order, a granule table, places for realms and RECs, page stacks, journals, a history,
+//! The same design in plain Rust with nothing proved, as a baseline: raw pages with a mark up to which they are
+//! written, lists of free blocks by order, a granule table, places for realms and RECs, page stacks, journals, a history,
 //! and the text in one buffer. It reads the plans that `bench/run` makes, with no reader of TOML, and prints what
 //! `realmhost replay` prints.
 use std::fmt::Write as _;
@@ -26,12 +26,17 @@ impl Pages {
         if at < self.written { unsafe { &*self.start.add(at) } } else { &ZERO_PAGE }
     }
 
-    fn get_mut(&mut self, at: usize) -> &mut [u8; 4096] {
-        while self.written <= at {
+    fn write_zeros(&mut self, upto: usize) {
+        while self.written < upto {
             unsafe { self.start.add(self.written).write([0; 4096]) };
             self.written += 1;
         }
-        unsafe { &mut *self.start.add(at) }
+    }
+
+    fn fill(&mut self, at: usize, value: u8) {
+        self.write_zeros(at);
+        unsafe { self.start.add(at).write([value; 4096]) };
+        self.written = self.written.max(at + 1);
     }
 
     fn clear(&mut self, first: usize, count: usize) {
@@ -248,7 +253,7 @@ impl Host {
         }
         match value {
             Some(value) => {
-                *self.pages.get_mut(granule as usize) = [value; 4096];
+                self.pages.fill(granule as usize, value);
                 self.record(build, Act::Fill { _granule: granule, _value: value });
             }
             None => {

@@ -131,7 +131,7 @@ impl PageStore for BuddyArena {
         ensures flags { self.new.index ≡ self.old.index }
         ensures visits { self.new.visits ≡ self.old.visits }
     {
-        *self.pages.page_mut(granule.number() as usize) = [value; 4096];
+        self.pages.fill(granule.number() as usize, value);
     }
 
     fn set(&mut self, granule: Gran, offset: PageOff, value: u8)

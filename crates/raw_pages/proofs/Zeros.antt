@@ -1,8 +1,10 @@
 -- Pages that are written before pages of zeros that are not.
-use Rattle.std.proofs.Common.{◌≡◌, ◌≢◌, ℕ, ◌+◌, ◌-◌, ◌<◌, ◌≤◌, ◌⊎◌, List, [], ◌∷◌, ◌++◌, length, replicate, set, get_or, refl, sym, ap, ◌∙◌, inl, inr, ⊎_elim, arith, length-append, length-set, append_assoc}
+use Rattle.std.proofs.Common.{◌≡◌, ◌≢◌, ℕ, suc, ◌+◌, ◌-◌, ◌<◌, ◌≤◌, ◌⊎◌, List, [], ◌∷◌, ◌++◌, length, replicate, set, get_or, refl, sym, ap, ◌∙◌, inl, inr, ⊎_elim, arith, length-append, length-set, append_assoc}
 use Rattle.std.proofs.lemmas.Bool.{cases_lt, cases_eq}
-use Rattle.std.proofs.lemmas.List.{length-replicate, get_or-replicate, replicate-append-replicate, replicate_more, append-nil, get_or_append_left, get_or-append_right, get_or_default, set-append_left, get_or-set_same, get_or-set_other, ext_get_or}
+use Rattle.std.proofs.lemmas.List.{length-replicate, get_or-replicate, replicate-append-replicate, replicate_more, append-nil, get_or_append_left, get_or-append_right, get_or_default, set-append_left, set-append_right, get_or-set_same, get_or-set_other, ext_get_or}
 use Rattle.page_arena.specs.Block.{with_run}
+use Rattle.raw_pages.specs.Owned.{put_at}
+use Rattle.raw_pages.proofs.Puts.{put_last, put_inside}
 use Rattle.page_arena.specs.Runs.{inside_or_outside, length-with_run, get_or-with_run_inside, get_or-with_run_outside}
 
 module _ {X : Type 0} (xs : List X) (zero : X) where
@@ -35,6 +37,26 @@ module _ {X : Type 0} (zero : X) (was now : List X) (count written upto : ℕ) (
   pub one_written : (i : ℕ) (x : X) → i < upto → set now i x ++ replicate (count - upto) zero ≡ set pages i x
   one_written i x lt =
       let n = length_now in sym (set-append_left now (replicate (count - upto) zero) i x (omega arith)) ∙ ap (λ (xs : List X). set xs i x) as_before
+
+  -- one is written that may be the first of those that are not; `last` is where the written ones end then
+  pub one_put : (i last : ℕ) (x : X) → i ≤ upto → i < count → (i < upto → last ≡ upto) → (i ≡ upto → last ≡ i + 1) → put_at now i x ++ replicate (count - last) zero ≡ set pages i x
+  one_put i last x le lt inner next = ⊎_elim
+      (λ (inside : i < upto).
+      let n = length_now in
+      ap (λ (xs : List X). xs ++ replicate (count - last) zero) (sym (put_inside now i x (omega arith)))
+      ∙ ap (λ (k : ℕ). set now i x ++ replicate (count - k) zero) (inner inside)
+      ∙ one_written i x inside)
+      (λ (behind : upto ≤ i).
+      let n = length_now in let at : i ≡ upto = omega arith in let here : i ≡ length now = omega arith in
+      let more : count - upto ≡ suc (count - (i + 1)) = omega arith in let none : i - length now ≡ 0 = omega arith in
+      let rest = replicate (count - (i + 1)) zero in
+      ap (λ (xs : List X). xs ++ replicate (count - last) zero) (sym (put_last now i x here))
+      ∙ ap (λ (k : ℕ). (now ++ x ∷ []) ++ replicate (count - k) zero) (next at)
+      ∙ append_assoc now (x ∷ []) rest
+      ∙ sym (set-append_right now (zero ∷ rest) (length now) i x refl (omega arith) ∙ ap (λ (k : ℕ). now ++ set (zero ∷ rest) k x) none)
+      ∙ ap (λ (k : ℕ). set (now ++ replicate k zero) i x) (sym more)
+      ∙ ap (λ (xs : List X). set xs i x) as_before)
+      (cases_lt i upto)
 
   -- what is read of one
   pub one_read : (i : ℕ) (x d : X) → i < upto → x ≡ get_or now i x → x ≡ get_or pages i d

@@ -1,7 +1,7 @@
 //! The pages of a machine.
 ghost use Rattle.std.specs.Prelude.{◌≡◌, ◌≢◌, ◌-◌, ◌+◌, ◌<◌, ◌≤◌, ◌↔◌, ◌⊎◌, ◌++◌, length, replicate, slice_set, IfOk, IsErrOf};
 ghost use Rattle.std.specs.Borrow.{sem};
-ghost use Rattle.granule_addr.specs.Page.{zero_page};
+ghost use Rattle.granule_addr.specs.Page.{page_of, zero_page};
 ghost use Rattle.page_arena.specs.Page.{page_at};
 ghost use Rattle.page_arena.specs.Block.{with_run};
 
@@ -89,6 +89,17 @@ impl RawPages {
         write_zeros(&mut self.row, self.start, self.written, upto);
         self.written = upto;
         self.row.get_mut(self.start, index)
+    }
+
+    /// Writes one value to every byte of a page. A page that was never written is not cleared first.
+    pub fn fill(&mut self, index: usize, value: u8)
+        requires { index < length self.old }
+        ensures { self.new ≡ slice_set self.old index (page_of value) }
+    {
+        let upto = self.written.max(index);
+        write_zeros(&mut self.row, self.start, self.written, upto);
+        self.row.put(self.start, index, [value; 4096]);
+        self.written = upto.max(index + 1);
     }
 
     /// Writes the bytes of one page to another.
