@@ -39,7 +39,7 @@ use Rattle.build_books.specs.View.{HostView, world_of, granule_of_page}
 use Rattle.build_books.specs.Desk.{desk_of}
 use Rattle.build_books.proofs.Worlds.{world_is}
 use Rattle.build_books.proofs.RealmFollows.{with_row}
-use Rattle.build_commands.specs.declared.cmd.Step.TheVariants.{Ask}
+use Rattle.realm_host.specs.Call.{Ask}
 use Rattle.build_commands.specs.Replies.{reply_of}
 use Rattle.build_books.specs.View.{pages_of_build}
 use Rattle.realm_host.specs.Picks.{granules_named, picked_for, act_asked, outcome_asked, IsPeekRefused}

@@ -6,7 +6,7 @@ use Rattle.realm_model.specs.declared.act.Act.TheVariants as acts
 use Rattle.realm_model.specs.Act.{is_paired, reverse_of}
 use Rattle.realm_model.specs.Room.{room_taken}
 use Rattle.build_commands.specs.declared.cmd.Cmd.TheVariants as cmd
-use Rattle.build_commands.specs.declared.cmd.Step.TheVariants.{Ask}
+use Rattle.realm_host.specs.Call.{Ask}
 use Rattle.build_commands.specs.declared.refusal.Refusal.{Refusal}
 use Rattle.build_commands.specs.declared.refusal.Refusal.TheVariants.{BadOrder, NoBlock}
 use Rattle.build_commands.specs.declared.reply.Reply.TheVariants.{FirstPage}

@@ -10,7 +10,7 @@ use Rattle.realm_model.specs.declared.act.Act.TheVariants.{Take, Delegate, Realm
 use Rattle.realm_model.specs.Act.{is_paired, reverse_of}
 use Rattle.realm_model.specs.Running.{is_running}
 use Rattle.realm_model.specs.World.{realm_of}
-use Rattle.build_commands.specs.declared.cmd.Step.TheVariants.{Undo}
+use Rattle.realm_host.specs.Call.{Undo}
 use Rattle.build_commands.specs.declared.refusal.Refusal.{Refusal}
 use Rattle.build_commands.specs.declared.refusal.Refusal.TheVariants.{NoBuild, NothingToUndo, RecRunning}
 use Rattle.build_books.specs.View.{HostView, world_of, open_of}

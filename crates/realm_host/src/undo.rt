@@ -6,7 +6,7 @@ ghost use Rattle.realm_model.specs.History.{IsLegal};
 ghost use Rattle.realm_model.specs.Running.{is_running};
 ghost use Rattle.realm_model.specs.World.{realm_of};
 ghost use Rattle.std.specs.List.{last_or};
-ghost use Rattle.build_commands.specs.declared.cmd.Step.TheVariants.{Undo};
+ghost use Rattle.realm_host.specs.Call.{Undo};
 ghost use Rattle.build_books.specs.View.{world_of, open_of};
 ghost use Rattle.realm_host.specs.Acting.{IsBack, IsRecorded};
 ghost use Rattle.realm_host.specs.Answer.{IsAnswer, undone};

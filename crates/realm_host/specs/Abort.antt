@@ -1,0 +1,57 @@
+-- The abort of a build.
+use Rattle.std.specs.Prelude.{◌≡◌, ◌≢◌, ℕ, nat_lt, List, [], ◌∷◌, ◌++◌, length, reverse, false, Some, None, Result, slice_set}
+use Rattle.std.specs.List.{All}
+use Rattle.build_commands.specs.declared.refusal.Refusal.{Refusal}
+use Rattle.build_commands.specs.Checks.{Check}
+use Rattle.realm_model.specs.declared.act.Event.{Event}
+use Rattle.realm_model.specs.Aborting.{IsOthersOrReverse}
+use Rattle.realm_model.specs.History.{erase, replay, IsLegal}
+use Rattle.realm_model.specs.Undoing.{reverses, undoing}
+use Rattle.build_books.specs.View.{HostView, world_of, open_of, is_aborting, with_acts}
+use Rattle.realm_host.specs.Call.{Undo}
+use Rattle.realm_host.specs.Refusals.{no_build, refusal_of}
+use Rattle.realm_host.specs.Served.{aborting, any_rec_running, IsServed}
+
+-- ---- the begin
+
+abbrev pub checks_of_begin : HostView → ℕ → List Check
+checks_of_begin host build = no_build host build ∷ aborting host build ∷ any_rec_running host build ∷ []
+
+-- the build is in abort, where it has anything open
+abbrev pub begun : HostView → ℕ → HostView
+begun host build = record host { aborting = slice_set host.aborting build (nat_lt 0 (length (open_of host build))) }
+
+-- An abort begins: its number is that of the acts that are open.
+abbrev pub IsBegun : HostView → ℕ → Result ℕ Refusal → HostView → Type 0
+IsBegun host build result new =
+    IsServed (checks_of_begin host build) host (λ count after. (count ≡ length (open_of host build)) × (after ≡ begun host build)) result new
+
+-- From here on, as long as the build does nothing but reverses, each undo is served until nothing is open, whatever others do.
+abbrev pub GoesOn : HostView → ℕ → Type 0
+GoesOn host build =
+    (later : List Event) (then : HostView) → then.limits ≡ host.limits → then.history ≡ host.history ++ later
+    → IsLegal then.limits then.history → All (IsOthersOrReverse build) later
+    → open_of then build ≢ [] → refusal_of then build Undo ≡ None
+
+-- ---- the end
+
+-- All that the build had open was reversed, the newest first: the world is that of the history without the build, which is
+-- legal, and the same as before.
+pub record LeavesNothing (host : HostView) (build : ℕ) (new : HostView) : Type 0 where
+  pub history : new.history ≡ host.history ++ undoing build host.history
+  pub same_others : erase build new.history ≡ erase build host.history
+  pub legal : IsLegal new.limits (erase build new.history)
+  pub no_trace : replay new.limits (erase build new.history) ≡ Some (world_of new)
+
+abbrev pub checks_of_abort : HostView → ℕ → List Check
+checks_of_abort host build = no_build host build ∷ any_rec_running host build ∷ []
+
+-- the reverses of all that is open are recorded, and the build is out of abort
+pub record IsAborted (host : HostView) (build count : ℕ) (new : HostView) : Type 0 where
+  pub count_is : count ≡ length (open_of host build)
+  pub new_is : new ≡ with_acts host build (reverses (reverse (open_of host build)))
+  pub over : is_aborting new build ≡ false
+  pub nothing_left : LeavesNothing host build new
+
+abbrev pub IsAbortAnswer : HostView → ℕ → Result ℕ Refusal → HostView → Type 0
+IsAbortAnswer host build result new = IsServed (checks_of_abort host build) host (λ count after. IsAborted host build count after) result new
