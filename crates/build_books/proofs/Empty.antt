@@ -1,5 +1,5 @@
 -- Books with no event.
-use Rattle.std.proofs.Common.{◌≡◌, ℕ, zero, suc, ◌*◌, ◌<◌, ◌≤◌, Bool, true, false, List, [], ◌∷◌, length, map, replicate, Option, Some, None, refl, sym, ap, ◌∙◌, subst, arith, vec_capacity}
+use Rattle.std.proofs.Common.{◌≡◌, ℕ, zero, suc, ◌*◌, ◌<◌, ◌≤◌, Bool, true, false, List, [], ◌∷◌, length, map, take, replicate, Option, Some, None, refl, sym, ap, ◌∙◌, subst, arith, vec_capacity}
 use Rattle.std.specs.Prelude.{slice_get}
 use Rattle.std.specs.Global.{Vec}
 use Rattle.std.specs.List.{list_any, filter_map}
@@ -18,7 +18,7 @@ use Rattle.realm_acts.specs.Mirror.{rd_of}
 use Rattle.realm_acts.specs.VmidsUsed.{is_vmid_used}
 use Rattle.build_books.specs.declared.build.Build.{Build}
 use Rattle.build_books.specs.declared.mark.Mark.{Mark}
-use Rattle.build_books.specs.View.{HostView, world_of}
+use Rattle.build_books.specs.View.{HostView, world_of, is_aborting, mark_of}
 use Rattle.build_books.specs.Booted.{booted}
 use Rattle.build_books.specs.Kept.{new_build, books_of, IsBuildOf, IsKept}
 use Rattle.build_books.proofs.RealmFollows.{no_realm}
@@ -35,6 +35,10 @@ replay-nil limits = refl
 none_open : (build : ℕ) → open_entries build [] ≡ []
 unfolding open_entries
 none_open build = refl
+
+none_taken : (build n : ℕ) → open_entries build (take n []) ≡ []
+none_taken build zero = none_open build
+none_taken build (suc n) = none_open build
 
 no_pages : (build : ℕ) → pages_of build [] ≡ []
 unfolding open_entries
@@ -69,7 +73,7 @@ new_is limits build =
 abbrev no_stack : List ℕ
 no_stack = []
 
-no_mark : Option Mark
+abbrev no_mark : Option Mark
 no_mark = None
 
 module _ (pages vmids aux count capacity : ℕ) (builds : List Build) (leases : Stacks) (pool : Vmids) (events : Vec Event)
@@ -111,7 +115,11 @@ module _ (pages vmids aux count capacity : ℕ) (builds : List Build) (leases : 
         room = λ b below.
             let opened = ap length (none_open b) in
             let realm = ap (λ (w : World). running_count (realm_of b w)) world_is_opening ∙ ap running_count (no_realm_yet limits b) ∙ no_runs in
-            record { used = omega (arith, opened, realm); few_open = omega (arith, opened) };
+            record { used = omega (arith, opened, realm); few_open = λ n. let none = ap length (none_taken b n) in omega (arith, none) };
+        points = λ b below. record {
+          in_abort = λ is. absurd (let not : is_aborting (booted pages vmids aux count capacity) b ≡ false = get_or-replicate count b false false below in cc);
+          marked = λ mark is. absurd (let not : mark_of (booted pages vmids aux count capacity) b ≡ None = get_or-replicate count b no_mark None below in cc);
+        };
         of_builds = All-nil (λ (e : Event). e.build < count);
         memory = memory;
       })

@@ -7,6 +7,7 @@ pub mod RecsFollow
 pub mod RoomFollows
 pub mod VmidsFollow
 pub mod PagesFollow
+pub mod PointsFollow
 pub mod Grown
 pub mod Desks
 pub mod Readings

@@ -1,11 +1,11 @@
 -- What is read of books.
-use Rattle.std.proofs.Common.{◌≡◌, ℕ, ◌+◌, ◌<◌, ◌≤◌, Bool, true, false, List, [], length, get_or, Option, Some, None, refl, sym, ap, ◌∙◌, subst, arith}
+use Rattle.std.proofs.Common.{◌≡◌, ℕ, ◌+◌, ◌<◌, ◌≤◌, Bool, true, false, List, [], length, take, get_or, Option, Some, None, refl, sym, ap, ◌∙◌, subst, arith}
 use Rattle.std.specs.Prelude.{nat_lt, slice_get, option_map, IfSome, IsSome}
 use Rattle.std.specs.Bool.{OnFalse}
 use Rattle.std.specs.List.{flat_map, sum_by}
 use Rattle.std.proofs.lemmas.Bool.{ltb-false, ltb-true}
 use Rattle.std.proofs.lemmas.Option.{slice_get_within, get_or_from_slice_get, slice_get-get_or}
-use Rattle.std.proofs.lemmas.List.Elements.{All-get_or}
+use Rattle.std.proofs.lemmas.List.Elements.{All-get_or, All-take}
 use Rattle.leases.specs.Stacks.{Stacks, stack_of}
 use Rattle.leases.specs.Vmids.{Vmids}
 use Rattle.realm_model.specs.Machine.{Seen}
@@ -69,7 +69,10 @@ module _ (host : HostView) (builds : List Build) (leases : Stacks) (vmids : Vmid
           let sum = room_is_sum host.limits host.history world build kept.legal (world_is host kept.legal) in
           let zero : sum_by room_taken (acts_of build host.history) ≡ 0 = ap (sum_by room_taken) none in
           let opened = ap length (none_open build host.history none) in
-          record { used = omega (arith, sum, zero); few_open = omega (arith, opened) }
+          record {
+            used = omega (arith, sum, zero);
+            few_open = λ n. let early = ap length (none_open build (take n host.history) (acts_of-past host.limits.builds build (take n host.history) (All-take (λ (e : Event). e.build < host.limits.builds) n host.history kept.of_builds) past)) in omega (arith, early);
+          }
 
   -- a page lies inside the machine
   pub page_inside : (build page : ℕ) → IfSome (granule_of_page host build page) (λ granule. granule < host.limits.pages)
