@@ -35,7 +35,7 @@ use Rattle.build_books.specs.Marks.{mark_while}
 use Rattle.build_books.specs.View.{HostView, world_of, with_event, used, is_aborting, mark_of}
 use Rattle.build_books.specs.Vmids.{CanFollowVmids, IsVmidsAfter}
 use Rattle.build_books.specs.Kept.{books_of, build_after, pages_after, CanFollow, CanFollowRec, CanFollowPages, CanRecord, IsBuildOf, HasRoom, IsKept}
-use Rattle.build_books.proofs.Desks.{get_or-of}
+use Rattle.build_books.proofs.Desks.{said_of}
 use Rattle.build_books.proofs.PagesFollow.{pages_follow, can_follow_pages}
 use Rattle.build_books.proofs.PointsFollow.{few_now, few_later, points_follow}
 use Rattle.build_books.proofs.RealmFollows.{rd_follows}
@@ -63,10 +63,6 @@ rec_paired granule aux number = refl
 room_fits : (used taken capacity : ℕ) → used ≤ capacity → (0 < taken → used + taken ≤ capacity) → used + taken ≤ capacity
 room_fits used zero capacity fits room = omega arith
 room_fits used (suc taken) capacity fits room = room (omega arith)
-
--- what is said of the element at a place stands at that place
-said_of : {X Y : Type 0} (f : X → Y) (xs : List X) (place : ℕ) (x : X) (d : Y) → slice_get xs place ≡ Some x → f x ≡ get_or (map f xs) place d
-said_of f xs place x d there = get_or-of f xs place x d (slice_get_within xs place x there) (sym (get_or_from_slice_get xs place x x there))
 
 module _ (builds : List Build) (leases : Stacks) (vmids : Vmids) (aux capacity : ℕ) (events : Vec Event) (now : HostView)
     (view_is : books_of builds leases vmids aux capacity events.items ≡ now)

@@ -8,7 +8,8 @@ pub mod RoomFollows
 pub mod VmidsFollow
 pub mod PagesFollow
 pub mod PointsFollow
-pub mod Grown
 pub mod Desks
+pub mod Grown
+pub mod Pointed
 pub mod Readings
 pub mod Empty

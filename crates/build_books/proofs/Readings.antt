@@ -5,6 +5,7 @@ use Rattle.std.specs.Bool.{OnFalse}
 use Rattle.std.specs.List.{flat_map, sum_by}
 use Rattle.std.proofs.lemmas.Bool.{ltb-false, ltb-true}
 use Rattle.std.proofs.lemmas.Option.{slice_get_within, get_or_from_slice_get, slice_get-get_or}
+use Rattle.std.proofs.lemmas.List.{get_or_past}
 use Rattle.std.proofs.lemmas.List.Elements.{All-get_or, All-take}
 use Rattle.leases.specs.Stacks.{Stacks, stack_of}
 use Rattle.leases.specs.Vmids.{Vmids}
@@ -19,11 +20,11 @@ use Rattle.realm_model.proofs.Reached.{sized_reached}
 use Rattle.realm_model.proofs.Room.{room_is_sum}
 use Rattle.realm_acts.specs.Mirror.{rd_of}
 use Rattle.build_books.specs.declared.build.Build.{Build}
-use Rattle.build_books.specs.View.{HostView, world_of, open_of, used, granule_of_page}
+use Rattle.build_books.specs.View.{HostView, world_of, open_of, used, granule_of_page, is_aborting, mark_of}
 use Rattle.realm_acts.specs.Performing.{rec_granule}
 use Rattle.realm_acts.specs.RecsOpen.{granule_in}
 use Rattle.realm_acts.proofs.RecsOpen.{recs_are_open}
-use Rattle.build_books.specs.Kept.{HasRoom, IsBuildOf, IsKept}
+use Rattle.build_books.specs.Kept.{HasRoom, PointsHold, IsBuildOf, IsKept}
 use Rattle.build_books.proofs.RealmFollows.{no_realm}
 use Rattle.build_books.proofs.Totals.{acts_of-past}
 use Rattle.build_books.proofs.Worlds.{world_is}
@@ -72,6 +73,19 @@ module _ (host : HostView) (builds : List Build) (leases : Stacks) (vmids : Vmid
           record {
             used = omega (arith, sum, zero);
             few_open = λ n. let early = ap length (none_open build (take n host.history) (acts_of-past host.limits.builds build (take n host.history) (All-take (λ (e : Event). e.build < host.limits.builds) n host.history kept.of_builds) past)) in omega (arith, early);
+          }
+
+  -- and has no abort and no mark
+  pub points_hold : (build : ℕ) → length host.aborting ≡ host.limits.builds → length host.marks ≡ host.limits.builds → PointsHold host build
+  points_hold build aborts marks = at (nat_lt build host.limits.builds) refl
+    where
+      at : (t : Bool) → nat_lt build host.limits.builds ≡ t → PointsHold host build
+      at true is = kept.points build (ltb-true build host.limits.builds is)
+      at false is =
+          let past = ltb-false build host.limits.builds is in
+          record {
+            in_abort = λ aborts_now. absurd (let not : is_aborting host build ≡ false = get_or_past host.aborting build false (omega arith) in cc);
+            marked = λ mark marked_now. absurd (let not : mark_of host build ≡ None = get_or_past host.marks build None (omega arith) in cc);
           }
 
   -- a page lies inside the machine

@@ -1,5 +1,5 @@
 //! The history, and what is kept beside it.
-ghost use Rattle.std.specs.Prelude.{◌≡◌, ℕ, ◌<◌, ◌≤◌, [], length, replicate, true, nat_lt, None, IfOk, IfSome, option_map};
+ghost use Rattle.std.specs.Prelude.{◌≡◌, ℕ, ◌<◌, ◌≤◌, [], length, drop, replicate, true, nat_lt, None, IfOk, IfSome, option_map};
 ghost use Rattle.std.specs.Bool.{OnFalse};
 ghost use Rattle.std.specs.List.{last_or};
 ghost use Rattle.realm_model.specs.History.{acts_of, IsLegal, LeavesNoTrace};
@@ -9,13 +9,14 @@ ghost use Rattle.realm_model.specs.Running.{running_count};
 ghost use Rattle.realm_acts.specs.Mirror.{rd_of};
 ghost use Rattle.realm_acts.specs.Performing.{rec_granule};
 ghost use Rattle.leases.specs.Stacks.{stack_of, with_stack};
-ghost use Rattle.build_books.specs.View.{world_of, open_of, used, pages_of_build, granule_of_page, with_event};
-ghost use Rattle.build_books.specs.Kept.{new_build, pages_after, CanFollowPages, CanRecord, HasRoom};
+ghost use Rattle.build_books.specs.View.{world_of, open_of, used, pages_of_build, granule_of_page, mark_of, mark_now, with_mark, begun, with_event};
+ghost use Rattle.build_books.specs.Kept.{new_build, pages_after, CanFollowPages, CanRecord, HasRoom, IsMarkOf, PointsHold};
 ghost use Rattle.realm_acts.specs.Mirror.{IsPlaceOf};
 ghost use Rattle.build_books.specs.Vmids.{lowest_vmid, CanFollowVmids, IsVmidsAfter};
 ghost use Rattle.build_books.specs.Booted.{booted};
 
 use crate::build::Build;
+use crate::mark::Mark;
 use granule_addr::{BuildId, Gran, RecNo, Vmid};
 use leases::{Leases, VmidPool};
 use realm_acts::Place;
@@ -115,12 +116,13 @@ impl Books {
         })
     }
 
-    /// The events so far: a legal history. No build has used more than its room in it, or has more than 512 acts open; and
-    /// each build can be left out of it.
+    /// The events so far: a legal history. No build has used more than its room in it, or had more than 512 acts open at any
+    /// time. A build in abort has something open, and marks stand. Each build can be left out of the history.
     pub fn history(&self) -> &[Event]
         ensures events { result.now ≡ self.now.history }
         ensures legal { IsLegal self.now.limits self.now.history }
         ensures room { (build : ℕ) → HasRoom self.now build }
+        ensures points { (build : ℕ) → PointsHold self.now build }
         ensures no_trace { (build : ℕ) → LeavesNoTrace self.now.limits self.now.history build }
     {
         self.history.as_slice()
@@ -171,6 +173,24 @@ impl Books {
     {
         let kept = &self.builds[build.number() as usize];
         kept.journal.newest()
+    }
+
+    /// What a build has open above the first so many acts, the newest last.
+    pub fn open_above(&self, build: BuildId, count: u16) -> &[Act]
+        requires there { build < self.now.limits.builds }
+        requires enough { count ≤ length (open_of self.now build) }
+        ensures { result.now ≡ drop count (open_of self.now build) }
+    {
+        self.builds[build.number() as usize].journal.above(count)
+    }
+
+    /// The mark that is kept of a build.
+    pub fn mark(&self, build: BuildId) -> Option<Mark>
+        requires { build < self.now.limits.builds }
+        ensures value { result ≡ mark_of self.now build }
+        ensures stands { IfSome result (IsMarkOf self.now build) }
+    {
+        self.builds[build.number() as usize].mark
     }
 
     /// The RD of a build's realm.
@@ -239,6 +259,35 @@ impl Books {
         ensures { result ≡ length (pages_of_build self.now build) }
     {
         self.leases.count(build)
+    }
+
+    /// An abort of a build begins, where it has anything open.
+    pub fn begin_abort(&mut self, build: BuildId)
+        requires { build < self.old.limits.builds }
+        ensures { self.new ≡ begun self.old build }
+    {
+        self.builds[build.number() as usize].begin_abort();
+    }
+
+    /// The mark of a build's point now.
+    pub fn mark_now(&self, build: BuildId) -> Mark
+        requires { build < self.now.limits.builds }
+        ensures { result ≡ mark_now self.now build }
+    {
+        Mark {
+            build,
+            length: self.open_count(build),
+            place: self.history.len() as u32,
+        }
+    }
+
+    /// A mark of a build's point now is kept, in place of an older one.
+    pub fn keep_mark(&mut self, build: BuildId, mark: Mark)
+        requires there { build < self.old.limits.builds }
+        requires now { mark ≡ mark_now self.old build }
+        ensures { self.new ≡ with_mark self.old build mark }
+    {
+        self.builds[build.number() as usize].mark = Some(mark);
     }
 
     /// Records an act of a build as the last event. No memory is taken.

@@ -1,5 +1,5 @@
 -- The abort of a build.
-use Rattle.std.specs.Prelude.{◌≡◌, ◌≢◌, ℕ, nat_lt, List, [], ◌∷◌, ◌++◌, length, reverse, false, Some, None, Result, slice_set}
+use Rattle.std.specs.Prelude.{◌≡◌, ◌≢◌, ℕ, List, [], ◌∷◌, ◌++◌, length, reverse, false, Some, None, Result}
 use Rattle.std.specs.List.{All}
 use Rattle.build_commands.specs.declared.refusal.Refusal.{Refusal}
 use Rattle.build_commands.specs.Checks.{Check}
@@ -7,7 +7,7 @@ use Rattle.realm_model.specs.declared.act.Event.{Event}
 use Rattle.realm_model.specs.Aborting.{IsOthersOrReverse}
 use Rattle.realm_model.specs.History.{erase, replay, IsLegal}
 use Rattle.realm_model.specs.Undoing.{reverses, undoing}
-use Rattle.build_books.specs.View.{HostView, world_of, open_of, is_aborting, with_acts}
+use Rattle.build_books.specs.View.{HostView, world_of, open_of, is_aborting, begun, with_acts}
 use Rattle.realm_host.specs.Call.{Undo}
 use Rattle.realm_host.specs.Refusals.{no_build, refusal_of}
 use Rattle.realm_host.specs.Served.{aborting, any_rec_running, IsServed}
@@ -16,10 +16,6 @@ use Rattle.realm_host.specs.Served.{aborting, any_rec_running, IsServed}
 
 abbrev pub checks_of_begin : HostView → ℕ → List Check
 checks_of_begin host build = no_build host build ∷ aborting host build ∷ any_rec_running host build ∷ []
-
--- the build is in abort, where it has anything open
-abbrev pub begun : HostView → ℕ → HostView
-begun host build = record host { aborting = slice_set host.aborting build (nat_lt 0 (length (open_of host build))) }
 
 -- An abort begins: its number is that of the acts that are open.
 abbrev pub IsBegun : HostView → ℕ → Result ℕ Refusal → HostView → Type 0
