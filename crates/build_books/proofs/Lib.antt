@@ -11,3 +11,4 @@ pub mod Grown
 pub mod Desks
 pub mod Readings
 pub mod Empty
+pub mod HoldersFollow
