@@ -13,3 +13,4 @@ pub mod Grown
 pub mod Pointed
 pub mod Readings
 pub mod Empty
+pub mod HoldersFollow

@@ -58,6 +58,19 @@ module _ (builds : List Build) (leases : Stacks) (vmids : Vmids) (aux capacity :
     mark_was : old.mark ≡ mark_of host build
     mark_was = said_of (λ (b : Build). b.mark) builds build old None stands
 
+    -- a build with nothing open is not in abort
+    pub idle : length old.journal ≡ 0 → is_aborting now build ≡ false
+    idle none = at (is_aborting now build) refl
+      where
+        at : (t : Bool) → is_aborting now build ≡ t → is_aborting now build ≡ false
+        at false is = is
+        at true is =
+            let hold : PointsHold now build = subst (λ (h : HostView). PointsHold h build) view_is (kept.points build there) in
+            let some = hold.in_abort is in
+            let same : length old.journal ≡ length (open_of now build) =
+            ap length (kept.builds_are build old stands).journal ∙ ap (λ (h : HostView). length (open_of h build)) view_is in
+            absurd (omega (arith, none, some, same))
+
     pub mark_is : old.mark ≡ mark_of now build
     mark_is = mark_was ∙ ap (λ (h : HostView). mark_of h build) view_is
 

@@ -1,5 +1,5 @@
 //! The history, and what is kept beside it.
-ghost use Rattle.std.specs.Prelude.{◌≡◌, ℕ, ◌<◌, ◌≤◌, [], length, drop, replicate, true, nat_lt, None, IfOk, IfSome, option_map};
+ghost use Rattle.std.specs.Prelude.{◌≡◌, ℕ, ◌<◌, ◌≤◌, [], length, drop, replicate, true, false, nat_lt, None, IfOk, IfSome, option_map};
 ghost use Rattle.std.specs.Bool.{OnFalse};
 ghost use Rattle.std.specs.List.{last_or};
 ghost use Rattle.realm_model.specs.History.{acts_of, IsLegal, LeavesNoTrace};
@@ -9,7 +9,7 @@ ghost use Rattle.realm_model.specs.Running.{running_count};
 ghost use Rattle.realm_acts.specs.Mirror.{rd_of};
 ghost use Rattle.realm_acts.specs.Performing.{rec_granule};
 ghost use Rattle.leases.specs.Stacks.{stack_of, with_stack};
-ghost use Rattle.build_books.specs.View.{world_of, open_of, used, pages_of_build, granule_of_page, mark_of, mark_now, with_mark, begun, with_event};
+ghost use Rattle.build_books.specs.View.{world_of, open_of, used, pages_of_build, granule_of_page, is_aborting, mark_of, mark_now, with_mark, begun, with_event};
 ghost use Rattle.build_books.specs.Kept.{new_build, pages_after, CanFollowPages, CanRecord, HasRoom, IsMarkOf, PointsHold};
 ghost use Rattle.realm_acts.specs.Mirror.{IsPlaceOf};
 ghost use Rattle.build_books.specs.Vmids.{lowest_vmid, CanFollowVmids, IsVmidsAfter};
@@ -156,11 +156,12 @@ impl Books {
         kept.events + kept.journal.len() + kept.running
     }
 
-    /// How many acts a build has open.
+    /// How many acts a build has open. With none it is not in abort.
     pub fn open_count(&self, build: BuildId) -> u16
         requires { build < self.now.limits.builds }
         ensures value { result ≡ length (open_of self.now build) }
         ensures fits { result ≤ 512 }
+        ensures idle { result ≡ 0 → is_aborting self.now build ≡ false }
     {
         self.builds[build.number() as usize].journal.len()
     }
@@ -282,12 +283,12 @@ impl Books {
     }
 
     /// A mark of a build's point now is kept, in place of an older one.
-    pub fn keep_mark(&mut self, build: BuildId, mark: Mark)
+    pub fn keep_mark(&mut self, build: BuildId, mark: &Mark)
         requires there { build < self.old.limits.builds }
-        requires now { mark ≡ mark_now self.old build }
-        ensures { self.new ≡ with_mark self.old build mark }
+        requires now { mark.now ≡ mark_now self.old build }
+        ensures { self.new ≡ with_mark self.old build mark.now }
     {
-        self.builds[build.number() as usize].mark = Some(mark);
+        self.builds[build.number() as usize].mark = Some(*mark);
     }
 
     /// Records an act of a build as the last event. No memory is taken.

@@ -22,7 +22,7 @@ impl<S: PageStore> Host<S> {
     {
         check_build(&self.books, build)?;
         let mark = self.books.mark_now(build);
-        self.books.keep_mark(build, mark);
+        self.books.keep_mark(build, &mark);
         Ok(mark)
     }
 
