@@ -1,5 +1,5 @@
 -- The abort of a build.
-use Rattle.std.specs.Prelude.{◌≡◌, ◌≢◌, ℕ, List, [], ◌∷◌, ◌++◌, length, drop, reverse, false, Some, None, Result}
+use Rattle.std.specs.Prelude.{◌≡◌, ◌≢◌, ◌≤◌, ℕ, List, [], ◌∷◌, ◌++◌, length, drop, reverse, false, Some, None, Result}
 use Rattle.std.specs.List.{All}
 use Rattle.build_commands.specs.declared.refusal.Refusal.{Refusal}
 use Rattle.build_commands.specs.Checks.{Check, build_checks}
@@ -7,8 +7,9 @@ use Rattle.realm_model.specs.declared.act.Event.{Event}
 use Rattle.realm_model.specs.Aborting.{IsOthersOrReverse}
 use Rattle.realm_model.specs.History.{erase, replay, IsLegal}
 use Rattle.realm_model.specs.Undoing.{reverses, undoing}
+use Rattle.build_books.specs.declared.mark.Mark.{Mark}
 use Rattle.build_books.specs.Desk.{desk_of}
-use Rattle.build_books.specs.View.{HostView, world_of, open_of, is_aborting, begun, with_acts}
+use Rattle.build_books.specs.View.{HostView, world_of, open_of, is_aborting, mark_of, begun, with_acts}
 use Rattle.realm_host.specs.Call.{Undo}
 use Rattle.realm_host.specs.Refusals.{no_build, refusal_of}
 use Rattle.realm_host.specs.Served.{any_rec_running, IsServed}
@@ -43,6 +44,14 @@ pub record LeavesNothing (host : HostView) (build : ℕ) (new : HostView) : Type
 -- what the build has open above the first so many acts is undone, the newest first
 abbrev pub undone_to : HostView → ℕ → ℕ → HostView
 undone_to host build count = with_acts host build (reverses (reverse (drop count (open_of host build))))
+
+-- So many acts are left open. A mark that does not lie above them is kept, and a build with nothing open is not in abort.
+pub record IsDown (host : HostView) (build count : ℕ) (new : HostView) : Type 0 where
+  pub new_is : new ≡ undone_to host build count
+  pub legal : IsLegal new.limits new.history
+  pub opened : length (open_of new build) ≡ count
+  pub marks : (mark : Mark) → mark.length ≤ count → mark_of host build ≡ Some mark → mark_of new build ≡ Some mark
+  pub idle : (length (open_of host build) ≡ 0 → is_aborting host build ≡ false) → length (open_of new build) ≡ 0 → is_aborting new build ≡ false
 
 abbrev pub checks_of_abort : HostView → ℕ → List Check
 checks_of_abort host build = no_build host build ∷ any_rec_running host build ∷ []

@@ -5,7 +5,7 @@ ghost use Rattle.std.specs.Result.{OnOk};
 ghost use Rattle.realm_model.specs.Running.{is_running};
 ghost use Rattle.realm_model.specs.World.{realm_of};
 ghost use Rattle.build_books.specs.View.{world_of, open_of};
-ghost use Rattle.realm_host.specs.Abort.{IsBegun, GoesOn, IsAbortAnswer, undone_to};
+ghost use Rattle.realm_host.specs.Abort.{IsBegun, GoesOn, IsAbortAnswer, IsDown};
 
 use crate::{Host, Refusal};
 use build_commands::check_build;
@@ -53,7 +53,7 @@ impl<S: PageStore> Host<S> {
         requires there { build < self.old.limits.builds }
         requires enough { count ≤ length (open_of self.old build) }
         requires rest { list_any (is_running (realm_of build (world_of self.old))) (drop count (open_of self.old build)) ≡ false }
-        ensures { self.new ≡ undone_to self.old build count }
+        ensures { IsDown self.old build count self.new }
     {
         for _ in count..self.books.open_count(build) {
             let Ok(_) = self.undo(build) else {

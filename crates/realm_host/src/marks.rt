@@ -1,9 +1,14 @@
 //! Marks: points that a build can go back to.
 ghost use Rattle.std.specs.Prelude.{◌≡◌, ◌<◌};
+ghost use Rattle.std.specs.Bool.{OnTrue};
 ghost use Rattle.std.specs.List.{list_any};
+ghost use Rattle.std.specs.Result.{OnOk};
+ghost use Rattle.realm_model.specs.Marks.{IsRolledBack};
 ghost use Rattle.realm_model.specs.Running.{is_running};
 ghost use Rattle.realm_model.specs.World.{realm_of};
 ghost use Rattle.build_books.specs.View.{world_of};
+ghost use Rattle.build_books.specs.Kept.{IsMarkOf};
+ghost use Rattle.build_books.specs.Marks.{point_of};
 ghost use Rattle.realm_host.specs.Marked.{IsMarked, way_back, IsBackAnswer, is_kept};
 
 use crate::{Host, Mark, Refusal};
@@ -26,9 +31,12 @@ impl<S: PageStore> Host<S> {
         Ok(mark)
     }
 
-    /// How many acts a build has open above a mark; or the refusal that `rollback_to` would give.
+    /// How many acts a build has open above a mark; or the refusal that `rollback_to` would give. Where it is given none, the
+    /// mark stands, and the build can go back to it.
     pub fn check_back(&self, build: BuildId, mark: Mark) -> Result<u16, Refusal>
-        ensures { result ≡ way_back self.now build mark }
+        ensures value { result ≡ way_back self.now build mark }
+        ensures stands { OnOk result (IsMarkOf self.now build mark) }
+        ensures leads_back { OnOk result (IsRolledBack self.now.limits (point_of mark) self.now.history) }
     {
         check_build(&self.books, build)?;
         if !self.is_kept(build, mark) {
@@ -38,7 +46,7 @@ impl<S: PageStore> Host<S> {
         if self.is_any_running(build, above) {
             return Err(Refusal::RecRunning);
         }
-        Ok(above.len() as u16)
+        Ok(self.books.open_count(build) - mark.length())
     }
 
     /// Undoes what a build has opened above a mark, the newest first: how many reverses were run. The world then owns the
@@ -58,7 +66,8 @@ impl<S: PageStore> Host<S> {
     // Whether this is the mark that is kept of a build.
     fn is_kept(&self, build: BuildId, mark: Mark) -> bool
         requires { build < self.now.limits.builds }
-        ensures { result ≡ is_kept self.now build mark }
+        ensures value { result ≡ is_kept self.now build mark }
+        ensures stands { OnTrue result (IsMarkOf self.now build mark) }
     {
         match self.books.mark(build) {
             Some(kept) => kept.is(mark),
