@@ -4,7 +4,7 @@ use Rattle.std.specs.Prelude.{nat_lt, slice_get, option_map}
 use Rattle.std.specs.Global.{Vec}
 use Rattle.std.specs.List.{All}
 use Rattle.std.proofs.lemmas.Bool.{cases_eq, eq-eqb, ne_eqb}
-use Rattle.std.proofs.lemmas.Option.{same_Some, get_or_from_slice_get, slice_get_within, slice_get-get_or}
+use Rattle.std.proofs.lemmas.Option.{same_Some, slice_get-get_or}
 use Rattle.std.proofs.lemmas.List.{map-set, length-map, length-set, length-append, length-take, get_or-set_same, get_or-set_other}
 use Rattle.std.proofs.lemmas.List.Elements.{All-push}
 use Rattle.leases.specs.Stacks.{Stacks, stack_of, with_stack}
@@ -21,7 +21,7 @@ use Rattle.realm_model.specs.Pages.{PagesAreLeased}
 use Rattle.realm_model.specs.Room.{used_room, room_taken}
 use Rattle.realm_model.specs.Running.{running_count}
 use Rattle.realm_model.specs.Undoing.{by}
-use Rattle.realm_model.proofs.Growth.{Grows, grows, acts_of-own, acts_of-other, open_entries-own, open_entries-other}
+use Rattle.realm_model.proofs.Growth.{Grows, grows, acts_of-other, open_entries-own, open_entries-other}
 use Rattle.realm_model.proofs.Lists.{slice_get-set}
 use Rattle.realm_model.proofs.Pages.{pages_of-other, pages_are_leased}
 use Rattle.realm_model.proofs.RealmOf.{realm_of-other_step}
@@ -34,8 +34,9 @@ use Rattle.build_books.specs.declared.build.Build.{Build}
 use Rattle.build_books.specs.Marks.{mark_while}
 use Rattle.build_books.specs.View.{HostView, world_of, with_event, used, is_aborting, mark_of}
 use Rattle.build_books.specs.Vmids.{CanFollowVmids, IsVmidsAfter}
-use Rattle.build_books.specs.Kept.{books_of, build_after, pages_after, CanFollow, CanFollowRec, CanFollowPages, CanRecord, IsBuildOf, HasRoom, IsKept}
+use Rattle.build_books.specs.Kept.{books_of, build_after, pages_after, held_after, CanFollow, CanFollowRec, CanFollowPages, CanFollowHolders, CanRecord, IsBuildOf, HasRoom, IsKept}
 use Rattle.build_books.proofs.Desks.{said_of}
+use Rattle.build_books.proofs.HoldersFollow.{leases_follow, can_follow_holders}
 use Rattle.build_books.proofs.PagesFollow.{pages_follow, can_follow_pages}
 use Rattle.build_books.proofs.PointsFollow.{few_now, few_later, points_follow}
 use Rattle.build_books.proofs.RealmFollows.{rd_follows}
@@ -64,9 +65,9 @@ room_fits : (used taken capacity : ℕ) → used ≤ capacity → (0 < taken →
 room_fits used zero capacity fits room = omega arith
 room_fits used (suc taken) capacity fits room = room (omega arith)
 
-module _ (builds : List Build) (leases : Stacks) (vmids : Vmids) (aux capacity : ℕ) (events : Vec Event) (now : HostView)
+module _ (builds : List Build) (leases : Stacks) (holders : List (Option ℕ)) (vmids : Vmids) (aux capacity : ℕ) (events : Vec Event) (now : HostView)
     (view_is : books_of builds leases vmids aux capacity events.items ≡ now)
-    (kept : IsKept (books_of builds leases vmids aux capacity events.items) builds leases vmids events)
+    (kept : IsKept (books_of builds leases vmids aux capacity events.items) builds leases holders vmids events)
     (build : ℕ) (act : Act) (there_now : build < now.limits.builds) (can_now : CanRecord now build act) where
   abbrev host : HostView
   host = books_of builds leases vmids aux capacity events.items
@@ -128,6 +129,9 @@ module _ (builds : List Build) (leases : Stacks) (vmids : Vmids) (aux capacity :
   can_pages =
       can_follow_pages events.items leases build act (kept.stacks_are build there) can.turn pages_after_are.count pages_after_are.inside kept.few_pages
 
+  pub can_holders : CanFollowHolders holders act
+  can_holders = can_follow_holders host.limits world can.next build act can.stepped holders kept.holders_are
+
   pub can_vmids : CanFollowVmids vmids act
   can_vmids = can_follow_vmids host.limits world vmids refl kept.vmids_are build act can.next can.stepped
 
@@ -171,7 +175,7 @@ module _ (builds : List Build) (leases : Stacks) (vmids : Vmids) (aux capacity :
       record {
         used = let room = was.used in omega (arith, room, acts, entries, runs);
         few_open = few_later b events.items event was.few_open
-              (let few = few_now b events.items was.few_open in omega (arith, few, entries));
+            (let few = few_now b events.items was.few_open in omega (arith, few, entries));
       })
       (cases_eq b build)
 
@@ -207,8 +211,9 @@ module _ (builds : List Build) (leases : Stacks) (vmids : Vmids) (aux capacity :
 
     -- ---- what is kept after it
 
-    module _ (new : Build) (new_leases : Stacks) (new_vmids : Vmids) (after : Vec Event) (followed : new ≡ build_after old act)
-        (leases_are : new_leases ≡ with_stack leases build (pages_after (stack_of leases build) act)) (vmids_after : IsVmidsAfter act vmids new_vmids)
+    module _ (new : Build) (new_leases : Stacks) (new_holders : List (Option ℕ)) (new_vmids : Vmids) (after : Vec Event) (followed : new ≡ build_after old act)
+        (leases_are : new_leases ≡ with_stack leases build (pages_after (stack_of leases build) act))
+        (holders_are : new_holders ≡ held_after build act holders) (vmids_after : IsVmidsAfter act vmids new_vmids)
         (items : after.items ≡ later) (memory : vec_capacity after ≡ vec_capacity events) where
       abbrev new_builds : List Build
       new_builds = set builds number new
@@ -310,9 +315,14 @@ module _ (builds : List Build) (leases : Stacks) (vmids : Vmids) (aux capacity :
           ∙ sym (pages_of-other b events.items event (λ e. other (sym e))))
           (cases_eq b build)
 
-      pub kept_grows : IsKept (books_of new_builds new_leases new_vmids aux capacity after.items) new_builds new_leases new_vmids after
+      holders_grow : held_after build act holders ≡ (world_of new_host).leases
+      holders_grow =
+          leases_follow host.limits world can.next build act can.stepped holders kept.holders_are
+          ∙ ap (λ (w : World). w.leases) (sym world_after)
+
+      pub kept_grows : IsKept (books_of new_builds new_leases new_vmids aux capacity after.items) new_builds new_leases new_holders new_vmids after
       kept_grows =
-          subst (λ (h : HostView). IsKept h new_builds new_leases new_vmids after) (sym view_path) (record {
+          subst (λ (h : HostView). IsKept h new_builds new_leases new_holders new_vmids after) (sym view_path) (record {
             legal = grown.legal;
             few_builds = kept.few_builds;
             few_pages = kept.few_pages;
@@ -320,6 +330,7 @@ module _ (builds : List Build) (leases : Stacks) (vmids : Vmids) (aux capacity :
             as_many_stacks = ap (λ (l : Stacks). length l.stacks) leases_are ∙ length-set leases.stacks build _ ∙ kept.as_many_stacks;
             builds_are = builds_are;
             stacks_are = stacks_are;
+            holders_are = holders_are ∙ holders_grow;
             vmids_are = λ vmid.
                 vmids_are_after host.limits world vmids refl kept.vmids_are act new_vmids can.next.machine vmids_after
                 (vmids_follow host.limits events.items world build act can.next kept.legal at_world can.turn can.stepped) vmid

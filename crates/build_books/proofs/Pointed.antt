@@ -1,5 +1,5 @@
 -- Books whose build has another mark, or is in abort.
-use Rattle.std.proofs.Common.{◌≡◌, ◌≢◌, ℕ, ◌*◌, ◌<◌, ◌≤◌, Bool, true, false, List, [], length, map, set, get_or, Option, Some, None, refl, sym, ap, ◌∙◌, subst, cond, arith, ⊎_elim}
+use Rattle.std.proofs.Common.{◌≡◌, ◌≢◌, ℕ, ◌*◌, ◌<◌, ◌≤◌, Bool, true, false, List, length, set, get_or, Option, Some, None, refl, sym, ap, ◌∙◌, subst, cond, arith, ⊎_elim}
 use Rattle.std.specs.Prelude.{nat_lt, slice_get, IfSome}
 use Rattle.std.specs.Global.{Vec}
 use Rattle.std.proofs.lemmas.Bool.{cases_eq, eq-eqb, ne_eqb, ltb-true}
@@ -9,7 +9,6 @@ use Rattle.leases.specs.Stacks.{Stacks}
 use Rattle.leases.specs.Vmids.{Vmids}
 use Rattle.realm_model.specs.declared.act.Act.{Act}
 use Rattle.realm_model.specs.declared.act.Event.{Event}
-use Rattle.realm_model.specs.Marks.{Stands}
 use Rattle.realm_model.proofs.Lists.{slice_get-set}
 use Rattle.realm_model.proofs.Marks.{stands_now}
 use Rattle.build_books.specs.declared.build.Build.{Build}
@@ -19,9 +18,9 @@ use Rattle.build_books.specs.Kept.{books_of, IsBuildOf, IsMarkOf, PointsHold, Is
 use Rattle.build_books.proofs.Desks.{said_of}
 use Rattle.build_books.proofs.Totals.{length-le_rooms}
 
-module _ (builds : List Build) (leases : Stacks) (vmids : Vmids) (aux capacity : ℕ) (events : Vec Event) (now : HostView)
+module _ (builds : List Build) (leases : Stacks) (holders : List (Option ℕ)) (vmids : Vmids) (aux capacity : ℕ) (events : Vec Event) (now : HostView)
     (view_is : books_of builds leases vmids aux capacity events.items ≡ now)
-    (kept : IsKept (books_of builds leases vmids aux capacity events.items) builds leases vmids events)
+    (kept : IsKept (books_of builds leases vmids aux capacity events.items) builds leases holders vmids events)
     (build : ℕ) (there_now : build < now.limits.builds) where
   abbrev host : HostView
   host = books_of builds leases vmids aux capacity events.items
@@ -129,9 +128,9 @@ module _ (builds : List Build) (leases : Stacks) (vmids : Vmids) (aux capacity :
         };
       }
 
-      pub kept_pointed : PointsHold new_host build → IsKept (books_of new_builds leases vmids aux capacity events.items) new_builds leases vmids events
+      pub kept_pointed : PointsHold new_host build → IsKept (books_of new_builds leases vmids aux capacity events.items) new_builds leases holders vmids events
       unfolding world_of
-      kept_pointed own = subst (λ (h : HostView). IsKept h new_builds leases vmids events) (sym view_pointed) (record {
+      kept_pointed own = subst (λ (h : HostView). IsKept h new_builds leases holders vmids events) (sym view_pointed) (record {
         legal = kept.legal;
         few_builds = kept.few_builds;
         few_pages = kept.few_pages;
@@ -139,6 +138,7 @@ module _ (builds : List Build) (leases : Stacks) (vmids : Vmids) (aux capacity :
         as_many_stacks = kept.as_many_stacks;
         builds_are = builds_are;
         stacks_are = kept.stacks_are;
+        holders_are = kept.holders_are;
         vmids_are = kept.vmids_are;
         room = λ b below. let room = kept.room b below in record { used = room.used; few_open = room.few_open };
         points = λ b below. ⊎_elim
@@ -164,7 +164,7 @@ module _ (builds : List Build) (leases : Stacks) (vmids : Vmids) (aux capacity :
             })
             ∙ ap (λ (h : HostView). begun h build) view_is
 
-        pub kept_begun : IsKept (books_of new_builds leases vmids aux capacity events.items) new_builds leases vmids events
+        pub kept_begun : IsKept (books_of new_builds leases vmids aux capacity events.items) new_builds leases holders vmids events
         kept_begun =
             let hold = kept.points build there in
             kept_pointed (record {
@@ -190,7 +190,7 @@ module _ (builds : List Build) (leases : Stacks) (vmids : Vmids) (aux capacity :
             ∙ ap (λ (h : HostView). with_mark h build (mark_now h build)) view_is
             ∙ ap (with_mark now build) (sym is_now)
 
-        pub kept_marked : IsKept (books_of new_builds leases vmids aux capacity events.items) new_builds leases vmids events
+        pub kept_marked : IsKept (books_of new_builds leases vmids aux capacity events.items) new_builds leases holders vmids events
         kept_marked =
             let hold = kept.points build there in
             kept_pointed (record {

@@ -1,5 +1,5 @@
 -- Aborts and marks after one more event.
-use Rattle.std.proofs.Common.{◌≡◌, ◌≢◌, ℕ, ◌+◌, ◌<◌, ◌≤◌, Bool, true, false, ◌&&◌, cond, List, [], ◌∷◌, ◌++◌, length, take, set, get_or, Option, Some, None, refl, sym, ap, ◌∙◌, subst, arith, ⊎_elim}
+use Rattle.std.proofs.Common.{◌≡◌, ◌≢◌, ℕ, ◌<◌, ◌≤◌, Bool, true, false, ◌&&◌, cond, List, [], ◌∷◌, ◌++◌, length, take, Option, Some, None, refl, sym, ap, ◌∙◌, subst, arith, ⊎_elim}
 use Rattle.std.specs.Prelude.{nat_lt, nat_le}
 use Rattle.std.proofs.lemmas.Bool.{and_parts, ltb-true, ltb-false, leb-true, cases_eq}
 use Rattle.std.proofs.lemmas.Option.{same_Some}
@@ -7,14 +7,13 @@ use Rattle.std.proofs.lemmas.List.{take_all, take-append-le, length-append, get_
 use Rattle.realm_model.specs.declared.act.Act.{Act}
 use Rattle.realm_model.specs.declared.act.Event.{Event}
 use Rattle.realm_model.specs.History.{open_entries}
-use Rattle.realm_model.specs.Marks.{Stands}
 use Rattle.realm_model.specs.Undoing.{by}
 use Rattle.realm_model.proofs.Growth.{open_entries-other}
 use Rattle.realm_model.proofs.Marks.{stands_on}
 use Rattle.build_books.specs.declared.mark.Mark.{Mark}
 use Rattle.build_books.specs.Marks.{point_of, mark_while}
 use Rattle.build_books.specs.View.{HostView, open_of, is_aborting, mark_of, with_event}
-use Rattle.build_books.specs.Kept.{HasRoom, IsMarkOf, PointsHold}
+use Rattle.build_books.specs.Kept.{PointsHold}
 
 -- ---- what is open, at any time
 

@@ -1,8 +1,7 @@
 -- What is read of books.
-use Rattle.std.proofs.Common.{◌≡◌, ℕ, ◌+◌, ◌<◌, ◌≤◌, Bool, true, false, List, [], length, take, get_or, Option, Some, None, refl, sym, ap, ◌∙◌, subst, arith}
+use Rattle.std.proofs.Common.{◌≡◌, ℕ, ◌<◌, ◌≤◌, Bool, true, false, List, [], length, take, get_or, Option, Some, None, refl, sym, ap, ◌∙◌, subst, arith}
 use Rattle.std.specs.Prelude.{nat_lt, slice_get, option_map, IfSome, IsSome}
-use Rattle.std.specs.Bool.{OnFalse}
-use Rattle.std.specs.List.{flat_map, sum_by}
+use Rattle.std.specs.List.{sum_by}
 use Rattle.std.proofs.lemmas.Bool.{ltb-false, ltb-true}
 use Rattle.std.proofs.lemmas.Option.{slice_get_within, get_or_from_slice_get, slice_get-get_or}
 use Rattle.std.proofs.lemmas.List.{get_or_past}
@@ -11,7 +10,7 @@ use Rattle.leases.specs.Stacks.{Stacks, stack_of}
 use Rattle.leases.specs.Vmids.{Vmids}
 use Rattle.realm_model.specs.Machine.{Seen}
 use Rattle.realm_model.specs.World.{World, realm_of}
-use Rattle.realm_model.specs.History.{acts_of, open_entries, unmatched, pages_of, IsLegal}
+use Rattle.realm_model.specs.History.{acts_of, open_entries, unmatched, pages_of}
 use Rattle.realm_model.specs.Room.{room_taken}
 use Rattle.realm_model.proofs.Leases.{leased}
 use Rattle.realm_model.proofs.Pages.{pages_are_leased}
@@ -20,7 +19,7 @@ use Rattle.realm_model.proofs.Reached.{sized_reached}
 use Rattle.realm_model.proofs.Room.{room_is_sum}
 use Rattle.realm_acts.specs.Mirror.{rd_of}
 use Rattle.build_books.specs.declared.build.Build.{Build}
-use Rattle.build_books.specs.View.{HostView, world_of, open_of, used, granule_of_page, is_aborting, mark_of}
+use Rattle.build_books.specs.View.{HostView, world_of, granule_of_page, is_aborting, mark_of}
 use Rattle.realm_acts.specs.Performing.{rec_granule}
 use Rattle.realm_acts.specs.RecsOpen.{granule_in}
 use Rattle.realm_acts.proofs.RecsOpen.{recs_are_open}
@@ -47,7 +46,7 @@ some_within xs place some = at (slice_get xs place) refl some
     at None is h = cc
     at (Some x) is h = slice_get_within xs place x is
 
-module _ (host : HostView) (builds : List Build) (leases : Stacks) (vmids : Vmids) (events : Vec Event) (kept : IsKept host builds leases vmids events) where
+module _ (host : HostView) (builds : List Build) (leases : Stacks) (holders : List (Option ℕ)) (vmids : Vmids) (events : Vec Event) (kept : IsKept host builds leases holders vmids events) where
   abbrev world : World
   world = world_of host
 

@@ -99,6 +99,12 @@ CanFollowPages leases build (Take order first) = (length (stack_of leases build)
 CanFollowPages leases build (UnTake order first) = 2 ^ order ≤ length (stack_of leases build)
 CanFollowPages leases build _ = Unit {0}
 
+-- the block that is taken or given back lies inside the machine
+abbrev pub CanFollowHolders : List (Option ℕ) → Act → Type 0
+CanFollowHolders leases (Take order first) = first + 2 ^ order ≤ length leases
+CanFollowHolders leases (UnTake order first) = first + 2 ^ order ≤ length leases
+CanFollowHolders leases _ = Unit {0}
+
 -- ---- what is recorded
 
 -- An act of a build can be recorded: it is in turn and a step, the build has the room that it takes, if it takes any, and can
@@ -145,9 +151,10 @@ pub record PointsHold (host : HostView) (build : ℕ) : Type 0 where
   pub in_abort : is_aborting host build ≡ true → 0 < length (open_of host build)
   pub marked : (mark : Mark) → mark_of host build ≡ Some mark → IsMarkOf host build mark
 
--- The history is legal. What is kept is what it has of each build; a VMID is in use exactly where a realm has it; and there
--- is memory for all that has room. A build in abort has something open, and marks stand.
-pub record IsKept (host : HostView) (builds : List Build) (leases : Stacks) (vmids : Vmids) (events : Vec Event) : Type 0 where
+-- The history is legal. What is kept is what it has of each build; each granule is held by the build that leases it; a VMID is
+-- in use exactly where a realm has it; and there is memory for all that has room. A build in abort has something open, and
+-- marks stand.
+pub record IsKept (host : HostView) (builds : List Build) (leases : Stacks) (holders : List (Option ℕ)) (vmids : Vmids) (events : Vec Event) : Type 0 where
   pub legal : IsLegal host.limits host.history
   pub few_builds : host.limits.builds ≤ 8
   pub few_pages : host.limits.pages ≤ 4096
@@ -155,6 +162,7 @@ pub record IsKept (host : HostView) (builds : List Build) (leases : Stacks) (vmi
   pub as_many_stacks : length leases.stacks ≡ host.limits.builds
   pub builds_are : (number : ℕ) (build : Build) → slice_get builds number ≡ Some build → IsBuildOf host.history (world_of host) number build
   pub stacks_are : (number : ℕ) → number < host.limits.builds → stack_of leases number ≡ pages_of number host.history
+  pub holders_are : holders ≡ (world_of host).leases
   pub vmids_are : (vmid : ℕ) → is_used vmids vmid ≡ is_vmid_used (world_of host).machine vmid
   pub room : (number : ℕ) → number < host.limits.builds → HasRoom host number
   pub points : (number : ℕ) → number < host.limits.builds → PointsHold host number

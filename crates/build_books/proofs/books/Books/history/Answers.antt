@@ -11,7 +11,7 @@ use Rattle.build_books.proofs.books.Books.history.Goals as goal
 pub returns-clause-room : goal.returns-clause-room
 returns-clause-room c =
     subst (λ (h : HostView). (build : ℕ) → HasRoom h build) c.self.view_is
-    (λ build. has_room _ c.self.inside.builds.items c.self.inside.leases c.self.inside.vmids c.self.inside.history c.self.invariant build)
+    (λ build. has_room _ c.self.inside.builds.items c.self.inside.leases c.self.inside.holders c.self.inside.vmids c.self.inside.history c.self.invariant build)
 
 pub returns-clause-no_trace : goal.returns-clause-no_trace
 returns-clause-no_trace c =
@@ -22,5 +22,5 @@ pub returns-clause-points : goal.returns-clause-points
 returns-clause-points c =
     subst (λ (h : HostView). (build : ℕ) → PointsHold h build) c.self.view_is
     (λ build.
-    points_hold _ c.self.inside.builds.items c.self.inside.leases c.self.inside.vmids c.self.inside.history c.self.invariant build
+    points_hold _ c.self.inside.builds.items c.self.inside.leases c.self.inside.holders c.self.inside.vmids c.self.inside.history c.self.invariant build
     (length-map c.self.inside.builds.items (λ (b : Build). b.aborting)) (length-map c.self.inside.builds.items (λ (b : Build). b.mark)))
