@@ -7,11 +7,13 @@
 
 mod abort;
 mod act;
+mod apply;
 mod block;
 mod command;
 mod host;
 mod marks;
 mod picks;
+
 mod reply;
 mod settings;
 mod undo;
