@@ -16,3 +16,5 @@ pub mod Runs
 pub mod UndoAnswers
 pub mod Aborts
 pub mod Calls
+pub mod Applied
+pub mod LeftOut

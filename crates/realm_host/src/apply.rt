@@ -5,6 +5,7 @@ ghost use Rattle.std.specs.List.{list_all};
 ghost use Rattle.granule_addr.specs.Root.{starting_tables};
 ghost use Rattle.realm_model.specs.declared.act.Act.TheVariants as acts;
 ghost use Rattle.realm_model.specs.Act.{is_reverse, named};
+ghost use Rattle.realm_model.specs.History.{IsLegal};
 ghost use Rattle.realm_model.specs.Room.{room_taken};
 ghost use Rattle.realm_model.specs.Outcome.{is_in_range, fits};
 ghost use Rattle.realm_model.specs.Step.{named_cells};
@@ -58,7 +59,10 @@ impl<S: PageStore> Host<S> {
     {
         let build = event.build;
         let act = &event.act;
-        if !self.books.has_build(build) || !self.has_room_for(build, act) {
+        if !self.books.has_build(build) {
+            return false;
+        }
+        if !self.has_room_for(build, act) {
             return false;
         }
         match act {
@@ -84,6 +88,7 @@ impl<S: PageStore> Host<S> {
         requires room { HasRoomFor self.old build (acts.Take order first) }
         ensures { IsApplied self.old build (acts.Take order first) result self.new }
     {
+        prove!(order.number() <= 9);
         if !self.monitor.take_at(order, first) {
             return false;
         }
@@ -100,7 +105,10 @@ impl<S: PageStore> Host<S> {
         let Some(newest) = self.books.newest(build) else {
             return false;
         };
-        if !takes_back(act, newest) || self.is_running(build, newest) {
+        if !takes_back(act, newest) {
+            return false;
+        }
+        if self.is_running(build, newest) {
             return false;
         }
         self.reverse(build, act.again());
@@ -110,12 +118,16 @@ impl<S: PageStore> Host<S> {
     // Performs a command, where the build leases what it names and it says what is there.
     fn apply_forward(&mut self, build: BuildId, act: &Act) -> bool
         requires there { build < self.old.limits.builds }
+        requires legal { IsLegal self.old.limits self.old.history }
         requires forward { is_reverse act.now ≡ false }
         requires command { is_command act.now ≡ true }
         requires room { HasRoomFor self.old build act.now }
         ensures { IsApplied self.old build act.now result self.new }
     {
-        if !self.leases_named(build, act) || !self.is_there(build, act) {
+        if !self.leases_named(build, act) {
+            return false;
+        }
+        if !self.is_there(build, act) {
             return false;
         }
         check_ranges(act);

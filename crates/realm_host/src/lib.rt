@@ -17,6 +17,7 @@ mod picks;
 mod reply;
 mod settings;
 mod undo;
+mod without;
 
 pub use build_books::Mark;
 pub use build_commands::{Cmd, Refusal, Reply};
@@ -24,3 +25,4 @@ pub use build_journal::Kind;
 pub use host::Host;
 pub use reply::{Answer, Undone};
 pub use settings::Settings;
+pub use without::apply_without;
