@@ -16,3 +16,4 @@ pub mod Runs
 pub mod UndoAnswers
 pub mod Aborts
 pub mod Calls
+pub mod There
