@@ -18,3 +18,4 @@ pub mod Aborts
 pub mod Calls
 pub mod Applied
 pub mod LeftOut
+pub mod There

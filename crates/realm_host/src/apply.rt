@@ -17,7 +17,7 @@ ghost use Rattle.realm_host.specs.Recorded.{CanApply};
 
 use crate::Host;
 use build_journal::{JOURNAL_ROOM, takes_back};
-use granule_addr::{BuildId, Gran, MOST_PAGES, Order, Root};
+use granule_addr::{BuildId, Gran, Order, Root};
 use page_arena::PageStore;
 use realm_model::{Act, Event};
 
@@ -41,7 +41,16 @@ fn check_ranges(act: &Act)
     ensures { is_in_range act.now ≡ true }
 {
     match act {
-        Act::Fill { .. } | Act::Peek { .. } | Act::Poke { .. } => {}
+        Act::Fill { value, .. } => {
+            let _is_byte = *value;
+        }
+        Act::Peek { offset, .. } => {
+            let _in_page = offset.number();
+        }
+        Act::Poke { offset, value, .. } => {
+            let _in_page = offset.number();
+            let _is_byte = *value;
+        }
         _ => {}
     }
 }
@@ -78,8 +87,7 @@ impl<S: PageStore> Host<S> {
         ensures { (result ≡ true) ↔ HasRoomFor self.now build act.now }
     {
         let left = self.books.capacity() - self.books.used(build);
-        room_taken(act) <= left
-            && (!act.is_paired() || self.books.open_count(build) < JOURNAL_ROOM)
+        room_taken(act) <= left && (!act.is_paired() || self.books.open_count(build) < JOURNAL_ROOM)
     }
 
     // Takes the block that was picked, where it is free.
@@ -146,16 +154,22 @@ impl<S: PageStore> Host<S> {
         true
     }
 
+    // Whether a build leases the granule of that number, where there is one.
+    fn leases_number(&self, build: BuildId, number: u16) -> bool
+        ensures { result ≡ is_leased_to (Some build) (world_of self.now).leases number }
+    {
+        match Gran::new(number, self.monitor.pages()) {
+            Some(granule) => self.books.is_leased_by(granule, build),
+            None => false,
+        }
+    }
+
     // Whether a build leases starting tables.
     fn leases_tables(&self, build: BuildId, root: Root) -> bool
         ensures { result ≡ list_all (is_leased_to (Some build) (world_of self.now).leases) (starting_tables root) }
     {
         for number in 0..root.width.start_count() {
-            let is_leased = match Gran::new(root.first.number() + number, MOST_PAGES) {
-                Some(table) => self.books.is_leased_by(table, build),
-                None => false,
-            };
-            if !is_leased {
+            if !self.leases_number(build, root.first.number() + number) {
                 return false;
             }
         }
@@ -218,7 +232,7 @@ impl<S: PageStore> Host<S> {
             },
             Act::Realm { .. } => self.books.realm(build).is_none(),
             Act::Rec { number, .. } => match self.realm(build) {
-                Some(realm) => realm.next_number() == *number,
+                Some(realm) => *number == realm.next_number(),
                 None => false,
             },
             _ => true,

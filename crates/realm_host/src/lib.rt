@@ -13,7 +13,6 @@ mod command;
 mod host;
 mod marks;
 mod picks;
-
 mod reply;
 mod settings;
 mod undo;
