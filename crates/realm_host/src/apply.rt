@@ -35,7 +35,7 @@ fn room_taken(act: &Act) -> u16
     }
 }
 
-// The numbers of a command that no check of the monitor looks at are in range, by their types.
+// The numbers of a command that no check of the monitor looks at are in range: what is read shows the range of its type.
 fn check_ranges(act: &Act)
     requires { is_command act.now ≡ true }
     ensures { is_in_range act.now ≡ true }
