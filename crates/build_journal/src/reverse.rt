@@ -63,28 +63,60 @@ pub fn takes_back(back: &Act, act: &Act) -> bool
     ensures { (result ≡ true) ↔ (acts.reverse_of act.now ≡ Some back.now) }
 {
     match (act, back) {
-        (Act::Take { order, first }, Act::UnTake { order: back_order, first: back_first }) => {
-            order == back_order && first == back_first
-        }
-        (Act::Delegate { granule }, Act::Undelegate { granule: back_granule }) => {
-            granule == back_granule
-        }
+        (
+            Act::Take { order, first },
+            Act::UnTake {
+                order: back_order,
+                first: back_first,
+            },
+        ) => { order == back_order && first == back_first }
+        (
+            Act::Delegate { granule },
+            Act::Undelegate {
+                granule: back_granule,
+            },
+        ) => { granule == back_granule }
         (
             Act::Realm { rd, root, vmid },
-            Act::UnRealm { rd: back_rd, root: back_root, vmid: back_vmid },
+            Act::UnRealm {
+                rd: back_rd,
+                root: back_root,
+                vmid: back_vmid,
+            },
         ) => rd == back_rd && root == back_root && vmid == back_vmid,
         (
-            Act::Rtt { granule, ipa, level },
-            Act::UnRtt { granule: back_granule, ipa: back_ipa, level: back_level },
+            Act::Rtt {
+                granule,
+                ipa,
+                level,
+            },
+            Act::UnRtt {
+                granule: back_granule,
+                ipa: back_ipa,
+                level: back_level,
+            },
         ) => granule == back_granule && ipa == back_ipa && level == back_level,
         (
             Act::Data { granule, ipa, .. } | Act::Unknown { granule, ipa },
-            Act::UnData { granule: back_granule, ipa: back_ipa },
+            Act::UnData {
+                granule: back_granule,
+                ipa: back_ipa,
+            },
         ) => granule == back_granule && ipa == back_ipa,
         (
-            Act::Rec { granule, auxiliaries, number },
-            Act::UnRec { granule: back_granule, auxiliaries: back_auxiliaries, number: back_number },
-        ) => granule == back_granule && number == back_number && are_same(auxiliaries, back_auxiliaries),
+            Act::Rec {
+                granule,
+                auxiliaries,
+                number,
+            },
+            Act::UnRec {
+                granule: back_granule,
+                auxiliaries: back_auxiliaries,
+                number: back_number,
+            },
+        ) => granule == back_granule
+            && number == back_number
+            && are_same(auxiliaries, back_auxiliaries),
         _ => false,
     }
 }

@@ -1,17 +1,15 @@
 -- What an abort undoes, one act after another.
-use Rattle.std.proofs.Common.{◌≡◌, ◌≢◌, ℕ, zero, suc, ◌+◌, ◌-◌, ◌<◌, ◌≤◌, Bool, true, false, ◌&&◌, ◌||◌, cond, List, [], ◌∷◌, ◌++◌, length, map, reverse, drop, set, get_or, Option, Some, None, Result, Ok, Err, refl, sym, ap, ◌∙◌, subst, arith}
-use Rattle.std.specs.Prelude.{nat_lt, nat_le, option_and_then}
-use Rattle.std.specs.List.{All, last_or, list_any}
-use Rattle.std.proofs.lemmas.Bool.{and_parts, or_parts, ltb-true, ltb-false, le-leb}
-use Rattle.std.proofs.lemmas.Option.{same_Some}
+use Rattle.std.proofs.Common.{◌≡◌, ◌≢◌, ℕ, zero, suc, ◌+◌, ◌-◌, ◌<◌, ◌≤◌, Bool, true, false, ◌&&◌, cond, List, [], ◌∷◌, ◌++◌, length, map, reverse, drop, set, Option, Some, None, refl, sym, ap, ◌∙◌, subst, arith}
+use Rattle.std.specs.Prelude.{nat_lt, option_and_then}
+use Rattle.std.specs.List.{last_or, list_any}
+use Rattle.std.proofs.lemmas.Bool.{or_parts, ltb-true, ltb-false, le-leb}
 use Rattle.std.proofs.lemmas.List.{append-nil, append_assoc, length-append, drop-append-le, reverse-append, get_or-set_same, get_or_past}
 use Rattle.std.proofs.lemmas.List.Folds.{list_any-append}
 use Rattle.realm_model.specs.declared.act.Act.{Act}
-use Rattle.realm_model.specs.declared.act.Event.{Event}
-use Rattle.realm_model.specs.Act.{is_reverse, reverse_of}
-use Rattle.realm_model.specs.Aborting.{IsOthersOrReverse, IsAborting}
-use Rattle.realm_model.specs.History.{erase, open_entries, replay, IsLegal}
-use Rattle.realm_model.specs.Running.{running_count, is_running, IsAtRest}
+use Rattle.realm_model.specs.Act.{reverse_of}
+use Rattle.realm_model.specs.Aborting.{IsAborting}
+use Rattle.realm_model.specs.History.{erase, replay, IsLegal}
+use Rattle.realm_model.specs.Running.{is_running, IsAtRest}
 use Rattle.realm_model.specs.Undoing.{by, reverses, undoing}
 use Rattle.realm_model.specs.World.{World, realm_of}
 use Rattle.realm_model.proofs.Aborting.{abort_goes_on}

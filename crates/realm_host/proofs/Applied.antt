@@ -1,19 +1,17 @@
 -- Recorded events that are applied: what a legal one says, and so what none is.
-use Rattle.std.proofs.Common.{◌≡◌, ℕ, ◌^◌, ◌≤◌, ◌<◌, ◌%◌, Bool, true, false, not, cond, List, [], ◌∷◌, ◌++◌, Option, Some, None, Result, Ok, Err, refl, sym, ap, ◌∙◌, subst, arith}
-use Rattle.std.specs.Prelude.{is_none, map, slice_get, option_and_then, IsSome, IsTrue, ◌↔◌}
+use Rattle.std.proofs.Common.{◌≡◌, ℕ, ◌<◌, Bool, true, false, not, cond, List, [], ◌∷◌, ◌++◌, Option, Some, None, Result, Ok, Err, refl, sym, ap, ◌∙◌, subst}
+use Rattle.std.specs.Prelude.{map, slice_get, option_and_then, IsSome}
 use Rattle.std.specs.FinMap.{get, remove}
 use Rattle.std.specs.List.{All, last_or, list_all}
 use Rattle.std.specs.Result.{is_ok}
 use Rattle.std.proofs.lemmas.Bool.{and_parts, and_from}
 use Rattle.std.proofs.lemmas.Option.{same_Some}
-use Rattle.std.proofs.lemmas.List.Elements.{All-nil, All-cons, All-head, All-tail}
-use Rattle.arrayvec.specs.declared.array_vec.ArrayVec.{ArrayVec}
+use Rattle.std.proofs.lemmas.List.Elements.{All-nil, All-cons}
 use Rattle.page_arena.specs.Block.{IsFreeBlock}
 use Rattle.realm_model.specs.declared.act.Act.{Act}
 use Rattle.realm_model.specs.declared.act.Act.TheVariants.{Take, UnTake, Rec, UnRec}
-use Rattle.realm_model.specs.declared.act.Event.{Event}
 use Rattle.realm_model.specs.declared.rmi.Rmi.{Rmi}
-use Rattle.realm_model.specs.Act.{block, named, holder, is_reverse, reverse_of}
+use Rattle.realm_model.specs.Act.{block, named, is_reverse, reverse_of}
 use Rattle.realm_model.specs.Command.Check.{error_input, error_rec, is_ready, check, with_realm, with_rec, put_realm}
 use Rattle.realm_model.specs.Command.Rec.{rec_destroy}
 use Rattle.realm_model.specs.History.{open_entries, replay, IsLegal, IsInTurn}
@@ -21,7 +19,6 @@ use Rattle.realm_model.specs.Machine.{RealmRow, RecRow, Seen, left}
 use Rattle.realm_model.specs.Outcome.{on_realm, outcome_of, is_in_range, fits}
 use Rattle.realm_model.specs.Running.{is_running, is_rec_running, rec_runs}
 use Rattle.realm_model.specs.Step.{step, named_cells, outcome_in}
-use Rattle.realm_model.specs.StepLaw.{IsStep}
 use Rattle.realm_model.specs.Undoing.{by}
 use Rattle.realm_model.specs.Update.{Update, Put, Outcome}
 use Rattle.realm_model.specs.World.{World, is_leased_to, realm_of}
@@ -34,7 +31,6 @@ use Rattle.rmi_monitor.specs.View.{MonitorView}
 use Rattle.build_books.specs.View.{HostView, world_of}
 use Rattle.build_books.proofs.Worlds.{world_is}
 use Rattle.realm_host.specs.Host.{IsWhole}
-use Rattle.realm_host.specs.Refusals.{is_free_block}
 use Rattle.realm_host.proofs.FreeBlocks.{block_free}
 use Rattle.realm_host.specs.Acting.{HasRoomFor, CanAct, IsActed, IsApplied}
 use Rattle.realm_host.proofs.Asked.{forward_turn}

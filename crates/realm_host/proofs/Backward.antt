@@ -1,5 +1,5 @@
 -- The reverse of the newest act that a build has open can be performed, and is not refused.
-use Rattle.std.proofs.Common.{◌≡◌, ℕ, ◌+◌, ◌<◌, true, false, List, [], ◌∷◌, ◌++◌, Option, Some, None, Ok, Err, refl, sym, ap, ◌∙◌, subst, arith}
+use Rattle.std.proofs.Common.{◌≡◌, ℕ, true, false, Some, None, Ok, Err, refl, sym, ap, ◌∙◌, subst, arith}
 use Rattle.std.specs.Prelude.{option_and_then, slice_get}
 use Rattle.std.specs.List.{All, last_or}
 use Rattle.std.proofs.lemmas.Option.{same_Some}
@@ -16,7 +16,6 @@ use Rattle.realm_model.specs.World.{World}
 use Rattle.realm_model.proofs.Progress.{undoable}
 use Rattle.realm_model.proofs.StepSays.{step_is}
 use Rattle.realm_acts.specs.Performing.{is_command}
-use Rattle.realm_acts.specs.Mirror.{IsAsked}
 use Rattle.realm_acts.proofs.Forward.{holder_is}
 use Rattle.build_books.specs.View.{HostView, world_of, open_of}
 use Rattle.build_books.proofs.Worlds.{world_is}

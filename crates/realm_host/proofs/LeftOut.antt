@@ -1,22 +1,20 @@
 -- A history without a build, applied event by event.
-use Rattle.std.proofs.Common.{◌≡◌, ◌≢◌, ℕ, ◌+◌, ◌<◌, ◌≤◌, Bool, true, false, not, cond, List, [], ◌∷◌, ◌++◌, length, take, drop, get_or, Option, Some, None, refl, sym, ap, ◌∙◌, subst, arith}
-use Rattle.std.specs.Prelude.{filter, option_map, ◌==◌}
+use Rattle.std.proofs.Common.{◌≡◌, ◌≢◌, ℕ, ◌+◌, ◌<◌, ◌≤◌, true, false, not, List, [], ◌∷◌, ◌++◌, length, take, drop, get_or, Some, refl, sym, ap, ◌∙◌, subst}
+use Rattle.std.specs.Prelude.{option_map, ◌==◌}
 use Rattle.std.proofs.lemmas.Bool.{eq-eqb, ne_eqb}
-use Rattle.std.proofs.lemmas.Option.{same_Some}
 use Rattle.std.proofs.lemmas.List.{append-nil, append_assoc, take_all, take_more, take-append-drop}
 use Rattle.std.proofs.lemmas.List.Elements.{filter-append}
 use Rattle.realm_model.specs.declared.act.Event.{Event}
 use Rattle.realm_model.specs.Machine.{Limits}
 use Rattle.realm_model.specs.World.{World, without}
-use Rattle.realm_model.specs.History.{erase, after, replay, open_entries, IsLegal}
-use Rattle.realm_model.specs.LeftOut.{IsAccepted, AllAccepted, OthersHaveRoom}
+use Rattle.realm_model.specs.History.{erase, after, replay, IsLegal}
+use Rattle.realm_model.specs.LeftOut.{IsAccepted, AllAccepted}
 use Rattle.realm_model.proofs.Accepted.{what_is_left_is_accepted}
 use Rattle.realm_model.proofs.Growth.{grows}
 use Rattle.realm_model.proofs.LeftOut.{leaves_no_trace, erase_push}
 use Rattle.build_books.specs.View.{HostView, world_of, with_event}
 use Rattle.build_books.specs.Kept.{HasRoom}
 use Rattle.build_books.proofs.Worlds.{world_is, world_of-replay}
-use Rattle.realm_host.specs.Acting.{HasRoomFor}
 use Rattle.realm_host.specs.Recorded.{CanApply, fresh_like, IsWithout}
 
 -- ---- each event of a list is accepted after those before it

@@ -1,30 +1,22 @@
 -- Whether the REC that an act made runs, by what stands at its granule.
-use Rattle.std.proofs.Common.{◌≡◌, ℕ, ◌<◌, Bool, true, false, not, List, [], ◌∷◌, ◌++◌, Option, Some, None, length, refl, sym, ap, ◌∙◌, subst}
-use Rattle.std.specs.Prelude.{option_map, option_and_then, is_some, slice_get}
+use Rattle.std.proofs.Common.{◌≡◌, ℕ, Bool, false, not, List, Option, Some, None, refl, sym, ap, ◌∙◌}
+use Rattle.std.specs.Prelude.{option_map, option_and_then}
 use Rattle.std.specs.FinMap.{get}
-use Rattle.std.specs.List.{last_or, flat_map}
 use Rattle.std.proofs.lemmas.Option.{same_Some}
-use Rattle.std.proofs.lemmas.List.Concat.{flat_map-append}
 use Rattle.arrayvec.specs.declared.array_vec.ArrayVec.{ArrayVec}
-use Rattle.realm_model.specs.declared.act.Act.{Act}
 use Rattle.realm_model.specs.declared.act.Act.TheVariants.{Rec}
 use Rattle.realm_model.specs.declared.act.Event.{Event}
-use Rattle.realm_model.specs.declared.states.RecState.{RecState}
-use Rattle.realm_model.specs.declared.states.GranuleState.{GranuleState}
 use Rattle.realm_model.specs.declared.states.GranuleState.TheVariants.{Rec as InRec}
 use Rattle.realm_model.specs.Command.Check.{is_ready}
-use Rattle.realm_model.specs.Machine.{Limits, Machine, Cell, RealmRow, RecRow, Seen, seen, cell_at}
+use Rattle.realm_model.specs.Machine.{Limits, Cell, RealmRow, RecRow, Seen, seen, cell_at}
 use Rattle.realm_model.specs.Ownership.{granules_of_rec}
 use Rattle.realm_model.specs.Reachable.{IsReachable}
 use Rattle.realm_model.specs.Roles.{Role, AsRec, target}
 use Rattle.realm_model.specs.Running.{rec_runs, is_rec_running, is_running}
-use Rattle.realm_model.specs.History.{open_entries, replay, IsLegal}
+use Rattle.realm_model.specs.History.{replay}
 use Rattle.realm_model.proofs.Reachable.{reachable_worlds}
 use Rattle.realm_model.proofs.RealmOf.{IsAt, IsAt-realm_of}
 use Rattle.realm_acts.specs.Performing.{rec_granule}
-use Rattle.realm_acts.specs.RecsOpen.{rec_made, recs_open, granule_in, IsRising}
-use Rattle.realm_acts.proofs.RecLists.{push_same, last_is_new}
-use Rattle.realm_acts.proofs.RecsOpen.{recs_are_open}
 use Rattle.realm_model.specs.World.{World, realm_of}
 use Rattle.realm_objects.specs.Attributes.{RecAttributes}
 use Rattle.rmi_monitor.specs.View.{IsRec, rec_in}

@@ -1,10 +1,9 @@
 -- Whether what an event says is there, and what it names is leased.
-use Rattle.std.proofs.Common.{◌≡◌, ℕ, ◌<◌, ◌≤◌, Bool, true, false, List, [], length, Option, Some, None, Ok, Err, refl, sym, ap, ◌∙◌, subst, arith}
-use Rattle.std.specs.Prelude.{◌&&◌, nat_eq, nat_lt, if◌then◌else◌, slice_get, slice_index, option_map, option_and_then, is_none, is_some, not}
+use Rattle.std.proofs.Common.{◌≡◌, ℕ, ◌≤◌, Bool, true, false, List, [], length, Option, Some, None, Ok, Err, refl, sym, ap, ◌∙◌, subst, arith}
+use Rattle.std.specs.Prelude.{◌&&◌, nat_eq, nat_lt, if◌then◌else◌, slice_index, option_map, option_and_then, is_none, is_some, not}
 use Rattle.std.specs.Bool.{OnFalse}
-use Rattle.std.specs.List.{All, list_all}
+use Rattle.std.specs.List.{list_all}
 use Rattle.std.specs.Option.{option_eq}
-use Rattle.std.proofs.lemmas.Bool.{ltb-false}
 use Rattle.std.proofs.lemmas.Option.{slice_get_past}
 use Rattle.std.proofs.lemmas.List.Elements.{All-head}
 use Rattle.arrayvec.specs.declared.array_vec.ArrayVec.{ArrayVec}
@@ -12,13 +11,13 @@ use Rattle.granule_addr.specs.declared.root.Root.{Root}
 use Rattle.realm_model.specs.declared.act.Act.{Act}
 use Rattle.realm_model.specs.declared.act.Act.TheVariants.{Take, UnTake, Fill, Peek, Delegate, Undelegate, Realm, UnRealm, Rtt, UnRtt, Data, Unknown, UnData, Rec, UnRec}
 use Rattle.realm_model.specs.declared.rmi.Rmi.{Rmi}
-use Rattle.realm_model.specs.Machine.{Machine, RealmRow, Limits, Seen, seen, cell_at}
+use Rattle.realm_model.specs.Machine.{Machine, RealmRow, Seen, seen, cell_at}
 use Rattle.realm_model.specs.Act.{named, is_reverse}
 use Rattle.realm_model.specs.Update.{Outcome}
 use Rattle.realm_model.specs.Outcome.{outcome_of, fits}
 use Rattle.realm_model.specs.Command.Granule.{host_peek}
-use Rattle.realm_model.specs.Step.{step, named_cells, outcome_in}
-use Rattle.realm_model.specs.World.{World, same_lease, is_leased_to, realm_of}
+use Rattle.realm_model.specs.Step.{named_cells, outcome_in}
+use Rattle.realm_model.specs.World.{same_lease, is_leased_to, realm_of}
 use Rattle.realm_model.specs.Undoing.{by}
 use Rattle.realm_model.proofs.Booleans.{true_false}
 use Rattle.realm_model.proofs.Leases.{all_leased}

@@ -1,8 +1,8 @@
 -- The answer to an undo.
-use Rattle.std.proofs.Common.{◌≡◌, ℕ, ◌+◌, ◌-◌, ◌<◌, ◌≤◌, Bool, true, false, cond, List, [], ◌∷◌, ◌++◌, length, Option, Some, None, refl, sym, ap, ◌∙◌, subst, arith}
+use Rattle.std.proofs.Common.{◌≡◌, ℕ, ◌-◌, ◌<◌, ◌≤◌, Bool, true, false, cond, List, [], ◌∷◌, length, Option, Some, None, refl, ap, ◌∙◌, arith}
 use Rattle.std.specs.Prelude.{nat_lt, nat_le, option_and_then, IsSome}
 use Rattle.std.specs.List.{last_or}
-use Rattle.std.proofs.lemmas.Bool.{ltb-false, ltb-true, le-leb, lt-leb, le-ltb}
+use Rattle.std.proofs.lemmas.Bool.{ltb-false, le-leb, lt-leb, le-ltb}
 use Rattle.build_journal.specs.Kind.{act_kind}
 use Rattle.build_journal.specs.declared.kind.Kind.{Kind}
 use Rattle.realm_model.specs.declared.act.Act.{Act}
@@ -14,7 +14,6 @@ use Rattle.realm_host.specs.Call.{Undo}
 use Rattle.build_commands.specs.declared.refusal.Refusal.{Refusal}
 use Rattle.build_commands.specs.declared.refusal.Refusal.TheVariants.{NoBuild, NothingToUndo, RecRunning}
 use Rattle.build_books.specs.View.{HostView, world_of, open_of}
-use Rattle.realm_host.specs.declared.reply.Undone.{Undone}
 use Rattle.realm_host.specs.Refusals.{is_newest_running, refusal_of}
 use Rattle.realm_host.specs.Answer.{IsUndone}
 use Rattle.realm_host.specs.Acting.{IsBack, IsRecorded}

@@ -1,10 +1,9 @@
-use Rattle.std.proofs.Common.{◌≡◌, false, true, length, None, cond, Some, sym, ap, ◌∙◌, subst, arith}
-use Rattle.std.specs.Prelude.{nat_lt, nat_le}
+use Rattle.std.proofs.Common.{◌≡◌, true, length, None, cond, Some, sym, ap, ◌∙◌, subst, arith}
+use Rattle.std.specs.Prelude.{nat_lt}
 use Rattle.std.proofs.lemmas.Bool.{ltb-true, lt-leb, le-ltb}
 use Rattle.realm_model.specs.Running.{running_count}
 use Rattle.realm_model.specs.World.{realm_of}
 use Rattle.realm_model.specs.History.{IsLegal}
-use Rattle.build_commands.specs.Checks.{first_that_holds}
 use Rattle.build_commands.specs.declared.refusal.Refusal.TheVariants.{NoBuild, RecRunning}
 use Rattle.build_books.specs.View.{HostView, world_of, open_of, is_aborting}
 use Rattle.realm_host.proofs.Aborts.{rests_all}

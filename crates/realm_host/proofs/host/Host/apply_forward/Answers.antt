@@ -1,8 +1,5 @@
-use Rattle.std.proofs.Common.{◌≡◌, true, false, ◌++◌, ◌∷◌, [], Result, Ok, Err, refl, sym, ap, ◌∙◌, subst}
-use Rattle.std.specs.Result.{is_ok}
+use Rattle.std.proofs.Common.{refl, sym, subst}
 use Rattle.realm_model.specs.declared.act.Act.{Act}
-use Rattle.realm_model.specs.declared.rmi.Rmi.{Rmi}
-use Rattle.build_books.specs.View.{HostView}
 use Rattle.realm_host.specs.Acting.{IsActed, IsApplied, CanAct}
 use Rattle.realm_host.proofs.Applied.{no_legal, unleased_no_step, can_apply_act, is_applied}
 use Rattle.realm_host.proofs.host.Host.apply_forward.Goals as goal

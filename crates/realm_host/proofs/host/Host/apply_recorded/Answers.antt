@@ -1,9 +1,8 @@
-use Rattle.std.proofs.Common.{◌≡◌, false, true, refl, sym, ap, ◌∙◌, subst}
+use Rattle.std.proofs.Common.{◌≡◌, true, refl, sym, ap, ◌∙◌, subst}
 use Rattle.std.specs.Prelude.{nat_lt}
 use Rattle.std.proofs.lemmas.Bool.{ltb-true, lt-ltb}
 use Rattle.realm_model.specs.History.{IsLegal}
 use Rattle.build_books.specs.View.{HostView}
-use Rattle.realm_host.specs.Recorded.{CanApply}
 use Rattle.realm_host.proofs.Applied.{there_next, forward_command}
 use Rattle.realm_host.proofs.host.Host.apply_recorded.Goals as goal
 

@@ -1,4 +1,4 @@
-use Rattle.std.proofs.Common.{sym, ◌∙◌, subst, arith}
+use Rattle.std.proofs.Common.{sym, subst, arith}
 use Rattle.build_commands.proofs.Refused.{none_of}
 use Rattle.build_commands.specs.Checks.{build_checks}
 use Rattle.build_books.specs.Desk.{desk_of}

@@ -1,7 +1,7 @@
-use Rattle.std.proofs.Common.{refl, sym, ap, ◌∙◌, ◌||◌, false, get_or}
+use Rattle.std.proofs.Common.{refl, sym, ap, ◌∙◌, ◌||◌}
 use Rattle.std.specs.List.{list_any}
 use Rattle.std.proofs.lemmas.List.{take_all}
-use Rattle.std.proofs.lemmas.List.Folds.{list_any_more, list_any_at}
+use Rattle.std.proofs.lemmas.List.Folds.{list_any_more}
 use Rattle.realm_model.specs.Running.{is_running}
 use Rattle.realm_model.specs.World.{realm_of}
 use Rattle.build_books.specs.View.{world_of}

@@ -1,4 +1,4 @@
-use Rattle.std.proofs.Common.{length, refl, sym, ap, ◌∙◌, subst, arith}
+use Rattle.std.proofs.Common.{length, refl, ap, subst, arith}
 use Rattle.realm_model.specs.History.{IsLegal}
 use Rattle.build_books.specs.View.{HostView, open_of}
 use Rattle.realm_host.proofs.Aborts.{never_refused, goes_down, is_down}
