@@ -1,3 +1,4 @@
+pub mod Marks
 pub mod View
 pub mod Codes
 pub mod Recs

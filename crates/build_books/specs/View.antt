@@ -1,6 +1,7 @@
 -- What a contract sees of a host of builds, and what follows from it.
-use Rattle.std.specs.Prelude.{ℕ, List, [], ◌∷◌, ◌++◌, Bool, Option, unwrap_or, slice_get}
+use Rattle.std.specs.Prelude.{ℕ, nat_lt, List, [], ◌∷◌, ◌++◌, length, Bool, false, ◌&&◌, Option, Some, None, unwrap_or, slice_get, slice_index_or, slice_set}
 use Rattle.build_books.specs.declared.mark.Mark.{Mark}
+use Rattle.build_books.specs.Marks.{mark_while}
 use Rattle.realm_model.specs.declared.act.Act.{Act}
 use Rattle.realm_model.specs.declared.act.Event.{Event}
 use Rattle.realm_model.specs.Machine.{Limits}
@@ -38,6 +39,44 @@ granule_of_page host build page = slice_get (pages_of_build host build) page
 abbrev pub used : HostView → ℕ → ℕ
 used host build = used_room build host.history (world_of host)
 
--- the host with one more event
+-- ---- aborts
+
+-- the build is in abort
+abbrev pub is_aborting : HostView → ℕ → Bool
+is_aborting host build = slice_index_or host.aborting build false
+
+-- an abort begins: the build is in abort, where it has anything open
+abbrev pub begun : HostView → ℕ → HostView
+begun host build = record host { aborting = slice_set host.aborting build (nat_lt 0 (length (open_of host build))) }
+
+-- ---- marks
+
+-- the mark that is kept of a build
+abbrev pub mark_of : HostView → ℕ → Option Mark
+mark_of host build = slice_index_or host.marks build None
+
+-- the mark that a build is given now: how many acts it has open, and the length of the history
+abbrev pub mark_now : HostView → ℕ → Mark
+mark_now host build = record { build = build; length = length (open_of host build); place = length host.history }
+
+abbrev pub with_mark : HostView → ℕ → Mark → HostView
+with_mark host build mark = record host { marks = slice_set host.marks build (Some mark) }
+
+-- ---- events
+
+-- The host with one more event. A build is out of abort where it has nothing open then, and its mark is dropped where it has
+-- fewer acts open than at the mark.
 abbrev pub with_event : HostView → ℕ → Act → HostView
-with_event host build act = record host { history = host.history ++ by build act ∷ [] }
+with_event host build act =
+    let history = host.history ++ by build act ∷ [] in
+    let opened = length (open_entries build history) in
+    record host {
+      history = history;
+      aborting = slice_set host.aborting build (is_aborting host build && nat_lt 0 opened);
+      marks = slice_set host.marks build (mark_while opened (mark_of host build));
+    }
+
+-- and with more acts of the build, in turn
+unfoldable pub with_acts : HostView → ℕ → List Act → HostView
+with_acts host build [] = host
+with_acts host build (act ∷ acts) = with_acts (with_event host build act) build acts

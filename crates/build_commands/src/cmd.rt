@@ -81,12 +81,18 @@ pub enum Cmd {
     },
 }
 
-/// What a build asks for in one turn.
+/// What a builder does next with its build.
 #[derive(Debug, PartialEq, Eq, Drop)]
 pub enum Step {
     Ask(Cmd),
     /// The newest open act of the build is reversed.
     Undo,
+    /// All that the build has open is reversed, the newest first.
+    Abort,
+    /// The build's point is kept, so that it can go back to it.
+    Mark,
+    /// What the build has opened since its last mark is reversed, the newest first.
+    Back,
 }
 
 // The same pages again.

@@ -1,5 +1,5 @@
 -- The act of a command that passed its checks.
-use Rattle.std.proofs.Common.{◌≡◌, ℕ, zero, suc, ◌+◌, ◌-◌, ◌==◌, ◌<◌, ◌≤◌, Bool, true, false, List, [], ◌∷◌, ◌++◌, length, map, Option, Some, None, Ok, Err, refl, sym, ap, ◌∙◌, subst, arith}
+use Rattle.std.proofs.Common.{◌≡◌, ℕ, zero, suc, ◌==◌, ◌<◌, Bool, true, false, List, [], ◌∷◌, ◌++◌, length, map, Option, Some, None, Ok, Err, refl, sym, ap, ◌∙◌, subst, arith}
 use Rattle.std.specs.Prelude.{IsTrue, IsSome, option_map, is_some, slice_get, slice_index}
 use Rattle.std.specs.List.{All}
 use Rattle.std.proofs.lemmas.Bool.{eq-eqb}
@@ -24,22 +24,22 @@ use Rattle.realm_model.proofs.Leases.{leased as leased_to}
 use Rattle.realm_model.proofs.Lists.{is_in, is_in_head, is_in_more}
 use Rattle.realm_model.proofs.Pages.{is_in-pages_of}
 use Rattle.realm_acts.specs.Performing.{is_command}
-use Rattle.realm_acts.specs.Mirror.{IsAsked, rd_of}
+use Rattle.realm_acts.specs.Mirror.{rd_of}
 use Rattle.build_commands.specs.declared.cmd.Cmd.{Cmd}
-use Rattle.build_commands.specs.declared.cmd.Cmd.TheVariants.{Take, Fill, Peek, Delegate, Realm, Rtt, Ripas, Data, Unknown, Rec, Activate, Enter, Exit, Poke}
+use Rattle.build_commands.specs.declared.cmd.Cmd.TheVariants.{Take, Peek, Realm, Rec}
 use Rattle.build_commands.specs.declared.refusal.Refusal.{Refusal}
 use Rattle.build_commands.specs.declared.refusal.Refusal.TheVariants.{Rmi as RmiRefusal}
 use Rattle.build_commands.specs.Needs.{operands, needs_of}
 use Rattle.build_commands.specs.Acts.{act_of}
 use Rattle.build_commands.specs.Checks.{AreFound, checks_of, first_that_holds}
-use Rattle.build_commands.specs.Laws.{is_of_monitor, IsOfCommand, IsThere, outcome_of_act}
+use Rattle.build_commands.specs.Laws.{is_of_monitor, IsThere, outcome_of_act}
 use Rattle.build_commands.proofs.ActOf.{of_command}
 use Rattle.build_commands.proofs.Picks.{act_fits}
 use Rattle.build_books.specs.View.{HostView, world_of, granule_of_page}
 use Rattle.build_books.specs.Desk.{desk_of}
 use Rattle.build_books.proofs.Worlds.{world_is}
 use Rattle.build_books.proofs.RealmFollows.{with_row}
-use Rattle.build_commands.specs.declared.cmd.Step.TheVariants.{Ask}
+use Rattle.realm_host.specs.Call.{Ask}
 use Rattle.build_commands.specs.Replies.{reply_of}
 use Rattle.build_books.specs.View.{pages_of_build}
 use Rattle.realm_host.specs.Picks.{granules_named, picked_for, act_asked, outcome_asked, IsPeekRefused}
@@ -55,7 +55,7 @@ same_kind (acts.Take order first) is = cc
 same_kind (acts.UnTake order first) is = cc
 same_kind _ is = refl
 
-forward_turn : (history : _) (build : ℕ) (act : Act) → is_reverse act ≡ false → IsInTurn history (by build act)
+pub forward_turn : (history : _) (build : ℕ) (act : Act) → is_reverse act ≡ false → IsInTurn history (by build act)
 forward_turn history build act forward = λ reverse. absurd (never (is_reverse act) forward reverse)
   where
     never : (t : Bool) → t ≡ false → IsTrue t → ⊥

@@ -1,5 +1,5 @@
 -- The reverse of the newest act that a build has open can be performed, and is not refused.
-use Rattle.std.proofs.Common.{◌≡◌, ℕ, ◌+◌, ◌<◌, true, false, List, [], ◌∷◌, ◌++◌, Option, Some, None, Ok, Err, refl, sym, ap, ◌∙◌, subst, arith}
+use Rattle.std.proofs.Common.{◌≡◌, ℕ, true, false, Some, None, Ok, Err, refl, sym, ap, ◌∙◌, subst, arith}
 use Rattle.std.specs.Prelude.{option_and_then, slice_get}
 use Rattle.std.specs.List.{All, last_or}
 use Rattle.std.proofs.lemmas.Option.{same_Some}
@@ -16,7 +16,6 @@ use Rattle.realm_model.specs.World.{World}
 use Rattle.realm_model.proofs.Progress.{undoable}
 use Rattle.realm_model.proofs.StepSays.{step_is}
 use Rattle.realm_acts.specs.Performing.{is_command}
-use Rattle.realm_acts.specs.Mirror.{IsAsked}
 use Rattle.realm_acts.proofs.Forward.{holder_is}
 use Rattle.build_books.specs.View.{HostView, world_of, open_of}
 use Rattle.build_books.proofs.Worlds.{world_is}
@@ -25,17 +24,18 @@ use Rattle.realm_host.specs.Acting.{HasRoomFor, CanAct, IsBack}
 -- the reverse of an act
 pub record IsReverse (back : Act) : Type 0 where
   pub unpaired : is_paired back ≡ false
+  pub reverse : is_reverse back ≡ true
   pub takes_none : room_taken back ≡ 0
 
-reverse_is : (act back : Act) → reverse_of act ≡ Some back → IsReverse back
+pub reverse_is : (act back : Act) → reverse_of act ≡ Some back → IsReverse back
 unfolding reverse_of is_reverse room_taken
-reverse_is (Take order first) back e = subst IsReverse (same_Some _ _ e) (record { unpaired = refl; takes_none = refl })
-reverse_is (Delegate granule) back e = subst IsReverse (same_Some _ _ e) (record { unpaired = refl; takes_none = refl })
-reverse_is (Realm rd root vmid) back e = subst IsReverse (same_Some _ _ e) (record { unpaired = refl; takes_none = refl })
-reverse_is (Rtt granule ipa level) back e = subst IsReverse (same_Some _ _ e) (record { unpaired = refl; takes_none = refl })
-reverse_is (Data granule ipa source) back e = subst IsReverse (same_Some _ _ e) (record { unpaired = refl; takes_none = refl })
-reverse_is (Unknown granule ipa) back e = subst IsReverse (same_Some _ _ e) (record { unpaired = refl; takes_none = refl })
-reverse_is (Rec granule auxiliaries number) back e = subst IsReverse (same_Some _ _ e) (record { unpaired = refl; takes_none = refl })
+reverse_is (Take order first) back e = subst IsReverse (same_Some _ _ e) (record { unpaired = refl; reverse = refl; takes_none = refl })
+reverse_is (Delegate granule) back e = subst IsReverse (same_Some _ _ e) (record { unpaired = refl; reverse = refl; takes_none = refl })
+reverse_is (Realm rd root vmid) back e = subst IsReverse (same_Some _ _ e) (record { unpaired = refl; reverse = refl; takes_none = refl })
+reverse_is (Rtt granule ipa level) back e = subst IsReverse (same_Some _ _ e) (record { unpaired = refl; reverse = refl; takes_none = refl })
+reverse_is (Data granule ipa source) back e = subst IsReverse (same_Some _ _ e) (record { unpaired = refl; reverse = refl; takes_none = refl })
+reverse_is (Unknown granule ipa) back e = subst IsReverse (same_Some _ _ e) (record { unpaired = refl; reverse = refl; takes_none = refl })
+reverse_is (Rec granule auxiliaries number) back e = subst IsReverse (same_Some _ _ e) (record { unpaired = refl; reverse = refl; takes_none = refl })
 reverse_is _ back e = cc
 
 -- an act that gives a block back is the reverse of its Take

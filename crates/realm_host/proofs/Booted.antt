@@ -1,5 +1,5 @@
 -- A host at the start, and how many pages nobody leases.
-use Rattle.std.proofs.Common.{◌≡◌, ℕ, zero, suc, ◌+◌, ◌≤◌, Bool, true, false, cond, List, [], ◌∷◌, length, map, Option, Some, None, refl, sym, ap, ◌∙◌, subst, arith, add-zero, zero-add}
+use Rattle.std.proofs.Common.{◌≡◌, ℕ, suc, ◌+◌, ◌≤◌, Bool, true, false, cond, List, [], ◌∷◌, length, map, Option, Some, None, refl, sym, ap, ◌∙◌, subst, arith, add-zero, zero-add}
 use Rattle.std.specs.Prelude.{filter, is_none, slice_get}
 use Rattle.std.specs.List.{range_with_len, flat_map}
 use Rattle.std.specs.Option.{option_eq}
@@ -10,7 +10,7 @@ use Rattle.realm_model.specs.History.{after, replay, open_entries, unmatched, pa
 use Rattle.rmi_monitor.specs.View.{MonitorView, fresh}
 use Rattle.realm_acts.specs.Mirror.{IsMirror}
 use Rattle.realm_acts.proofs.Fresh.{fresh_is_mirror}
-use Rattle.build_books.specs.View.{HostView, world_of}
+use Rattle.build_books.specs.View.{HostView}
 use Rattle.build_books.specs.Booted.{booted}
 use Rattle.build_books.proofs.Worlds.{world_of-replay}
 use Rattle.realm_host.specs.Host.{IsWhole}

@@ -1,16 +1,15 @@
 -- What follows where no check of a command holds.
-use Rattle.std.proofs.Common.{◌≡◌, ℕ, zero, suc, ◌+◌, ◌-◌, ◌<◌, ◌≤◌, Bool, true, false, not, cond, List, [], ◌∷◌, ◌++◌, length, map, Option, Some, None, refl, sym, ap, ◌∙◌, subst, arith}
-use Rattle.std.specs.Prelude.{is_some, nat_lt, nat_le, slice_get}
+use Rattle.std.proofs.Common.{◌≡◌, ℕ, suc, ◌<◌, ◌≤◌, Bool, true, false, not, cond, List, [], ◌∷◌, ◌++◌, length, map, Option, Some, None, refl, sym, ap, ◌∙◌}
+use Rattle.std.specs.Prelude.{nat_lt, nat_le}
 use Rattle.std.specs.List.{All, filter_map, cons_option}
 use Rattle.std.proofs.lemmas.Bool.{leb-false, ltb-false}
-use Rattle.std.proofs.lemmas.Option.{same_Some}
 use Rattle.std.proofs.lemmas.List.Elements.{All-nil, All-cons}
 use Rattle.build_commands.specs.declared.cmd.Cmd.{Cmd}
 use Rattle.build_commands.specs.declared.needs.Wants.{Wants}
 use Rattle.build_commands.specs.declared.needs.Wants.TheVariants.{Either, Realm as ARealm, NoRealm as NoneOf}
 use Rattle.build_commands.specs.declared.refusal.Refusal.{Refusal}
 use Rattle.build_commands.specs.declared.refusal.Refusal.TheVariants.{RealmThere, NoRealm, JournalFull, HistoryFull}
-use Rattle.build_commands.specs.Desk.{DeskView, granule_of_page}
+use Rattle.build_commands.specs.Desk.{DeskView}
 use Rattle.build_commands.specs.Needs.{operands, needs_of}
 use Rattle.build_commands.specs.Checks.{Check, build_checks, order_checks, page_checks, realm_checks, journal_checks, room_checks, vmid_checks, state_checks, checks_of, first_that_holds}
 

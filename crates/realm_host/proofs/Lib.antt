@@ -14,3 +14,8 @@ pub mod Booted
 pub mod Leased
 pub mod Runs
 pub mod UndoAnswers
+pub mod Aborts
+pub mod Calls
+pub mod Applied
+pub mod LeftOut
+pub mod There

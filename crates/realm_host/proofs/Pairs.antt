@@ -1,13 +1,13 @@
 -- An undo right after the act that it reverses leads back.
-use Rattle.std.proofs.Common.{◌≡◌, ℕ, true, List, [], ◌∷◌, ◌++◌, Option, Some, None, refl, sym, ap, ◌∙◌, subst}
+use Rattle.std.proofs.Common.{◌≡◌, ℕ, List, [], ◌∷◌, ◌++◌, Option, Some, None, refl, sym, ap, ◌∙◌, subst}
 use Rattle.std.specs.Prelude.{option_and_then}
 use Rattle.std.specs.List.{last_or}
 use Rattle.std.proofs.lemmas.Option.{same_Some}
 use Rattle.realm_model.specs.declared.act.Act.{Act}
 use Rattle.realm_model.specs.declared.act.Event.{Event}
 use Rattle.realm_model.specs.Machine.{Limits}
-use Rattle.realm_model.specs.Act.{is_paired, reverse_of}
-use Rattle.realm_model.specs.History.{after, replay, open_entries, IsLegal, IsInTurn}
+use Rattle.realm_model.specs.Act.{reverse_of}
+use Rattle.realm_model.specs.History.{after, replay, open_entries, IsLegal}
 use Rattle.realm_model.specs.Ownership.{OwnsSame}
 use Rattle.realm_model.specs.Step.{step}
 use Rattle.realm_model.specs.Undoing.{by}

@@ -1,6 +1,6 @@
 -- What is read of a build's realm, by its RD.
 use Rattle.std.proofs.Common.{◌≡◌, ℕ, ◌<◌, length, Option, Some, None, refl, sym, ap, ◌∙◌, subst}
-use Rattle.std.specs.Prelude.{option_map, option_and_then, unwrap_or, IfSome}
+use Rattle.std.specs.Prelude.{option_map, option_and_then, unwrap_or}
 use Rattle.std.proofs.lemmas.Option.{same_Some}
 use Rattle.realm_model.specs.Machine.{Machine, Cell, RealmRow, Seen, cell_at}
 use Rattle.realm_model.specs.World.{World, realm_of}

@@ -1,30 +1,22 @@
 -- Whether the REC that an act made runs, by what stands at its granule.
-use Rattle.std.proofs.Common.{◌≡◌, ℕ, ◌<◌, Bool, true, false, not, List, [], ◌∷◌, ◌++◌, Option, Some, None, length, refl, sym, ap, ◌∙◌, subst}
-use Rattle.std.specs.Prelude.{option_map, option_and_then, is_some, slice_get}
+use Rattle.std.proofs.Common.{◌≡◌, ℕ, Bool, false, not, List, Option, Some, None, refl, sym, ap, ◌∙◌}
+use Rattle.std.specs.Prelude.{option_map, option_and_then}
 use Rattle.std.specs.FinMap.{get}
-use Rattle.std.specs.List.{last_or, flat_map}
 use Rattle.std.proofs.lemmas.Option.{same_Some}
-use Rattle.std.proofs.lemmas.List.Concat.{flat_map-append}
 use Rattle.arrayvec.specs.declared.array_vec.ArrayVec.{ArrayVec}
-use Rattle.realm_model.specs.declared.act.Act.{Act}
 use Rattle.realm_model.specs.declared.act.Act.TheVariants.{Rec}
 use Rattle.realm_model.specs.declared.act.Event.{Event}
-use Rattle.realm_model.specs.declared.states.RecState.{RecState}
-use Rattle.realm_model.specs.declared.states.GranuleState.{GranuleState}
 use Rattle.realm_model.specs.declared.states.GranuleState.TheVariants.{Rec as InRec}
 use Rattle.realm_model.specs.Command.Check.{is_ready}
-use Rattle.realm_model.specs.Machine.{Limits, Machine, Cell, RealmRow, RecRow, Seen, seen, cell_at}
+use Rattle.realm_model.specs.Machine.{Limits, Cell, RealmRow, RecRow, Seen, seen, cell_at}
 use Rattle.realm_model.specs.Ownership.{granules_of_rec}
 use Rattle.realm_model.specs.Reachable.{IsReachable}
 use Rattle.realm_model.specs.Roles.{Role, AsRec, target}
 use Rattle.realm_model.specs.Running.{rec_runs, is_rec_running, is_running}
-use Rattle.realm_model.specs.History.{open_entries, replay, IsLegal}
+use Rattle.realm_model.specs.History.{replay}
 use Rattle.realm_model.proofs.Reachable.{reachable_worlds}
 use Rattle.realm_model.proofs.RealmOf.{IsAt, IsAt-realm_of}
 use Rattle.realm_acts.specs.Performing.{rec_granule}
-use Rattle.realm_acts.specs.RecsOpen.{rec_made, recs_open, granule_in, IsRising}
-use Rattle.realm_acts.proofs.RecLists.{push_same, last_is_new}
-use Rattle.realm_acts.proofs.RecsOpen.{recs_are_open}
 use Rattle.realm_model.specs.World.{World, realm_of}
 use Rattle.realm_objects.specs.Attributes.{RecAttributes}
 use Rattle.rmi_monitor.specs.View.{IsRec, rec_in}
@@ -76,31 +68,10 @@ module _ (limits : Limits) (world : World) (sound : IsReachable limits world) (g
       ∙ ap (λ o. state_runs (option_map (rec_attributes_of number) (option_and_then (λ (realm : RealmRow). get realm.recs number) o))) is.there
       ∙ ap (λ o. state_runs (option_map (rec_attributes_of number) o)) is.numbered
 
--- ---- of the newest act that a build has open
+-- ---- of an act of a build, by the granule of the REC of its number
 
-record Front (acts : List Act) (act : Act) : Type 0 where
-  front : List Act
-  is : acts ≡ front ++ act ∷ []
-
-front_of : (acts : List Act) (act : Act) → last_or None acts ≡ Some act → Front acts act
-front_of [] act e = cc
-front_of (x ∷ acts) act e = from x acts e
-  where
-    from : (x : Act) (acts : List Act) → last_or (Some x) acts ≡ Some act → Front (x ∷ acts) act
-    from x [] e = record { front = []; is = ap (λ (a : Act). a ∷ []) (same_Some _ _ e) }
-    from x (y ∷ acts) e = let rest = from y acts e in record { front = x ∷ rest.front; is = ap (λ (l : List Act). x ∷ l) rest.is }
-
-module _ (limits : Limits) (history : List Event) (world : World) (legal : IsLegal limits history) (at_world : replay limits history ≡ Some world) (build granule number : ℕ)
-    (aux : ArrayVec ℕ 16 (Unit {0})) (newest : last_or None (open_entries build history) ≡ Some (Rec granule aux number)) where
-  pub granule_is : rec_granule (realm_of build world) number ≡ Some granule
-  granule_is =
-      let opened = recs_are_open limits history world build legal at_world in
-      let split = front_of (open_entries build history) (Rec granule aux number) newest in
-      let recs : recs_open build history ≡ flat_map rec_made split.front ++ (number, granule) ∷ [] = ap (flat_map rec_made) split.is ∙ flat_map-append rec_made split.front (Rec granule aux number ∷ []) in
-      let rising : IsRising (flat_map rec_made split.front ++ (number, granule) ∷ []) = subst IsRising recs opened.rising in
-      opened.granules number ∙ ap (λ rs. granule_in rs number) recs
-      ∙ push_same (flat_map rec_made split.front) number granule (last_is_new (flat_map rec_made split.front) number granule rising)
-
+module _ (limits : Limits) (history : List Event) (world : World) (at_world : replay limits history ≡ Some world) (build granule number : ℕ)
+    (aux : ArrayVec ℕ 16 (Unit {0})) (granule_is : rec_granule (realm_of build world) number ≡ Some granule) where
   record There : Type 0 where
     rd : Seen
     realm_is : realm_of build world ≡ Some (seen world.machine rd.number)
@@ -134,3 +105,17 @@ module _ (limits : Limits) (history : List Event) (world : World) (legal : IsLeg
       ∙ sym (ap (λ o. rec_runs o number) found.realm_is
       ∙ ap (λ o. elim o [ Some realm ↦ is_rec_running (get realm.recs number) | None ↦ false ]) found.rec.there
       ∙ ap is_rec_running found.rec.numbered)
+
+-- without such a REC none runs
+pub none_runs : (realm : Option Seen) (number : ℕ) → rec_granule realm number ≡ None → rec_runs realm number ≡ false
+none_runs None number none = refl
+none_runs (Some rd) number none = by_row rd.cell.descriptor none
+  where
+    by_rec : (o : Option RecRow) → option_map (λ (rec : RecRow). rec.granule) o ≡ None → is_rec_running o ≡ false
+    by_rec None e = refl
+    by_rec (Some rec) e = cc
+
+    by_row : (o : Option RealmRow) → option_map (λ (rec : RecRow). rec.granule) (option_and_then (λ (row : RealmRow). get row.recs number) o) ≡ None
+        → elim o [ Some realm ↦ is_rec_running (get realm.recs number) | None ↦ false ] ≡ false
+    by_row None e = refl
+    by_row (Some realm) e = by_rec (get realm.recs number) e

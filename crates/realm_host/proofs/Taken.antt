@@ -1,13 +1,12 @@
 -- A Take that passed its checks.
-use Rattle.std.proofs.Common.{◌≡◌, ℕ, ◌+◌, ◌-◌, ◌<◌, ◌≤◌, Bool, true, false, cond, [], ◌∷◌, length, Option, Some, None, refl, sym, ap, ◌∙◌, subst, arith}
+use Rattle.std.proofs.Common.{◌≡◌, ℕ, ◌≤◌, true, false, cond, [], ◌∷◌, length, Option, Some, None, refl, sym, ap, ◌∙◌, subst, arith}
 use Rattle.std.specs.Prelude.{nat_lt, nat_le, if◌then◌else◌}
 use Rattle.std.proofs.lemmas.Bool.{ltb-false, le-leb}
 use Rattle.realm_model.specs.declared.act.Act.TheVariants as acts
-use Rattle.realm_model.specs.Act.{is_paired, reverse_of}
+use Rattle.realm_model.specs.Act.{reverse_of}
 use Rattle.realm_model.specs.Room.{room_taken}
 use Rattle.build_commands.specs.declared.cmd.Cmd.TheVariants as cmd
-use Rattle.build_commands.specs.declared.cmd.Step.TheVariants.{Ask}
-use Rattle.build_commands.specs.declared.refusal.Refusal.{Refusal}
+use Rattle.realm_host.specs.Call.{Ask}
 use Rattle.build_commands.specs.declared.refusal.Refusal.TheVariants.{BadOrder, NoBlock}
 use Rattle.build_commands.specs.declared.reply.Reply.TheVariants.{FirstPage}
 use Rattle.build_commands.specs.Needs.{needs_of}

@@ -1,8 +1,8 @@
 -- The answer to an undo.
-use Rattle.std.proofs.Common.{◌≡◌, ℕ, ◌+◌, ◌-◌, ◌<◌, ◌≤◌, Bool, true, false, cond, List, [], ◌∷◌, ◌++◌, length, Option, Some, None, refl, sym, ap, ◌∙◌, subst, arith}
+use Rattle.std.proofs.Common.{◌≡◌, ℕ, ◌-◌, ◌<◌, ◌≤◌, Bool, true, false, cond, List, [], ◌∷◌, length, Option, Some, None, refl, ap, ◌∙◌, arith}
 use Rattle.std.specs.Prelude.{nat_lt, nat_le, option_and_then, IsSome}
 use Rattle.std.specs.List.{last_or}
-use Rattle.std.proofs.lemmas.Bool.{ltb-false, ltb-true, le-leb, lt-leb, le-ltb}
+use Rattle.std.proofs.lemmas.Bool.{ltb-false, le-leb, lt-leb, le-ltb}
 use Rattle.build_journal.specs.Kind.{act_kind}
 use Rattle.build_journal.specs.declared.kind.Kind.{Kind}
 use Rattle.realm_model.specs.declared.act.Act.{Act}
@@ -10,11 +10,10 @@ use Rattle.realm_model.specs.declared.act.Act.TheVariants.{Take, Delegate, Realm
 use Rattle.realm_model.specs.Act.{is_paired, reverse_of}
 use Rattle.realm_model.specs.Running.{is_running}
 use Rattle.realm_model.specs.World.{realm_of}
-use Rattle.build_commands.specs.declared.cmd.Step.TheVariants.{Undo}
+use Rattle.realm_host.specs.Call.{Undo}
 use Rattle.build_commands.specs.declared.refusal.Refusal.{Refusal}
 use Rattle.build_commands.specs.declared.refusal.Refusal.TheVariants.{NoBuild, NothingToUndo, RecRunning}
 use Rattle.build_books.specs.View.{HostView, world_of, open_of}
-use Rattle.realm_host.specs.declared.reply.Undone.{Undone}
 use Rattle.realm_host.specs.Refusals.{is_newest_running, refusal_of}
 use Rattle.realm_host.specs.Answer.{IsUndone}
 use Rattle.realm_host.specs.Acting.{IsBack, IsRecorded}

@@ -1,4 +1,4 @@
--- Which answer a step gets, and which event is recorded.
+-- Which answer a call gets, and which event is recorded.
 use Rattle.std.specs.Prelude.{◌≡◌, ℕ, ◌-◌, [], ◌∷◌, ◌++◌, length, Some, None, Result, Ok, Err, option_and_then}
 use Rattle.std.specs.List.{last_or}
 use Rattle.build_journal.specs.Kind.{act_kind}
@@ -9,8 +9,6 @@ use Rattle.realm_model.specs.History.{IsLegal}
 use Rattle.realm_model.specs.Undoing.{by}
 use Rattle.build_commands.specs.declared.cmd.Cmd.{Cmd}
 use Rattle.build_commands.specs.declared.cmd.Cmd.TheVariants.{Take}
-use Rattle.build_commands.specs.declared.cmd.Step.{Step}
-use Rattle.build_commands.specs.declared.cmd.Step.TheVariants.{Ask, Undo}
 use Rattle.build_commands.specs.declared.refusal.Refusal.{Refusal}
 use Rattle.build_commands.specs.declared.reply.Reply.{Reply}
 use Rattle.build_commands.specs.Replies.{reply_of}
@@ -18,20 +16,21 @@ use Rattle.build_books.specs.View.{HostView, open_of, pages_of_build, with_event
 use Rattle.realm_host.specs.declared.reply.Answer.{Answer}
 use Rattle.realm_host.specs.declared.reply.Answer.TheVariants.{Replied, Undone as WasUndone, Refused}
 use Rattle.realm_host.specs.declared.reply.Undone.{Undone}
+use Rattle.realm_host.specs.Call.{Call, Ask, Undo}
 use Rattle.realm_host.specs.Picks.{act_asked}
 use Rattle.realm_host.specs.Refusals.{refusal_of}
 
--- The act is that of the step, its page numbers turned into granules by the build's pages. The block of a Take is any; of
+-- The act is that of the call, its page numbers turned into granules by the build's pages. The block of a Take is any; of
 -- what else is picked there is one. An undo is the reverse of the newest act that the build has open.
-abbrev pub IsActOf : HostView → ℕ → Step → Act → Type 0
+abbrev pub IsActOf : HostView → ℕ → Call → Act → Type 0
 IsActOf host build (Ask (Take order)) act = (first : ℕ) × (act ≡ acts.Take order first)
 IsActOf host build (Ask cmd) act = act_asked host build cmd ≡ Some act
 IsActOf host build Undo act = option_and_then reverse_of (last_or None (open_of host build)) ≡ Some act
 
 -- No refusal holds, and the one event of the act, which is legal, ends the history.
-pub record IsAccepted (host : HostView) (build : ℕ) (step : Step) (act : Act) (new : HostView) : Type 0 where
-  pub not_refused : refusal_of host build step ≡ None
-  pub act_of : IsActOf host build step act
+pub record IsAccepted (host : HostView) (build : ℕ) (call : Call) (act : Act) (new : HostView) : Type 0 where
+  pub not_refused : refusal_of host build call ≡ None
+  pub act_of : IsActOf host build call act
   pub legal : IsLegal host.limits (host.history ++ by build act ∷ [])
   pub grows : new ≡ with_event host build act
 
@@ -48,9 +47,9 @@ pub record IsUndone (host : HostView) (build : ℕ) (undone : Undone) (new : Hos
   pub kind : option_and_then act_kind (last_or None (open_of host build)) ≡ Some undone.kind
   pub left : undone.left ≡ length (open_of host build) - 1
 
--- A step gets the refusal that holds, and nothing changes; or the reply, and its one event is recorded.
-abbrev pub IsAnswer : HostView → ℕ → Step → Answer → HostView → Type 0
-IsAnswer host build step (Refused refusal) new = (refusal_of host build step ≡ Some refusal) × (new ≡ host)
+-- A call gets the refusal that holds, and nothing changes; or the reply, and its one event is recorded.
+abbrev pub IsAnswer : HostView → ℕ → Call → Answer → HostView → Type 0
+IsAnswer host build call (Refused refusal) new = (refusal_of host build call ≡ Some refusal) × (new ≡ host)
 IsAnswer host build (Ask cmd) (Replied reply) new = IsReplied host build cmd reply new
 IsAnswer host build Undo (WasUndone undone) new = IsUndone host build undone new
 IsAnswer host build _ _ new = ⊥

@@ -2,7 +2,12 @@ pub mod Settings
 pub mod Host
 pub mod Readings
 pub mod Picks
+pub mod Call
 pub mod Refusals
 pub mod Answer
 pub mod PairLaw
 pub mod Acting
+pub mod Served
+pub mod Abort
+pub mod Marked
+pub mod Recorded

@@ -1,4 +1,4 @@
--- When the host refuses: the checks of each step, in the order of the refusals' numbers.
+-- When the host refuses: the checks of each call, in the order of the refusals' numbers.
 use Rattle.std.specs.Prelude.{ℕ, nat_lt, nat_le, List, [], ◌∷◌, ◌++◌, length, Bool, true, false, not, ◌&&◌, Option, Some, None, Ok, Err}
 use Rattle.std.specs.List.{list_any, list_all, last_or, range_with_len}
 use Rattle.realm_model.specs.Act.{block}
@@ -8,8 +8,7 @@ use Rattle.realm_model.specs.Update.{Outcome}
 use Rattle.realm_model.specs.World.{World, is_leased_to, realm_of}
 use Rattle.build_commands.specs.declared.cmd.Cmd.{Cmd}
 use Rattle.build_commands.specs.declared.cmd.Cmd.TheVariants.{Take}
-use Rattle.build_commands.specs.declared.cmd.Step.{Step}
-use Rattle.build_commands.specs.declared.cmd.Step.TheVariants.{Ask, Undo}
+use Rattle.realm_host.specs.Call.{Call, Ask, Undo}
 use Rattle.build_commands.specs.declared.refusal.Refusal.{Refusal}
 use Rattle.build_commands.specs.declared.refusal.Refusal.TheVariants.{NoBuild, NothingToUndo, RecRunning, NoBlock, Rmi}
 use Rattle.build_commands.specs.Checks.{Check, checks_of, first_that_holds}
@@ -57,13 +56,13 @@ abbrev pub last_checks : HostView → ℕ → Cmd → List Check
 last_checks host build (Take order) = no_block host order ∷ []
 last_checks host build cmd = refused_by (outcome_asked host build cmd)
 
--- ---- the checks of a step
+-- ---- the checks of a call
 
 -- A reverse has kept its room, and the monitor refuses none but that of a REC that runs.
-abbrev pub checks_of_step : HostView → ℕ → Step → List Check
-checks_of_step host build (Ask cmd) = checks_of (desk_of host) build cmd ++ last_checks host build cmd
-checks_of_step host build Undo = no_build host build ∷ nothing_to_undo host build ∷ rec_running host build ∷ []
+abbrev pub checks_of_call : HostView → ℕ → Call → List Check
+checks_of_call host build (Ask cmd) = checks_of (desk_of host) build cmd ++ last_checks host build cmd
+checks_of_call host build Undo = no_build host build ∷ nothing_to_undo host build ∷ rec_running host build ∷ []
 
--- The refusal of a step: of those that apply to it and hold, the one with the lowest number.
-unfoldable pub refusal_of : HostView → ℕ → Step → Option Refusal
-refusal_of host build step = first_that_holds (checks_of_step host build step)
+-- The refusal of a call: of those that apply to it and hold, the one with the lowest number.
+unfoldable pub refusal_of : HostView → ℕ → Call → Option Refusal
+refusal_of host build call = first_that_holds (checks_of_call host build call)

@@ -1,7 +1,7 @@
 //! Commands of builds.
 ghost use Rattle.std.specs.Prelude.{◌≡◌, ◌<◌, None};
 ghost use Rattle.build_commands.specs.declared.cmd.Cmd.TheVariants as cmd;
-ghost use Rattle.build_commands.specs.declared.cmd.Step.TheVariants.{Ask};
+ghost use Rattle.realm_host.specs.Call.{Ask};
 ghost use Rattle.build_commands.specs.Checks.{checks_of, first_that_holds};
 ghost use Rattle.build_books.specs.Desk.{desk_of};
 ghost use Rattle.realm_host.specs.Answer.{IsAnswer, replied};

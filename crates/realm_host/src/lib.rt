@@ -5,17 +5,23 @@
 //! keep of each build what the history has of it.
 #![tactic(auto)]
 
+mod abort;
 mod act;
+mod apply;
 mod block;
 mod command;
 mod host;
+mod marks;
 mod picks;
 mod reply;
 mod settings;
 mod undo;
+mod without;
 
-pub use build_commands::{Cmd, Refusal, Reply, Step};
+pub use build_books::Mark;
+pub use build_commands::{Cmd, Refusal, Reply};
 pub use build_journal::Kind;
 pub use host::Host;
 pub use reply::{Answer, Undone};
 pub use settings::Settings;
+pub use without::apply_without;

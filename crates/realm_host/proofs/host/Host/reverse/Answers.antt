@@ -1,5 +1,4 @@
-use Rattle.std.proofs.Common.{Err, refl, sym, ap, ◌∙◌, subst}
-use Rattle.realm_host.proofs.Backward.{of_take, newest_take, can_act, command_back, never_refused}
+use Rattle.realm_host.proofs.Backward.{newest_take, can_act, command_back, never_refused}
 use Rattle.realm_host.proofs.host.Host.reverse.Goals as goal
 
 pub give_back-requires-clause-newest : goal.give_back-requires-clause-newest

@@ -1,0 +1,67 @@
+-- The abort of a build.
+use Rattle.std.specs.Prelude.{◌≡◌, ◌≢◌, ◌≤◌, ℕ, List, [], ◌∷◌, ◌++◌, length, drop, reverse, false, Some, None, Result}
+use Rattle.std.specs.List.{All}
+use Rattle.build_commands.specs.declared.refusal.Refusal.{Refusal}
+use Rattle.build_commands.specs.Checks.{Check, build_checks}
+use Rattle.realm_model.specs.declared.act.Event.{Event}
+use Rattle.realm_model.specs.Aborting.{IsOthersOrReverse}
+use Rattle.realm_model.specs.History.{erase, replay, IsLegal}
+use Rattle.realm_model.specs.Undoing.{reverses, undoing}
+use Rattle.build_books.specs.declared.mark.Mark.{Mark}
+use Rattle.build_books.specs.Desk.{desk_of}
+use Rattle.build_books.specs.View.{HostView, world_of, open_of, is_aborting, mark_of, begun, with_acts}
+use Rattle.realm_host.specs.Call.{Undo}
+use Rattle.realm_host.specs.Refusals.{no_build, refusal_of}
+use Rattle.realm_host.specs.Served.{any_rec_running, IsServed}
+
+-- ---- the begin
+
+abbrev pub checks_of_begin : HostView → ℕ → List Check
+checks_of_begin host build = build_checks (desk_of host) build ++ any_rec_running host build ∷ []
+
+-- An abort begins: its number is that of the acts that are open.
+abbrev pub IsBegun : HostView → ℕ → Result ℕ Refusal → HostView → Type 0
+IsBegun host build result new =
+    IsServed (checks_of_begin host build) host (λ count after. (count ≡ length (open_of host build)) × (after ≡ begun host build)) result new
+
+-- From here on, as long as the build does nothing but reverses, each undo is served until nothing is open, whatever others do.
+abbrev pub GoesOn : HostView → ℕ → Type 0
+GoesOn host build =
+    (later : List Event) (then : HostView) → then.limits ≡ host.limits → then.history ≡ host.history ++ later
+    → IsLegal then.limits then.history → All (IsOthersOrReverse build) later
+    → open_of then build ≢ [] → refusal_of then build Undo ≡ None
+
+-- ---- the end
+
+-- All that the build had open was reversed, the newest first: the world is that of the history without the build, which is
+-- legal, and the same as before.
+pub record LeavesNothing (host : HostView) (build : ℕ) (new : HostView) : Type 0 where
+  pub history : new.history ≡ host.history ++ undoing build host.history
+  pub same_others : erase build new.history ≡ erase build host.history
+  pub legal : IsLegal new.limits (erase build new.history)
+  pub no_trace : replay new.limits (erase build new.history) ≡ Some (world_of new)
+
+-- what the build has open above the first so many acts is undone, the newest first
+abbrev pub undone_to : HostView → ℕ → ℕ → HostView
+undone_to host build count = with_acts host build (reverses (reverse (drop count (open_of host build))))
+
+-- So many acts are left open. A mark that does not lie above them is kept, and a build with nothing open is not in abort.
+pub record IsDown (host : HostView) (build count : ℕ) (new : HostView) : Type 0 where
+  pub new_is : new ≡ undone_to host build count
+  pub legal : IsLegal new.limits new.history
+  pub opened : length (open_of new build) ≡ count
+  pub marks : (mark : Mark) → mark.length ≤ count → mark_of host build ≡ Some mark → mark_of new build ≡ Some mark
+  pub idle : (length (open_of host build) ≡ 0 → is_aborting host build ≡ false) → length (open_of new build) ≡ 0 → is_aborting new build ≡ false
+
+abbrev pub checks_of_abort : HostView → ℕ → List Check
+checks_of_abort host build = no_build host build ∷ any_rec_running host build ∷ []
+
+-- the reverses of all that is open are recorded, and the build is out of abort
+pub record IsAborted (host : HostView) (build count : ℕ) (new : HostView) : Type 0 where
+  pub count_is : count ≡ length (open_of host build)
+  pub new_is : new ≡ undone_to host build 0
+  pub over : is_aborting new build ≡ false
+  pub nothing_left : LeavesNothing host build new
+
+abbrev pub IsAbortAnswer : HostView → ℕ → Result ℕ Refusal → HostView → Type 0
+IsAbortAnswer host build result new = IsServed (checks_of_abort host build) host (λ count after. IsAborted host build count after) result new

@@ -1,0 +1,24 @@
+-- Recorded events, applied again.
+use Rattle.std.specs.Prelude.{◌≡◌, ℕ, [], ◌∷◌, ◌++◌}
+use Rattle.realm_model.specs.declared.act.Event.{Event}
+use Rattle.realm_model.specs.History.{erase, IsLegal}
+use Rattle.realm_model.specs.World.{without}
+use Rattle.build_books.specs.View.{HostView, world_of}
+use Rattle.build_books.specs.Booted.{booted}
+use Rattle.realm_host.specs.Acting.{HasRoomFor}
+
+-- An event can be applied: the history with it is legal, and its build has the room that it takes.
+pub record CanApply (host : HostView) (event : Event) : Type 0 where
+  pub legal : IsLegal host.limits (host.history ++ event ∷ [])
+  pub room : HasRoomFor host event.build event.act
+
+-- a host of the same settings and as many pages, as it is booted
+abbrev pub fresh_like : HostView → HostView
+fresh_like host = booted host.limits.pages host.limits.vmids host.limits.aux host.limits.builds host.capacity
+
+-- A host has the history of another without the events of a build, and so its world without that build.
+pub record IsWithout (host : HostView) (build : ℕ) (new : HostView) : Type 0 where
+  pub limits : new.limits ≡ host.limits
+  pub capacity : new.capacity ≡ host.capacity
+  pub history : new.history ≡ erase build host.history
+  pub world : world_of new ≡ without (world_of host) build

@@ -1,0 +1,17 @@
+-- How a call that is no event is answered: with the first check that holds, or as it says.
+use Rattle.std.specs.Prelude.{◌≡◌, ℕ, nat_lt, List, Result, Ok, Err, Some, None}
+use Rattle.build_commands.specs.declared.refusal.Refusal.{Refusal}
+use Rattle.build_commands.specs.declared.refusal.Refusal.TheVariants.{RecRunning}
+use Rattle.build_commands.specs.Checks.{Check, first_that_holds}
+use Rattle.realm_model.specs.Running.{running_count}
+use Rattle.realm_model.specs.World.{realm_of}
+use Rattle.build_books.specs.View.{HostView, world_of}
+
+-- 8 of an abort: a REC of the build runs
+abbrev pub any_rec_running : HostView → ℕ → Check
+any_rec_running host build = (nat_lt 0 (running_count (realm_of build (world_of host))), RecRunning)
+
+-- The first check that holds is the refusal, and nothing changes; where none does, the value and the host are as said.
+abbrev pub IsServed : {A : Type 0} → List Check → HostView → (A → HostView → Type 0) → Result A Refusal → HostView → Type 0
+IsServed checks host IsDone (Err refusal) new = (first_that_holds checks ≡ Some refusal) × (new ≡ host)
+IsServed checks host IsDone (Ok value) new = (first_that_holds checks ≡ None) × IsDone value new
