@@ -24,8 +24,8 @@ BY_OTHERS = re.compile(r"it calls|it passes|it waits for|a call of|depends on|fo
 FAULT = re.compile(r"(?:note: )?((?:\./)?(\S+?):(\d+):\d+: (?:error|it is not proved|`search` found no proof).*)")
 # What does not reach the prover.
 NOT_COMPILED = re.compile(r"((?:\./)?(\S+?):(\d+):\d+: error\[.*)")
-# Where the prover goes on with a line: of a name that is no longer there, it says so there.
-GOES_ON = re.compile(r"\n {2,}")
+# Where a line goes on in the next one: what is no longer there is named first, and told there.
+GOES_ON = re.compile(r"\n +(?=has no |is not in scope)")
 # A proof's file that does not fit the edited body: it names what is no longer there, or answers what is not asked for.
 LOST = "has no field|is not in scope|has no `|was not admitted|could not tell"
 LOST_NAME = re.compile(rf"((?:\./)?(\S+?):(\d+):\d+: error.*(?:{LOST}).*)")
