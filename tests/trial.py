@@ -24,6 +24,8 @@ BY_OTHERS = re.compile(r"it calls|it passes|it waits for|a call of|depends on|fo
 FAULT = re.compile(r"(?:note: )?((?:\./)?(\S+?):(\d+):\d+: (?:error|it is not proved|`search` found no proof).*)")
 # What does not reach the prover.
 NOT_COMPILED = re.compile(r"((?:\./)?(\S+?):(\d+):\d+: error\[.*)")
+# Where a line goes on in the next one: what is no longer there is named first, and told there.
+GOES_ON = re.compile(r"\n +(?=has no |is not in scope)")
 # A proof's file that does not fit the edited body: it names what is no longer there, or answers what is not asked for.
 LOST = "has no field|is not in scope|has no `|was not admitted|could not tell"
 LOST_NAME = re.compile(rf"((?:\./)?(\S+?):(\d+):\d+: error.*(?:{LOST}).*)")
@@ -35,7 +37,7 @@ class Check:
     `is_unread` tells of a line whether it says that an edited text could not be read."""
 
     def __init__(self, ran, lines, is_unread):
-        self.said, self.lines = ran.stdout.rstrip("\n").split("\n"), lines
+        self.said, self.lines = GOES_ON.sub(" ", ran.stdout.rstrip("\n")).split("\n"), lines
         self.is_proved = ran.returncode == 0
         self.unread = [it for it in self.said if is_unread(it)]
         is_refused = ran.returncode == 1 and self.said[-1].startswith("logic=not-proved")
