@@ -1,5 +1,5 @@
 -- Calls that are no events: their checks, and the host after them.
-use Rattle.std.proofs.Common.{◌≡◌, ℕ, ◌-◌, ◌<◌, ◌≤◌, Bool, true, false, not, cond, take, drop, List, [], ◌∷◌, ◌++◌, length, reverse, Option, Some, None, Result, Ok, Err, refl, sym, ap, ◌∙◌, subst, arith}
+use Rattle.std.proofs.Common.{◌≡◌, ℕ, ◌-◌, ◌<◌, ◌≤◌, Bool, true, false, not, cond, take, drop, List, [], ◌∷◌, ◌++◌, length, map, reverse, Option, Some, None, Result, Ok, Err, refl, sym, ap, ◌∙◌, subst, arith}
 use Rattle.std.specs.Prelude.{nat_le}
 use Rattle.std.specs.List.{list_any}
 use Rattle.std.proofs.lemmas.Bool.{leb-false, and_parts, eqb-true}
@@ -13,7 +13,7 @@ use Rattle.realm_model.specs.declared.act.Event.{Event}
 use Rattle.realm_model.specs.History.{open_entries, IsLegal}
 use Rattle.realm_model.specs.Marks.{above, IsRolledBack}
 use Rattle.realm_model.specs.Running.{is_running}
-use Rattle.realm_model.specs.Undoing.{reverses}
+use Rattle.realm_model.specs.Undoing.{by, reverses}
 use Rattle.realm_model.specs.World.{realm_of}
 use Rattle.realm_model.proofs.RollBack.{rolled_back}
 use Rattle.rmi_monitor.specs.View.{MonitorView}
@@ -137,6 +137,10 @@ back_at host build mark count is stands rolled new down =
     record {
       count_is = way.count_is;
       new_is = down.new_is;
+      history = ap (λ (h : HostView). h.history) down.new_is
+          ∙ history-with_acts host build (reverses (reverse (drop mark.length (open_of host build))))
+          ∙ ap (λ es. host.history ++ es) (sym ((λ i. map (by (stands.of_build i)) (reverses (reverse (above (point_of mark) host.history))))
+          ∙ ap (λ (acts : List Act). map (by build) (reverses (reverse acts))) (above_is host build mark stands)));
       mark_stays = down.marks mark (omega arith) way.is_mark;
       rolled_back = rolled;
     }

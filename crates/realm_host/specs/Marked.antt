@@ -4,7 +4,7 @@ use Rattle.std.specs.List.{list_any}
 use Rattle.build_commands.specs.declared.refusal.Refusal.{Refusal}
 use Rattle.build_commands.specs.declared.refusal.Refusal.TheVariants.{NothingToUndo, RecRunning}
 use Rattle.build_commands.specs.Checks.{Check, build_checks, first_that_holds}
-use Rattle.realm_model.specs.Marks.{above, IsRolledBack}
+use Rattle.realm_model.specs.Marks.{above, rolling_back, IsRolledBack}
 use Rattle.realm_model.specs.Running.{is_running}
 use Rattle.realm_model.specs.World.{realm_of}
 use Rattle.build_books.specs.declared.mark.Mark.{Mark}
@@ -51,6 +51,7 @@ way_back host build mark = elim (first_that_holds (checks_of_back host build mar
 pub record IsBackAt (host : HostView) (build : ℕ) (mark : Mark) (count : ℕ) (new : HostView) : Type 0 where
   pub count_is : count ≡ length (above (point_of mark) host.history)
   pub new_is : new ≡ undone_to host build mark.length
+  pub history : new.history ≡ host.history ++ rolling_back (point_of mark) host.history
   pub mark_stays : mark_of new build ≡ Some mark
   pub rolled_back : IsRolledBack host.limits (point_of mark) host.history
 
