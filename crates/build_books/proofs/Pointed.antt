@@ -2,17 +2,19 @@
 use Rattle.std.proofs.Common.{◌≡◌, ◌≢◌, ℕ, ◌*◌, ◌<◌, ◌≤◌, Bool, true, false, List, length, set, get_or, Option, Some, None, refl, sym, ap, ◌∙◌, subst, cond, arith, ⊎_elim}
 use Rattle.std.specs.Prelude.{nat_lt, slice_get, IfSome}
 use Rattle.std.specs.Global.{Vec}
-use Rattle.std.proofs.lemmas.Bool.{cases_eq, eq-eqb, ne_eqb, ltb-true}
+use Rattle.std.proofs.lemmas.Bool.{cases_eq, eq-eqb, ne_eqb, ltb-true, le-leb}
 use Rattle.std.proofs.lemmas.Option.{same_Some, slice_get-get_or}
-use Rattle.std.proofs.lemmas.List.{map-set, length-map, length-set, set-get_or, get_or-set_same, get_or-set_other}
+use Rattle.std.proofs.lemmas.List.{map-set, length-map, length-set, set-get_or, get_or-set_same, get_or-set_other, take_all}
 use Rattle.leases.specs.Stacks.{Stacks}
 use Rattle.leases.specs.Vmids.{Vmids}
 use Rattle.realm_model.specs.declared.act.Act.{Act}
 use Rattle.realm_model.specs.declared.act.Event.{Event}
+use Rattle.realm_model.specs.History.{open_entries}
 use Rattle.realm_model.proofs.Lists.{slice_get-set}
 use Rattle.realm_model.proofs.Marks.{stands_now}
 use Rattle.build_books.specs.declared.build.Build.{Build}
 use Rattle.build_books.specs.declared.mark.Mark.{Mark}
+use Rattle.build_books.specs.Marks.{mark_while}
 use Rattle.build_books.specs.View.{HostView, world_of, open_of, is_aborting, mark_of, mark_now, with_mark, begun}
 use Rattle.build_books.specs.Kept.{books_of, IsBuildOf, IsMarkOf, PointsHold, IsKept}
 use Rattle.build_books.proofs.Desks.{said_of}
@@ -33,6 +35,13 @@ module _ (builds : List Build) (leases : Stacks) (holders : List (Option ℕ)) (
 
   mark_there : build < length host.marks
   mark_there = subst (λ n. build < n) (sym (length-map builds (λ (b : Build). b.mark))) there
+
+  -- the flag that an abort sets, and the mark that is kept, are told
+  pub flag_begun : is_aborting (begun now build) build ≡ nat_lt 0 (length (open_of now build))
+  flag_begun = get_or-set_same now.aborting build (nat_lt 0 (length (open_of now build))) false (subst (λ (h : HostView). build < length h.aborting) view_is abort_there)
+
+  pub mark_told : (mark : Mark) → mark_of (with_mark now build mark) build ≡ Some mark
+  mark_told mark = get_or-set_same now.marks build (Some mark) None (subst (λ (h : HostView). build < length h.marks) view_is mark_there)
 
   -- the place of a mark in the history is small
   pub place_fits : length events.items ≤ 131072
@@ -69,6 +78,23 @@ module _ (builds : List Build) (leases : Stacks) (holders : List (Option ℕ)) (
             let same : length old.journal ≡ length (open_of now build) =
             ap length (kept.builds_are build old stands).journal ∙ ap (λ (h : HostView). length (open_of h build)) view_is in
             absurd (omega (arith, none, some, same))
+
+    -- no fewer acts are open than at its mark
+    pub low : mark_while (length old.journal) (mark_of now build) ≡ mark_of now build
+    low = at (mark_of now build) refl
+      where
+        at : (o : Option Mark) → mark_of now build ≡ o → mark_while (length old.journal) o ≡ o
+        at None is = refl
+        at (Some mark) is =
+            let hold : PointsHold now build = subst (λ (h : HostView). PointsHold h build) view_is (kept.points build there) in
+            let point = (hold.marked mark is).stands in
+            let since = point.since (length now.history) point.place in
+            let here : mark.length ≤ length (open_of now build) =
+            subst (λ b. mark.length ≤ length (open_entries b now.history)) (hold.marked mark is).of_build
+            (subst (λ (es : List Event). mark.length ≤ length (open_entries mark.build es)) (take_all (length now.history) now.history (omega arith)) since) in
+            let same : length old.journal ≡ length (open_of now build) =
+            ap length (kept.builds_are build old stands).journal ∙ ap (λ (h : HostView). length (open_of h build)) view_is in
+            ap (λ t. cond t (Some mark) None) (le-leb mark.length (length old.journal) (omega (arith, here, same)))
 
     pub mark_is : old.mark ≡ mark_of now build
     mark_is = mark_was ∙ ap (λ (h : HostView). mark_of h build) view_is

@@ -146,6 +146,11 @@ pub record IsMarkOf (host : HostView) (build : ℕ) (mark : Mark) : Type 0 where
   pub of_build : mark.build ≡ build
   pub stands : Stands (point_of mark) host.history
 
+-- There is a flag and a place for a mark of each build.
+pub record AreOfEach (host : HostView) : Type 0 where
+  pub aborts : length host.aborting ≡ host.limits.builds
+  pub marks : length host.marks ≡ host.limits.builds
+
 -- A build in abort has something open, and its mark stands, where it has one.
 pub record PointsHold (host : HostView) (build : ℕ) : Type 0 where
   pub in_abort : is_aborting host build ≡ true → 0 < length (open_of host build)

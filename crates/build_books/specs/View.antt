@@ -75,8 +75,3 @@ with_event host build act =
       aborting = slice_set host.aborting build (is_aborting host build && nat_lt 0 opened);
       marks = slice_set host.marks build (mark_while opened (mark_of host build));
     }
-
--- and with more acts of the build, in turn
-unfoldable pub with_acts : HostView → ℕ → List Act → HostView
-with_acts host build [] = host
-with_acts host build (act ∷ acts) = with_acts (with_event host build act) build acts

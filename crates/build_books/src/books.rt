@@ -9,8 +9,9 @@ ghost use Rattle.realm_model.specs.Running.{running_count};
 ghost use Rattle.realm_acts.specs.Mirror.{rd_of};
 ghost use Rattle.realm_acts.specs.Performing.{rec_granule};
 ghost use Rattle.leases.specs.Stacks.{stack_of, with_stack};
+ghost use Rattle.build_books.specs.Marks.{mark_while};
 ghost use Rattle.build_books.specs.View.{world_of, open_of, used, pages_of_build, granule_of_page, is_aborting, mark_of, mark_now, with_mark, begun, with_event};
-ghost use Rattle.build_books.specs.Kept.{new_build, pages_after, held_after, CanFollowPages, CanFollowHolders, CanRecord, HasRoom, IsMarkOf, PointsHold};
+ghost use Rattle.build_books.specs.Kept.{new_build, pages_after, held_after, CanFollowPages, CanFollowHolders, CanRecord, HasRoom, IsMarkOf, AreOfEach, PointsHold};
 ghost use Rattle.realm_acts.specs.Mirror.{IsPlaceOf};
 ghost use Rattle.build_books.specs.Vmids.{lowest_vmid, CanFollowVmids, IsVmidsAfter};
 ghost use Rattle.build_books.specs.Booted.{booted};
@@ -138,6 +139,7 @@ impl Books {
         ensures events { result.now ≡ self.now.history }
         ensures legal { IsLegal self.now.limits self.now.history }
         ensures room { (build : ℕ) → HasRoom self.now build }
+        ensures each { AreOfEach self.now }
         ensures points { (build : ℕ) → PointsHold self.now build }
         ensures no_trace { (build : ℕ) → LeavesNoTrace self.now.limits self.now.history build }
     {
@@ -172,12 +174,13 @@ impl Books {
         kept.events + kept.journal.len() + kept.running
     }
 
-    /// How many acts a build has open. With none it is not in abort.
+    /// How many acts a build has open: no fewer than at its mark. With none it is not in abort.
     pub fn open_count(&self, build: BuildId) -> u16
         requires { build < self.now.limits.builds }
         ensures value { result ≡ length (open_of self.now build) }
         ensures fits { result ≤ 512 }
         ensures idle { result ≡ 0 → is_aborting self.now build ≡ false }
+        ensures low { mark_while result (mark_of self.now build) ≡ mark_of self.now build }
     {
         self.builds[build.number() as usize].journal.len()
     }
@@ -288,7 +291,8 @@ impl Books {
     /// An abort of a build begins, where it has anything open.
     pub fn begin_abort(&mut self, build: BuildId)
         requires { build < self.old.limits.builds }
-        ensures { self.new ≡ begun self.old build }
+        ensures begun { self.new ≡ begun self.old build }
+        ensures flag { is_aborting self.new build ≡ nat_lt 0 (length (open_of self.old build)) }
     {
         self.builds[build.number() as usize].begin_abort();
     }
@@ -309,7 +313,8 @@ impl Books {
     pub fn keep_mark(&mut self, build: BuildId, mark: &Mark)
         requires there { build < self.old.limits.builds }
         requires now { mark.now ≡ mark_now self.old build }
-        ensures { self.new ≡ with_mark self.old build mark.now }
+        ensures kept { self.new ≡ with_mark self.old build mark.now }
+        ensures told { mark_of self.new build ≡ Some mark.now }
     {
         self.builds[build.number() as usize].mark = Some(*mark);
     }

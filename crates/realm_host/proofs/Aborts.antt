@@ -1,9 +1,9 @@
 -- What an abort undoes, one act after another.
-use Rattle.std.proofs.Common.{◌≡◌, ◌≢◌, ℕ, zero, suc, ◌+◌, ◌-◌, ◌<◌, ◌≤◌, Bool, true, false, ◌&&◌, cond, List, [], ◌∷◌, ◌++◌, length, map, reverse, drop, set, Option, Some, None, refl, sym, ap, ◌∙◌, subst, arith}
-use Rattle.std.specs.Prelude.{nat_lt, option_and_then}
+use Rattle.std.proofs.Common.{◌≡◌, ◌≢◌, ℕ, zero, suc, ◌+◌, ◌-◌, ◌<◌, ◌≤◌, Bool, true, false, ◌&&◌, cond, List, [], ◌∷◌, ◌++◌, length, map, reverse, drop, set, Option, Some, None, refl, sym, ap, ◌∙◌, subst, arith, get_or}
+use Rattle.std.specs.Prelude.{nat_le, nat_lt, option_and_then}
 use Rattle.std.specs.List.{last_or, list_any}
-use Rattle.std.proofs.lemmas.Bool.{or_parts, ltb-true, ltb-false, le-leb}
-use Rattle.std.proofs.lemmas.List.{append-nil, append_assoc, length-append, drop-append-le, reverse-append, get_or-set_same, get_or_past}
+use Rattle.std.proofs.lemmas.Bool.{or_parts, ltb-true, ltb-false, leb-false, lt-leb, lt-ltb}
+use Rattle.std.proofs.lemmas.List.{append-nil, append_assoc, length-append, drop-append-le, reverse-append, get_or-set_same, get_or_past, set_past, set-get_or}
 use Rattle.std.proofs.lemmas.List.Folds.{list_any-append}
 use Rattle.realm_model.specs.declared.act.Act.{Act}
 use Rattle.realm_model.specs.Act.{reverse_of}
@@ -25,7 +25,7 @@ use Rattle.realm_model.proofs.UndoAll.{erase_events}
 use Rattle.realm_model.proofs.ZeroPages.{kept_reached}
 use Rattle.build_books.specs.declared.mark.Mark.{Mark}
 use Rattle.build_books.specs.Marks.{mark_while}
-use Rattle.build_books.specs.View.{HostView, world_of, open_of, is_aborting, mark_of, with_event, with_acts}
+use Rattle.build_books.specs.View.{HostView, world_of, open_of, is_aborting, mark_of, with_event}
 use Rattle.build_books.proofs.Worlds.{world_is, world_of-replay}
 use Rattle.build_commands.specs.declared.refusal.Refusal.{Refusal}
 use Rattle.realm_host.specs.declared.reply.Undone.{Undone}
@@ -101,41 +101,90 @@ module _ (host new : HostView) (build : ℕ) (legal : IsLegal new.limits new.his
     no_trace = emptied new.limits build new.history (world_of new) legal (world_is new legal) none;
   }
 
+-- ---- one place of a list, written twice
+
+set_twice : {X : Type 0} (xs : List X) (place : ℕ) (x y : X) → set (set xs place x) place y ≡ set xs place y
+set_twice [] place x y = refl
+set_twice (z ∷ xs) zero x y = refl
+set_twice (z ∷ xs) (suc place) x y = ap (λ ys. z ∷ ys) (set_twice xs place x y)
+
+module _ {X : Type 0} (d : X) (then : ℕ → X → X) (lower : (k count : ℕ) (x : X) → count ≤ k → then count (then k x) ≡ then count x) where
+  -- what is written of so many acts, and then of fewer, is what is written of fewer
+  pub written_on : (xs : List X) (place k count : ℕ) → count ≤ k
+      → set (set xs place (then k (get_or xs place d))) place (then count (get_or (set xs place (then k (get_or xs place d))) place d)) ≡ set xs place (then count (get_or xs place d))
+  written_on xs place k count fewer = at (nat_lt place (length xs)) refl
+    where
+      first : X
+      first = then k (get_or xs place d)
+
+      at : (t : Bool) → nat_lt place (length xs) ≡ t
+          → set (set xs place (then k (get_or xs place d))) place (then count (get_or (set xs place (then k (get_or xs place d))) place d)) ≡ set xs place (then count (get_or xs place d))
+      at true there =
+          set_twice xs place (then k (get_or xs place d)) _
+          ∙ ap (set xs place) (ap (then count) (get_or-set_same xs place (then k (get_or xs place d)) d (ltb-true place (length xs) there)) ∙ lower k count (get_or xs place d) fewer)
+      at false past =
+          let outside = ltb-false place (length xs) past in
+          set_twice xs place (then k (get_or xs place d)) _ ∙ set_past xs place _ outside ∙ sym (set_past xs place (then count (get_or xs place d)) outside)
+
+abbrev flag_at : ℕ → Bool → Bool
+flag_at count flag = flag && nat_lt 0 count
+
+flag_lower : (k count : ℕ) (flag : Bool) → count ≤ k → flag_at count (flag_at k flag) ≡ flag_at count flag
+flag_lower k zero true fewer = none (nat_lt 0 k)
+  where
+    none : (t : Bool) → (t && false) ≡ false
+    none true = refl
+    none false = refl
+flag_lower k zero false fewer = refl
+flag_lower zero (suc count) flag fewer = absurd (omega (arith, fewer))
+flag_lower (suc k) (suc count) true fewer = ap (λ t. t && nat_lt 0 (suc count)) (lt-ltb 0 (suc k) (omega arith))
+flag_lower (suc k) (suc count) false fewer = refl
+
+pub while_lower : (k count : ℕ) (mark : Option Mark) → count ≤ k → mark_while count (mark_while k mark) ≡ mark_while count mark
+while_lower k count None fewer = refl
+while_lower k count (Some mark) fewer = at (nat_le mark.length k) refl
+  where
+    at : (t : Bool) → nat_le mark.length k ≡ t → mark_while count (mark_while k (Some mark)) ≡ mark_while count (Some mark)
+    at true fits = ap (λ t. mark_while count (cond t (Some mark) None)) fits
+    at false over =
+        let above = leb-false mark.length k over in
+        ap (λ t. mark_while count (cond t (Some mark) None)) over ∙ sym (ap (λ t. cond t (Some mark) None) (lt-leb mark.length count (omega (arith, above, fewer))))
+
 -- ---- aborts and marks after an event
 
 module _ (host : HostView) (build : ℕ) (act : Act) where
   abbrev opened : ℕ
   opened = length (open_of (with_event host build act) build)
 
-  -- a build that is in abort after an event has something open
+  -- a build with nothing open is not in abort
   pub open_in_abort : opened ≡ 0 → is_aborting (with_event host build act) build ≡ false
   open_in_abort none = at (nat_lt build (length host.aborting)) refl
     where
       at : (t : Bool) → nat_lt build (length host.aborting) ≡ t → is_aborting (with_event host build act) build ≡ false
       at true there =
-          let inside = ltb-true build (length host.aborting) there in
-          get_or-set_same host.aborting build (is_aborting host build && nat_lt 0 opened) false inside
-          ∙ ap (λ n. is_aborting host build && nat_lt 0 n) none ∙ and_false (is_aborting host build)
+          get_or-set_same host.aborting build (flag_at opened (is_aborting host build)) false (ltb-true build (length host.aborting) there)
+          ∙ ap (λ n. flag_at n (is_aborting host build)) none ∙ and_false (is_aborting host build)
         where
           and_false : (t : Bool) → (t && false) ≡ false
           and_false true = refl
           and_false false = refl
       at false past =
           let outside = ltb-false build (length host.aborting) past in
-          let same = Rattle.std.proofs.lemmas.List.length-set host.aborting build (is_aborting host build && nat_lt 0 opened) in
-          get_or_past (set host.aborting build (is_aborting host build && nat_lt 0 opened)) build false (omega (arith, outside, same))
+          ap (λ (flags : List Bool). get_or flags build false) (set_past host.aborting build _ outside) ∙ get_or_past host.aborting build false outside
 
-  -- a mark is kept that does not lie above what is open
-  pub mark_kept : (mark : Mark) → mark.length ≤ opened → mark_of host build ≡ Some mark → mark_of (with_event host build act) build ≡ Some mark
-  mark_kept mark low was = at (nat_lt build (length host.marks)) refl
+  -- and its mark does not lie above what is
+  pub mark_low : mark_while opened (mark_of (with_event host build act) build) ≡ mark_of (with_event host build act) build
+  mark_low = at (nat_lt build (length host.marks)) refl
     where
-      at : (t : Bool) → nat_lt build (length host.marks) ≡ t → mark_of (with_event host build act) build ≡ Some mark
+      at : (t : Bool) → nat_lt build (length host.marks) ≡ t → mark_while opened (mark_of (with_event host build act) build) ≡ mark_of (with_event host build act) build
       at true there =
-          get_or-set_same host.marks build (mark_while opened (mark_of host build)) None (ltb-true build (length host.marks) there)
-          ∙ ap (mark_while opened) was ∙ ap (λ t. cond t (Some mark) None) (le-leb mark.length opened low)
+          let is = get_or-set_same host.marks build (mark_while opened (mark_of host build)) None (ltb-true build (length host.marks) there) in
+          ap (mark_while opened) is ∙ while_lower opened opened (mark_of host build) (omega arith) ∙ sym is
       at false past =
-          let none : mark_of host build ≡ None = get_or_past host.marks build None (ltb-false build (length host.marks) past) in
-          absurd (let bad : None ≡ Some mark = sym none ∙ was in cc)
+          let outside = ltb-false build (length host.marks) past in
+          let is : mark_of (with_event host build act) build ≡ None =
+          ap (λ (marks : List (Option Mark)). get_or marks build None) (set_past host.marks build _ outside) ∙ get_or_past host.marks build None outside in
+          ap (mark_while opened) is ∙ sym is
 
 -- ---- one act after another
 
@@ -192,13 +241,22 @@ module _ (host : HostView) (legal : IsLegal host.limits host.history) (build cou
     pub long_after : length (open_of host build) ≡ length (open_of new build) + 1
     long_after = long ∙ ap (λ (acts : List Act). length acts + 1) (sym open_after)
 
+    reverses_are : back ∷ reverses (reverse (drop count (open_of new build))) ≡ reverses (reverse (drop count (open_of host build)))
+    reverses_are =
+        ap (λ (acts : List Act). back ∷ reverses (reverse (drop count acts))) open_after
+        ∙ sym (ap reverses (ap reverse above_is ∙ reverse-append (drop count below) (newest.act ∷ []))
+        ∙ ap (λ (o : Option Act). elim o [ Some r ↦ r ∷ reverses (reverse (drop count below)) | None ↦ reverses (reverse (drop count below)) ]) back_is)
+
     -- what is still to be undone leads to the same end
     pub same_end : undone_to new build count ≡ undone_to host build count
-    unfolding with_acts
     same_end =
-        ap (λ (acts : List Act). with_acts new build (reverses (reverse (drop count acts)))) open_after
-        ∙ ap (with_acts host build) (sym (ap reverses (ap reverse above_is ∙ reverse-append (drop count below) (newest.act ∷ []))
-        ∙ ap (λ (o : Option Act). elim o [ Some r ↦ r ∷ reverses (reverse (drop count below)) | None ↦ reverses (reverse (drop count below)) ]) back_is))
+        let fewer : count ≤ length (open_of new build) = omega (arith, long_after) in
+        λ i. record host {
+          history = (append_assoc host.history (by build back ∷ []) (map (by build) (reverses (reverse (drop count (open_of new build)))))
+              ∙ ap (λ (acts : List Act). host.history ++ map (by build) acts) reverses_are) i;
+          aborting = written_on false flag_at flag_lower host.aborting build (length (open_of new build)) count fewer i;
+          marks = written_on None mark_while while_lower host.marks build (length (open_of new build)) count fewer i;
+        }
 
     pub rests_after : list_any (is_running (realm_of build (world_of new))) (drop count (open_of new build)) ≡ false
     rests_after =
@@ -243,13 +301,6 @@ module _ (host : HostView) (legal : IsLegal host.limits host.history) (build : �
 
 -- ---- all the way down
 
--- the acts are recorded one after another
-pub history-with_acts : (host : HostView) (build : ℕ) (acts : List Act) → (with_acts host build acts).history ≡ host.history ++ map (by build) acts
-unfolding with_acts
-history-with_acts host build [] = sym (append-nil host.history)
-history-with_acts host build (act ∷ acts) =
-    history-with_acts (with_event host build act) build acts ∙ append_assoc host.history (by build act ∷ []) (map (by build) acts)
-
 -- a build that goes down from what it had open
 pub record IsGoingDown (old : HostView) (build count counter : ℕ) (host : HostView) : Type 0 where
   pub there : build < host.limits.builds
@@ -257,8 +308,8 @@ pub record IsGoingDown (old : HostView) (build count counter : ℕ) (host : Host
   pub end : undone_to host build count ≡ undone_to old build count
   pub opened : length (open_of host build) + counter ≡ length (open_of old build) + count
   pub rests : list_any (is_running (realm_of build (world_of host))) (drop count (open_of host build)) ≡ false
-  pub marks : (mark : Mark) → mark.length ≤ count → mark_of old build ≡ Some mark → mark_of host build ≡ Some mark
-  pub idle : (length (open_of old build) ≡ 0 → is_aborting old build ≡ false) → length (open_of host build) ≡ 0 → is_aborting host build ≡ false
+  pub low : mark_while (length (open_of host build)) (mark_of host build) ≡ mark_of host build
+  pub idle : length (open_of host build) ≡ 0 → is_aborting host build ≡ false
 
 module _ (old host new : HostView) (build count counter : ℕ) (down : IsGoingDown old build count counter host) (further : counter < length (open_of old build)) where
   abbrev more : count < length (open_of host build)
@@ -278,10 +329,8 @@ module _ (old host new : HostView) (build count counter : ℕ) (down : IsGoingDo
     end = same_end host down.legal build count more down.rests is.act back ∙ down.end;
     opened = let opened = down.opened in let long = long_after host down.legal build count more down.rests is.act back in omega (arith, opened, long);
     rests = rests_after host down.legal build count more down.rests is.act back;
-    marks = λ mark low was.
-        let opened = down.opened in let long = long_after host down.legal build count more down.rests is.act back in
-        mark_kept host build is.act mark (omega (arith, opened, long, more, low)) (down.marks mark low was);
-    idle = λ was none. open_in_abort host build is.act none;
+    low = mark_low host build is.act;
+    idle = open_in_abort host build is.act;
   })
     where
       back : reverse_of (newest host down.legal build count more down.rests).act ≡ Some is.act
@@ -293,12 +342,23 @@ module _ (old host : HostView) (build count counter : ℕ) (down : IsGoingDown o
   opened_is : length (open_of host build) ≡ count
   opened_is = let opened = down.opened in omega (arith, opened, over)
 
+  -- nothing is left to be undone
+  at_end : undone_to host build count ≡ host
+  at_end = λ i. record host {
+    history = (ap (λ (acts : List Act). host.history ++ map (by build) (reverses (reverse acts))) (drop_all count (open_of host build) (omega (arith, opened_is)))
+        ∙ append-nil host.history) i;
+    aborting = (ap (set host.aborting build) (flag_same count (is_aborting host build) (λ none. down.idle (opened_is ∙ none))) ∙ set-get_or host.aborting build false) i;
+    marks = (ap (set host.marks build) (ap (λ n. mark_while n (mark_of host build)) (sym opened_is) ∙ down.low) ∙ set-get_or host.marks build None) i;
+  }
+    where
+      flag_same : (n : ℕ) (flag : Bool) → (n ≡ 0 → flag ≡ false) → flag_at n flag ≡ flag
+      flag_same n false idle = refl
+      flag_same zero true idle = sym (idle refl)
+      flag_same (suc n) true idle = lt-ltb 0 (suc n) (omega arith)
+
   pub is_down : IsDown old build count host
-  unfolding with_acts
   is_down = record {
-    new_is = sym (ap (λ (acts : List Act). with_acts host build (reverses (reverse acts))) (drop_all count (open_of host build) (omega (arith, opened_is)))) ∙ down.end;
+    new_is = sym at_end ∙ down.end;
     legal = down.legal;
     opened = opened_is;
-    marks = down.marks;
-    idle = down.idle;
   }

@@ -1,9 +1,9 @@
 -- Calls that are no events: their checks, and the host after them.
-use Rattle.std.proofs.Common.{◌≡◌, ℕ, ◌-◌, ◌<◌, ◌≤◌, Bool, true, false, not, cond, take, drop, List, [], ◌∷◌, ◌++◌, length, reverse, Option, Some, None, Result, Ok, Err, refl, sym, ap, ◌∙◌, subst, arith}
-use Rattle.std.specs.Prelude.{nat_le}
+use Rattle.std.proofs.Common.{◌≡◌, ℕ, ◌-◌, ◌<◌, ◌≤◌, Bool, true, false, not, cond, take, drop, List, [], ◌∷◌, ◌++◌, length, map, reverse, Option, Some, None, Result, Ok, Err, refl, sym, ap, ◌∙◌, subst, arith, ◌&&◌, set, get_or}
+use Rattle.std.specs.Prelude.{nat_lt, nat_le}
 use Rattle.std.specs.List.{list_any}
-use Rattle.std.proofs.lemmas.Bool.{leb-false, and_parts, eqb-true}
-use Rattle.std.proofs.lemmas.List.{take_all, length-drop}
+use Rattle.std.proofs.lemmas.Bool.{leb-false, le-leb, ltb-true, ltb-false, and_parts, eqb-true}
+use Rattle.std.proofs.lemmas.List.{take_all, length-drop, get_or-set_same, get_or_past, set_past}
 use Rattle.build_commands.specs.declared.refusal.Refusal.{Refusal}
 use Rattle.build_commands.specs.declared.refusal.Refusal.TheVariants.{NoBuild, Aborting, NothingToUndo, RecRunning}
 use Rattle.build_commands.specs.Checks.{Check, build_checks, first_that_holds}
@@ -13,20 +13,20 @@ use Rattle.realm_model.specs.declared.act.Event.{Event}
 use Rattle.realm_model.specs.History.{open_entries, IsLegal}
 use Rattle.realm_model.specs.Marks.{above, IsRolledBack}
 use Rattle.realm_model.specs.Running.{is_running}
-use Rattle.realm_model.specs.Undoing.{reverses}
+use Rattle.realm_model.specs.Undoing.{by, reverses}
 use Rattle.realm_model.specs.World.{realm_of}
 use Rattle.realm_model.proofs.RollBack.{rolled_back}
 use Rattle.rmi_monitor.specs.View.{MonitorView}
 use Rattle.build_books.specs.declared.mark.Mark.{Mark}
 use Rattle.build_books.specs.Desk.{desk_of}
-use Rattle.build_books.specs.Marks.{point_of, is_same_mark}
+use Rattle.build_books.specs.Marks.{point_of, is_same_mark, mark_while}
 use Rattle.build_books.specs.View.{HostView, world_of, open_of, is_aborting, mark_of, begun, with_mark}
 use Rattle.build_books.specs.Kept.{IsMarkOf}
 use Rattle.build_books.proofs.Worlds.{world_is}
 use Rattle.realm_host.specs.Abort.{IsDown, IsAborted}
 use Rattle.realm_host.specs.Host.{IsWhole}
 use Rattle.realm_host.specs.Marked.{is_kept, checks_of_back, way_back, IsBackAt}
-use Rattle.realm_host.proofs.Aborts.{leaves_nothing, history-with_acts}
+use Rattle.realm_host.proofs.Aborts.{leaves_nothing}
 
 -- ---- the host after them
 
@@ -137,24 +137,52 @@ back_at host build mark count is stands rolled new down =
     record {
       count_is = way.count_is;
       new_is = down.new_is;
-      mark_stays = down.marks mark (omega arith) way.is_mark;
+      history = ap (λ (h : HostView). h.history) down.new_is
+          ∙ ap (λ es. host.history ++ es) (sym ((λ i. map (by (stands.of_build i)) (reverses (reverse (above (point_of mark) host.history))))
+          ∙ ap (λ (acts : List Act). map (by build) (reverses (reverse acts))) (above_is host build mark stands)));
+      of_build = stands;
+      mark_stays = ap (λ (h : HostView). mark_of h build) down.new_is ∙ kept way.is_mark;
       rolled_back = rolled;
     }
+  where
+    -- the mark is low enough to be kept
+    kept : mark_of host build ≡ Some mark → get_or (set host.marks build (mark_while mark.length (mark_of host build))) build None ≡ Some mark
+    kept is_mark = at (nat_lt build (length host.marks)) refl
+      where
+        at : (t : Bool) → nat_lt build (length host.marks) ≡ t → get_or (set host.marks build (mark_while mark.length (mark_of host build))) build None ≡ Some mark
+        at true there =
+            get_or-set_same host.marks build (mark_while mark.length (mark_of host build)) None (ltb-true build (length host.marks) there)
+            ∙ ap (mark_while mark.length) is_mark ∙ ap (λ t. cond t (Some mark) None) (le-leb mark.length mark.length (omega arith))
+        at false past =
+            let none : mark_of host build ≡ None = get_or_past host.marks build None (ltb-false build (length host.marks) past) in
+            absurd (let bad : None ≡ Some mark = sym none ∙ is_mark in cc)
 
 -- ---- an abort that is done
 
-pub aborted : (host : HostView) (build count : ℕ) → count ≡ length (open_of host build) → (count ≡ 0 → is_aborting host build ≡ false)
-    → (new : HostView) → IsDown host build 0 new → IsAborted host build count new
-aborted host build count is idle new down =
+pub aborted : (host : HostView) (build count : ℕ) → count ≡ length (open_of host build) → (new : HostView) → IsDown host build 0 new → IsAborted host build count new
+aborted host build count is new down =
     let none : open_of new build ≡ [] = none_left (open_of new build) down.opened in
     record {
       count_is = is;
       new_is = down.new_is;
-      over = down.idle (λ zero. idle (is ∙ zero)) down.opened;
-      nothing_left = leaves_nothing host new build down.legal
-          (ap (λ (h : HostView). h.history) down.new_is ∙ history-with_acts host build (reverses (reverse (open_of host build)))) none;
+      over = ap (λ (h : HostView). is_aborting h build) down.new_is ∙ out_of_abort;
+      nothing_left = leaves_nothing host new build down.legal (ap (λ (h : HostView). h.history) down.new_is) none;
     }
   where
     none_left : (acts : List Act) → length acts ≡ 0 → acts ≡ []
     none_left [] e = refl
     none_left (act ∷ acts) e = absurd (omega (arith, e))
+
+    and_false : (t : Bool) → (t && false) ≡ false
+    and_false true = refl
+    and_false false = refl
+
+    out_of_abort : get_or (set host.aborting build (is_aborting host build && false)) build false ≡ false
+    out_of_abort = at (nat_lt build (length host.aborting)) refl
+      where
+        at : (t : Bool) → nat_lt build (length host.aborting) ≡ t → get_or (set host.aborting build (is_aborting host build && false)) build false ≡ false
+        at true there =
+            get_or-set_same host.aborting build (is_aborting host build && false) false (ltb-true build (length host.aborting) there) ∙ and_false (is_aborting host build)
+        at false past =
+            let outside = ltb-false build (length host.aborting) past in
+            ap (λ (flags : List Bool). get_or flags build false) (set_past host.aborting build _ outside) ∙ get_or_past host.aborting build false outside

@@ -1,17 +1,19 @@
 -- A history without a build, applied event by event.
-use Rattle.std.proofs.Common.{◌≡◌, ◌≢◌, ℕ, ◌+◌, ◌<◌, ◌≤◌, true, false, not, List, [], ◌∷◌, ◌++◌, length, take, drop, get_or, Some, refl, sym, ap, ◌∙◌, subst}
-use Rattle.std.specs.Prelude.{option_map, ◌==◌}
+use Rattle.std.proofs.Common.{◌≡◌, ◌≢◌, ℕ, ◌+◌, ◌<◌, ◌≤◌, true, false, not, List, [], ◌∷◌, ◌++◌, length, take, drop, get_or, Some, refl, sym, ap, ◌∙◌, subst, zero, suc, ◌&&◌, set, replicate, Option, None}
+use Rattle.std.specs.Prelude.{option_map, ◌==◌, nat_lt}
 use Rattle.std.proofs.lemmas.Bool.{eq-eqb, ne_eqb}
-use Rattle.std.proofs.lemmas.List.{append-nil, append_assoc, take_all, take_more, take-append-drop}
+use Rattle.std.proofs.lemmas.List.{append-nil, append_assoc, take_all, take_more, take-append-drop, set-get_or}
 use Rattle.std.proofs.lemmas.List.Elements.{filter-append}
 use Rattle.realm_model.specs.declared.act.Event.{Event}
 use Rattle.realm_model.specs.Machine.{Limits}
 use Rattle.realm_model.specs.World.{World, without}
-use Rattle.realm_model.specs.History.{erase, after, replay, IsLegal}
+use Rattle.realm_model.specs.History.{open_entries, erase, after, replay, IsLegal}
 use Rattle.realm_model.specs.LeftOut.{IsAccepted, AllAccepted}
 use Rattle.realm_model.proofs.Accepted.{what_is_left_is_accepted}
 use Rattle.realm_model.proofs.Growth.{grows}
 use Rattle.realm_model.proofs.LeftOut.{leaves_no_trace, erase_push}
+use Rattle.build_books.specs.declared.mark.Mark.{Mark}
+use Rattle.build_books.specs.Marks.{mark_while}
 use Rattle.build_books.specs.View.{HostView, world_of, with_event}
 use Rattle.build_books.specs.Kept.{HasRoom}
 use Rattle.build_books.proofs.Worlds.{world_is, world_of-replay}
@@ -33,14 +35,21 @@ erase-append build xs ys = filter-append (λ (x : Event). not (x.build == build)
 
 -- so many events of a host were applied, but for those of a build
 pub record IsSoFar (host : HostView) (build count : ℕ) (fresh : HostView) : Type 0 where
-  pub limits : fresh.limits ≡ host.limits
-  pub capacity : fresh.capacity ≡ host.capacity
-  pub history : fresh.history ≡ erase build (take count host.history)
+  pub fresh_is : fresh ≡ record (fresh_like host) { history = erase build (take count host.history) }
   pub legal : IsLegal fresh.limits fresh.history
 
 pub nothing_yet : (host : HostView) (build : ℕ) (fresh : HostView) → fresh ≡ fresh_like host → IsSoFar host build 0 fresh
 unfolding after
-nothing_yet host build fresh is = subst (IsSoFar host build 0) (sym is) (record { limits = refl; capacity = refl; history = refl; legal = record { steps = refl; in_turn = tt } })
+nothing_yet host build fresh is = subst (IsSoFar host build 0) (sym is) (record { fresh_is = refl; legal = record { steps = refl; in_turn = tt } })
+
+-- in a list of one thing, that thing stands at each place
+one_thing : {X : Type 0} (n place : ℕ) (x : X) → get_or (replicate n x) place x ≡ x
+one_thing zero place x = refl
+one_thing (suc n) zero x = refl
+one_thing (suc n) (suc place) x = one_thing n place x
+
+same_thing : {X : Type 0} (n place : ℕ) (x y : X) → y ≡ x → set (replicate n x) place y ≡ replicate n x
+same_thing n place x y same = ap (set (replicate n x) place) (same ∙ sym (one_thing n place x)) ∙ set-get_or (replicate n x) place x
 
 module _ (host : HostView) (legal : IsLegal host.limits host.history) (room : (b : ℕ) → HasRoom host b) (build : ℕ) where
   all_accepted : AllAccepted host.limits host.capacity 512 [] (erase build host.history)
@@ -55,10 +64,9 @@ module _ (host : HostView) (legal : IsLegal host.limits host.history) (room : (b
     -- an event of the build is passed over
     pub passed_over : event.build ≡ build → IsSoFar host build (count + 1) fresh
     passed_over same = record {
-      limits = so_far.limits;
-      capacity = so_far.capacity;
-      history = so_far.history ∙ sym (append-nil (erase build (take count host.history)))
-          ∙ sym (ap (erase build) more ∙ erase_push build (take count host.history) event true (eq-eqb event.build build same));
+      fresh_is = so_far.fresh_is
+          ∙ ap (λ es. record (fresh_like host) { history = es }) (sym (append-nil (erase build (take count host.history)))
+          ∙ sym (ap (erase build) more ∙ erase_push build (take count host.history) event true (eq-eqb event.build build same)));
       legal = so_far.legal;
     }
 
@@ -79,9 +87,7 @@ module _ (host : HostView) (legal : IsLegal host.limits host.history) (room : (b
           (subst (AllAccepted host.limits host.capacity 512 []) split_at all_accepted)
 
       accepted_here : IsAccepted fresh.limits fresh.capacity 512 fresh.history event
-      accepted_here = subst (λ es. IsAccepted fresh.limits fresh.capacity 512 es event) (sym so_far.history)
-          (subst (λ c. IsAccepted fresh.limits c 512 (erase build (take count host.history)) event) (sym so_far.capacity)
-          (subst (λ l. IsAccepted l host.capacity 512 (erase build (take count host.history)) event) (sym so_far.limits) accepted))
+      accepted_here = subst (λ (h : HostView). IsAccepted h.limits h.capacity 512 h.history event) (sym so_far.fresh_is) accepted
 
       pub can_apply : CanApply fresh event
       can_apply =
@@ -96,21 +102,25 @@ module _ (host : HostView) (legal : IsLegal host.limits host.history) (room : (b
 
       pub goes_on : (new : HostView) → new ≡ with_event fresh event.build event.act → IsSoFar host build (count + 1) new
       goes_on new is = subst (IsSoFar host build (count + 1)) (sym is) (record {
-        limits = so_far.limits;
-        capacity = so_far.capacity;
-        history = ap (λ es. es ++ event ∷ []) so_far.history ∙ sym erased_more;
+        fresh_is = ap (λ (h : HostView). with_event h event.build event.act) so_far.fresh_is ∙ (λ i. record (fresh_like host) {
+          history = sym erased_more i;
+          aborting = same_thing host.limits.builds event.build false _ (ap (λ t. t && nat_lt 0 opened) (one_thing host.limits.builds event.build false)) i;
+          marks = same_thing host.limits.builds event.build None _ (ap (mark_while opened) (one_thing host.limits.builds event.build no_mark)) i;
+        });
         legal = can_apply.legal;
       })
+        where
+          opened : ℕ
+          opened = length (open_entries event.build (erase build (take count host.history) ++ event ∷ []))
+
+          no_mark : Option Mark
+          no_mark = None
 
   pub is_without : (count : ℕ) → length host.history ≤ count → (fresh : HostView) → IsSoFar host build count fresh → IsWithout host build fresh
   is_without count past fresh so_far =
-      let history : fresh.history ≡ erase build host.history = so_far.history ∙ ap (erase build) (take_all count host.history past) in
+      let is : fresh ≡ record (fresh_like host) { history = erase build host.history } =
+      so_far.fresh_is ∙ ap (λ es. record (fresh_like host) { history = erase build es }) (take_all count host.history past) in
       let none = leaves_no_trace host.limits host.history build legal in
       let at : replay fresh.limits fresh.history ≡ Some (without (world_of host) build) =
-      (λ i. replay (so_far.limits i) (history i)) ∙ none.1 ∙ ap (option_map (λ (w : World). without w build)) (world_is host legal) in
-      record {
-        limits = so_far.limits;
-        capacity = so_far.capacity;
-        history = history;
-        world = world_of-replay fresh (without (world_of host) build) at;
-      }
+      ap (λ (h : HostView). replay h.limits h.history) is ∙ none.1 ∙ ap (option_map (λ (w : World). without w build)) (world_is host legal) in
+      record { new_is = is; world = world_of-replay fresh (without (world_of host) build) at }

@@ -4,22 +4,29 @@ use Rattle.std.specs.List.{list_any}
 use Rattle.build_commands.specs.declared.refusal.Refusal.{Refusal}
 use Rattle.build_commands.specs.declared.refusal.Refusal.TheVariants.{NothingToUndo, RecRunning}
 use Rattle.build_commands.specs.Checks.{Check, build_checks, first_that_holds}
-use Rattle.realm_model.specs.Marks.{above, IsRolledBack}
+use Rattle.realm_model.specs.Marks.{above, rolling_back, IsRolledBack}
 use Rattle.realm_model.specs.Running.{is_running}
 use Rattle.realm_model.specs.World.{realm_of}
 use Rattle.build_books.specs.declared.mark.Mark.{Mark}
 use Rattle.build_books.specs.Marks.{point_of, is_same_mark}
 use Rattle.build_books.specs.Desk.{desk_of}
+use Rattle.build_books.specs.Kept.{IsMarkOf}
 use Rattle.build_books.specs.View.{HostView, world_of, mark_of, mark_now, with_mark}
 use Rattle.realm_host.specs.Abort.{undone_to}
 use Rattle.realm_host.specs.Served.{IsServed}
 
 -- ---- the mark
 
+-- the build's point, which is kept from then on
+pub record IsMarkedAs (host : HostView) (build : ℕ) (mark : Mark) (new : HostView) : Type 0 where
+  pub mark_is : mark ≡ mark_now host build
+  pub new_is : new ≡ with_mark host build mark
+  pub kept : mark_of new build ≡ Some mark
+
 -- The build's point is answered, and kept in place of an older mark.
 abbrev pub IsMarked : HostView → ℕ → Result Mark Refusal → HostView → Type 0
 IsMarked host build result new =
-    IsServed (build_checks (desk_of host) build) host (λ mark after. (mark ≡ mark_now host build) × (after ≡ with_mark host build (mark_now host build))) result new
+    IsServed (build_checks (desk_of host) build) host (IsMarkedAs host build) result new
 
 -- ---- the way back
 
@@ -51,6 +58,8 @@ way_back host build mark = elim (first_that_holds (checks_of_back host build mar
 pub record IsBackAt (host : HostView) (build : ℕ) (mark : Mark) (count : ℕ) (new : HostView) : Type 0 where
   pub count_is : count ≡ length (above (point_of mark) host.history)
   pub new_is : new ≡ undone_to host build mark.length
+  pub history : new.history ≡ host.history ++ rolling_back (point_of mark) host.history
+  pub of_build : IsMarkOf host build mark
   pub mark_stays : mark_of new build ≡ Some mark
   pub rolled_back : IsRolledBack host.limits (point_of mark) host.history
 

@@ -16,9 +16,7 @@ pub record CanApply (host : HostView) (event : Event) : Type 0 where
 abbrev pub fresh_like : HostView → HostView
 fresh_like host = booted host.limits.pages host.limits.vmids host.limits.aux host.limits.builds host.capacity
 
--- A host has the history of another without the events of a build, and so its world without that build.
+-- A host that was booted so has the history of another without the events of a build, and so its world without that build.
 pub record IsWithout (host : HostView) (build : ℕ) (new : HostView) : Type 0 where
-  pub limits : new.limits ≡ host.limits
-  pub capacity : new.capacity ≡ host.capacity
-  pub history : new.history ≡ erase build host.history
+  pub new_is : new ≡ record (fresh_like host) { history = erase build host.history }
   pub world : world_of new ≡ without (world_of host) build

@@ -1,4 +1,4 @@
--- How a call that is no event is answered: with the first check that holds, or as it says.
+-- How a call with checks of its own is answered: with the first that holds, or as it says.
 use Rattle.std.specs.Prelude.{◌≡◌, ℕ, nat_lt, List, Result, Ok, Err, Some, None}
 use Rattle.build_commands.specs.declared.refusal.Refusal.{Refusal}
 use Rattle.build_commands.specs.declared.refusal.Refusal.TheVariants.{RecRunning}

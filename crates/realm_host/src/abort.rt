@@ -13,8 +13,9 @@ use granule_addr::BuildId;
 use page_arena::PageStore;
 
 impl<S: PageStore> Host<S> {
-    /// Begins the abort of a build: how many acts it has open. From then on, until it has none, the build gets `undo` and
-    /// `abort` alone, and each undo is served, whatever others do. With nothing open there is nothing to abort.
+    /// Begins the abort of a build: how many acts it has open. From then on, until it has none, no command of the build is
+    /// served; and as long as nothing but reverses is done for it, each undo is, whatever others do. With nothing open there
+    /// is nothing to abort.
     ///
     /// Refused with NoBuild, with Aborting, or with RecRunning where a REC of the build runs. This is no event.
     pub fn begin_abort(&mut self, build: BuildId) -> Result<u16, Refusal>

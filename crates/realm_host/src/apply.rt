@@ -60,7 +60,8 @@ impl<S: PageStore> Host<S> {
     /// history.
     ///
     /// `false`, with nothing changed, comes exactly where the history with the event would not be legal, or where its
-    /// build has not the room that it takes, or has 512 acts open.
+    /// build has not the room that it takes, or, for an act that has a reverse, has 512 acts open. Whether the build is in
+    /// abort does not matter.
     pub fn apply_recorded(&mut self, event: &Event) -> bool
         ensures answer { (result ≡ true) ↔ CanApply self.old event.now }
         ensures applied { OnTrue result (self.new ≡ with_event self.old event.now.build event.now.act) }

@@ -16,7 +16,7 @@ impl<S: PageStore> Host<S> {
     /// Performs a command of a build.
     ///
     /// The answer is the lowest-numbered refusal that applies and holds, and then nothing changes; or the reply, and
-    /// one event ends the history. No memory is taken, and nothing is looked through.
+    /// one event ends the history. No memory is taken, and neither the machine nor the history or a journal is looked through.
     pub fn command(&mut self, build: BuildId, cmd: Cmd) -> Result<Reply, Refusal>
         ensures { IsAnswer self.old build (Ask cmd) (replied result) self.new }
     {

@@ -5,7 +5,7 @@ ghost use Rattle.realm_model.specs.Machine.{cell_at};
 ghost use Rattle.realm_model.specs.World.{free_set};
 ghost use Rattle.realm_model.specs.History.{IsLegal, LeavesNoTrace};
 ghost use Rattle.build_books.specs.View.{world_of, pages_of_build, granule_of_page};
-ghost use Rattle.build_books.specs.Kept.{HasRoom, PointsHold};
+ghost use Rattle.build_books.specs.Kept.{HasRoom, AreOfEach, PointsHold};
 ghost use Rattle.std.specs.Option.{option_copied};
 ghost use Rattle.rmi_monitor.specs.View.{attributes_of};
 ghost use Rattle.realm_host.specs.Host.{booted_by};
@@ -75,6 +75,7 @@ impl<S: PageStore> Host<S> {
         ensures events { result.now ≡ self.now.history }
         ensures legal { IsLegal self.now.limits self.now.history }
         ensures room { (build : ℕ) → HasRoom self.now build }
+        ensures each { AreOfEach self.now }
         ensures points { (build : ℕ) → PointsHold self.now build }
         ensures no_trace { (build : ℕ) → LeavesNoTrace self.now.limits self.now.history build }
     {

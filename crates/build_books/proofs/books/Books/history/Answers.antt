@@ -4,7 +4,7 @@ use Rattle.realm_model.specs.History.{LeavesNoTrace}
 use Rattle.realm_model.proofs.LeftOut.{leaves_no_trace}
 use Rattle.build_books.specs.View.{HostView}
 use Rattle.build_books.specs.declared.build.Build.{Build}
-use Rattle.build_books.specs.Kept.{HasRoom, PointsHold}
+use Rattle.build_books.specs.Kept.{HasRoom, AreOfEach, PointsHold}
 use Rattle.build_books.proofs.Readings.{has_room, points_hold}
 use Rattle.build_books.proofs.books.Books.history.Goals as goal
 
@@ -24,3 +24,10 @@ returns-clause-points c =
     (λ build.
     points_hold _ c.self.inside.builds.items c.self.inside.leases c.self.inside.holders c.self.inside.vmids c.self.inside.history c.self.invariant build
     (length-map c.self.inside.builds.items (λ (b : Build). b.aborting)) (length-map c.self.inside.builds.items (λ (b : Build). b.mark)))
+
+pub returns-clause-each : goal.returns-clause-each
+returns-clause-each c =
+    subst AreOfEach c.self.view_is (record {
+      aborts = length-map c.self.inside.builds.items (λ (b : Build). b.aborting);
+      marks = length-map c.self.inside.builds.items (λ (b : Build). b.mark);
+    })

@@ -5,7 +5,7 @@ use Rattle.realm_model.specs.Running.{running_count}
 use Rattle.realm_model.specs.World.{realm_of}
 use Rattle.realm_model.specs.History.{IsLegal}
 use Rattle.build_commands.specs.declared.refusal.Refusal.TheVariants.{NoBuild, RecRunning}
-use Rattle.build_books.specs.View.{HostView, world_of, open_of, is_aborting}
+use Rattle.build_books.specs.View.{HostView, world_of, open_of}
 use Rattle.realm_host.proofs.Aborts.{rests_all}
 use Rattle.realm_host.proofs.Calls.{aborted}
 use Rattle.realm_host.proofs.host.Host.abort.Goals as goal
@@ -26,6 +26,5 @@ returns g c =
           (cond (le-ltb 0 (running_count (realm_of c.args.build (world_of c.args.self.now))) (omega (arith, runs, zero)) i) (Some RecRunning) None)),
       aborted c.args.self.now c.args.build c.open_count-count.result
           (c.open_count-count.ensures.value ∙ ap (λ (h : HostView). length (open_of h c.args.build)) c.self.view_is)
-          (λ none. ap (λ (h : HostView). is_aborting h c.args.build) (sym c.self.view_is) ∙ c.open_count-count.ensures.idle none)
           c.undo_down_to.new.self c.undo_down_to.ensures,
     )
