@@ -13,9 +13,15 @@ pub enum Fault {
     /// The input is no plan.
     #[error(transparent)]
     Plan(PlanFault),
+    /// The build to be left out is none of the plan's.
+    #[error("erase names no build")]
+    EraseNamesNoBuild,
     /// A growth was refused.
     #[error("memory")]
     Memory,
+    /// A recorded event was refused when it was applied again.
+    #[error("mismatch")]
+    Mismatch,
     /// A read or a write failed.
     #[error("device")]
     Device,
@@ -30,7 +36,9 @@ impl Fault {
     {
         match self {
             Fault::Plan(_) => 1,
+            Fault::EraseNamesNoBuild => 2,
             Fault::Memory => 3,
+            Fault::Mismatch => 4,
             Fault::Device => 5,
         }
     }
