@@ -1,8 +1,9 @@
 -- What is kept against what the checks of a command see.
-use Rattle.std.proofs.Common.{◌≡◌, ℕ, zero, suc, ◌+◌, ◌-◌, ◌<◌, ◌≤◌, Bool, true, false, ◌&&◌, not, List, [], ◌∷◌, length, map, get_or, Option, Some, None, refl, sym, ap, ◌∙◌, subst, cond, ⊎_elim, arith}
-use Rattle.std.specs.Prelude.{nat_le, slice_get, is_some, IfSome, IfNone}
+use Rattle.std.proofs.Common.{◌≡◌, ℕ, zero, suc, ◌+◌, ◌<◌, ◌≤◌, Bool, true, false, ◌&&◌, not, List, [], ◌∷◌, length, map, get_or, Option, Some, None, refl, sym, ap, ◌∙◌, cond, ⊎_elim, arith}
+use Rattle.std.specs.Prelude.{nat_le, slice_get, IfSome, IfNone}
 use Rattle.std.specs.List.{find, range_with_len}
 use Rattle.std.proofs.lemmas.Bool.{and_parts, leb-true, cases_eq}
+use Rattle.std.proofs.lemmas.Option.{slice_get_within, get_or_from_slice_get}
 use Rattle.leases.specs.Vmids.{Vmids, is_free, is_used, IsLowestFree}
 use Rattle.build_books.specs.View.{HostView, world_of}
 use Rattle.build_books.specs.Vmids.{is_vmid_free, lowest_vmid}
@@ -12,6 +13,10 @@ pub get_or-of : {X Y : Type 0} (f : X → Y) (xs : List X) (place : ℕ) (x : X)
 get_or-of f [] place x d inside is = absurd (omega arith)
 get_or-of f (y ∷ ys) zero x d inside is = ap f is
 get_or-of f (y ∷ ys) (suc place) x d inside is = get_or-of f ys place x d (omega arith) is
+
+-- and so where an element is told
+pub said_of : {X Y : Type 0} (f : X → Y) (xs : List X) (place : ℕ) (x : X) (d : Y) → slice_get xs place ≡ Some x → f x ≡ get_or (map f xs) place d
+said_of f xs place x d there = get_or-of f xs place x d (slice_get_within xs place x there) (sym (get_or_from_slice_get xs place x x there))
 
 -- ---- VMIDs
 

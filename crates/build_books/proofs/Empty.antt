@@ -1,5 +1,5 @@
 -- Books with no event.
-use Rattle.std.proofs.Common.{◌≡◌, ℕ, zero, suc, ◌*◌, ◌<◌, ◌≤◌, Bool, true, false, List, [], ◌∷◌, length, map, replicate, Option, Some, None, refl, sym, ap, ◌∙◌, subst, arith, vec_capacity}
+use Rattle.std.proofs.Common.{◌≡◌, ℕ, zero, suc, ◌*◌, ◌<◌, ◌≤◌, false, List, [], ◌∷◌, length, map, take, replicate, Option, Some, None, refl, sym, ap, ◌∙◌, subst, arith, vec_capacity}
 use Rattle.std.specs.Prelude.{slice_get}
 use Rattle.std.specs.Global.{Vec}
 use Rattle.std.specs.List.{list_any, filter_map}
@@ -14,11 +14,10 @@ use Rattle.realm_model.specs.World.{World, opening, realm_of}
 use Rattle.realm_model.specs.Step.{used_vmids}
 use Rattle.realm_model.specs.History.{after, open_entries, pages_of, IsLegal}
 use Rattle.realm_model.specs.Running.{running_count}
-use Rattle.realm_acts.specs.Mirror.{rd_of}
 use Rattle.realm_acts.specs.VmidsUsed.{is_vmid_used}
 use Rattle.build_books.specs.declared.build.Build.{Build}
 use Rattle.build_books.specs.declared.mark.Mark.{Mark}
-use Rattle.build_books.specs.View.{HostView, world_of}
+use Rattle.build_books.specs.View.{HostView, world_of, is_aborting, mark_of}
 use Rattle.build_books.specs.Booted.{booted}
 use Rattle.build_books.specs.Kept.{new_build, books_of, IsBuildOf, IsKept}
 use Rattle.build_books.proofs.RealmFollows.{no_realm}
@@ -35,6 +34,10 @@ replay-nil limits = refl
 none_open : (build : ℕ) → open_entries build [] ≡ []
 unfolding open_entries
 none_open build = refl
+
+none_taken : (build n : ℕ) → open_entries build (take n []) ≡ []
+none_taken build zero = none_open build
+none_taken build (suc n) = none_open build
 
 no_pages : (build : ℕ) → pages_of build [] ≡ []
 unfolding open_entries
@@ -69,11 +72,11 @@ new_is limits build =
 abbrev no_stack : List ℕ
 no_stack = []
 
-no_mark : Option Mark
+abbrev no_mark : Option Mark
 no_mark = None
 
-module _ (pages vmids aux count capacity : ℕ) (builds : List Build) (leases : Stacks) (pool : Vmids) (events : Vec Event)
-    (builds_are : builds ≡ replicate count new_build) (leases_are : leases ≡ record { stacks = replicate count []; room = pages })
+module _ (pages vmids aux count capacity : ℕ) (builds : List Build) (leases : Stacks) (holders : List (Option ℕ)) (pool : Vmids) (events : Vec Event)
+    (builds_are : builds ≡ replicate count new_build) (leases_are : leases ≡ record { stacks = replicate count []; room = pages }) (holders_are : holders ≡ replicate pages None)
     (range : pool.vmids ≡ vmids) (none_used : (vmid : ℕ) → is_used pool vmid ≡ false) (none : events.items ≡ []) where
   long : length builds ≡ count
   long = ap length builds_are ∙ length-replicate count new_build
@@ -91,9 +94,9 @@ module _ (pages vmids aux count capacity : ℕ) (builds : List Build) (leases : 
   limits = record { pages = pages; vmids = vmids; aux = aux; builds = count }
 
   pub kept_empty : count ≤ 8 → pages ≤ 4096 → capacity ≤ 16384 → count * capacity ≤ vec_capacity events
-      → IsKept (books_of builds leases pool aux capacity events.items) builds leases pool events
+      → IsKept (books_of builds leases pool aux capacity events.items) builds leases holders pool events
   kept_empty few few_pages small memory =
-      subst (λ (h : HostView). IsKept h builds leases pool events) (sym view_is_booted) (record {
+      subst (λ (h : HostView). IsKept h builds leases holders pool events) (sym view_is_booted) (record {
         legal = legal-nil limits;
         few_builds = few;
         few_pages = few_pages;
@@ -107,11 +110,16 @@ module _ (pages vmids aux count capacity : ℕ) (builds : List Build) (leases : 
             ∙ ap Some (get_or-replicate count b new_build new_build below)) ∙ at_new) in
             subst (λ (w : World). IsBuildOf [] w b build) (sym world_is_opening) (subst (IsBuildOf [] (opening limits) b) same (new_is limits b));
         stacks_are = λ b below. ap (λ (l : Stacks). stack_of l b) leases_are ∙ get_or-replicate count b no_stack [] below ∙ sym (no_pages b);
+        holders_are = holders_are ∙ ap (λ (w : World). w.leases) (sym world_is_opening);
         vmids_are = λ vmid. none_used vmid ∙ sym (ap (λ (w : World). is_vmid_used w.machine vmid) world_is_opening ∙ ap (list_any (λ used. Rattle.std.specs.Prelude.nat_eq vmid used)) (no_vmids pages));
         room = λ b below.
             let opened = ap length (none_open b) in
             let realm = ap (λ (w : World). running_count (realm_of b w)) world_is_opening ∙ ap running_count (no_realm_yet limits b) ∙ no_runs in
-            record { used = omega (arith, opened, realm); few_open = omega (arith, opened) };
+            record { used = omega (arith, opened, realm); few_open = λ n. let none = ap length (none_taken b n) in omega (arith, none) };
+        points = λ b below. record {
+          in_abort = λ is. absurd (let not : is_aborting (booted pages vmids aux count capacity) b ≡ false = get_or-replicate count b false false below in cc);
+          marked = λ mark is. absurd (let not : mark_of (booted pages vmids aux count capacity) b ≡ None = get_or-replicate count b no_mark None below in cc);
+        };
         of_builds = All-nil (λ (e : Event). e.build < count);
         memory = memory;
       })

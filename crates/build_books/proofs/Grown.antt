@@ -1,11 +1,11 @@
 -- Books with one more event.
-use Rattle.std.proofs.Common.{◌≡◌, ◌≢◌, ℕ, zero, suc, ◌+◌, ◌-◌, ◌*◌, ◌<◌, ◌≤◌, Bool, true, false, cond, take, List, [], ◌∷◌, ◌++◌, length, map, set, get_or, Option, Some, None, refl, sym, ap, ◌∙◌, subst, arith, ⊎_elim, vec_len, vec_capacity}
-use Rattle.std.specs.Prelude.{slice_get, option_map}
+use Rattle.std.proofs.Common.{◌≡◌, ◌≢◌, ℕ, zero, suc, ◌+◌, ◌-◌, ◌*◌, ◌<◌, ◌≤◌, Bool, true, false, ◌&&◌, cond, take, List, [], ◌∷◌, ◌++◌, length, map, set, get_or, Option, Some, None, refl, sym, ap, ◌∙◌, subst, arith, ⊎_elim, vec_len, vec_capacity}
+use Rattle.std.specs.Prelude.{nat_lt, slice_get, option_map}
 use Rattle.std.specs.Global.{Vec}
 use Rattle.std.specs.List.{All}
 use Rattle.std.proofs.lemmas.Bool.{cases_eq, eq-eqb, ne_eqb}
-use Rattle.std.proofs.lemmas.Option.{same_Some, get_or_from_slice_get, slice_get_within, slice_get-get_or}
-use Rattle.std.proofs.lemmas.List.{length-set, length-append, length-take, get_or-set_same, get_or-set_other}
+use Rattle.std.proofs.lemmas.Option.{same_Some, slice_get-get_or}
+use Rattle.std.proofs.lemmas.List.{map-set, length-map, length-set, length-append, length-take, get_or-set_same, get_or-set_other}
 use Rattle.std.proofs.lemmas.List.Elements.{All-push}
 use Rattle.leases.specs.Stacks.{Stacks, stack_of, with_stack}
 use Rattle.leases.specs.Vmids.{Vmids}
@@ -21,7 +21,7 @@ use Rattle.realm_model.specs.Pages.{PagesAreLeased}
 use Rattle.realm_model.specs.Room.{used_room, room_taken}
 use Rattle.realm_model.specs.Running.{running_count}
 use Rattle.realm_model.specs.Undoing.{by}
-use Rattle.realm_model.proofs.Growth.{Grows, grows, acts_of-own, acts_of-other, open_entries-own, open_entries-other}
+use Rattle.realm_model.proofs.Growth.{Grows, grows, acts_of-other, open_entries-own, open_entries-other}
 use Rattle.realm_model.proofs.Lists.{slice_get-set}
 use Rattle.realm_model.proofs.Pages.{pages_of-other, pages_are_leased}
 use Rattle.realm_model.proofs.RealmOf.{realm_of-other_step}
@@ -31,10 +31,14 @@ use Rattle.realm_acts.specs.RecsOpen.{recs_open, IsRising}
 use Rattle.realm_acts.proofs.RecsOpen.{recs_are_open}
 use Rattle.realm_acts.proofs.VmidsFollow.{vmids_follow}
 use Rattle.build_books.specs.declared.build.Build.{Build}
-use Rattle.build_books.specs.View.{HostView, world_of, with_event, used, open_of}
+use Rattle.build_books.specs.Marks.{mark_while}
+use Rattle.build_books.specs.View.{HostView, world_of, with_event, used, is_aborting, mark_of}
 use Rattle.build_books.specs.Vmids.{CanFollowVmids, IsVmidsAfter}
-use Rattle.build_books.specs.Kept.{books_of, build_after, pages_after, CanFollow, CanFollowRec, CanFollowPages, CanRecord, IsBuildOf, HasRoom, IsKept}
+use Rattle.build_books.specs.Kept.{books_of, build_after, pages_after, held_after, CanFollow, CanFollowRec, CanFollowPages, CanFollowHolders, CanRecord, IsBuildOf, HasRoom, IsKept}
+use Rattle.build_books.proofs.Desks.{said_of}
+use Rattle.build_books.proofs.HoldersFollow.{leases_follow, can_follow_holders}
 use Rattle.build_books.proofs.PagesFollow.{pages_follow, can_follow_pages}
+use Rattle.build_books.proofs.PointsFollow.{few_now, few_later, points_follow}
 use Rattle.build_books.proofs.RealmFollows.{rd_follows}
 use Rattle.build_books.proofs.RecsFollow.{recs_follow, few_recs, above_others}
 use Rattle.build_books.proofs.RoomFollows.{running_follows, room_follows, more_acts, one_runs}
@@ -61,15 +65,9 @@ room_fits : (used taken capacity : ℕ) → used ≤ capacity → (0 < taken →
 room_fits used zero capacity fits room = omega arith
 room_fits used (suc taken) capacity fits room = room (omega arith)
 
--- what a list says of its elements is what it said, where one is set to another of which the same is said
-map-set : {X Y : Type 0} (f : X → Y) (xs : List X) (place : ℕ) (x y : X) → slice_get xs place ≡ Some x → f y ≡ f x → map f (set xs place y) ≡ map f xs
-map-set f [] place x y there same = refl
-map-set f (z ∷ xs) zero x y there same = ap (λ w. w ∷ map f xs) (same ∙ ap f (sym (same_Some _ _ there)))
-map-set f (z ∷ xs) (suc place) x y there same = ap (λ ws. f z ∷ ws) (map-set f xs place x y there same)
-
-module _ (builds : List Build) (leases : Stacks) (vmids : Vmids) (aux capacity : ℕ) (events : Vec Event) (now : HostView)
+module _ (builds : List Build) (leases : Stacks) (holders : List (Option ℕ)) (vmids : Vmids) (aux capacity : ℕ) (events : Vec Event) (now : HostView)
     (view_is : books_of builds leases vmids aux capacity events.items ≡ now)
-    (kept : IsKept (books_of builds leases vmids aux capacity events.items) builds leases vmids events)
+    (kept : IsKept (books_of builds leases vmids aux capacity events.items) builds leases holders vmids events)
     (build : ℕ) (act : Act) (there_now : build < now.limits.builds) (can_now : CanRecord now build act) where
   abbrev host : HostView
   host = books_of builds leases vmids aux capacity events.items
@@ -116,7 +114,7 @@ module _ (builds : List Build) (leases : Stacks) (vmids : Vmids) (aux capacity :
   few_after : length (open_entries build later) ≤ 512
   few_after =
       subst (λ (stack : List Act). length stack ≤ 512) (sym entries_after)
-      (entries_fit_after (open_entries build events.items) act (kept.room build there).few_open can.few_open)
+      (entries_fit_after (open_entries build events.items) act (few_now build events.items (kept.room build there).few_open) can.few_open)
 
   counted : length (acts_of build events.items) < 16384
   counted =
@@ -130,6 +128,9 @@ module _ (builds : List Build) (leases : Stacks) (vmids : Vmids) (aux capacity :
   pub can_pages : CanFollowPages leases build act
   can_pages =
       can_follow_pages events.items leases build act (kept.stacks_are build there) can.turn pages_after_are.count pages_after_are.inside kept.few_pages
+
+  pub can_holders : CanFollowHolders holders act
+  can_holders = can_follow_holders host.limits world can.next build act can.stepped holders kept.holders_are
 
   pub can_vmids : CanFollowVmids vmids act
   can_vmids = can_follow_vmids host.limits world vmids refl kept.vmids_are build act can.next can.stepped
@@ -160,7 +161,7 @@ module _ (builds : List Build) (leases : Stacks) (vmids : Vmids) (aux capacity :
   rooms b below = ⊎_elim
       (λ same. subst (HasRoom new_host) (sym same) (record {
         used = subst (λ (w : World). used_room build later w ≤ capacity) (sym world_after) used_after;
-        few_open = few_after;
+        few_open = few_later build events.items event (kept.room build there).few_open few_after;
       }))
       (λ other.
       let apart : build ≢ b = λ e. other (sym e) in
@@ -173,7 +174,8 @@ module _ (builds : List Build) (leases : Stacks) (vmids : Vmids) (aux capacity :
       let runs = ap running_count realm in
       record {
         used = let room = was.used in omega (arith, room, acts, entries, runs);
-        few_open = let few = was.few_open in omega (arith, few, entries);
+        few_open = few_later b events.items event was.few_open
+            (let few = few_now b events.items was.few_open in omega (arith, few, entries));
       })
       (cases_eq b build)
 
@@ -209,8 +211,9 @@ module _ (builds : List Build) (leases : Stacks) (vmids : Vmids) (aux capacity :
 
     -- ---- what is kept after it
 
-    module _ (new : Build) (new_leases : Stacks) (new_vmids : Vmids) (after : Vec Event) (followed : new ≡ build_after old act)
-        (leases_are : new_leases ≡ with_stack leases build (pages_after (stack_of leases build) act)) (vmids_after : IsVmidsAfter act vmids new_vmids)
+    module _ (new : Build) (new_leases : Stacks) (new_holders : List (Option ℕ)) (new_vmids : Vmids) (after : Vec Event) (followed : new ≡ build_after old act)
+        (leases_are : new_leases ≡ with_stack leases build (pages_after (stack_of leases build) act))
+        (holders_are : new_holders ≡ held_after build act holders) (vmids_after : IsVmidsAfter act vmids new_vmids)
         (items : after.items ≡ later) (memory : vec_capacity after ≡ vec_capacity events) where
       abbrev new_builds : List Build
       new_builds = set builds number new
@@ -226,13 +229,29 @@ module _ (builds : List Build) (leases : Stacks) (vmids : Vmids) (aux capacity :
             };
             capacity = capacity;
             history = items i;
-            aborting = map-set (λ (b : Build). b.aborting) builds number old new stands_number (ap (λ (b : Build). b.aborting) followed) i;
-            marks = map-set (λ (b : Build). b.mark) builds number old new stands_number (ap (λ (b : Build). b.mark) followed) i;
+            aborting = aborting_grows i;
+            marks = marks_grow i;
           })
           ∙ ap (λ (h : HostView). with_event h build act) view_is
         where
-          stands_number : slice_get builds number ≡ Some old
-          stands_number = ap (slice_get builds) number_is ∙ stands
+          opened : length (pushed old.journal act) ≡ length (open_entries build later)
+          opened = ap length (ap (λ (stack : List Act). pushed stack act) old_is.journal ∙ sym entries_after)
+
+          aborting_grows : map (λ (b : Build). b.aborting) new_builds ≡ new_host.aborting
+          aborting_grows =
+              map-set (λ (b : Build). b.aborting) builds number new
+              ∙ (λ i. set host.aborting (number_is i) ((ap (λ (b : Build). b.aborting) followed ∙ (λ j. aborting_was j && nat_lt 0 (opened j))) i))
+            where
+              aborting_was : old.aborting ≡ is_aborting host build
+              aborting_was = said_of (λ (b : Build). b.aborting) builds build old false stands
+
+          marks_grow : map (λ (b : Build). b.mark) new_builds ≡ new_host.marks
+          marks_grow =
+              map-set (λ (b : Build). b.mark) builds number new
+              ∙ (λ i. set host.marks (number_is i) ((ap (λ (b : Build). b.mark) followed ∙ (λ j. mark_while (opened j) (mark_was j))) i))
+            where
+              mark_was : old.mark ≡ mark_of host build
+              mark_was = said_of (λ (b : Build). b.mark) builds build old None stands
 
       new_is : IsBuildOf later (world_of new_host) build new
       new_is =
@@ -296,9 +315,14 @@ module _ (builds : List Build) (leases : Stacks) (vmids : Vmids) (aux capacity :
           ∙ sym (pages_of-other b events.items event (λ e. other (sym e))))
           (cases_eq b build)
 
-      pub kept_grows : IsKept (books_of new_builds new_leases new_vmids aux capacity after.items) new_builds new_leases new_vmids after
+      holders_grow : held_after build act holders ≡ (world_of new_host).leases
+      holders_grow =
+          leases_follow host.limits world can.next build act can.stepped holders kept.holders_are
+          ∙ ap (λ (w : World). w.leases) (sym world_after)
+
+      pub kept_grows : IsKept (books_of new_builds new_leases new_vmids aux capacity after.items) new_builds new_leases new_holders new_vmids after
       kept_grows =
-          subst (λ (h : HostView). IsKept h new_builds new_leases new_vmids after) (sym view_path) (record {
+          subst (λ (h : HostView). IsKept h new_builds new_leases new_holders new_vmids after) (sym view_path) (record {
             legal = grown.legal;
             few_builds = kept.few_builds;
             few_pages = kept.few_pages;
@@ -306,11 +330,16 @@ module _ (builds : List Build) (leases : Stacks) (vmids : Vmids) (aux capacity :
             as_many_stacks = ap (λ (l : Stacks). length l.stacks) leases_are ∙ length-set leases.stacks build _ ∙ kept.as_many_stacks;
             builds_are = builds_are;
             stacks_are = stacks_are;
+            holders_are = holders_are ∙ holders_grow;
             vmids_are = λ vmid.
                 vmids_are_after host.limits world vmids refl kept.vmids_are act new_vmids can.next.machine vmids_after
                 (vmids_follow host.limits events.items world build act can.next kept.legal at_world can.turn can.stepped) vmid
                 ∙ ap (λ (w : World). Rattle.realm_acts.specs.VmidsUsed.is_vmid_used w.machine vmid) (sym world_after);
             room = λ b below. rooms b below;
+            points = λ b below.
+                points_follow host build act
+                (subst (λ n. build < n) (sym (length-map builds (λ (b : Build). b.aborting))) there)
+                (subst (λ n. build < n) (sym (length-map builds (λ (b : Build). b.mark))) there) b (kept.points b below);
             of_builds = of_builds;
             memory = subst (λ n. length builds * capacity ≤ n) (sym memory) kept.memory;
           })

@@ -7,7 +7,10 @@ pub mod RecsFollow
 pub mod RoomFollows
 pub mod VmidsFollow
 pub mod PagesFollow
-pub mod Grown
+pub mod PointsFollow
 pub mod Desks
+pub mod Grown
+pub mod Pointed
 pub mod Readings
 pub mod Empty
+pub mod HoldersFollow

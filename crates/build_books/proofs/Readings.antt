@@ -1,16 +1,16 @@
 -- What is read of books.
-use Rattle.std.proofs.Common.{◌≡◌, ℕ, ◌+◌, ◌<◌, ◌≤◌, Bool, true, false, List, [], length, get_or, Option, Some, None, refl, sym, ap, ◌∙◌, subst, arith}
+use Rattle.std.proofs.Common.{◌≡◌, ℕ, ◌<◌, ◌≤◌, Bool, true, false, List, [], length, take, get_or, Option, Some, None, refl, sym, ap, ◌∙◌, subst, arith}
 use Rattle.std.specs.Prelude.{nat_lt, slice_get, option_map, IfSome, IsSome}
-use Rattle.std.specs.Bool.{OnFalse}
-use Rattle.std.specs.List.{flat_map, sum_by}
+use Rattle.std.specs.List.{sum_by}
 use Rattle.std.proofs.lemmas.Bool.{ltb-false, ltb-true}
 use Rattle.std.proofs.lemmas.Option.{slice_get_within, get_or_from_slice_get, slice_get-get_or}
-use Rattle.std.proofs.lemmas.List.Elements.{All-get_or}
+use Rattle.std.proofs.lemmas.List.{get_or_past}
+use Rattle.std.proofs.lemmas.List.Elements.{All-get_or, All-take}
 use Rattle.leases.specs.Stacks.{Stacks, stack_of}
 use Rattle.leases.specs.Vmids.{Vmids}
 use Rattle.realm_model.specs.Machine.{Seen}
 use Rattle.realm_model.specs.World.{World, realm_of}
-use Rattle.realm_model.specs.History.{acts_of, open_entries, unmatched, pages_of, IsLegal}
+use Rattle.realm_model.specs.History.{acts_of, open_entries, unmatched, pages_of}
 use Rattle.realm_model.specs.Room.{room_taken}
 use Rattle.realm_model.proofs.Leases.{leased}
 use Rattle.realm_model.proofs.Pages.{pages_are_leased}
@@ -19,11 +19,11 @@ use Rattle.realm_model.proofs.Reached.{sized_reached}
 use Rattle.realm_model.proofs.Room.{room_is_sum}
 use Rattle.realm_acts.specs.Mirror.{rd_of}
 use Rattle.build_books.specs.declared.build.Build.{Build}
-use Rattle.build_books.specs.View.{HostView, world_of, open_of, used, granule_of_page}
+use Rattle.build_books.specs.View.{HostView, world_of, granule_of_page, is_aborting, mark_of}
 use Rattle.realm_acts.specs.Performing.{rec_granule}
 use Rattle.realm_acts.specs.RecsOpen.{granule_in}
 use Rattle.realm_acts.proofs.RecsOpen.{recs_are_open}
-use Rattle.build_books.specs.Kept.{HasRoom, IsBuildOf, IsKept}
+use Rattle.build_books.specs.Kept.{HasRoom, PointsHold, IsBuildOf, IsKept}
 use Rattle.build_books.proofs.RealmFollows.{no_realm}
 use Rattle.build_books.proofs.Totals.{acts_of-past}
 use Rattle.build_books.proofs.Worlds.{world_is}
@@ -46,7 +46,7 @@ some_within xs place some = at (slice_get xs place) refl some
     at None is h = cc
     at (Some x) is h = slice_get_within xs place x is
 
-module _ (host : HostView) (builds : List Build) (leases : Stacks) (vmids : Vmids) (events : Vec Event) (kept : IsKept host builds leases vmids events) where
+module _ (host : HostView) (builds : List Build) (leases : Stacks) (holders : List (Option ℕ)) (vmids : Vmids) (events : Vec Event) (kept : IsKept host builds leases holders vmids events) where
   abbrev world : World
   world = world_of host
 
@@ -69,7 +69,23 @@ module _ (host : HostView) (builds : List Build) (leases : Stacks) (vmids : Vmid
           let sum = room_is_sum host.limits host.history world build kept.legal (world_is host kept.legal) in
           let zero : sum_by room_taken (acts_of build host.history) ≡ 0 = ap (sum_by room_taken) none in
           let opened = ap length (none_open build host.history none) in
-          record { used = omega (arith, sum, zero); few_open = omega (arith, opened) }
+          record {
+            used = omega (arith, sum, zero);
+            few_open = λ n. let early = ap length (none_open build (take n host.history) (acts_of-past host.limits.builds build (take n host.history) (All-take (λ (e : Event). e.build < host.limits.builds) n host.history kept.of_builds) past)) in omega (arith, early);
+          }
+
+  -- and has no abort and no mark
+  pub points_hold : (build : ℕ) → length host.aborting ≡ host.limits.builds → length host.marks ≡ host.limits.builds → PointsHold host build
+  points_hold build aborts marks = at (nat_lt build host.limits.builds) refl
+    where
+      at : (t : Bool) → nat_lt build host.limits.builds ≡ t → PointsHold host build
+      at true is = kept.points build (ltb-true build host.limits.builds is)
+      at false is =
+          let past = ltb-false build host.limits.builds is in
+          record {
+            in_abort = λ aborts_now. absurd (let not : is_aborting host build ≡ false = get_or_past host.aborting build false (omega arith) in cc);
+            marked = λ mark marked_now. absurd (let not : mark_of host build ≡ None = get_or_past host.marks build None (omega arith) in cc);
+          }
 
   -- a page lies inside the machine
   pub page_inside : (build page : ℕ) → IfSome (granule_of_page host build page) (λ granule. granule < host.limits.pages)

@@ -7,7 +7,7 @@ use Rattle.std.proofs.lemmas.Option.{same_Some}
 use Rattle.realm_model.specs.declared.act.Act.{Act}
 use Rattle.realm_model.specs.declared.act.Act.TheVariants.{Take, Delegate, Realm, UnRealm, Rtt, Data, Unknown, Rec}
 use Rattle.realm_model.specs.declared.act.Event.{Event}
-use Rattle.realm_model.specs.Machine.{Limits, Cell, Machine, RealmRow, Seen}
+use Rattle.realm_model.specs.Machine.{Limits, Machine, RealmRow, Seen}
 use Rattle.realm_model.specs.Act.{is_reverse, reverse_of}
 use Rattle.realm_model.specs.OpenRealm.{makes_realm, maker, makers}
 use Rattle.realm_model.specs.World.{World, realm_from, realm_of, same_lease}

@@ -1,5 +1,5 @@
 -- The RECs of a build's realm after one more act of the build.
-use Rattle.std.proofs.Common.{◌≡◌, ℕ, ◌+◌, ◌-◌, ◌<◌, ◌≤◌, true, false, List, [], ◌∷◌, ◌++◌, length, take, Some, refl, sym, ap, ◌∙◌, subst, arith}
+use Rattle.std.proofs.Common.{◌≡◌, ℕ, ◌+◌, ◌-◌, ◌≤◌, List, [], ◌∷◌, ◌++◌, length, take, Some, refl, sym, ap, ◌∙◌, arith}
 use Rattle.std.specs.List.{flat_map}
 use Rattle.std.proofs.lemmas.List.{length-append, get_or_append_left, get_or-append-add}
 use Rattle.std.proofs.Math.Seq.{take-append_seam}
@@ -8,7 +8,7 @@ use Rattle.realm_model.specs.declared.act.Act.{Act}
 use Rattle.realm_model.specs.declared.act.Act.TheVariants.{Take, Delegate, Realm, Rtt, Data, Unknown, Rec, UnRec}
 use Rattle.realm_model.specs.declared.act.Event.{Event}
 use Rattle.realm_model.specs.Act.{is_reverse, reverse_of}
-use Rattle.realm_model.specs.History.{open_entries, IsInTurn}
+use Rattle.realm_model.specs.History.{IsInTurn}
 use Rattle.realm_model.specs.Undoing.{by}
 use Rattle.realm_acts.specs.RecsOpen.{rec_made, recs_open, number_at, IsRising}
 use Rattle.build_books.specs.Recs.{IsAbove}

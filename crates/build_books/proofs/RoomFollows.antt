@@ -1,5 +1,5 @@
 -- How many RECs of a build's realm run, and how much of its room is used, after one more act of the build.
-use Rattle.std.proofs.Common.{◌≡◌, ℕ, ◌+◌, ◌-◌, ◌<◌, ◌≤◌, Bool, true, false, cond, List, [], ◌∷◌, ◌++◌, length, Some, refl, sym, ap, ◌∙◌, subst, arith}
+use Rattle.std.proofs.Common.{◌≡◌, ℕ, ◌+◌, Bool, true, false, cond, List, [], ◌∷◌, ◌++◌, length, Some, refl, ap, ◌∙◌, arith}
 use Rattle.std.proofs.lemmas.List.{length-append}
 use Rattle.realm_model.specs.declared.act.Act.{Act}
 use Rattle.realm_model.specs.declared.act.Act.TheVariants.{Enter, Exit}
@@ -9,7 +9,7 @@ use Rattle.realm_model.specs.Act.{is_paired, is_reverse, reverse_of}
 use Rattle.realm_model.specs.World.{World, realm_of}
 use Rattle.realm_model.specs.Step.{step}
 use Rattle.realm_model.specs.History.{acts_of, open_entries, replay, IsInTurn, IsLegal}
-use Rattle.realm_model.specs.Room.{used_room, room_taken, TakesRoom}
+use Rattle.realm_model.specs.Room.{used_room, room_taken}
 use Rattle.realm_model.specs.Running.{running_count}
 use Rattle.realm_model.specs.Undoing.{by}
 use Rattle.realm_model.proofs.Growth.{acts_of-own, open_entries-own, takes_away}

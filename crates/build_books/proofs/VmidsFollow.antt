@@ -1,25 +1,23 @@
 -- The VMIDs in use after one more act.
-use Rattle.std.proofs.Common.{◌≡◌, ℕ, ◌%◌, ◌==◌, Bool, true, false, cond, not, ◌&&◌, List, ◌∷◌, map, Ok, Err, Some, refl, sym, ap, ◌∙◌, ⊎_elim}
+use Rattle.std.proofs.Common.{◌≡◌, ℕ, ◌%◌, ◌==◌, Bool, true, false, not, ◌&&◌, List, map, Ok, Some, refl, sym, ap, ◌∙◌, ⊎_elim}
 use Rattle.std.specs.Prelude.{nat_le}
 use Rattle.std.specs.List.{list_all}
 use Rattle.std.proofs.lemmas.Bool.{and_parts, and_from, cases_eq}
 use Rattle.granule_addr.specs.Ipa.{is_width}
 use Rattle.granule_addr.specs.Root.{start_count, starting_tables}
 use Rattle.granule_addr.specs.declared.root.Root.{Root}
-use Rattle.leases.specs.Vmids.{Vmids, is_free, is_used}
+use Rattle.leases.specs.Vmids.{Vmids, is_used}
 use Rattle.realm_model.specs.declared.act.Act.{Act}
 use Rattle.realm_model.specs.declared.act.Act.TheVariants.{Realm, UnRealm}
-use Rattle.realm_model.specs.declared.act.Event.{Event}
 use Rattle.realm_model.specs.declared.rmi.Rmi.{Rmi}
-use Rattle.realm_model.specs.Machine.{Limits, Machine, Seen, seen}
+use Rattle.realm_model.specs.Machine.{Limits, Machine, seen}
 use Rattle.realm_model.specs.Update.{Outcome, Update}
 use Rattle.realm_model.specs.Act.{named}
 use Rattle.realm_model.specs.Command.Check.{check, is_delegated}
 use Rattle.realm_model.specs.Command.Realm.{is_start}
 use Rattle.realm_model.specs.Outcome.{outcome_of}
 use Rattle.realm_model.specs.World.{World}
-use Rattle.realm_model.specs.Step.{step, used_vmids, outcome_in}
-use Rattle.realm_model.specs.StepLaw.{IsStep}
+use Rattle.realm_model.specs.Step.{step, outcome_in}
 use Rattle.realm_model.specs.Undoing.{by}
 use Rattle.realm_model.proofs.StepSays.{step_is}
 use Rattle.realm_acts.specs.VmidsUsed.{is_vmid_used, VmidsFollow}

@@ -1,8 +1,6 @@
 -- The world of a host.
-use Rattle.std.proofs.Common.{◌≡◌, ℕ, List, [], length, map, Option, Some, None, refl, ap, ◌∙◌}
+use Rattle.std.proofs.Common.{◌≡◌, Option, Some, None, refl, ap}
 use Rattle.std.specs.Prelude.{unwrap_or, IsSome}
-use Rattle.std.specs.List.{flat_map}
-use Rattle.realm_model.specs.Machine.{Limits}
 use Rattle.realm_model.specs.World.{World, opening}
 use Rattle.realm_model.specs.History.{replay, IsLegal}
 use Rattle.build_books.specs.View.{HostView, world_of}

@@ -1,5 +1,5 @@
 -- What the checks of a command see of a host.
-use Rattle.std.specs.Prelude.{ℕ, ◌-◌, length, false, is_some, slice_index_or}
+use Rattle.std.specs.Prelude.{◌-◌, length, false, is_some, slice_index_or}
 use Rattle.build_commands.specs.Desk.{DeskView}
 use Rattle.realm_acts.specs.Mirror.{rd_of}
 use Rattle.build_books.specs.View.{HostView, world_of, open_of, pages_of_build, used}

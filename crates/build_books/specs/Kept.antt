@@ -1,7 +1,8 @@
 -- What is kept beside a history, and that it is what the history says.
-use Rattle.std.specs.Prelude.{◌≡◌, ℕ, ◌+◌, ◌-◌, ◌*◌, ◌^◌, ◌<◌, ◌≤◌, true, false, List, [], ◌∷◌, ◌++◌, map, take, Option, Some, None, length, slice_get, vec_capacity}
+use Rattle.std.specs.Prelude.{◌≡◌, ℕ, nat_lt, ◌+◌, ◌-◌, ◌*◌, ◌^◌, ◌<◌, ◌≤◌, true, false, ◌&&◌, List, [], ◌∷◌, ◌++◌, map, take, Option, Some, None, length, slice_get, vec_capacity}
 use Rattle.std.specs.List.{All}
 use Rattle.std.specs.Global.{Vec}
+use Rattle.leases.specs.Holders.{held}
 use Rattle.leases.specs.Stacks.{Stacks, stack_of}
 use Rattle.leases.specs.Vmids.{Vmids, is_used}
 use Rattle.realm_model.specs.declared.act.Act.{Act}
@@ -11,6 +12,7 @@ use Rattle.realm_model.specs.Act.{block, is_paired}
 use Rattle.realm_model.specs.World.{World, realm_of}
 use Rattle.realm_model.specs.Step.{step}
 use Rattle.realm_model.specs.History.{acts_of, open_entries, pages_of, IsInTurn, IsLegal}
+use Rattle.realm_model.specs.Marks.{Stands}
 use Rattle.realm_model.specs.Running.{running_count}
 use Rattle.realm_model.specs.Room.{room_taken}
 use Rattle.realm_model.specs.Stack.{pushed}
@@ -19,8 +21,10 @@ use Rattle.realm_acts.specs.Mirror.{rd_of}
 use Rattle.realm_acts.specs.RecsOpen.{recs_open}
 use Rattle.realm_acts.specs.VmidsUsed.{is_vmid_used}
 use Rattle.build_books.specs.declared.build.Build.{Build}
+use Rattle.build_books.specs.declared.mark.Mark.{Mark}
+use Rattle.build_books.specs.Marks.{point_of, mark_while}
 use Rattle.build_books.specs.Recs.{IsAbove}
-use Rattle.build_books.specs.View.{HostView, world_of, open_of, used}
+use Rattle.build_books.specs.View.{HostView, world_of, open_of, used, is_aborting, mark_of}
 
 -- what is kept of a build that has no events
 abbrev pub new_build : Build
@@ -52,14 +56,27 @@ pages_after pages (Take order first) = pages ++ block order first
 pages_after pages (UnTake order first) = take (length pages - 2 ^ order) pages
 pages_after pages _ = pages
 
+-- who leases each granule: the build those of a block that it takes, nobody those of one that it gives back
+abbrev pub held_after : ℕ → Act → List (Option ℕ) → List (Option ℕ)
+held_after build (Take order first) leases = held leases (Some build) (block order first)
+held_after build (UnTake order first) leases = held leases None (block order first)
+held_after build _ leases = leases
+
+-- it is out of abort with nothing open, and its mark is dropped where fewer acts are open than at the mark
+abbrev pub points_after : Build → Build
+points_after build = record build {
+  aborting = build.aborting && nat_lt 0 (length build.journal);
+  mark = mark_while (length build.journal) build.mark;
+}
+
 abbrev pub build_after : Build → Act → Build
-build_after build act = record build {
+build_after build act = points_after (record build {
   journal = pushed build.journal act;
   events = build.events + 1;
   realm = rd_after build.realm act;
   recs = recs_after build.recs act;
   running = running_after build.running act;
-}
+})
 
 -- ---- what can be followed
 
@@ -81,6 +98,12 @@ abbrev pub CanFollowPages : Stacks → ℕ → Act → Type 0
 CanFollowPages leases build (Take order first) = (length (stack_of leases build) + 2 ^ order ≤ leases.room) × (first + 2 ^ order ≤ 4096)
 CanFollowPages leases build (UnTake order first) = 2 ^ order ≤ length (stack_of leases build)
 CanFollowPages leases build _ = Unit {0}
+
+-- the block that is taken or given back lies inside the machine
+abbrev pub CanFollowHolders : List (Option ℕ) → Act → Type 0
+CanFollowHolders leases (Take order first) = first + 2 ^ order ≤ length leases
+CanFollowHolders leases (UnTake order first) = first + 2 ^ order ≤ length leases
+CanFollowHolders leases _ = Unit {0}
 
 -- ---- what is recorded
 
@@ -113,14 +136,25 @@ pub record IsBuildOf (history : List Event) (world : World) (number : ℕ) (buil
   pub recs : build.recs ≡ recs_open number history
   pub running : build.running ≡ running_count (realm_of number world)
 
--- No build has used more than its room, or has more open than its journal can hold.
+-- No build has used more than its room, or had at any time more open than its journal can hold.
 pub record HasRoom (host : HostView) (build : ℕ) : Type 0 where
   pub used : used host build ≤ host.capacity
-  pub few_open : length (open_of host build) ≤ 512
+  pub few_open : (n : ℕ) → length (open_entries build (take n host.history)) ≤ 512
 
--- The history is legal. What is kept is what it has of each build; a VMID is in use exactly where a realm has it; and there
--- is memory for all that has room.
-pub record IsKept (host : HostView) (builds : List Build) (leases : Stacks) (vmids : Vmids) (events : Vec Event) : Type 0 where
+-- A mark that is kept of a build is its own, and never since it was made had the build fewer acts open.
+pub record IsMarkOf (host : HostView) (build : ℕ) (mark : Mark) : Type 0 where
+  pub of_build : mark.build ≡ build
+  pub stands : Stands (point_of mark) host.history
+
+-- A build in abort has something open, and its mark stands, where it has one.
+pub record PointsHold (host : HostView) (build : ℕ) : Type 0 where
+  pub in_abort : is_aborting host build ≡ true → 0 < length (open_of host build)
+  pub marked : (mark : Mark) → mark_of host build ≡ Some mark → IsMarkOf host build mark
+
+-- The history is legal. What is kept is what it has of each build; each granule is held by the build that leases it; a VMID is
+-- in use exactly where a realm has it; and there is memory for all that has room. A build in abort has something open, and
+-- marks stand.
+pub record IsKept (host : HostView) (builds : List Build) (leases : Stacks) (holders : List (Option ℕ)) (vmids : Vmids) (events : Vec Event) : Type 0 where
   pub legal : IsLegal host.limits host.history
   pub few_builds : host.limits.builds ≤ 8
   pub few_pages : host.limits.pages ≤ 4096
@@ -128,7 +162,9 @@ pub record IsKept (host : HostView) (builds : List Build) (leases : Stacks) (vmi
   pub as_many_stacks : length leases.stacks ≡ host.limits.builds
   pub builds_are : (number : ℕ) (build : Build) → slice_get builds number ≡ Some build → IsBuildOf host.history (world_of host) number build
   pub stacks_are : (number : ℕ) → number < host.limits.builds → stack_of leases number ≡ pages_of number host.history
+  pub holders_are : holders ≡ (world_of host).leases
   pub vmids_are : (vmid : ℕ) → is_used vmids vmid ≡ is_vmid_used (world_of host).machine vmid
   pub room : (number : ℕ) → number < host.limits.builds → HasRoom host number
+  pub points : (number : ℕ) → number < host.limits.builds → PointsHold host number
   pub of_builds : All (λ event. event.build < host.limits.builds) host.history
   pub memory : host.limits.builds * host.capacity ≤ vec_capacity events

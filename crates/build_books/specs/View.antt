@@ -39,9 +39,15 @@ granule_of_page host build page = slice_get (pages_of_build host build) page
 abbrev pub used : HostView → ℕ → ℕ
 used host build = used_room build host.history (world_of host)
 
+-- ---- aborts
+
 -- the build is in abort
 abbrev pub is_aborting : HostView → ℕ → Bool
 is_aborting host build = slice_index_or host.aborting build false
+
+-- an abort begins: the build is in abort, where it has anything open
+abbrev pub begun : HostView → ℕ → HostView
+begun host build = record host { aborting = slice_set host.aborting build (nat_lt 0 (length (open_of host build))) }
 
 -- ---- marks
 

@@ -1,23 +1,24 @@
 //! The history, and what is kept beside it.
-ghost use Rattle.std.specs.Prelude.{◌≡◌, ℕ, ◌<◌, ◌≤◌, [], length, replicate, true, nat_lt, None, IfOk, IfSome, option_map};
+ghost use Rattle.std.specs.Prelude.{◌≡◌, ℕ, ◌<◌, ◌≤◌, [], length, drop, replicate, true, false, nat_lt, Some, None, IfOk, IfSome, option_map};
 ghost use Rattle.std.specs.Bool.{OnFalse};
 ghost use Rattle.std.specs.List.{last_or};
 ghost use Rattle.realm_model.specs.History.{acts_of, IsLegal, LeavesNoTrace};
 ghost use Rattle.realm_model.specs.Act.{is_paired};
-ghost use Rattle.realm_model.specs.World.{realm_of};
+ghost use Rattle.realm_model.specs.World.{realm_of, is_leased_to};
 ghost use Rattle.realm_model.specs.Running.{running_count};
 ghost use Rattle.realm_acts.specs.Mirror.{rd_of};
 ghost use Rattle.realm_acts.specs.Performing.{rec_granule};
 ghost use Rattle.leases.specs.Stacks.{stack_of, with_stack};
-ghost use Rattle.build_books.specs.View.{world_of, open_of, used, pages_of_build, granule_of_page, with_event};
-ghost use Rattle.build_books.specs.Kept.{new_build, pages_after, CanFollowPages, CanRecord, HasRoom};
+ghost use Rattle.build_books.specs.View.{world_of, open_of, used, pages_of_build, granule_of_page, is_aborting, mark_of, mark_now, with_mark, begun, with_event};
+ghost use Rattle.build_books.specs.Kept.{new_build, pages_after, held_after, CanFollowPages, CanFollowHolders, CanRecord, HasRoom, IsMarkOf, PointsHold};
 ghost use Rattle.realm_acts.specs.Mirror.{IsPlaceOf};
 ghost use Rattle.build_books.specs.Vmids.{lowest_vmid, CanFollowVmids, IsVmidsAfter};
 ghost use Rattle.build_books.specs.Booted.{booted};
 
 use crate::build::Build;
+use crate::mark::Mark;
 use granule_addr::{BuildId, Gran, RecNo, Vmid};
-use leases::{Leases, VmidPool};
+use leases::{Holders, Leases, VmidPool};
 use realm_acts::Place;
 use realm_model::{Act, Event};
 use std::alloc::{AllocError, Global};
@@ -29,6 +30,7 @@ pub struct Books {
     history: Vec<Event>,
     pub(crate) builds: Vec<Build>,
     pub(crate) leases: Leases,
+    holders: Holders,
     vmids: VmidPool,
     aux: u8,
     capacity: u16,
@@ -45,7 +47,7 @@ impl Model for Books {
 
     ghost view = { λ b. books_of b.builds.items b.leases b.vmids b.aux b.capacity b.history.items };
 
-    ghost invariant = { λ b. IsKept (books_of b.builds.items b.leases b.vmids b.aux b.capacity b.history.items) b.builds.items b.leases b.vmids b.history };
+    ghost invariant = { λ b. IsKept (books_of b.builds.items b.leases b.vmids b.aux b.capacity b.history.items) b.builds.items b.leases b.holders b.vmids b.history };
 }
 
 // What is kept of so many builds that have no events.
@@ -68,6 +70,19 @@ fn follow_pages(leases: &mut Leases, build: BuildId, act: &Act)
     match act {
         Act::Take { order, first } => leases.push_block(build, *first, *order),
         Act::UnTake { order, .. } => leases.pop_block(build, *order),
+        _ => {}
+    }
+}
+
+// The holders of the granules follow an act of a build: it leases those of a block that it takes, and nobody those of one
+// that it gives back.
+fn follow_holders(holders: &mut Holders, build: BuildId, act: &Act)
+    requires { CanFollowHolders holders.old act.now }
+    ensures { holders.new ≡ held_after build act.now holders.old }
+{
+    match act {
+        Act::Take { order, first } => holders.lease(build, *first, *order),
+        Act::UnTake { order, first } => holders.give_back(*first, *order),
         _ => {}
     }
 }
@@ -103,24 +118,27 @@ impl Books {
         ensures { IfOk result (λ books. books ≡ booted pages vmids aux builds capacity) }
     {
         let leases = Leases::build(alloc, builds, pages)?;
+        let holders = Holders::build(alloc, pages)?;
         let kept = new_builds(alloc, builds)?;
         let history = Vec::with_capacity(alloc, builds as usize * capacity as usize)?;
         Ok(Books {
             history,
             builds: kept,
             leases,
+            holders,
             vmids: VmidPool::new(vmids),
             aux,
             capacity,
         })
     }
 
-    /// The events so far: a legal history. No build has used more than its room in it, or has more than 512 acts open; and
-    /// each build can be left out of it.
+    /// The events so far: a legal history. No build has used more than its room in it, or had more than 512 acts open at any
+    /// time. A build in abort has something open, and marks stand. Each build can be left out of the history.
     pub fn history(&self) -> &[Event]
         ensures events { result.now ≡ self.now.history }
         ensures legal { IsLegal self.now.limits self.now.history }
         ensures room { (build : ℕ) → HasRoom self.now build }
+        ensures points { (build : ℕ) → PointsHold self.now build }
         ensures no_trace { (build : ℕ) → LeavesNoTrace self.now.limits self.now.history build }
     {
         self.history.as_slice()
@@ -154,11 +172,12 @@ impl Books {
         kept.events + kept.journal.len() + kept.running
     }
 
-    /// How many acts a build has open.
+    /// How many acts a build has open. With none it is not in abort.
     pub fn open_count(&self, build: BuildId) -> u16
         requires { build < self.now.limits.builds }
         ensures value { result ≡ length (open_of self.now build) }
         ensures fits { result ≤ 512 }
+        ensures idle { result ≡ 0 → is_aborting self.now build ≡ false }
     {
         self.builds[build.number() as usize].journal.len()
     }
@@ -171,6 +190,24 @@ impl Books {
     {
         let kept = &self.builds[build.number() as usize];
         kept.journal.newest()
+    }
+
+    /// What a build has open above the first so many acts, the newest last.
+    pub fn open_above(&self, build: BuildId, count: u16) -> &[Act]
+        requires there { build < self.now.limits.builds }
+        requires enough { count ≤ length (open_of self.now build) }
+        ensures { result.now ≡ drop count (open_of self.now build) }
+    {
+        self.builds[build.number() as usize].journal.above(count)
+    }
+
+    /// The mark that is kept of a build.
+    pub fn mark(&self, build: BuildId) -> Option<Mark>
+        requires { build < self.now.limits.builds }
+        ensures value { result ≡ mark_of self.now build }
+        ensures stands { IfSome result (IsMarkOf self.now build) }
+    {
+        self.builds[build.number() as usize].mark
     }
 
     /// The RD of a build's realm.
@@ -241,6 +278,42 @@ impl Books {
         self.leases.count(build)
     }
 
+    /// Whether the granule is one of the machine that the build leases.
+    pub fn is_leased_by(&self, granule: Gran, build: BuildId) -> bool
+        ensures { result ≡ is_leased_to (Some build) (world_of self.now).leases granule }
+    {
+        self.holders.is_held_by(granule, build)
+    }
+
+    /// An abort of a build begins, where it has anything open.
+    pub fn begin_abort(&mut self, build: BuildId)
+        requires { build < self.old.limits.builds }
+        ensures { self.new ≡ begun self.old build }
+    {
+        self.builds[build.number() as usize].begin_abort();
+    }
+
+    /// The mark of a build's point now.
+    pub fn mark_now(&self, build: BuildId) -> Mark
+        requires { build < self.now.limits.builds }
+        ensures { result ≡ mark_now self.now build }
+    {
+        Mark {
+            build,
+            length: self.open_count(build),
+            place: self.history.len() as u32,
+        }
+    }
+
+    /// A mark of a build's point now is kept, in place of an older one.
+    pub fn keep_mark(&mut self, build: BuildId, mark: &Mark)
+        requires there { build < self.old.limits.builds }
+        requires now { mark.now ≡ mark_now self.old build }
+        ensures { self.new ≡ with_mark self.old build mark.now }
+    {
+        self.builds[build.number() as usize].mark = Some(*mark);
+    }
+
     /// Records an act of a build as the last event. No memory is taken.
     pub fn record(&mut self, build: BuildId, act: Act)
         requires there { build < self.old.limits.builds }
@@ -248,6 +321,7 @@ impl Books {
         ensures { self.new ≡ with_event self.old build act }
     {
         follow_pages(&mut self.leases, build, &act);
+        follow_holders(&mut self.holders, build, &act);
         follow_vmids(&mut self.vmids, &act);
         self.builds[build.number() as usize].follow(&act);
         self.history.push_reserved(Event { build, act });

@@ -1,6 +1,6 @@
 //! What is kept of one build.
-ghost use Rattle.std.specs.Prelude.{◌≡◌, IfOk};
-ghost use Rattle.build_books.specs.Kept.{new_build, build_after, CanFollow};
+ghost use Rattle.std.specs.Prelude.{◌≡◌, nat_lt, length, IfOk};
+ghost use Rattle.build_books.specs.Kept.{new_build, points_after, build_after, CanFollow};
 
 use crate::mark::Mark;
 use crate::recs::Recs;
@@ -58,5 +58,28 @@ impl Build {
             Act::Exit { .. } => self.running -= 1,
             _ => {}
         }
+        self.follow_points();
+    }
+
+    // The abort is over with nothing open, and the mark is dropped where fewer acts are open than at it.
+    fn follow_points(&mut self)
+        ensures { self.new ≡ points_after self.old }
+    {
+        let opened = self.journal.len();
+        if opened == 0 {
+            self.aborting = false;
+        }
+        if let Some(mark) = self.mark {
+            if mark.length() > opened {
+                self.mark = None;
+            }
+        }
+    }
+
+    /// An abort begins, where anything is open.
+    pub(crate) fn begin_abort(&mut self)
+        ensures { self.new ≡ record self.old { aborting = nat_lt 0 (length self.old.journal) } }
+    {
+        self.aborting = self.journal.len() > 0;
     }
 }

@@ -2,8 +2,8 @@
 //!
 //! Books are seen as what contracts see of a host: limits, room, history, aborts, marks. All else that they keep is a
 //! function of these. Of each build that is what it has open, its pages, its realm's RD, its RECs by number, how many of
-//! them run; and of the machine, which VMIDs its realms have. What is recorded is a step of the world that the history
-//! leads to, so the history is legal. Memory is taken by `build` alone.
+//! them run; and of the machine, the build that leases each granule and which VMIDs its realms have. What is recorded is
+//! a step of the world that the history leads to, so the history is legal. Memory is taken by `build` alone.
 #![tactic(auto)]
 
 mod books;

@@ -10,8 +10,8 @@ use granule_addr::{BuildId, Gran};
 // How many acts a build can have open.
 const JOURNAL_ROOM: u16 = 512;
 
-// 1 and 2: the build is there and not in abort.
-fn check_build<D: Desk>(desk: &D, build: BuildId) -> Result<(), Refusal>
+/// Refusals 1 and 2: the build is there, and it is not in abort.
+pub fn check_build<D: Desk>(desk: &D, build: BuildId) -> Result<(), Refusal>
     ensures { result ≡ checked (build_checks (D.seen desk.now) build) }
 {
     if !desk.has_build(build) {

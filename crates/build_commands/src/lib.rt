@@ -18,7 +18,7 @@ mod refusal;
 mod reply;
 
 pub use act::act_of;
-pub use checks::check_needs;
+pub use checks::{check_build, check_needs};
 pub use cmd::{Cmd, Step};
 pub use desk::Desk;
 pub use needs::{Needs, Wants};

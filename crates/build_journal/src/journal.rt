@@ -1,5 +1,5 @@
 //! The stack of what a build has open.
-ghost use Rattle.std.specs.Prelude.{◌≡◌, ◌≤◌, [], length, IfOk, IfSome, option_map, true};
+ghost use Rattle.std.specs.Prelude.{◌≡◌, ◌≤◌, [], length, drop, IfOk, IfSome, option_map, true};
 ghost use Rattle.std.specs.List.{last_or};
 ghost use Rattle.realm_model.specs.Act.{is_paired};
 ghost use Rattle.realm_model.specs.Stack.{pushed};
@@ -64,5 +64,13 @@ impl Journal {
         ensures paired { IfSome result (λ a. is_paired a.now ≡ true) }
     {
         self.entries.last()
+    }
+
+    /// The acts above the first so many.
+    pub fn above(&self, count: u16) -> &[Act]
+        requires { count ≤ length self.now }
+        ensures { result.now ≡ drop count self.now }
+    {
+        &self.entries.as_slice()[count as usize..]
     }
 }

@@ -1,2 +1,3 @@
 pub mod Written
 pub mod Pools
+pub mod Held

@@ -1,3 +1,4 @@
 pub mod Stacks
 pub mod StackLaws
 pub mod Vmids
+pub mod Holders

@@ -25,17 +25,18 @@ use Rattle.realm_host.specs.Acting.{HasRoomFor, CanAct, IsBack}
 -- the reverse of an act
 pub record IsReverse (back : Act) : Type 0 where
   pub unpaired : is_paired back ≡ false
+  pub reverse : is_reverse back ≡ true
   pub takes_none : room_taken back ≡ 0
 
-reverse_is : (act back : Act) → reverse_of act ≡ Some back → IsReverse back
+pub reverse_is : (act back : Act) → reverse_of act ≡ Some back → IsReverse back
 unfolding reverse_of is_reverse room_taken
-reverse_is (Take order first) back e = subst IsReverse (same_Some _ _ e) (record { unpaired = refl; takes_none = refl })
-reverse_is (Delegate granule) back e = subst IsReverse (same_Some _ _ e) (record { unpaired = refl; takes_none = refl })
-reverse_is (Realm rd root vmid) back e = subst IsReverse (same_Some _ _ e) (record { unpaired = refl; takes_none = refl })
-reverse_is (Rtt granule ipa level) back e = subst IsReverse (same_Some _ _ e) (record { unpaired = refl; takes_none = refl })
-reverse_is (Data granule ipa source) back e = subst IsReverse (same_Some _ _ e) (record { unpaired = refl; takes_none = refl })
-reverse_is (Unknown granule ipa) back e = subst IsReverse (same_Some _ _ e) (record { unpaired = refl; takes_none = refl })
-reverse_is (Rec granule auxiliaries number) back e = subst IsReverse (same_Some _ _ e) (record { unpaired = refl; takes_none = refl })
+reverse_is (Take order first) back e = subst IsReverse (same_Some _ _ e) (record { unpaired = refl; reverse = refl; takes_none = refl })
+reverse_is (Delegate granule) back e = subst IsReverse (same_Some _ _ e) (record { unpaired = refl; reverse = refl; takes_none = refl })
+reverse_is (Realm rd root vmid) back e = subst IsReverse (same_Some _ _ e) (record { unpaired = refl; reverse = refl; takes_none = refl })
+reverse_is (Rtt granule ipa level) back e = subst IsReverse (same_Some _ _ e) (record { unpaired = refl; reverse = refl; takes_none = refl })
+reverse_is (Data granule ipa source) back e = subst IsReverse (same_Some _ _ e) (record { unpaired = refl; reverse = refl; takes_none = refl })
+reverse_is (Unknown granule ipa) back e = subst IsReverse (same_Some _ _ e) (record { unpaired = refl; reverse = refl; takes_none = refl })
+reverse_is (Rec granule auxiliaries number) back e = subst IsReverse (same_Some _ _ e) (record { unpaired = refl; reverse = refl; takes_none = refl })
 reverse_is _ back e = cc
 
 -- an act that gives a block back is the reverse of its Take

@@ -14,3 +14,5 @@ pub mod Booted
 pub mod Leased
 pub mod Runs
 pub mod UndoAnswers
+pub mod Aborts
+pub mod Calls

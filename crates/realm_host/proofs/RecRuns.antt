@@ -76,31 +76,10 @@ module _ (limits : Limits) (world : World) (sound : IsReachable limits world) (g
       ∙ ap (λ o. state_runs (option_map (rec_attributes_of number) (option_and_then (λ (realm : RealmRow). get realm.recs number) o))) is.there
       ∙ ap (λ o. state_runs (option_map (rec_attributes_of number) o)) is.numbered
 
--- ---- of the newest act that a build has open
+-- ---- of an act of a build, by the granule of the REC of its number
 
-record Front (acts : List Act) (act : Act) : Type 0 where
-  front : List Act
-  is : acts ≡ front ++ act ∷ []
-
-front_of : (acts : List Act) (act : Act) → last_or None acts ≡ Some act → Front acts act
-front_of [] act e = cc
-front_of (x ∷ acts) act e = from x acts e
-  where
-    from : (x : Act) (acts : List Act) → last_or (Some x) acts ≡ Some act → Front (x ∷ acts) act
-    from x [] e = record { front = []; is = ap (λ (a : Act). a ∷ []) (same_Some _ _ e) }
-    from x (y ∷ acts) e = let rest = from y acts e in record { front = x ∷ rest.front; is = ap (λ (l : List Act). x ∷ l) rest.is }
-
-module _ (limits : Limits) (history : List Event) (world : World) (legal : IsLegal limits history) (at_world : replay limits history ≡ Some world) (build granule number : ℕ)
-    (aux : ArrayVec ℕ 16 (Unit {0})) (newest : last_or None (open_entries build history) ≡ Some (Rec granule aux number)) where
-  pub granule_is : rec_granule (realm_of build world) number ≡ Some granule
-  granule_is =
-      let opened = recs_are_open limits history world build legal at_world in
-      let split = front_of (open_entries build history) (Rec granule aux number) newest in
-      let recs : recs_open build history ≡ flat_map rec_made split.front ++ (number, granule) ∷ [] = ap (flat_map rec_made) split.is ∙ flat_map-append rec_made split.front (Rec granule aux number ∷ []) in
-      let rising : IsRising (flat_map rec_made split.front ++ (number, granule) ∷ []) = subst IsRising recs opened.rising in
-      opened.granules number ∙ ap (λ rs. granule_in rs number) recs
-      ∙ push_same (flat_map rec_made split.front) number granule (last_is_new (flat_map rec_made split.front) number granule rising)
-
+module _ (limits : Limits) (history : List Event) (world : World) (at_world : replay limits history ≡ Some world) (build granule number : ℕ)
+    (aux : ArrayVec ℕ 16 (Unit {0})) (granule_is : rec_granule (realm_of build world) number ≡ Some granule) where
   record There : Type 0 where
     rd : Seen
     realm_is : realm_of build world ≡ Some (seen world.machine rd.number)
@@ -134,3 +113,17 @@ module _ (limits : Limits) (history : List Event) (world : World) (legal : IsLeg
       ∙ sym (ap (λ o. rec_runs o number) found.realm_is
       ∙ ap (λ o. elim o [ Some realm ↦ is_rec_running (get realm.recs number) | None ↦ false ]) found.rec.there
       ∙ ap is_rec_running found.rec.numbered)
+
+-- without such a REC none runs
+pub none_runs : (realm : Option Seen) (number : ℕ) → rec_granule realm number ≡ None → rec_runs realm number ≡ false
+none_runs None number none = refl
+none_runs (Some rd) number none = by_row rd.cell.descriptor none
+  where
+    by_rec : (o : Option RecRow) → option_map (λ (rec : RecRow). rec.granule) o ≡ None → is_rec_running o ≡ false
+    by_rec None e = refl
+    by_rec (Some rec) e = cc
+
+    by_row : (o : Option RealmRow) → option_map (λ (rec : RecRow). rec.granule) (option_and_then (λ (row : RealmRow). get row.recs number) o) ≡ None
+        → elim o [ Some realm ↦ is_rec_running (get realm.recs number) | None ↦ false ] ≡ false
+    by_row None e = refl
+    by_row (Some realm) e = by_rec (get realm.recs number) e

@@ -1,25 +1,23 @@
 -- The abort of a build.
-use Rattle.std.specs.Prelude.{◌≡◌, ◌≢◌, ℕ, nat_lt, List, [], ◌∷◌, ◌++◌, length, reverse, false, Some, None, Result, slice_set}
+use Rattle.std.specs.Prelude.{◌≡◌, ◌≢◌, ◌≤◌, ℕ, List, [], ◌∷◌, ◌++◌, length, drop, reverse, false, Some, None, Result}
 use Rattle.std.specs.List.{All}
 use Rattle.build_commands.specs.declared.refusal.Refusal.{Refusal}
-use Rattle.build_commands.specs.Checks.{Check}
+use Rattle.build_commands.specs.Checks.{Check, build_checks}
 use Rattle.realm_model.specs.declared.act.Event.{Event}
 use Rattle.realm_model.specs.Aborting.{IsOthersOrReverse}
 use Rattle.realm_model.specs.History.{erase, replay, IsLegal}
 use Rattle.realm_model.specs.Undoing.{reverses, undoing}
-use Rattle.build_books.specs.View.{HostView, world_of, open_of, is_aborting, with_acts}
+use Rattle.build_books.specs.declared.mark.Mark.{Mark}
+use Rattle.build_books.specs.Desk.{desk_of}
+use Rattle.build_books.specs.View.{HostView, world_of, open_of, is_aborting, mark_of, begun, with_acts}
 use Rattle.realm_host.specs.Call.{Undo}
 use Rattle.realm_host.specs.Refusals.{no_build, refusal_of}
-use Rattle.realm_host.specs.Served.{aborting, any_rec_running, IsServed}
+use Rattle.realm_host.specs.Served.{any_rec_running, IsServed}
 
 -- ---- the begin
 
 abbrev pub checks_of_begin : HostView → ℕ → List Check
-checks_of_begin host build = no_build host build ∷ aborting host build ∷ any_rec_running host build ∷ []
-
--- the build is in abort, where it has anything open
-abbrev pub begun : HostView → ℕ → HostView
-begun host build = record host { aborting = slice_set host.aborting build (nat_lt 0 (length (open_of host build))) }
+checks_of_begin host build = build_checks (desk_of host) build ++ any_rec_running host build ∷ []
 
 -- An abort begins: its number is that of the acts that are open.
 abbrev pub IsBegun : HostView → ℕ → Result ℕ Refusal → HostView → Type 0
@@ -43,13 +41,25 @@ pub record LeavesNothing (host : HostView) (build : ℕ) (new : HostView) : Type
   pub legal : IsLegal new.limits (erase build new.history)
   pub no_trace : replay new.limits (erase build new.history) ≡ Some (world_of new)
 
+-- what the build has open above the first so many acts is undone, the newest first
+abbrev pub undone_to : HostView → ℕ → ℕ → HostView
+undone_to host build count = with_acts host build (reverses (reverse (drop count (open_of host build))))
+
+-- So many acts are left open. A mark that does not lie above them is kept, and a build with nothing open is not in abort.
+pub record IsDown (host : HostView) (build count : ℕ) (new : HostView) : Type 0 where
+  pub new_is : new ≡ undone_to host build count
+  pub legal : IsLegal new.limits new.history
+  pub opened : length (open_of new build) ≡ count
+  pub marks : (mark : Mark) → mark.length ≤ count → mark_of host build ≡ Some mark → mark_of new build ≡ Some mark
+  pub idle : (length (open_of host build) ≡ 0 → is_aborting host build ≡ false) → length (open_of new build) ≡ 0 → is_aborting new build ≡ false
+
 abbrev pub checks_of_abort : HostView → ℕ → List Check
 checks_of_abort host build = no_build host build ∷ any_rec_running host build ∷ []
 
 -- the reverses of all that is open are recorded, and the build is out of abort
 pub record IsAborted (host : HostView) (build count : ℕ) (new : HostView) : Type 0 where
   pub count_is : count ≡ length (open_of host build)
-  pub new_is : new ≡ with_acts host build (reverses (reverse (open_of host build)))
+  pub new_is : new ≡ undone_to host build 0
   pub over : is_aborting new build ≡ false
   pub nothing_left : LeavesNothing host build new
 

@@ -1,28 +1,25 @@
 -- Marks of builds, and the way back to one.
-use Rattle.std.specs.Prelude.{◌≡◌, ℕ, List, [], ◌∷◌, length, reverse, not, Bool, false, Some, None, Result, Ok, Err}
+use Rattle.std.specs.Prelude.{◌≡◌, ℕ, List, [], ◌∷◌, ◌++◌, length, not, Bool, false, Some, None, Result, Ok, Err}
 use Rattle.std.specs.List.{list_any}
 use Rattle.build_commands.specs.declared.refusal.Refusal.{Refusal}
 use Rattle.build_commands.specs.declared.refusal.Refusal.TheVariants.{NothingToUndo, RecRunning}
-use Rattle.build_commands.specs.Checks.{Check, first_that_holds}
+use Rattle.build_commands.specs.Checks.{Check, build_checks, first_that_holds}
 use Rattle.realm_model.specs.Marks.{above, IsRolledBack}
 use Rattle.realm_model.specs.Running.{is_running}
-use Rattle.realm_model.specs.Undoing.{reverses}
 use Rattle.realm_model.specs.World.{realm_of}
 use Rattle.build_books.specs.declared.mark.Mark.{Mark}
 use Rattle.build_books.specs.Marks.{point_of, is_same_mark}
-use Rattle.build_books.specs.View.{HostView, world_of, mark_of, mark_now, with_mark, with_acts}
-use Rattle.realm_host.specs.Refusals.{no_build}
-use Rattle.realm_host.specs.Served.{aborting, IsServed}
+use Rattle.build_books.specs.Desk.{desk_of}
+use Rattle.build_books.specs.View.{HostView, world_of, mark_of, mark_now, with_mark}
+use Rattle.realm_host.specs.Abort.{undone_to}
+use Rattle.realm_host.specs.Served.{IsServed}
 
 -- ---- the mark
-
-abbrev pub checks_of_mark : HostView → ℕ → List Check
-checks_of_mark host build = no_build host build ∷ aborting host build ∷ []
 
 -- The build's point is answered, and kept in place of an older mark.
 abbrev pub IsMarked : HostView → ℕ → Result Mark Refusal → HostView → Type 0
 IsMarked host build result new =
-    IsServed (checks_of_mark host build) host (λ mark after. (mark ≡ mark_now host build) × (after ≡ with_mark host build (mark_now host build))) result new
+    IsServed (build_checks (desk_of host) build) host (λ mark after. (mark ≡ mark_now host build) × (after ≡ with_mark host build (mark_now host build))) result new
 
 -- ---- the way back
 
@@ -41,7 +38,7 @@ rec_running_above host build mark =
 
 abbrev pub checks_of_back : HostView → ℕ → Mark → List Check
 checks_of_back host build mark =
-    no_build host build ∷ aborting host build ∷ not_kept host build mark ∷ rec_running_above host build mark ∷ []
+    build_checks (desk_of host) build ++ (not_kept host build mark ∷ rec_running_above host build mark ∷ [])
 
 -- How many acts are above the mark, or why the build cannot go back to it.
 abbrev pub way_back : HostView → ℕ → Mark → Result ℕ Refusal
@@ -53,7 +50,7 @@ way_back host build mark = elim (first_that_holds (checks_of_back host build mar
 -- What the build opened above the mark was reversed, the newest first. The mark stays.
 pub record IsBackAt (host : HostView) (build : ℕ) (mark : Mark) (count : ℕ) (new : HostView) : Type 0 where
   pub count_is : count ≡ length (above (point_of mark) host.history)
-  pub new_is : new ≡ with_acts host build (reverses (reverse (above (point_of mark) host.history)))
+  pub new_is : new ≡ undone_to host build mark.length
   pub mark_stays : mark_of new build ≡ Some mark
   pub rolled_back : IsRolledBack host.limits (point_of mark) host.history
 

@@ -1,15 +1,11 @@
 -- How a call that is no event is answered: with the first check that holds, or as it says.
-use Rattle.std.specs.Prelude.{◌≡◌, ℕ, nat_lt, List, ◌∷◌, Result, Ok, Err, Some, None}
+use Rattle.std.specs.Prelude.{◌≡◌, ℕ, nat_lt, List, Result, Ok, Err, Some, None}
 use Rattle.build_commands.specs.declared.refusal.Refusal.{Refusal}
-use Rattle.build_commands.specs.declared.refusal.Refusal.TheVariants.{Aborting, RecRunning}
+use Rattle.build_commands.specs.declared.refusal.Refusal.TheVariants.{RecRunning}
 use Rattle.build_commands.specs.Checks.{Check, first_that_holds}
 use Rattle.realm_model.specs.Running.{running_count}
 use Rattle.realm_model.specs.World.{realm_of}
-use Rattle.build_books.specs.View.{HostView, world_of, is_aborting}
-
--- 2
-abbrev pub aborting : HostView → ℕ → Check
-aborting host build = (is_aborting host build, Aborting)
+use Rattle.build_books.specs.View.{HostView, world_of}
 
 -- 8 of an abort: a REC of the build runs
 abbrev pub any_rec_running : HostView → ℕ → Check

@@ -5,7 +5,7 @@ ghost use Rattle.realm_model.specs.Machine.{cell_at};
 ghost use Rattle.realm_model.specs.World.{free_set};
 ghost use Rattle.realm_model.specs.History.{IsLegal, LeavesNoTrace};
 ghost use Rattle.build_books.specs.View.{world_of, pages_of_build, granule_of_page};
-ghost use Rattle.build_books.specs.Kept.{HasRoom};
+ghost use Rattle.build_books.specs.Kept.{HasRoom, PointsHold};
 ghost use Rattle.std.specs.Option.{option_copied};
 ghost use Rattle.rmi_monitor.specs.View.{attributes_of};
 ghost use Rattle.realm_host.specs.Host.{booted_by};
@@ -68,12 +68,14 @@ impl<S: PageStore> Host<S> {
     }
 
     /// The accepted commands of all builds, in their order: a legal history, in which no build has used more than its room
-    /// or has more than 512 acts open. Each build can be left out of it: what is left is a legal history too, and leads to
-    /// the world without that build.
+    /// or had more than 512 acts open at any time. A build in abort has something open, and its mark stands, where it has
+    /// one. Each build can be left out of the history: what is left is a legal history too, and leads to the world without
+    /// that build.
     pub fn history(&self) -> &[Event]
         ensures events { result.now ≡ self.now.history }
         ensures legal { IsLegal self.now.limits self.now.history }
         ensures room { (build : ℕ) → HasRoom self.now build }
+        ensures points { (build : ℕ) → PointsHold self.now build }
         ensures no_trace { (build : ℕ) → LeavesNoTrace self.now.limits self.now.history build }
     {
         self.books.history()

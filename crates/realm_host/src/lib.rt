@@ -5,16 +5,19 @@
 //! keep of each build what the history has of it.
 #![tactic(auto)]
 
+mod abort;
 mod act;
 mod block;
 mod command;
 mod host;
+mod marks;
 mod picks;
 mod reply;
 mod settings;
 mod undo;
 
-pub use build_commands::{Cmd, Refusal, Reply, Step};
+pub use build_books::Mark;
+pub use build_commands::{Cmd, Refusal, Reply};
 pub use build_journal::Kind;
 pub use host::Host;
 pub use reply::{Answer, Undone};

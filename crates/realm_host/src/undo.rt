@@ -1,13 +1,12 @@
 //! Undo: the reverse of a build's newest open act.
-ghost use Rattle.std.specs.Prelude.{◌≡◌, ◌<◌, Some, None};
-ghost use Rattle.std.specs.Bool.{OnTrue};
+ghost use Rattle.std.specs.Prelude.{◌≡◌, ◌<◌, IfOk};
 ghost use Rattle.std.specs.Result.{OnOk};
 ghost use Rattle.realm_model.specs.History.{IsLegal};
 ghost use Rattle.realm_model.specs.Running.{is_running};
 ghost use Rattle.realm_model.specs.World.{realm_of};
-ghost use Rattle.std.specs.List.{last_or};
 ghost use Rattle.realm_host.specs.Call.{Undo};
-ghost use Rattle.build_books.specs.View.{world_of, open_of};
+ghost use Rattle.build_books.specs.View.{world_of};
+ghost use Rattle.realm_host.specs.Abort.{LeavesNothing};
 ghost use Rattle.realm_host.specs.Acting.{IsBack, IsRecorded};
 ghost use Rattle.realm_host.specs.Answer.{IsAnswer, undone};
 ghost use Rattle.realm_host.specs.PairLaw.{LeadsBack};
@@ -23,10 +22,11 @@ impl<S: PageStore> Host<S> {
     ///
     /// Refused with NoBuild, with NothingToUndo where the build has nothing open, or with RecRunning where that act made a
     /// REC that runs; then nothing changes. An undo right after the act that it reverses leads back to a world that owns
-    /// the same.
+    /// the same. Where it leaves nothing open, the world is that of the history without the build.
     pub fn undo(&mut self, build: BuildId) -> Result<Undone, Refusal>
         ensures answer { IsAnswer self.old build Undo (undone result) self.new }
         ensures pair { OnOk result (LeadsBack self.old build self.new) }
+        ensures last { IfOk result (λ undone. undone.left ≡ 0 → LeavesNothing self.old build self.new) }
     {
         if !self.books.has_build(build) {
             return Err(Refusal::NoBuild);
@@ -44,15 +44,18 @@ impl<S: PageStore> Host<S> {
         Ok(Undone { kind, left })
     }
 
-    // Whether the REC that a build's newest open act made runs.
-    fn is_running(&self, build: BuildId, newest: &Act) -> bool
-        requires { last_or None (open_of self.now build) ≡ Some newest.now }
-        ensures { result ≡ is_running (realm_of build (world_of self.now)) newest.now }
+    // Whether an act of a build made a REC that runs.
+    pub(crate) fn is_running(&self, build: BuildId, act: &Act) -> bool
+        requires { build < self.now.limits.builds }
+        ensures { result ≡ is_running (realm_of build (world_of self.now)) act.now }
     {
-        let Act::Rec { granule, .. } = newest else {
+        let Act::Rec { number, .. } = act else {
             return false;
         };
-        match self.monitor.rec_at(*granule) {
+        let Some(granule) = self.books.rec(build, *number) else {
+            return false;
+        };
+        match self.monitor.rec_at(granule) {
             Some(rec) => !rec.is_ready(),
             None => false,
         }

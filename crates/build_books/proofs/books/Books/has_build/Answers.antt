@@ -18,7 +18,7 @@ returns-clause-none c =
     let known = ltb-false c.number.result c.len.result e in
     let past : length c.self.inside.builds.items ≤ c.args.build = omega (arith, known, c.len.ensures, c.number.ensures.value) in
     subst (λ (h : HostView). acts_of c.args.build h.history ≡ []) c.self.view_is
-    (no_acts _ c.self.inside.builds.items c.self.inside.leases c.self.inside.vmids c.self.inside.history c.self.invariant c.args.build past))
+    (no_acts _ c.self.inside.builds.items c.self.inside.leases c.self.inside.holders c.self.inside.vmids c.self.inside.history c.self.invariant c.args.build past))
 
 pub returns-clause-no_realm : goal.returns-clause-no_realm
 returns-clause-no_realm c =
@@ -26,4 +26,4 @@ returns-clause-no_realm c =
     let known = ltb-false c.number.result c.len.result e in
     let past : length c.self.inside.builds.items ≤ c.args.build = omega (arith, known, c.len.ensures, c.number.ensures.value) in
     subst (λ (h : HostView). realm_of c.args.build (world_of h) ≡ None) c.self.view_is
-    (realm_past _ c.self.inside.builds.items c.self.inside.leases c.self.inside.vmids c.self.inside.history c.self.invariant c.args.build past))
+    (realm_past _ c.self.inside.builds.items c.self.inside.leases c.self.inside.holders c.self.inside.vmids c.self.inside.history c.self.invariant c.args.build past))

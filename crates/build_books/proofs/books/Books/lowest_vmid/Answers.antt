@@ -1,7 +1,4 @@
-use Rattle.std.proofs.Common.{◌≡◌, ℕ, ◌∙◌, Bool, true, false, Option, Some, None, refl, ap}
-use Rattle.std.specs.Prelude.{IfSome, IfNone}
-use Rattle.leases.specs.Vmids.{Vmids, is_free, IsLowestFree}
-use Rattle.build_books.specs.View.{HostView}
+use Rattle.std.proofs.Common.{◌∙◌, refl, ap}
 use Rattle.build_books.specs.Vmids.{lowest_vmid}
 use Rattle.build_books.proofs.Desks.{told_is}
 use Rattle.build_books.proofs.books.Books.lowest_vmid.Goals as goal

@@ -1,6 +1,6 @@
-use Rattle.std.proofs.Common.{◌≡◌, ◌+◌, ◌-◌, ◌*◌, ◌/◌, ◌<◌, ◌≤◌, ℕ, List, Some, refl, sym, ap, ◌∙◌, arith}
+use Rattle.std.proofs.Common.{◌+◌, ◌-◌, ◌/◌, ◌<◌, ℕ, List, refl, sym, ap, ◌∙◌, arith}
 use Rattle.realm_acts.specs.RecsOpen.{granule_in}
-use Rattle.build_books.proofs.Halving.{none_between, found_there, upper_half, lower_half}
+use Rattle.build_books.proofs.Halving.{none_between, found_there, upper_half}
 use Rattle.build_books.proofs.recs.Recs.granule.Goals as goal
 
 pub returns-then-found-wanted : goal.returns-then-found-wanted

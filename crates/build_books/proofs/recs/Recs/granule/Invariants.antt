@@ -1,5 +1,4 @@
-use Rattle.std.proofs.Common.{ℕ, ◌-◌, ◌<◌, ◌≤◌, List, length}
-use Rattle.realm_acts.specs.RecsOpen.{number_at}
+use Rattle.std.proofs.Common.{◌-◌}
 use Rattle.build_books.proofs.Halving.{IsBetween}
 use Rattle.build_books.proofs.recs.Recs.granule.Given as goal
 

@@ -4,6 +4,7 @@ use Rattle.std.specs.List.{last_or}
 use Rattle.std.proofs.lemmas.Bool.{ltb-true}
 use Rattle.realm_model.specs.History.{IsLegal}
 use Rattle.build_books.specs.View.{HostView, open_of}
+use Rattle.realm_host.proofs.Aborts.{last_undone}
 use Rattle.realm_host.proofs.Pairs.{leads_back}
 use Rattle.realm_host.proofs.UndoAnswers.{no_build_there, nothing_there, rec_runs, undone_is, is_back, has_kind}
 use Rattle.realm_host.proofs.host.Host.undo.Goals as goal
@@ -40,3 +41,9 @@ pub returns-clause-pair : goal.returns-clause-pair
 returns-clause-pair g c =
     leads_back c.args.self.now (subst (λ (h : HostView). IsLegal h.limits h.history) c.self.view_is c.self.invariant.mirror.legal) c.args.build c.unwrap-back.result
     (is_back c.args.self.now c.args.build (ltb-true c.args.build c.args.self.now.limits.builds (subst (λ (h : HostView). nat_lt c.args.build h.limits.builds ≡ true) c.self.view_is (sym c.if-not-has_build.ensures.there))) c.in-Some.newest.now (sym (c.in-Some.ensures.value ∙ ap (λ (h : HostView). last_or None (open_of h c.args.build)) c.self.view_is)) c.unwrap-back.result (sym c.reverse_of.ensures ∙ c.unwrap-back.ensures) (sym c.if-is_running.ensures)) c.reverse.new.self c.reverse.ensures
+
+pub returns-clause-last : goal.returns-clause-last
+returns-clause-last g c = λ none.
+    last_undone c.args.self.now (subst (λ (h : HostView). IsLegal h.limits h.history) c.self.view_is c.self.invariant.mirror.legal) c.args.build c.in-Some.newest.now c.unwrap-back.result
+    (sym (c.in-Some.ensures.value ∙ ap (λ (h : HostView). last_or None (open_of h c.args.build)) c.self.view_is)) (sym c.reverse_of.ensures ∙ c.unwrap-back.ensures)
+    (sym (ap (λ (n : ℕ). n - 1) (c.open_count-left.ensures.value ∙ ap (λ (h : HostView). length (open_of h c.args.build)) c.self.view_is)) ∙ none) c.reverse.new.self c.reverse.ensures

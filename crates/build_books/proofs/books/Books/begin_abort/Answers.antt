@@ -1,0 +1,16 @@
+use Rattle.std.proofs.Common.{sym, ap, ◌∙◌}
+use Rattle.build_books.specs.declared.build.Build.{Build}
+use Rattle.build_books.proofs.Pointed.{kept_begun, view_begun}
+use Rattle.build_books.proofs.books.Books.begin_abort.Goals as goal
+
+pub invariant_of-self : goal.invariant_of-self
+invariant_of-self c = kept_begun c.self.inside.builds.items c.self.inside.leases c.self.inside.holders c.self.inside.vmids c.self.inside.aux c.self.inside.capacity c.self.inside.history c.args.self.now c.self.view_is c.self.invariant c.args.build c.requires
+    c.number.result c.index_mut.result.now c.number.ensures.value c.index_mut.ensures.value c.begin_abort.new.self
+    (c.begin_abort.ensures ∙ sym (ap (λ (b : Build). record c.index_mut.result.now { aborting = b.aborting; mark = b.mark }) c.begin_abort.ensures))
+    (ap (λ (b : Build). b.mark) c.begin_abort.ensures) (ap (λ (b : Build). b.aborting) c.begin_abort.ensures)
+
+pub returns : goal.returns
+returns c = view_begun c.self.inside.builds.items c.self.inside.leases c.self.inside.holders c.self.inside.vmids c.self.inside.aux c.self.inside.capacity c.self.inside.history c.args.self.now c.self.view_is c.self.invariant c.args.build c.requires
+    c.number.result c.index_mut.result.now c.number.ensures.value c.index_mut.ensures.value c.begin_abort.new.self
+    (c.begin_abort.ensures ∙ sym (ap (λ (b : Build). record c.index_mut.result.now { aborting = b.aborting; mark = b.mark }) c.begin_abort.ensures))
+    (ap (λ (b : Build). b.mark) c.begin_abort.ensures) (ap (λ (b : Build). b.aborting) c.begin_abort.ensures)

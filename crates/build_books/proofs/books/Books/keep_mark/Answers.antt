@@ -1,0 +1,11 @@
+use Rattle.std.proofs.Common.{refl}
+use Rattle.build_books.proofs.Pointed.{kept_marked, view_marked}
+use Rattle.build_books.proofs.books.Books.keep_mark.Goals as goal
+
+pub invariant_of-self : goal.invariant_of-self
+invariant_of-self c = kept_marked c.self.inside.builds.items c.self.inside.leases c.self.inside.holders c.self.inside.vmids c.self.inside.aux c.self.inside.capacity c.self.inside.history c.args.self.now c.self.view_is c.self.invariant c.args.build c.requires.there
+    c.number.result c.index_mut.result.now c.number.ensures.value c.index_mut.ensures.value _ refl refl c.args.mark.now c.requires.now refl
+
+pub returns : goal.returns
+returns c = view_marked c.self.inside.builds.items c.self.inside.leases c.self.inside.holders c.self.inside.vmids c.self.inside.aux c.self.inside.capacity c.self.inside.history c.args.self.now c.self.view_is c.self.invariant c.args.build c.requires.there
+    c.number.result c.index_mut.result.now c.number.ensures.value c.index_mut.ensures.value _ refl refl c.args.mark.now c.requires.now refl

@@ -1,0 +1,65 @@
+//! Which build leases each granule of a machine.
+ghost use Rattle.std.specs.Prelude.{◌≡◌, ◌+◌, ◌^◌, ◌≤◌, length, replicate, Some, None, IfOk};
+ghost use Rattle.std.specs.List.{range_with_len};
+ghost use Rattle.leases.specs.Holders.{held, is_held_by};
+
+use granule_addr::{BuildId, Gran, Order};
+use std::alloc::{AllocError, Global};
+use std::marker::Model;
+
+/// The build that leases each granule, by the granule's number; `None` where nobody leases it.
+#[derive(Drop)]
+pub struct Holders {
+    of: Vec<Option<BuildId>>,
+}
+
+impl Model for Holders {
+    ghost use Rattle.std.specs.Prelude.{ℕ, List, Option};
+
+    ghost Value = { List (Option ℕ) };
+
+    ghost view = { λ holders. holders.of.items };
+}
+
+impl Holders {
+    /// The holders of the granules of a machine of so many pages: nobody leases any.
+    pub fn build(alloc: Global, pages: u16) -> Result<Holders, AllocError>
+        ensures { IfOk result (λ holders. holders ≡ replicate pages None) }
+    {
+        Ok(Holders {
+            of: vec![in alloc; None; pages as usize]?,
+        })
+    }
+
+    /// The build leases the granules of a block from now on.
+    pub fn lease(&mut self, build: BuildId, first: Gran, order: Order)
+        requires { first + 2 ^ order ≤ length self.old }
+        ensures { self.new ≡ held self.old (Some build) (range_with_len first (2 ^ order)) }
+    {
+        self.set_run(first.number(), order.size(), Some(build));
+    }
+
+    /// Nobody leases the granules of a block from now on.
+    pub fn give_back(&mut self, first: Gran, order: Order)
+        requires { first + 2 ^ order ≤ length self.old }
+        ensures { self.new ≡ held self.old None (range_with_len first (2 ^ order)) }
+    {
+        self.set_run(first.number(), order.size(), None);
+    }
+
+    /// Whether the granule is one of the machine that the build leases.
+    pub fn is_held_by(&self, granule: Gran, build: BuildId) -> bool
+        ensures { result ≡ is_held_by self.now granule build }
+    {
+        matches!(self.of.get(granule.number() as usize), Some(Some(holder)) if *holder == build)
+    }
+
+    // Sets the lease of `count` granules from `first` on.
+    fn set_run(&mut self, first: u16, count: u16, lease: Option<BuildId>)
+        requires { first + count ≤ length self.old }
+        ensures { self.new ≡ held self.old lease (range_with_len first count) }
+    {
+        let start = first as usize;
+        self.of[start..start + count as usize].fill(lease);
+    }
+}

@@ -1,0 +1,306 @@
+-- What an abort undoes, one act after another.
+use Rattle.std.proofs.Common.{◌≡◌, ◌≢◌, ℕ, zero, suc, ◌+◌, ◌-◌, ◌<◌, ◌≤◌, Bool, true, false, ◌&&◌, ◌||◌, cond, List, [], ◌∷◌, ◌++◌, length, map, reverse, drop, set, get_or, Option, Some, None, Result, Ok, Err, refl, sym, ap, ◌∙◌, subst, arith}
+use Rattle.std.specs.Prelude.{nat_lt, nat_le, option_and_then}
+use Rattle.std.specs.List.{All, last_or, list_any}
+use Rattle.std.proofs.lemmas.Bool.{and_parts, or_parts, ltb-true, ltb-false, le-leb}
+use Rattle.std.proofs.lemmas.Option.{same_Some}
+use Rattle.std.proofs.lemmas.List.{append-nil, append_assoc, length-append, drop-append-le, reverse-append, get_or-set_same, get_or_past}
+use Rattle.std.proofs.lemmas.List.Folds.{list_any-append}
+use Rattle.realm_model.specs.declared.act.Act.{Act}
+use Rattle.realm_model.specs.declared.act.Event.{Event}
+use Rattle.realm_model.specs.Act.{is_reverse, reverse_of}
+use Rattle.realm_model.specs.Aborting.{IsOthersOrReverse, IsAborting}
+use Rattle.realm_model.specs.History.{erase, open_entries, replay, IsLegal}
+use Rattle.realm_model.specs.Running.{running_count, is_running, IsAtRest}
+use Rattle.realm_model.specs.Undoing.{by, reverses, undoing}
+use Rattle.realm_model.specs.World.{World, realm_of}
+use Rattle.realm_model.proofs.Aborting.{abort_goes_on}
+use Rattle.realm_model.proofs.AtRest.{not_running, none_run, none_run_still}
+use Rattle.realm_model.proofs.Emptied.{emptied}
+use Rattle.realm_model.proofs.LeftOut.{leaves_no_trace}
+use Rattle.realm_model.proofs.Lists.{front, front_last}
+use Rattle.realm_model.proofs.Progress.{undoable}
+use Rattle.realm_model.proofs.Rests.{rest_is_of_all}
+use Rattle.realm_model.proofs.Growth.{open_entries-own}
+use Rattle.realm_model.proofs.Stack.{pushed_back}
+use Rattle.realm_model.proofs.UndoAll.{erase_events}
+use Rattle.realm_model.proofs.ZeroPages.{kept_reached}
+use Rattle.build_books.specs.declared.mark.Mark.{Mark}
+use Rattle.build_books.specs.Marks.{mark_while}
+use Rattle.build_books.specs.View.{HostView, world_of, open_of, is_aborting, mark_of, with_event, with_acts}
+use Rattle.build_books.proofs.Worlds.{world_is, world_of-replay}
+use Rattle.build_commands.specs.declared.refusal.Refusal.{Refusal}
+use Rattle.realm_host.specs.declared.reply.Undone.{Undone}
+use Rattle.realm_host.specs.Abort.{GoesOn, LeavesNothing, undone_to, IsDown}
+use Rattle.realm_host.specs.Acting.{IsRecorded}
+use Rattle.realm_host.specs.Answer.{IsUndone}
+use Rattle.realm_host.specs.Call.{Undo}
+use Rattle.realm_host.specs.Refusals.{refusal_of}
+use Rattle.realm_host.proofs.Backward.{IsReverse, reverse_is}
+use Rattle.realm_host.proofs.UndoAnswers.{not_refused}
+
+-- ---- lists of acts
+
+pub record Newest (acts : List Act) : Type 0 where
+  pub act : Act
+  pub is : last_or None acts ≡ Some act
+
+-- where any is open, one is the newest
+newest_of : (acts : List Act) → 0 < length acts → Newest acts
+newest_of [] some = absurd (omega arith)
+newest_of (act ∷ acts) some = from act acts
+  where
+    from : (act : Act) (acts : List Act) → Newest (act ∷ acts)
+    from act [] = record { act = act; is = refl }
+    from act (next ∷ acts) = let rest = from next acts in record { act = rest.act; is = rest.is }
+
+some_of : (acts : List Act) → acts ≢ [] → 0 < length acts
+some_of [] not = absurd (not refl)
+some_of (act ∷ acts) not = omega arith
+
+none_of : (acts : List Act) → length acts ≡ 0 → acts ≡ []
+none_of [] none = refl
+none_of (act ∷ acts) none = absurd (omega (arith, none))
+
+drop_all : (count : ℕ) (acts : List Act) → length acts ≤ count → drop count acts ≡ []
+drop_all zero [] few = refl
+drop_all (suc count) [] few = refl
+drop_all zero (act ∷ acts) few = absurd (omega (arith, few))
+drop_all (suc count) (act ∷ acts) few = drop_all count acts (omega (arith, few))
+
+-- ---- a build at rest
+
+module _ (host : HostView) (legal : IsLegal host.limits host.history) (build : ℕ) (rest : IsAtRest (realm_of build (world_of host))) where
+  -- none of its acts made a REC that runs
+  pub rests_all : (acts : List Act) → list_any (is_running (realm_of build (world_of host))) acts ≡ false
+  rests_all acts =
+      none_run (realm_of build (world_of host)) acts ((rest_is_of_all host.limits host.history build (world_of host) (world_is host legal)).0 rest)
+
+  -- each undo is served as long as it does nothing but reverses
+  pub goes_on : build < host.limits.builds → GoesOn host build
+  goes_on there later then limits history legal_then all some =
+      let at_host = world_is host legal in
+      let legal_later : IsLegal host.limits (host.history ++ later) =
+      subst (IsLegal host.limits) history (subst (λ l. IsLegal l then.history) limits legal_then) in
+      let at_then : replay host.limits (host.history ++ later) ≡ Some (world_of then) =
+      (λ i. replay (sym limits i) (sym history i)) ∙ world_is then legal_then in
+      let aborts : IsAborting host.limits host.history later build (world_of then) =
+      abort_goes_on host.limits host.history later build (world_of host) (world_of then) legal_later at_host at_then rest all in
+      let rests = (rest_is_of_all host.limits (host.history ++ later) build (world_of then) at_then).0 aborts.rest in
+      let newest = newest_of (open_of then build) (some_of (open_of then build) some) in
+      not_refused then build (subst (λ l. build < l) (ap (λ l. l.builds) (sym limits)) there) newest.act newest.is
+      (not_running (realm_of build (world_of then)) rests newest.act)
+
+-- ---- nothing is left
+
+module _ (host new : HostView) (build : ℕ) (legal : IsLegal new.limits new.history) (history : new.history ≡ host.history ++ undoing build host.history)
+    (none : open_of new build ≡ []) where
+  pub leaves_nothing : LeavesNothing host build new
+  leaves_nothing = record {
+    history = history;
+    same_others = ap (erase build) history ∙ erase_events build host.history (reverse (open_of host build));
+    legal = (leaves_no_trace new.limits new.history build legal).0;
+    no_trace = emptied new.limits build new.history (world_of new) legal (world_is new legal) none;
+  }
+
+-- ---- aborts and marks after an event
+
+module _ (host : HostView) (build : ℕ) (act : Act) where
+  abbrev opened : ℕ
+  opened = length (open_of (with_event host build act) build)
+
+  -- a build that is in abort after an event has something open
+  pub open_in_abort : opened ≡ 0 → is_aborting (with_event host build act) build ≡ false
+  open_in_abort none = at (nat_lt build (length host.aborting)) refl
+    where
+      at : (t : Bool) → nat_lt build (length host.aborting) ≡ t → is_aborting (with_event host build act) build ≡ false
+      at true there =
+          let inside = ltb-true build (length host.aborting) there in
+          get_or-set_same host.aborting build (is_aborting host build && nat_lt 0 opened) false inside
+          ∙ ap (λ n. is_aborting host build && nat_lt 0 n) none ∙ and_false (is_aborting host build)
+        where
+          and_false : (t : Bool) → (t && false) ≡ false
+          and_false true = refl
+          and_false false = refl
+      at false past =
+          let outside = ltb-false build (length host.aborting) past in
+          let same = Rattle.std.proofs.lemmas.List.length-set host.aborting build (is_aborting host build && nat_lt 0 opened) in
+          get_or_past (set host.aborting build (is_aborting host build && nat_lt 0 opened)) build false (omega (arith, outside, same))
+
+  -- a mark is kept that does not lie above what is open
+  pub mark_kept : (mark : Mark) → mark.length ≤ opened → mark_of host build ≡ Some mark → mark_of (with_event host build act) build ≡ Some mark
+  mark_kept mark low was = at (nat_lt build (length host.marks)) refl
+    where
+      at : (t : Bool) → nat_lt build (length host.marks) ≡ t → mark_of (with_event host build act) build ≡ Some mark
+      at true there =
+          get_or-set_same host.marks build (mark_while opened (mark_of host build)) None (ltb-true build (length host.marks) there)
+          ∙ ap (mark_while opened) was ∙ ap (λ t. cond t (Some mark) None) (le-leb mark.length opened low)
+      at false past =
+          let none : mark_of host build ≡ None = get_or_past host.marks build None (ltb-false build (length host.marks) past) in
+          absurd (let bad : None ≡ Some mark = sym none ∙ was in cc)
+
+-- ---- one act after another
+
+module _ (host : HostView) (legal : IsLegal host.limits host.history) (build count : ℕ) (more : count < length (open_of host build))
+    (rests : list_any (is_running (realm_of build (world_of host))) (drop count (open_of host build)) ≡ false) where
+  abbrev world : World
+  world = world_of host
+
+  pub newest : Newest (open_of host build)
+  newest = newest_of (open_of host build) (omega arith)
+
+  abbrev below : List Act
+  below = front (open_of host build)
+
+  split_is : below ++ newest.act ∷ [] ≡ open_of host build
+  split_is = front_last (open_of host build) newest.act newest.is
+
+  long : length (open_of host build) ≡ length below + 1
+  long = ap length (sym split_is) ∙ length-append below (newest.act ∷ [])
+
+  above_is : drop count (open_of host build) ≡ drop count below ++ newest.act ∷ []
+  above_is = ap (drop count) (sym split_is) ∙ drop-append-le count below (newest.act ∷ []) (omega (arith, long))
+
+  parts : (list_any (is_running (realm_of build world)) (drop count below) ≡ false) × (list_any (is_running (realm_of build world)) (newest.act ∷ []) ≡ false)
+  parts =
+      or_parts _ _ (sym (list_any-append (is_running (realm_of build world)) (drop count below) (newest.act ∷ []))
+      ∙ ap (list_any (is_running (realm_of build world))) (sym above_is) ∙ rests)
+
+  pub newest_rests : is_running (realm_of build world) newest.act ≡ false
+  newest_rests = (or_parts _ _ parts.1).0
+
+  pub served : build < host.limits.builds → refusal_of host build Undo ≡ None
+  served there = not_refused host build there newest.act newest.is newest_rests
+
+  module _ (back : Act) (back_is : reverse_of newest.act ≡ Some back) where
+    abbrev new : HostView
+    new = with_event host build back
+
+    done : Rattle.realm_model.proofs.Progress.CanUndo host.limits host.history world build back
+    done = undoable host.limits build host.history world newest.act back legal (world_is host legal) newest.is back_is newest_rests
+
+    backward : IsReverse back
+    backward = reverse_is newest.act back back_is
+
+    pub legal_after : IsLegal new.limits new.history
+    legal_after = done.grown.legal
+
+    world_after : world_of new ≡ done.world
+    world_after = world_of-replay new done.world done.grown.world_is
+
+    pub open_after : open_of new build ≡ below
+    open_after = open_entries-own host.history (by build back) ∙ pushed_back (open_of host build) back backward.unpaired backward.reverse
+
+    pub long_after : length (open_of host build) ≡ length (open_of new build) + 1
+    long_after = long ∙ ap (λ (acts : List Act). length acts + 1) (sym open_after)
+
+    -- what is still to be undone leads to the same end
+    pub same_end : undone_to new build count ≡ undone_to host build count
+    unfolding with_acts
+    same_end =
+        ap (λ (acts : List Act). with_acts new build (reverses (reverse (drop count acts)))) open_after
+        ∙ ap (with_acts host build) (sym (ap reverses (ap reverse above_is ∙ reverse-append (drop count below) (newest.act ∷ []))
+        ∙ ap (λ (o : Option Act). elim o [ Some r ↦ r ∷ reverses (reverse (drop count below)) | None ↦ reverses (reverse (drop count below)) ]) back_is))
+
+    pub rests_after : list_any (is_running (realm_of build (world_of new))) (drop count (open_of new build)) ≡ false
+    rests_after =
+        ap (λ (acts : List Act). list_any (is_running (realm_of build (world_of new))) (drop count acts)) open_after
+        ∙ ap (λ (w : World). list_any (is_running (realm_of build w)) (drop count below)) world_after
+        ∙ none_run_still host.limits build world done.world (kept_reached host.limits build host.history world (world_is host legal))
+        (kept_reached host.limits build new.history done.world done.grown.world_is) back backward.reverse done.stepped (drop count below) parts.0
+
+-- ---- the last act that is open
+
+module _ (host : HostView) (legal : IsLegal host.limits host.history) (build : ℕ) (newest back : Act) (newest_is : last_or None (open_of host build) ≡ Some newest)
+    (back_is : reverse_of newest ≡ Some back) (last : length (open_of host build) - 1 ≡ 0) (new : HostView) (recorded : IsRecorded host build back new) where
+  abbrev rest : List Act
+  rest = front (open_of host build)
+
+  whole_is : rest ++ newest ∷ [] ≡ open_of host build
+  whole_is = front_last (open_of host build) newest newest_is
+
+  none_below : rest ≡ []
+  none_below = let one = ap length (sym whole_is) ∙ length-append rest (newest ∷ []) in none_of rest (omega (arith, one, last))
+
+  one_open : open_of host build ≡ newest ∷ []
+  one_open = sym whole_is ∙ ap (λ (acts : List Act). acts ++ newest ∷ []) none_below
+
+  none_after : open_of new build ≡ []
+  none_after =
+      let is = reverse_is newest back back_is in
+      ap (λ (h : HostView). open_of h build) recorded.grows
+      ∙ open_entries-own host.history (by build back) ∙ pushed_back (open_of host build) back is.unpaired is.reverse ∙ none_below
+
+  undoing_is : undoing build host.history ≡ by build back ∷ []
+  undoing_is =
+      ap (λ (acts : List Act). map (by build) (reverses (reverse acts))) one_open
+      ∙ ap (λ (o : Option Act). map (by build) (elim o [ Some r ↦ r ∷ [] | None ↦ [] ])) back_is
+
+  pub last_undone : LeavesNothing host build new
+  last_undone =
+      leaves_nothing host new build
+      (subst (λ (h : HostView). IsLegal h.limits h.history) (sym recorded.grows) recorded.legal)
+      (ap (λ (h : HostView). h.history) recorded.grows ∙ ap (λ es. host.history ++ es) (sym undoing_is))
+      none_after
+
+-- ---- all the way down
+
+-- the acts are recorded one after another
+pub history-with_acts : (host : HostView) (build : ℕ) (acts : List Act) → (with_acts host build acts).history ≡ host.history ++ map (by build) acts
+unfolding with_acts
+history-with_acts host build [] = sym (append-nil host.history)
+history-with_acts host build (act ∷ acts) =
+    history-with_acts (with_event host build act) build acts ∙ append_assoc host.history (by build act ∷ []) (map (by build) acts)
+
+-- a build that goes down from what it had open
+pub record IsGoingDown (old : HostView) (build count counter : ℕ) (host : HostView) : Type 0 where
+  pub there : build < host.limits.builds
+  pub legal : IsLegal host.limits host.history
+  pub end : undone_to host build count ≡ undone_to old build count
+  pub opened : length (open_of host build) + counter ≡ length (open_of old build) + count
+  pub rests : list_any (is_running (realm_of build (world_of host))) (drop count (open_of host build)) ≡ false
+  pub marks : (mark : Mark) → mark.length ≤ count → mark_of old build ≡ Some mark → mark_of host build ≡ Some mark
+  pub idle : (length (open_of old build) ≡ 0 → is_aborting old build ≡ false) → length (open_of host build) ≡ 0 → is_aborting host build ≡ false
+
+module _ (old host new : HostView) (build count counter : ℕ) (down : IsGoingDown old build count counter host) (further : counter < length (open_of old build)) where
+  abbrev more : count < length (open_of host build)
+  more = let opened = down.opened in omega (arith, opened, further)
+
+  -- the next undo is served
+  pub never_refused : (refusal : Refusal) → refusal_of host build Undo ≡ Some refusal → ⊥
+  never_refused refusal e =
+      let none = served host down.legal build count more down.rests down.there in
+      let bad : None ≡ Some refusal = sym none ∙ e in cc
+
+  -- and goes one act down
+  pub goes_down : (done : Undone) → IsUndone host build done new → IsGoingDown old build count (counter + 1) new
+  goes_down done is = subst (IsGoingDown old build count (counter + 1)) (sym is.accepted.grows) (record {
+    there = down.there;
+    legal = is.accepted.legal;
+    end = same_end host down.legal build count more down.rests is.act back ∙ down.end;
+    opened = let opened = down.opened in let long = long_after host down.legal build count more down.rests is.act back in omega (arith, opened, long);
+    rests = rests_after host down.legal build count more down.rests is.act back;
+    marks = λ mark low was.
+        let opened = down.opened in let long = long_after host down.legal build count more down.rests is.act back in
+        mark_kept host build is.act mark (omega (arith, opened, long, more, low)) (down.marks mark low was);
+    idle = λ was none. open_in_abort host build is.act none;
+  })
+    where
+      back : reverse_of (newest host down.legal build count more down.rests).act ≡ Some is.act
+      back =
+          ap (option_and_then reverse_of) (sym (newest host down.legal build count more down.rests).is) ∙ is.accepted.act_of
+
+module _ (old host : HostView) (build count counter : ℕ) (down : IsGoingDown old build count counter host) (enough : count ≤ length (open_of old build))
+    (over : length (open_of old build) ≡ counter) where
+  opened_is : length (open_of host build) ≡ count
+  opened_is = let opened = down.opened in omega (arith, opened, over)
+
+  pub is_down : IsDown old build count host
+  unfolding with_acts
+  is_down = record {
+    new_is = sym (ap (λ (acts : List Act). with_acts host build (reverses (reverse acts))) (drop_all count (open_of host build) (omega (arith, opened_is)))) ∙ down.end;
+    legal = down.legal;
+    opened = opened_is;
+    marks = down.marks;
+    idle = down.idle;
+  }

@@ -1,0 +1,161 @@
+-- Calls that are no events: their checks, and the host after them.
+use Rattle.std.proofs.Common.{◌≡◌, ℕ, ◌-◌, ◌<◌, ◌≤◌, Bool, true, false, not, ◌&&◌, ◌||◌, cond, take, drop, List, [], ◌∷◌, ◌++◌, length, reverse, Option, Some, None, Result, Ok, Err, refl, sym, ap, ◌∙◌, subst, arith}
+use Rattle.std.specs.Prelude.{nat_le}
+use Rattle.std.specs.List.{list_any}
+use Rattle.std.proofs.lemmas.Bool.{leb-false, and_parts, eqb-true}
+use Rattle.std.proofs.lemmas.Option.{same_Some}
+use Rattle.std.proofs.lemmas.List.{take_all, length-drop}
+use Rattle.build_commands.specs.declared.refusal.Refusal.{Refusal}
+use Rattle.build_commands.specs.declared.refusal.Refusal.TheVariants.{NoBuild, Aborting, NothingToUndo, RecRunning}
+use Rattle.build_commands.specs.Checks.{Check, build_checks, checked, first_that_holds}
+use Rattle.build_commands.proofs.Refused.{none_of, some_of, first_passes, first_stops}
+use Rattle.realm_model.specs.declared.act.Act.{Act}
+use Rattle.realm_model.specs.declared.act.Event.{Event}
+use Rattle.realm_model.specs.History.{open_entries, IsLegal}
+use Rattle.realm_model.specs.Marks.{above, IsRolledBack}
+use Rattle.realm_model.specs.Running.{is_running}
+use Rattle.realm_model.specs.Undoing.{reverses}
+use Rattle.realm_model.specs.World.{realm_of}
+use Rattle.realm_model.proofs.RollBack.{rolled_back}
+use Rattle.rmi_monitor.specs.View.{MonitorView}
+use Rattle.build_books.specs.declared.mark.Mark.{Mark}
+use Rattle.build_books.specs.Desk.{desk_of}
+use Rattle.build_books.specs.Marks.{point_of, is_same_mark}
+use Rattle.build_books.specs.View.{HostView, world_of, open_of, is_aborting, mark_of, begun, with_mark}
+use Rattle.build_books.specs.Kept.{IsMarkOf}
+use Rattle.build_books.proofs.Worlds.{world_is}
+use Rattle.realm_host.specs.Abort.{IsDown, IsAborted}
+use Rattle.realm_host.specs.Host.{IsWhole}
+use Rattle.realm_host.specs.Marked.{is_kept, checks_of_back, way_back, IsBackAt}
+use Rattle.realm_host.proofs.Aborts.{leaves_nothing, history-with_acts}
+
+-- ---- the host after them
+
+pub whole_begun : (books : HostView) (monitor : MonitorView) → IsWhole books monitor → (build : ℕ) → IsWhole (begun books build) monitor
+unfolding world_of
+whole_begun books monitor whole build = record { mirror = whole.mirror; few_events = whole.few_events }
+
+pub whole_marked : (books : HostView) (monitor : MonitorView) → IsWhole books monitor → (build : ℕ) (mark : Mark) → IsWhole (with_mark books build mark) monitor
+unfolding world_of
+whole_marked books monitor whole build mark = record { mirror = whole.mirror; few_events = whole.few_events }
+
+-- ---- checks
+
+-- a check that does not hold, and the rest
+pub passed_parts : (t : Bool) (refusal : Refusal) (rest : Option Refusal) → cond t (Some refusal) rest ≡ None → (t ≡ false) × (rest ≡ None)
+passed_parts true refusal rest e = cc
+passed_parts false refusal rest e = (refl, e)
+
+-- where neither 1 nor 2 holds, the build is there
+pub there_of : (host : HostView) (build : ℕ) → first_that_holds (build_checks (desk_of host) build) ≡ None → build < host.limits.builds
+there_of host build none =
+    let parts = passed_parts (nat_le host.limits.builds build) NoBuild _ none in
+    leb-false host.limits.builds build parts.0
+
+-- one more check after those that pass
+pub holds_next : (checks : List Check) (t : Bool) (refusal : Refusal) (rest : List Check) → first_that_holds checks ≡ None → t ≡ true
+    → first_that_holds (checks ++ (t, refusal) ∷ rest) ≡ Some refusal
+holds_next checks t refusal rest none holds =
+    first_passes checks ((t, refusal) ∷ rest) none ∙ ap (λ b. cond b (Some refusal) (first_that_holds rest)) holds
+
+pub passes_next : (checks : List Check) (t : Bool) (refusal : Refusal) (rest : List Check) → first_that_holds checks ≡ None → t ≡ false
+    → first_that_holds (checks ++ (t, refusal) ∷ rest) ≡ first_that_holds rest
+passes_next checks t refusal rest none not_held =
+    first_passes checks ((t, refusal) ∷ rest) none ∙ ap (λ b. cond b (Some refusal) (first_that_holds rest)) not_held
+
+-- ---- the way back to a mark that stands
+
+module _ (host : HostView) (build : ℕ) (mark : Mark) (stands : IsMarkOf host build mark) where
+  -- no fewer acts are open than at the mark
+  pub enough : mark.length ≤ length (open_of host build)
+  enough =
+      let since = stands.stands.since (length host.history) stands.stands.place in
+      subst (λ (es : List Event). mark.length ≤ length (open_entries build es)) (take_all (length host.history) host.history (omega arith))
+      (subst (λ b. mark.length ≤ length (open_entries b (take (length host.history) host.history))) stands.of_build since)
+
+  pub above_is : above (point_of mark) host.history ≡ drop mark.length (open_of host build)
+  above_is = ap (λ b. drop mark.length (open_entries b host.history)) stands.of_build
+
+  pub count_is : length (open_of host build) - mark.length ≡ length (above (point_of mark) host.history)
+  count_is = sym (ap length above_is ∙ length-drop mark.length (open_of host build))
+
+  pub rolled : IsLegal host.limits host.history → list_any (is_running (realm_of build (world_of host))) (drop mark.length (open_of host build)) ≡ false
+      → IsRolledBack host.limits (point_of mark) host.history
+  rolled legal rests =
+      rolled_back host.limits host.history (point_of mark) (world_of host) legal (world_is host legal) stands.stands
+      (ap (λ b. list_any (is_running (realm_of b (world_of host))) (above (point_of mark) host.history)) stands.of_build
+      ∙ ap (list_any (is_running (realm_of build (world_of host)))) above_is ∙ rests)
+
+-- ---- a way back that is open
+
+pub record IsOpenWay (host : HostView) (build : ℕ) (mark : Mark) (count : ℕ) : Type 0 where
+  pub none : first_that_holds (checks_of_back host build mark) ≡ None
+  pub there : build < host.limits.builds
+  pub is_mark : mark_of host build ≡ Some mark
+  pub rests : list_any (is_running (realm_of build (world_of host))) (above (point_of mark) host.history) ≡ false
+  pub count_is : count ≡ length (above (point_of mark) host.history)
+
+same_mark : (a b : Mark) → is_same_mark a b ≡ true → a ≡ b
+same_mark a b same =
+    let parts = and_parts _ _ same in
+    let more = and_parts _ _ parts.1 in
+    λ i. record { build = eqb-true a.build b.build parts.0 i; length = eqb-true a.length b.length more.0 i; place = eqb-true a.place b.place more.1 i }
+
+pub open_way : (host : HostView) (build : ℕ) (mark : Mark) (count : ℕ) → Ok count ≡ way_back host build mark → IsOpenWay host build mark count
+open_way host build mark count is = at (first_that_holds (checks_of_back host build mark)) refl is
+  where
+    kept : (o : Option Mark) → mark_of host build ≡ o → elim o [ Some m ↦ is_same_mark m mark | None ↦ false ] ≡ true → mark_of host build ≡ Some mark
+    kept None none same = cc
+    kept (Some m) some same = some ∙ ap (λ (x : Mark). Some x) (same_mark m mark same)
+
+    at : (o : Option Refusal) → first_that_holds (checks_of_back host build mark) ≡ o
+        → ◌≡◌ {A = Result ℕ Refusal} (Ok count) (elim o [ Some refusal ↦ Err refusal | None ↦ Ok (length (above (point_of mark) host.history)) ]) → IsOpenWay host build mark count
+    at (Some refusal) holds e = cc
+    at None none e =
+        let first = passed_parts (nat_le host.limits.builds build) NoBuild _ none in
+        let second = passed_parts (is_aborting host build) Aborting _ first.1 in
+        let third = passed_parts (not (is_kept host build mark)) NothingToUndo _ second.1 in
+        let fourth = passed_parts (list_any (is_running (realm_of build (world_of host))) (above (point_of mark) host.history)) RecRunning None third.1 in
+        record {
+          none = none;
+          there = leb-false host.limits.builds build first.0;
+          is_mark = kept (mark_of host build) refl (not_false (is_kept host build mark) third.0);
+          rests = fourth.0;
+          count_is = ok_same count (length (above (point_of mark) host.history)) e;
+        }
+      where
+        not_false : (t : Bool) → not t ≡ false → t ≡ true
+        not_false true e = refl
+        not_false false e = cc
+
+        ok_same : (a b : ℕ) → ◌≡◌ {A = Result ℕ Refusal} (Ok a) (Ok b) → a ≡ b
+        ok_same a b e = cc
+
+pub back_at : (host : HostView) (build : ℕ) (mark : Mark) (count : ℕ) → Ok count ≡ way_back host build mark → IsMarkOf host build mark
+    → IsRolledBack host.limits (point_of mark) host.history → (new : HostView) → IsDown host build mark.length new → IsBackAt host build mark count new
+back_at host build mark count is stands rolled new down =
+    let way = open_way host build mark count is in
+    record {
+      count_is = way.count_is;
+      new_is = down.new_is;
+      mark_stays = down.marks mark (omega arith) way.is_mark;
+      rolled_back = rolled;
+    }
+
+-- ---- an abort that is done
+
+pub aborted : (host : HostView) (build count : ℕ) → count ≡ length (open_of host build) → (count ≡ 0 → is_aborting host build ≡ false)
+    → (new : HostView) → IsDown host build 0 new → IsAborted host build count new
+aborted host build count is idle new down =
+    let none : open_of new build ≡ [] = none_left (open_of new build) down.opened in
+    record {
+      count_is = is;
+      new_is = down.new_is;
+      over = down.idle (λ zero. idle (is ∙ zero)) down.opened;
+      nothing_left = leaves_nothing host new build down.legal
+          (ap (λ (h : HostView). h.history) down.new_is ∙ history-with_acts host build (reverses (reverse (open_of host build)))) none;
+    }
+  where
+    none_left : (acts : List Act) → length acts ≡ 0 → acts ≡ []
+    none_left [] e = refl
+    none_left (act ∷ acts) e = absurd (omega (arith, e))

@@ -1,0 +1,64 @@
+//! Aborts: all that a build has open is undone.
+ghost use Rattle.std.specs.Prelude.{◌≡◌, ◌<◌, ◌≤◌, drop, false, length};
+ghost use Rattle.std.specs.List.{list_any};
+ghost use Rattle.std.specs.Result.{OnOk};
+ghost use Rattle.realm_model.specs.Running.{is_running};
+ghost use Rattle.realm_model.specs.World.{realm_of};
+ghost use Rattle.build_books.specs.View.{world_of, open_of};
+ghost use Rattle.realm_host.specs.Abort.{IsBegun, GoesOn, IsAbortAnswer, IsDown};
+
+use crate::{Host, Refusal};
+use build_commands::check_build;
+use granule_addr::BuildId;
+use page_arena::PageStore;
+
+impl<S: PageStore> Host<S> {
+    /// Begins the abort of a build: how many acts it has open. From then on, until it has none, the build gets `undo` and
+    /// `abort` alone, and each undo is served, whatever others do. With nothing open there is nothing to abort.
+    ///
+    /// Refused with NoBuild, with Aborting, or with RecRunning where a REC of the build runs. This is no event.
+    pub fn begin_abort(&mut self, build: BuildId) -> Result<u16, Refusal>
+        ensures answer { IsBegun self.old build result self.new }
+        ensures goes_on { OnOk result (GoesOn self.old build) }
+    {
+        check_build(&self.books, build)?;
+        if self.books.running(build) > 0 {
+            return Err(Refusal::RecRunning);
+        }
+        let count = self.books.open_count(build);
+        self.books.begin_abort(build);
+        Ok(count)
+    }
+
+    /// Undoes all that a build has open, the newest first, and so ends an abort that was begun: how many reverses were run.
+    /// The world is then that of the history without the build.
+    ///
+    /// Refused with NoBuild, or with RecRunning where a REC of the build runs; then nothing changes.
+    pub fn abort(&mut self, build: BuildId) -> Result<u16, Refusal>
+        ensures { IsAbortAnswer self.old build result self.new }
+    {
+        if !self.books.has_build(build) {
+            return Err(Refusal::NoBuild);
+        }
+        if self.books.running(build) > 0 {
+            return Err(Refusal::RecRunning);
+        }
+        let count = self.books.open_count(build);
+        self.undo_down_to(build, 0);
+        Ok(count)
+    }
+
+    // Undoes what a build has open above the first so many acts, the newest first. None of them made a REC that runs.
+    pub(crate) fn undo_down_to(&mut self, build: BuildId, count: u16)
+        requires there { build < self.old.limits.builds }
+        requires enough { count ≤ length (open_of self.old build) }
+        requires rest { list_any (is_running (realm_of build (world_of self.old))) (drop count (open_of self.old build)) ≡ false }
+        ensures { IsDown self.old build count self.new }
+    {
+        for _ in count..self.books.open_count(build) {
+            let Ok(_) = self.undo(build) else {
+                unreachable!()
+            };
+        }
+    }
+}

@@ -1,0 +1,90 @@
+//! Marks: points that a build can go back to.
+ghost use Rattle.std.specs.Prelude.{◌≡◌, ◌<◌};
+ghost use Rattle.std.specs.Bool.{OnTrue};
+ghost use Rattle.std.specs.List.{list_any};
+ghost use Rattle.std.specs.Result.{OnOk};
+ghost use Rattle.realm_model.specs.Marks.{IsRolledBack};
+ghost use Rattle.realm_model.specs.Running.{is_running};
+ghost use Rattle.realm_model.specs.World.{realm_of};
+ghost use Rattle.build_books.specs.View.{world_of};
+ghost use Rattle.build_books.specs.Kept.{IsMarkOf};
+ghost use Rattle.build_books.specs.Marks.{point_of};
+ghost use Rattle.realm_host.specs.Marked.{IsMarked, way_back, IsBackAnswer, is_kept};
+
+use crate::{Host, Mark, Refusal};
+use build_commands::check_build;
+use granule_addr::BuildId;
+use page_arena::PageStore;
+use realm_model::Act;
+
+impl<S: PageStore> Host<S> {
+    /// Keeps the point of a build, in place of an older mark. The mark is dropped by the reverse that leaves the build with
+    /// fewer acts open than it has now.
+    ///
+    /// Refused with NoBuild or with Aborting. This is no event.
+    pub fn mark(&mut self, build: BuildId) -> Result<Mark, Refusal>
+        ensures { IsMarked self.old build result self.new }
+    {
+        check_build(&self.books, build)?;
+        let mark = self.books.mark_now(build);
+        self.books.keep_mark(build, &mark);
+        Ok(mark)
+    }
+
+    /// How many acts a build has open above a mark; or the refusal that `rollback_to` would give. Where it is given none, the
+    /// mark stands, and the build can go back to it.
+    pub fn check_back(&self, build: BuildId, mark: Mark) -> Result<u16, Refusal>
+        ensures value { result ≡ way_back self.now build mark }
+        ensures stands { OnOk result (IsMarkOf self.now build mark) }
+        ensures leads_back { OnOk result (IsRolledBack self.now.limits (point_of mark) self.now.history) }
+    {
+        check_build(&self.books, build)?;
+        if !self.is_kept(build, mark) {
+            return Err(Refusal::NothingToUndo);
+        }
+        let above = self.books.open_above(build, mark.length());
+        if self.is_any_running(build, above) {
+            return Err(Refusal::RecRunning);
+        }
+        Ok(self.books.open_count(build) - mark.length())
+    }
+
+    /// Undoes what a build has opened above a mark, the newest first: how many reverses were run. The world then owns the
+    /// same as that of the history without what the build did after the mark, and but for the build it is the same. The
+    /// mark stays.
+    ///
+    /// Refused with NoBuild, with Aborting, with NothingToUndo where this is not the mark that is kept of the build, or with
+    /// RecRunning where an act above it made a REC that runs; then nothing changes.
+    pub fn rollback_to(&mut self, build: BuildId, mark: Mark) -> Result<u16, Refusal>
+        ensures { IsBackAnswer self.old build mark result self.new }
+    {
+        let count = self.check_back(build, mark)?;
+        self.undo_down_to(build, mark.length());
+        Ok(count)
+    }
+
+    // Whether this is the mark that is kept of a build.
+    fn is_kept(&self, build: BuildId, mark: Mark) -> bool
+        requires { build < self.now.limits.builds }
+        ensures value { result ≡ is_kept self.now build mark }
+        ensures stands { OnTrue result (IsMarkOf self.now build mark) }
+    {
+        match self.books.mark(build) {
+            Some(kept) => kept.is(mark),
+            None => false,
+        }
+    }
+
+    // Whether any of a build's acts made a REC that runs.
+    fn is_any_running(&self, build: BuildId, acts: &[Act]) -> bool
+        requires { build < self.now.limits.builds }
+        ensures { result ≡ list_any (is_running (realm_of build (world_of self.now))) acts.now }
+    {
+        for act in acts {
+            if self.is_running(build, act) {
+                return true;
+            }
+        }
+        false
+    }
+}
