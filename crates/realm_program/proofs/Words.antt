@@ -1,9 +1,9 @@
 -- What clap's definition says of this program, whatever the words.
-use Rattle.std.proofs.Common.{◌≡◌, ◌∙◌, ℕ, List, [], ◌∷◌, Bool, true, false, refl, sym, ap, codes, ◌⊎◌, inl, inr}
+use Rattle.std.proofs.Common.{◌≡◌, ◌∙◌, ◌<◌, ℕ, arith, subst, List, [], ◌∷◌, Bool, true, false, refl, sym, ap, codes, ◌⊎◌, inl, inr}
 use Rattle.std.specs.Prelude.{not, ◌&&◌, find, Option, Some, None, option_map, option_and_then, is_some, nat_lt, if◌then◌else◌, Result, Ok, Err, Box}
 use Rattle.std.specs.Box.{box_value}
 use Rattle.std.specs.Str.Parse.{ParsesUnsigned}
-use Rattle.std.proofs.lemmas.Bool.{false≢true, cases_Bool}
+use Rattle.std.proofs.lemmas.Bool.{false≢true, cases_Bool, lt-ltb, ltb-true}
 use Rattle.std.proofs.lemmas.Option.{same_Some}
 use Rattle.clap.specs.Kinds.{or_else, check_kinds}
 use Rattle.clap.specs.Simple.{rows_at, entered, built, argument_words, names_of, label_of}
@@ -13,7 +13,7 @@ use Rattle.clap.specs.Words.{App, Kinds, Row, Shape, Text, fault_of, is_simple, 
 use Rattle.clap.specs.declared.parser.matches.ArgMatches.{ArgMatches}
 use Rattle.clap.specs.declared.parser.matches.ArgMatches.TheViews.{out-ArgMatches, out-SubCommand}
 use Rattle.clap.specs.declared.parser.matches.SubCommand.{SubCommand}
-use Rattle.realm_program.specs.Line.{IsRead, IsErase, IsLine}
+use Rattle.realm_program.specs.Line.{IsErase, IsLine}
 use Rattle.realm_program.specs.Program.{realmhost}
 use Rattle.realm_program.specs.declared.line.Line.TheVariants.{Replay}
 
@@ -108,18 +108,20 @@ name_of_rows m sub is = rows_name (out-ArgMatches m).subcommand ∙ ap name_in i
 abbrev pub build_in : Option ℕ → Option ℕ
 build_in number = option_and_then (λ n. if nat_lt n 8 then Some n else None) number
 
--- a number that is read of the text
-read_below : (text : Text) (n : ℕ) → IsRead text n → IsErase (Some text) (build_in (Some n))
+-- a number of 8 bits that the text is read as
+read_below : (text : Text) (n : ℕ) → ParsesUnsigned {E = Unit {0}} 8 10 text (Ok n) → IsErase (Some text) (build_in (Some n))
 read_below text n read = elim (nat_lt n 8) as (λ t. nat_lt n 8 ≡ t → IsErase (Some text) (if t then Some n else None)) [
-  | true ↦ λ below. read
-  | false ↦ λ above other. ?
+  | true ↦ λ below. let small : n < 8 = ltb-true n 8 below in ((read.0.0, subst (λ k. k < 8) read.1 small), read.1)
+  | false ↦ λ above parses. let small : n < 8 = subst (λ k. k < 8) (sym read.1) parses.1 in absurd (false≢true (sym above ∙ lt-ltb n 8 small))
 ] refl
 
 pub erase_from : {E : Type 0} (o : Option Text) (b : Option ℕ) (gives : List ℕ → Result ℕ E → Type 0)
     → ((t : List ℕ) (r : Result ℕ E) → gives t r → ParsesUnsigned 8 10 t r)
     → (o ≡ None → b ≡ None) → ((t : Text) → o ≡ Some t → ReadsOne gives t b) → IsErase o (build_in b)
 erase_from None b gives parses none value = ap build_in (none refl)
-erase_from (Some t) None gives parses none value = let g = value t refl in ?
+erase_from (Some t) None gives parses none value =
+    let g = value t refl in
+    λ small. parses t (Err g.0) g.1 (small.0, omega (arith, small.1))
 erase_from (Some t) (Some n) gives parses none value = let g = value t refl in read_below t n (parses t (Ok n) g)
 
 pub line_is : (sub : Option (Text × List Row)) (rows : List Row) (b : Option ℕ)

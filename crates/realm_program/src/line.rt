@@ -1,6 +1,7 @@
 //! The command line.
 ghost use Rattle.std.specs.Prelude.{◌≡◌, IfOk, false, nat_lt, if◌then◌else◌, Some, None, option_and_then};
-ghost use Rattle.clap.specs.Words.{app_of, fields_of, rule_of};
+ghost use Rattle.clap.specs.Words.{app_of, rule_of};
+ghost use Rattle.clap.specs.declared.builder.command.Command.TheViews.{out-Command as fields_of};
 ghost use Rattle.realm_program.specs.Program.{erase, replay, program, realmhost};
 
 use clap::{Arg, ArgAction, Command, Error, value_parser};

@@ -32,10 +32,10 @@ fn run(rt: &HostRuntime) -> Result<(), Stop> {
     for argument in &arguments {
         words.push(argument.as_str()).map_err(|_| Fault::Memory)?;
     }
-    let Line::Replay = Line::of(alloc, &words)?;
+    let Line::Replay(erase) = Line::of(alloc, &words)?;
     let mut input = Told::new(rt.stdin());
     let mut output = Told::new(rt.stdout());
-    replay(alloc, &mut input, &mut output)?;
+    replay(alloc, &mut input, &mut output, erase)?;
     Ok(())
 }
 
