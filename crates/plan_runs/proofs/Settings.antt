@@ -1,5 +1,5 @@
 -- A run leaves the settings of its host as they are.
-use Rattle.std.proofs.Common.{◌≡◌, ℕ, ◌-◌, ◌==◌, true, false, List, [], ◌∷◌, Option, Some, None, Result, Ok, Err, refl, ap, ap₂, sym, ◌∙◌}
+use Rattle.std.proofs.Common.{◌≡◌, ℕ, ◌-◌, ◌==◌, true, false, List, [], ◌∷◌, Option, Some, None, Result, Ok, Err, ap, ap₂, sym, ◌∙◌}
 use Rattle.std.specs.Bool.{OnTrue, OnFalse}
 use Rattle.build_books.specs.View.{HostView}
 use Rattle.build_books.specs.Booted.{booted}

@@ -1,5 +1,5 @@
 -- The turn of a step does not count steps; and where a build is.
-use Rattle.std.proofs.Common.{◌≡◌, ℕ, List, length, slice_index_or, ◌<◌, ◌≤◌, ◌-◌, arith, ◌==◌, true, false, Result, Ok, Err, refl, ap}
+use Rattle.std.proofs.Common.{◌≡◌, ℕ, List, length, slice_index_or, ◌<◌, ◌≤◌, ◌-◌, arith, ◌==◌, true, false, Result, Ok, Err, ap}
 use Rattle.std.specs.Bool.{OnTrue, OnFalse}
 use Rattle.std.proofs.lemmas.List.{get_or_default}
 use Rattle.build_books.specs.View.{HostView}

@@ -17,10 +17,5 @@ pub fn push_turn(
 ) -> Result<(), AllocError>
     ensures { OnOk result (string_bytes text.new ≡ string_bytes text.old ++ turn_line build step.now answer) }
 {
-    writeln!(
-        text,
-        "{} {} = {answer}",
-        build.number(),
-        StepText(step)
-    )
+    writeln!(text, "{} {} = {answer}", build.number(), StepText(step))
 }

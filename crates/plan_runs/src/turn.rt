@@ -4,9 +4,10 @@ ghost use Rattle.plan_runs.specs.Turn.{to_go_back, IsCommandTurn, IsUndoTurn, Is
 
 use crate::answer::TurnAnswer;
 use crate::place::Place;
+use build_commands::Step;
 use granule_addr::BuildId;
 use page_arena::PageStore;
-use realm_host::{Cmd, Host, Refusal, Step};
+use realm_host::{Cmd, Host, Refusal};
 
 fn command_turn<S: PageStore>(host: &mut Host<S>, build: BuildId, cmd: Cmd) -> TurnAnswer
     ensures { IsCommandTurn host.old build cmd result host.new }
@@ -80,11 +81,7 @@ fn turn_of_many<S: PageStore>(
 }
 
 // How many acts an abort has to undo. Its first turn begins it.
-fn to_abort<S: PageStore>(
-    host: &mut Host<S>,
-    build: BuildId,
-    place: &Place,
-) -> Result<u16, Refusal>
+fn to_abort<S: PageStore>(host: &mut Host<S>, build: BuildId, place: &Place) -> Result<u16, Refusal>
     ensures { IsToAbort host.old build place.now result host.new }
 {
     if place.left == 0 {
