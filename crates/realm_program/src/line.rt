@@ -33,7 +33,7 @@ fn erase<'a>(alloc: Global) -> Arg<'a>
         .value_name("B")
         .help(ERASE)
         .action(ArgAction::Set)
-        .value_parser(value_parser!(u8).range(0..8))
+        .value_parser(value_parser!(u8).range(0..=7))
 }
 
 fn replay<'a>(alloc: Global) -> Result<Command<'a>, AllocError>
