@@ -7,11 +7,12 @@ use Rattle.realm_plan.specs.declared.fault.PlanFault.{PlanFault}
 use Rattle.realm_plan.specs.declared.fault.PlanError.{PlanError}
 use Rattle.realm_plan.specs.declared.fault.PlanError.TheVariants as plan_error
 use Rattle.realm_program.specs.Fault.{fault_of_plan}
-use Rattle.realm_program.specs.Whole.{kept_of, AppendsFront}
+use Rattle.told_device.specs.Whole.{AppendsFront}
+use Rattle.realm_program.specs.Whole.{kept_of}
 use Rattle.realm_program.specs.Replay.{IsAskedText, IsWithoutText, IsTextOf, IsPrinted, IsEnd}
 use Rattle.realm_program.specs.declared.fault.Fault.{Fault}
 use Rattle.realm_program.specs.declared.fault.Fault.TheVariants.{Plan as PlanIsFaulty, EraseNamesNoBuild, Memory, Mismatch, Device}
-use Rattle.realm_program.specs.declared.told.ReadError.TheVariants.{Device as ReadDevice}
+use Rattle.realm_program.specs.declared.input.ReadError.TheVariants.{Device as ReadDevice}
 use Rattle.realm_program.proofs.KeptPlan.{plan_of-kept_of}
 
 -- nothing was written

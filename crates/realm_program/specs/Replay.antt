@@ -6,7 +6,7 @@ use Rattle.build_books.specs.Booted.{booted}
 use Rattle.realm_host.specs.Recorded.{IsWithout}
 use Rattle.realm_plan.specs.Plan.{Plan, plan_of}
 use Rattle.plan_runs.specs.Run.{IsToldRun, map_text}
-use Rattle.realm_program.specs.Whole.{AppendsFront}
+use Rattle.told_device.specs.Whole.{AppendsFront}
 use Rattle.realm_program.specs.declared.fault.Fault.{Fault}
 use Rattle.realm_program.specs.declared.fault.Fault.TheVariants.{Plan as PlanIsFaulty, EraseNamesNoBuild, Memory, Mismatch, Device}
 

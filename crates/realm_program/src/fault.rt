@@ -2,10 +2,11 @@
 ghost use Rattle.std.specs.Prelude.{◌≡◌};
 ghost use Rattle.realm_program.specs.declared.fault.Fault.TheVariants.{Memory, Device};
 
-use crate::told::{DeviceFailed, ReadError};
+use crate::input::ReadError;
 use realm_plan::{PlanError, PlanFault};
 use std::alloc::AllocError;
 use thiserror::Error;
+use told_device::DeviceFailed;
 
 /// Why nothing is printed, or a front of the text alone. Its line goes to standard error.
 #[derive(Clone, Copy, Debug, PartialEq, Eq, Error)]

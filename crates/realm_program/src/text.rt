@@ -6,7 +6,7 @@ ghost use Rattle.realm_program.specs.Replay.{opening_host, IsText, IsErasedText,
 ghost use Rattle.realm_program.specs.declared.fault.Fault.TheVariants.{Device, Mismatch};
 
 use crate::fault::Fault;
-use crate::told::Told;
+use crate::input::read_whole;
 use buddy::BuddyArena;
 use granule_addr::BuildId;
 use page_arena::BuildError;
@@ -15,6 +15,7 @@ use realm_host::{Host, Settings, apply_without};
 use realm_plan::Plan;
 use std::alloc::{AllocError, Global};
 use std::io::{Read, Write};
+use told_device::Told;
 
 // A host of the plan's size, over pages that are all free.
 fn boot(alloc: Global, plan: &Plan) -> Result<Host<BuddyArena>, AllocError>
@@ -103,7 +104,7 @@ pub fn replay<R: Read, W: Write>(
     ensures device { ((input.new.failed ≡ true) ⊎ (output.new.failed ≡ true)) ↔ (result ≡ Err Device) }
     ensures asked { input.new.reads ≤ input.old.reads + 1048578 }
 {
-    let bytes = input.read_whole(alloc)?;
+    let bytes = read_whole(alloc, input)?;
     let plan = Plan::from_bytes(alloc, &bytes)?;
     let text = asked_text_of(alloc, &plan, erase)?;
     output.write_whole(text.as_bytes())?;

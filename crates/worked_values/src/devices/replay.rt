@@ -39,7 +39,11 @@ fn the_only_build_is_left_out(rt: HostRuntime) {
     let mut output = told_sink(rt.alloc(), 1000, None, false);
     let outcome = replay(rt.alloc(), &mut input, &mut output, BuildId::new(0));
     holds(&rt, "the map is printed", outcome.is_ok());
-    holds(&rt, "nobody leases the page", output.device().has(b"free 1\n"));
+    holds(
+        &rt,
+        "nobody leases the page",
+        output.device().has(b"free 1\n"),
+    );
 }
 
 #[test]

@@ -1,6 +1,6 @@
 use Rattle.std.proofs.Common.{◌≡◌, ◌<◌, ◌≤◌, length, length-take-le, take, [], arith}
 use Rattle.realm_program.proofs.Kept.{consumes_more, kept_at_limit, kept_at_end}
-use Rattle.realm_program.proofs.told.Told.read_whole.Goals as goal
+use Rattle.realm_program.proofs.input.read_whole.Goals as goal
 
 pub returns-then-len-ge-KEPT-clause-bytes : goal.returns-then-len-ge-KEPT-clause-bytes
 returns-then-len-ge-KEPT-clause-bytes g c =
