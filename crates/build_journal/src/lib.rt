@@ -7,4 +7,4 @@ mod reverse;
 
 pub use journal::{JOURNAL_ROOM, Journal};
 pub use kind::{Kind, kind_of};
-pub use reverse::reverse_of;
+pub use reverse::{reverse_of, takes_back};

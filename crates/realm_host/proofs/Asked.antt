@@ -55,7 +55,7 @@ same_kind (acts.Take order first) is = cc
 same_kind (acts.UnTake order first) is = cc
 same_kind _ is = refl
 
-forward_turn : (history : _) (build : ℕ) (act : Act) → is_reverse act ≡ false → IsInTurn history (by build act)
+pub forward_turn : (history : _) (build : ℕ) (act : Act) → is_reverse act ≡ false → IsInTurn history (by build act)
 forward_turn history build act forward = λ reverse. absurd (never (is_reverse act) forward reverse)
   where
     never : (t : Bool) → t ≡ false → IsTrue t → ⊥

@@ -52,7 +52,7 @@ module _ (books : HostView) (monitor : MonitorView) (whole : IsWhole books monit
       subst (λ (h : HostView). (no_block h order).0 ≡ true) view_is
       (ap not (none_block (world_of books) order (λ first free. none first (subst (λ flags. IsFreeBlock flags order first) (sym whole.mirror.free) free))))
 
-  module _ (low : order ≤ 9) (room_now : (first : ℕ) → HasRoomFor now build (Take order first)) (first : ℕ) (free : IsFreeBlock monitor.free order first) (new : MonitorView)
+  module _ (low : order ≤ 9) (first : ℕ) (room_now : HasRoomFor now build (Take order first)) (free : IsFreeBlock monitor.free order first) (new : MonitorView)
       (new_is : new ≡ with_block monitor order first) where
     pub one_free : (no_block now order).0 ≡ false
     one_free =
@@ -65,7 +65,7 @@ module _ (books : HostView) (monitor : MonitorView) (whole : IsWhole books monit
 
     pub can_take : CanRecord books build (Take order first)
     can_take = can_record books monitor whole now view_is build (Take order first) new taken (take_forward books.history build order first)
-        (subst (λ (h : HostView). HasRoomFor h build (Take order first)) (sym view_is) (room_now first))
+        (subst (λ (h : HostView). HasRoomFor h build (Take order first)) (sym view_is) room_now)
 
     module _ (new_books : HostView) (recorded : new_books ≡ with_event books build (Take order first)) where
       pub whole_taken : IsWhole new_books new

@@ -16,3 +16,6 @@ pub mod Runs
 pub mod UndoAnswers
 pub mod Aborts
 pub mod Calls
+pub mod Applied
+pub mod LeftOut
+pub mod There

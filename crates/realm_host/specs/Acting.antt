@@ -8,8 +8,8 @@ use Rattle.realm_model.specs.Act.{is_paired, reverse_of}
 use Rattle.realm_model.specs.History.{IsLegal, IsInTurn}
 use Rattle.realm_model.specs.Room.{room_taken}
 use Rattle.realm_model.specs.Running.{is_running}
-use Rattle.realm_model.specs.Step.{outcome_in}
-use Rattle.realm_model.specs.World.{realm_of}
+use Rattle.realm_model.specs.Step.{step, outcome_in}
+use Rattle.realm_model.specs.World.{World, realm_of}
 use Rattle.realm_model.specs.Undoing.{by}
 use Rattle.realm_acts.specs.Mirror.{IsAsked}
 use Rattle.build_books.specs.View.{HostView, world_of, open_of, used, with_event}
@@ -40,6 +40,15 @@ IsActed host build act (Err rmi) new = (outcome_in host.limits (world_of host) (
 abbrev pub IsBlockTaken : HostView → ℕ → ℕ → Option ℕ → HostView → Type 0
 IsBlockTaken host build order (Some first) new = ((no_block host order).0 ≡ false) × IsRecorded host build (Take order first) new
 IsBlockTaken host build order None new = ((no_block host order).0 ≡ true) × (new ≡ host)
+
+-- An act is recorded; or the history with it would not be legal, and nothing changes.
+abbrev pub IsApplied : HostView → ℕ → Act → Bool → HostView → Type 0
+IsApplied host build act true new = IsRecorded host build act new
+IsApplied host build act false new = (IsLegal host.limits (host.history ++ by build act ∷ []) → ⊥) × (new ≡ host)
+
+-- An act cannot be a step of the world.
+abbrev pub IsNoStep : HostView → ℕ → Act → Type 0
+IsNoStep host build act = (next : World) → step host.limits (world_of host) (by build act) ≡ Some next → ⊥
 
 -- the act is the reverse of the newest that the build has open, which made no REC that runs
 pub record IsBack (host : HostView) (build : ℕ) (back : Act) : Type 0 where

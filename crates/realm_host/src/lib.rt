@@ -7,6 +7,7 @@
 
 mod abort;
 mod act;
+mod apply;
 mod block;
 mod command;
 mod host;
@@ -15,6 +16,7 @@ mod picks;
 mod reply;
 mod settings;
 mod undo;
+mod without;
 
 pub use build_books::Mark;
 pub use build_commands::{Cmd, Refusal, Reply};
@@ -22,3 +24,4 @@ pub use build_journal::Kind;
 pub use host::Host;
 pub use reply::{Answer, Undone};
 pub use settings::Settings;
+pub use without::apply_without;

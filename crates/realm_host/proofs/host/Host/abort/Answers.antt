@@ -22,12 +22,11 @@ pub returns : goal.returns
 returns g c =
     let runs = c.running.ensures ∙ ap (λ (h : HostView). running_count (realm_of c.args.build (world_of h))) c.self.view_is in
     let zero = c.if-running-gt0.false in
-    let there = ltb-true c.args.build c.args.self.now.limits.builds (subst (λ (h : HostView). nat_lt c.args.build h.limits.builds ≡ true) c.self.view_is (sym c.if-not-has_build.ensures.there)) in
-    (
+    let there = ltb-true c.args.build c.args.self.now.limits.builds (subst (λ (h : HostView). nat_lt c.args.build h.limits.builds ≡ true) c.self.view_is (sym c.if-not-has_build.ensures.there)) in (
       (λ i. cond (lt-leb c.args.self.now.limits.builds c.args.build there i) (Some NoBuild)
-      (cond (le-ltb 0 (running_count (realm_of c.args.build (world_of c.args.self.now))) (omega (arith, runs, zero)) i) (Some RecRunning) None)),
+          (cond (le-ltb 0 (running_count (realm_of c.args.build (world_of c.args.self.now))) (omega (arith, runs, zero)) i) (Some RecRunning) None)),
       aborted c.args.self.now c.args.build c.open_count-count.result
-      (c.open_count-count.ensures.value ∙ ap (λ (h : HostView). length (open_of h c.args.build)) c.self.view_is)
-      (λ none. ap (λ (h : HostView). is_aborting h c.args.build) (sym c.self.view_is) ∙ c.open_count-count.ensures.idle none)
-      c.undo_down_to.new.self c.undo_down_to.ensures,
+          (c.open_count-count.ensures.value ∙ ap (λ (h : HostView). length (open_of h c.args.build)) c.self.view_is)
+          (λ none. ap (λ (h : HostView). is_aborting h c.args.build) (sym c.self.view_is) ∙ c.open_count-count.ensures.idle none)
+          c.undo_down_to.new.self c.undo_down_to.ensures,
     )

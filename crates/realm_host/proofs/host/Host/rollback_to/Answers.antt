@@ -22,6 +22,8 @@ undo_down_to-requires-clause-rest g c =
 
 pub returns : goal.returns
 returns g c =
-    let way = open_way c.args.self.now c.args.build c.args.mark c.in_ok-count.count c.in_ok-count.ensures.value in
-    (way.none, back_at c.args.self.now c.args.build c.args.mark c.in_ok-count.count c.in_ok-count.ensures.value c.in_ok-count.ensures.stands c.in_ok-count.ensures.leads_back
-    c.undo_down_to.new.self (subst (λ n. IsDown c.args.self.now c.args.build n c.undo_down_to.new.self) c.length.ensures c.undo_down_to.ensures))
+    let way = open_way c.args.self.now c.args.build c.args.mark c.in_ok-count.count c.in_ok-count.ensures.value in (
+      way.none,
+      back_at c.args.self.now c.args.build c.args.mark c.in_ok-count.count c.in_ok-count.ensures.value c.in_ok-count.ensures.stands c.in_ok-count.ensures.leads_back
+          c.undo_down_to.new.self (subst (λ n. IsDown c.args.self.now c.args.build n c.undo_down_to.new.self) c.length.ensures c.undo_down_to.ensures),
+    )

@@ -1,0 +1,241 @@
+//! Recorded events, applied again with what was picked for them.
+ghost use Rattle.std.specs.Prelude.{◌≡◌, ◌↔◌, ◌<◌, Some, true, false};
+ghost use Rattle.std.specs.Bool.{OnTrue, OnFalse};
+ghost use Rattle.std.specs.List.{list_all};
+ghost use Rattle.granule_addr.specs.Root.{starting_tables};
+ghost use Rattle.realm_model.specs.declared.act.Act.TheVariants as acts;
+ghost use Rattle.realm_model.specs.Act.{is_reverse, named};
+ghost use Rattle.realm_model.specs.History.{IsLegal};
+ghost use Rattle.realm_model.specs.Room.{room_taken};
+ghost use Rattle.realm_model.specs.Outcome.{is_in_range, fits};
+ghost use Rattle.realm_model.specs.Step.{named_cells};
+ghost use Rattle.realm_model.specs.World.{is_leased_to, realm_of};
+ghost use Rattle.realm_acts.specs.Performing.{is_command};
+ghost use Rattle.build_books.specs.View.{world_of, with_event};
+ghost use Rattle.realm_host.specs.Acting.{HasRoomFor, IsApplied, IsNoStep};
+ghost use Rattle.realm_host.specs.Recorded.{CanApply};
+
+use crate::Host;
+use build_journal::{JOURNAL_ROOM, takes_back};
+use granule_addr::{BuildId, Gran, Order, Root};
+use page_arena::PageStore;
+use realm_model::{Act, Event};
+
+// How many entries of its build's room an act takes.
+#[tactic(auto, unfolding(realm_model::specs::Room::room_taken, realm_model::specs::Act::reverse_of, realm_model::specs::Act::is_reverse))]
+fn room_taken(act: &Act) -> u16
+    ensures { result ≡ room_taken act.now }
+{
+    match act {
+        Act::Enter { .. } => 2,
+        Act::Exit { .. } => 0,
+        _ if act.is_paired() => 2,
+        _ if act.is_reverse() => 0,
+        _ => 1,
+    }
+}
+
+// The numbers of a command that no check of the monitor looks at are in range: what is read shows the range of its type.
+fn check_ranges(act: &Act)
+    requires { is_command act.now ≡ true }
+    ensures { is_in_range act.now ≡ true }
+{
+    match act {
+        Act::Fill { value, .. } => {
+            let _is_byte = *value;
+        }
+        Act::Peek { offset, .. } => {
+            let _in_page = offset.number();
+        }
+        Act::Poke { offset, value, .. } => {
+            let _in_page = offset.number();
+            let _is_byte = *value;
+        }
+        _ => {}
+    }
+}
+
+impl<S: PageStore> Host<S> {
+    /// Applies a recorded event, with the block, the VMID and the number that were picked for it, as the last of the
+    /// history.
+    ///
+    /// `false`, with nothing changed, comes exactly where the history with the event would not be legal, or where its
+    /// build has not the room that it takes, or has 512 acts open.
+    pub fn apply_recorded(&mut self, event: &Event) -> bool
+        ensures answer { (result ≡ true) ↔ CanApply self.old event.now }
+        ensures applied { OnTrue result (self.new ≡ with_event self.old event.now.build event.now.act) }
+        ensures unchanged { OnFalse result (self.new ≡ self.old) }
+    {
+        let build = event.build;
+        let act = &event.act;
+        if !self.books.has_build(build) {
+            return false;
+        }
+        if !self.has_room_for(build, act) {
+            return false;
+        }
+        match act {
+            Act::Take { order, first } => self.apply_take(build, *order, *first),
+            _ if act.is_reverse() => self.apply_reverse(build, act),
+            _ => self.apply_forward(build, act),
+        }
+    }
+
+    // Whether a build has the room that an act takes, and can have it open where it has a reverse.
+    fn has_room_for(&self, build: BuildId, act: &Act) -> bool
+        requires { build < self.now.limits.builds }
+        ensures { (result ≡ true) ↔ HasRoomFor self.now build act.now }
+    {
+        let left = self.books.capacity() - self.books.used(build);
+        room_taken(act) <= left && (!act.is_paired() || self.books.open_count(build) < JOURNAL_ROOM)
+    }
+
+    // Takes the block that was picked, where it is free.
+    fn apply_take(&mut self, build: BuildId, order: Order, first: Gran) -> bool
+        requires there { build < self.old.limits.builds }
+        requires room { HasRoomFor self.old build (acts.Take order first) }
+        ensures { IsApplied self.old build (acts.Take order first) result self.new }
+    {
+        prove!(order.number() <= 9);
+        if !self.monitor.take_at(order, first) {
+            return false;
+        }
+        self.books.record(build, Act::Take { order, first });
+        true
+    }
+
+    // Reverses the newest act that a build has open, where the act is its reverse and it made no REC that runs.
+    fn apply_reverse(&mut self, build: BuildId, act: &Act) -> bool
+        requires there { build < self.old.limits.builds }
+        requires kind { is_reverse act.now ≡ true }
+        ensures { IsApplied self.old build act.now result self.new }
+    {
+        let Some(newest) = self.books.newest(build) else {
+            return false;
+        };
+        if !takes_back(act, newest) {
+            return false;
+        }
+        if self.is_running(build, newest) {
+            return false;
+        }
+        self.reverse(build, act.again());
+        true
+    }
+
+    // Performs a command, where the build leases what it names and it says what is there.
+    fn apply_forward(&mut self, build: BuildId, act: &Act) -> bool
+        requires there { build < self.old.limits.builds }
+        requires legal { IsLegal self.old.limits self.old.history }
+        requires forward { is_reverse act.now ≡ false }
+        requires command { is_command act.now ≡ true }
+        requires room { HasRoomFor self.old build act.now }
+        ensures { IsApplied self.old build act.now result self.new }
+    {
+        if !self.leases_named(build, act) {
+            return false;
+        }
+        if !self.is_there(build, act) {
+            return false;
+        }
+        check_ranges(act);
+        self.act(build, act.again()).is_ok()
+    }
+
+    // Whether a build leases granules.
+    fn leases_all(&self, build: BuildId, granules: &[Gran]) -> bool
+        ensures { result ≡ list_all (is_leased_to (Some build) (world_of self.now).leases) granules.now }
+    {
+        for granule in granules {
+            if !self.books.is_leased_by(*granule, build) {
+                return false;
+            }
+        }
+        true
+    }
+
+    // Whether a build leases the granule of that number, where there is one.
+    fn leases_number(&self, build: BuildId, number: u16) -> bool
+        ensures { result ≡ is_leased_to (Some build) (world_of self.now).leases number }
+    {
+        match Gran::new(number, self.monitor.pages()) {
+            Some(granule) => self.books.is_leased_by(granule, build),
+            None => false,
+        }
+    }
+
+    // Whether a build leases starting tables.
+    fn leases_tables(&self, build: BuildId, root: Root) -> bool
+        ensures { result ≡ list_all (is_leased_to (Some build) (world_of self.now).leases) (starting_tables root) }
+    {
+        for number in 0..root.width.start_count() {
+            if !self.leases_number(build, root.first.number() + number) {
+                return false;
+            }
+        }
+        true
+    }
+
+    // Whether a build leases the granules that a forward act names.
+    #[tactic(auto, unfolding(realm_model::specs::Act::named))]
+    fn leases_named(&self, build: BuildId, act: &Act) -> bool
+        requires forward { is_reverse act.now ≡ false }
+        requires command { is_command act.now ≡ true }
+        ensures { result ≡ list_all (is_leased_to (Some build) (world_of self.now).leases) (named act.now) }
+    {
+        match act {
+            Act::Fill { granule, .. }
+            | Act::Peek { granule, .. }
+            | Act::Delegate { granule }
+            | Act::Rtt { granule, .. }
+            | Act::Unknown { granule, .. } => self.books.is_leased_by(*granule, build),
+            Act::Data {
+                granule,
+                source,
+                ..
+            } => {
+                self.books.is_leased_by(*granule, build) && self.books.is_leased_by(*source, build)
+            }
+            Act::Realm { rd, root, .. } => {
+                self.books.is_leased_by(*rd, build) && self.leases_tables(build, *root)
+            }
+            Act::Rec {
+                granule,
+                auxiliaries,
+                ..
+            } => {
+                self.books.is_leased_by(*granule, build)
+                    && self.leases_all(build, auxiliaries.as_slice())
+            }
+            _ => true,
+        }
+    }
+
+    // Whether what a forward act says of the realm, the next REC and the byte that is read is there.
+    #[tactic(auto, unfolding(realm_model::specs::Outcome::fits, realm_model::specs::Act::named))]
+    fn is_there(&self, build: BuildId, act: &Act) -> bool
+        requires there { build < self.now.limits.builds }
+        requires forward { is_reverse act.now ≡ false }
+        requires command { is_command act.now ≡ true }
+        requires leased { list_all (is_leased_to (Some build) (world_of self.now).leases) (named act.now) ≡ true }
+        ensures fits { OnTrue result (fits act.now (realm_of build (world_of self.now)) (named_cells (world_of self.now) act.now) ≡ true) }
+        ensures no_step { OnFalse result (IsNoStep self.now build act.now) }
+    {
+        match act {
+            Act::Peek {
+                granule,
+                offset,
+                byte,
+            } => match self.monitor.host_peek(*granule, *offset) {
+                Ok(found) => found == *byte,
+                Err(_) => false,
+            },
+            Act::Realm { .. } => self.books.realm(build).is_none(),
+            Act::Rec { number, .. } => match self.realm(build) {
+                Some(realm) => *number == realm.next_number(),
+                None => false,
+            },
+            _ => true,
+        }
+    }
+}
