@@ -1,2 +1,4 @@
+pub mod Turns
 pub mod Runs
+pub mod Settings
 pub mod MapLines

@@ -1,22 +1,24 @@
 -- Runs that get one more turn.
-use Rattle.std.proofs.Common.{◌≡◌, ℕ, ◌+◌, List, [], ◌∷◌, ◌++◌, length, Some, None, refl, ap, ◌∙◌, slice_index, slice_set, subst, ◌≤◌, take}
+use Rattle.std.proofs.Common.{◌≡◌, ℕ, List, [], ◌∷◌, ◌++◌, length, Some, None, refl, ap, ◌∙◌, slice_set, subst, ◌≤◌, take}
 use Rattle.std.specs.List.{flat_map}
 use Rattle.std.proofs.lemmas.List.{flat_map_more, take_all}
 use Rattle.build_books.specs.View.{HostView}
-use Rattle.realm_host.specs.Answer.{IsAnswer}
-use Rattle.realm_host.specs.declared.reply.Answer.{Answer}
 use Rattle.plan_steps.specs.Asked.{asked}
 use Rattle.plan_steps.specs.Lines.{idle_line}
 use Rattle.plan_steps.specs.declared.step.PlanStep.{PlanStep}
 use Rattle.realm_plan.specs.Plan.{Plan}
 use Rattle.plan_runs.specs.Text.{turn_line}
-use Rattle.plan_runs.specs.Run.{Position, Turn, start, step_after, IsTurn, IsRun, IsToldTurn, IsToldRun, turn_text}
+use Rattle.plan_runs.specs.Turn.{IsStepTurn}
+use Rattle.plan_runs.specs.Place.{moved_on}
+use Rattle.plan_runs.specs.declared.answer.TurnAnswer.{TurnAnswer}
+use Rattle.plan_runs.specs.declared.place.Place.{Place}
+use Rattle.plan_runs.specs.Run.{Position, Turn, start, place_of, step_after, IsTurn, IsRun, IsToldTurn, IsToldRun, turn_text}
 
 -- a turn without a step
 pub idle_turn :
     (plan : Plan) (at : Position) (id build : ℕ) (old new : List ℕ)
     → id ≡ build
-    → step_after plan build (slice_index at.done build) ≡ None
+    → step_after plan build (place_of at.places build).done ≡ None
     → new ≡ old ++ idle_line id
     → IsToldTurn plan at build at old new
 idle_turn plan at id build old new is_id no_step appended = record {
@@ -28,16 +30,17 @@ idle_turn plan at id build old new is_id no_step appended = record {
 
 -- a turn with a step and its answer
 pub answered_turn :
-    (plan : Plan) (from : Position) (id build : ℕ) (step : PlanStep) (answer : Answer) (host : HostView) (old new : List ℕ)
+    (plan : Plan) (from : Position) (id build : ℕ) (step : PlanStep) (answer : TurnAnswer) (host : HostView) (after moved : Place) (old new : List ℕ)
     → id ≡ build
-    → step_after plan build (slice_index from.done build) ≡ Some step
-    → IsAnswer from.host id (asked step) answer host
+    → step_after plan build (place_of from.places build).done ≡ Some step
+    → IsStepTurn from.host id (place_of from.places build) (asked step) answer host after
+    → moved ≡ moved_on after
     → new ≡ old ++ turn_line id step answer
-    → IsToldTurn plan from build (record { host = host; done = slice_set from.done build (slice_index from.done build + 1) }) old new
-answered_turn plan from id build step answer host old new is_id is_step is_answer appended = record {
+    → IsToldTurn plan from build (record { host = host; places = slice_set from.places build moved }) old new
+answered_turn plan from id build step answer host after moved old new is_id is_step is_turn is_moved appended = record {
   turn = record { build = build; told = Some (step, answer) };
   of_build = refl;
-  is_turn = rw is_step (answer, refl, subst (λ b. IsAnswer from.host b (asked step) answer host) is_id is_answer, refl);
+  is_turn = rw is_step (answer, after, refl, subst (λ b. IsStepTurn from.host b (place_of from.places build) (asked step) answer host after) is_id is_turn, ap (slice_set from.places build) is_moved);
   appended = appended ∙ ap (λ b. old ++ turn_line b step answer) is_id;
 }
 

@@ -1,2 +1,4 @@
 pub mod Text
+pub mod Place
+pub mod Turn
 pub mod Run

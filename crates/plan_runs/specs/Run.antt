@@ -1,10 +1,8 @@
 -- The runs of a plan, and what is printed of one.
-use Rattle.std.specs.Prelude.{◌≡◌, ℕ, ◌+◌, List, [], ◌∷◌, ◌++◌, length, replicate, sum, Option, Some, None, slice_get, slice_index, slice_set, option_and_then}
+use Rattle.std.specs.Prelude.{◌≡◌, ℕ, List, [], ◌∷◌, ◌++◌, length, replicate, sum, Option, Some, None, slice_get, slice_index, slice_index_or, slice_set, option_and_then}
 use Rattle.std.specs.List.{flat_map, range_with_len}
 use Rattle.build_books.specs.View.{HostView, world_of, pages_of_build}
-use Rattle.realm_host.specs.Answer.{IsAnswer}
 use Rattle.realm_host.specs.Readings.{realm_at}
-use Rattle.realm_host.specs.declared.reply.Answer.{Answer}
 use Rattle.realm_model.specs.Machine.{cell_at}
 use Rattle.realm_model.specs.World.{free_set}
 use Rattle.realm_model.specs.declared.states.RealmState.{RealmState}
@@ -12,39 +10,48 @@ use Rattle.plan_steps.specs.Asked.{asked}
 use Rattle.plan_steps.specs.Lines.{idle_line, page_line, realm_line, free_line}
 use Rattle.plan_steps.specs.declared.step.PlanStep.{PlanStep}
 use Rattle.realm_plan.specs.Plan.{Plan}
+use Rattle.plan_runs.specs.Place.{first_place, moved_on}
 use Rattle.plan_runs.specs.Text.{turn_line}
+use Rattle.plan_runs.specs.Turn.{IsStepTurn}
+use Rattle.plan_runs.specs.declared.answer.TurnAnswer.{TurnAnswer}
+use Rattle.plan_runs.specs.declared.place.Place.{Place}
 
 -- ---- runs
 
--- How far a run is: the host, and how many steps each build has done.
+-- How far a run is: the host, and where each build is in its plan.
 pub record Position : Type 0 where
   pub host : HostView
-  pub done : List ℕ
+  pub places : List Place
 
 -- What is told of a turn: the build, and its step with the answer, or nothing where it has no step left.
 pub record Turn : Type 0 where
   pub build : ℕ
-  pub told : Option (PlanStep × Answer)
+  pub told : Option (PlanStep × TurnAnswer)
 
 -- no build has done a step
 abbrev pub start : HostView → Position
-start host = record { host = host; done = replicate 8 0 }
+start host = record { host = host; places = replicate 8 first_place }
+
+abbrev pub place_of : List Place → ℕ → Place
+place_of places build = slice_index_or places build first_place
 
 -- the step of a build that comes after so many, if there is one
 abbrev pub step_after : Plan → ℕ → ℕ → Option PlanStep
 step_after plan build done = option_and_then (λ steps. slice_get steps done) (slice_get plan.builds build)
 
--- Without a step nothing changes. A step gets the answer that the host gives, and is used up.
+-- Without a step nothing changes. A step has its turn, with an answer that the host may give, and is used up once no undo of
+-- it is left; until then the build's next turn is the step's again.
 abbrev pub IsTurnOf : Option PlanStep → Position → Turn → Position → Type 0
 IsTurnOf None from turn to = (turn.told ≡ None) × (to ≡ from)
 IsTurnOf (Some step) from turn to =
-    (answer : Answer)
+    (answer : TurnAnswer)
+    × (after : Place)
     × (turn.told ≡ Some (step, answer))
-    × IsAnswer from.host turn.build (asked step) answer to.host
-    × (to.done ≡ slice_set from.done turn.build (slice_index from.done turn.build + 1))
+    × IsStepTurn from.host turn.build (place_of from.places turn.build) (asked step) answer to.host after
+    × (to.places ≡ slice_set from.places turn.build (moved_on after))
 
 abbrev pub IsTurn : Plan → Position → Turn → Position → Type 0
-IsTurn plan from turn to = IsTurnOf (step_after plan turn.build (slice_index from.done turn.build)) from turn to
+IsTurn plan from turn to = IsTurnOf (step_after plan turn.build (place_of from.places turn.build).done) from turn to
 
 -- The turns of these builds, one after the other.
 abbrev pub IsRun : Plan → List ℕ → Position → List Turn → Position → Type 0
@@ -55,7 +62,7 @@ IsRun plan _ from _ to = ⊥
 
 -- ---- what is printed
 
-abbrev pub told_text : ℕ → Option (PlanStep × Answer) → List ℕ
+abbrev pub told_text : ℕ → Option (PlanStep × TurnAnswer) → List ℕ
 told_text build None = idle_line build
 told_text build (Some told) = turn_line build told.0 told.1
 

@@ -1,5 +1,5 @@
 //! The map of a host's pages and realms.
-ghost use Rattle.std.specs.Prelude.{◌≡◌, ◌++◌, OnOk, string_bytes};
+ghost use Rattle.std.specs.Prelude.{◌≡◌, ◌++◌, OnOk, IfOk, string_bytes};
 ghost use Rattle.plan_runs.specs.Run.{pages_text, build_text, map_text};
 
 use crate::build_id::id_of;
@@ -7,7 +7,7 @@ use granule_addr::BuildId;
 use page_arena::PageStore;
 use plan_steps::{push_free, push_page, push_realm};
 use realm_host::Host;
-use std::alloc::AllocError;
+use std::alloc::{AllocError, Global};
 
 // Appends the lines of a build's pages.
 fn push_pages<S: PageStore>(
@@ -49,4 +49,14 @@ pub fn push_map<S: PageStore>(text: &mut String, host: &Host<S>) -> Result<(), A
         push_build(text, host, id_of(place))?;
     }
     push_free(text, host.free_count())
+}
+
+/// The map of a host: the pages of each build and its realm, and how many pages nobody leases. An `Err` comes only where a
+/// growth was refused.
+pub fn map_text<S: PageStore>(alloc: Global, host: &Host<S>) -> Result<String, AllocError>
+    ensures { IfOk result (λ text. string_bytes text ≡ map_text host.now) }
+{
+    let mut text = String::new(alloc);
+    push_map(&mut text, host)?;
+    Ok(text)
 }

@@ -1,33 +1,17 @@
 //! The turns of a plan, and their lines.
 ghost use Rattle.std.specs.Prelude.{◌≡◌, ◌<◌, OnOk, IfSome, string_bytes, vec_len, option_map};
-ghost use Rattle.realm_host.specs.Answer.{IsAnswer};
 ghost use Rattle.realm_plan.specs.PlanView.{plan_view};
 ghost use Rattle.plan_runs.specs.Run.{step_after as nth_step, IsToldTurn, IsToldRun};
 
 use crate::build_id::id_of;
 use crate::lines::push_turn;
-use granule_addr::BuildId;
+use crate::place::Place;
+use crate::turn::step_turn;
 use page_arena::PageStore;
 use plan_steps::{PlanStep, push_idle};
-use realm_host::{Answer, Host, Step};
+use realm_host::Host;
 use realm_plan::Plan;
 use std::alloc::AllocError;
-
-// Asks the host for a step of a build.
-fn ask<S: PageStore>(host: &mut Host<S>, build: BuildId, step: Step) -> Answer
-    ensures { IsAnswer host.old build step result host.new }
-{
-    match step {
-        Step::Ask(cmd) => match host.command(build, cmd) {
-            Ok(reply) => Answer::Replied(reply),
-            Err(refusal) => Answer::Refused(refusal),
-        },
-        Step::Undo => match host.undo(build) {
-            Ok(undone) => Answer::Undone(undone),
-            Err(refusal) => Answer::Refused(refusal),
-        },
-    }
-}
 
 // The step of a build that comes after so many.
 fn step_after(plan: &Plan, build: usize, done: usize) -> Option<&PlanStep>
@@ -37,23 +21,25 @@ fn step_after(plan: &Plan, build: usize, done: usize) -> Option<&PlanStep>
     plan.builds.get(build)?.get(done)
 }
 
-// One turn of a build: its next step, if one is left. `done` says how many steps each build has done.
+// One turn of a build: its next step, if one is left.
 fn turn<S: PageStore>(
     host: &mut Host<S>,
     plan: &Plan,
-    done: &mut [usize; 8],
+    places: &mut [Place; 8],
     build: usize,
     text: &mut String,
 ) -> Result<(), AllocError>
     requires { build < vec_len plan.now.builds }
-    ensures { OnOk result (IsToldTurn (plan_view plan.now) (record { host = host.old; done = done.old }) build (record { host = host.new; done = done.new }) (string_bytes text.old) (string_bytes text.new)) }
+    ensures { OnOk result (IsToldTurn (plan_view plan.now) (record { host = host.old; places = places.old }) build (record { host = host.new; places = places.new }) (string_bytes text.old) (string_bytes text.new)) }
 {
     let id = id_of(build);
-    let Some(step) = step_after(plan, build, done[build]) else {
+    let mut place = places[build];
+    let Some(step) = step_after(plan, build, place.done) else {
         return push_idle(text, id);
     };
-    done[build] += 1;
-    let answer = ask(host, id, step.asked());
+    let answer = step_turn(host, id, &mut place, step.asked());
+    place.move_on();
+    places[build] = place;
     push_turn(text, id, step, answer)
 }
 
@@ -65,9 +51,9 @@ pub fn run_turns<S: PageStore>(
 ) -> Result<(), AllocError>
     ensures { OnOk result (IsToldRun (plan_view plan.now) host.old host.new (string_bytes text.old) (string_bytes text.new)) }
 {
-    let mut done = [0; 8];
+    let mut places = [Place::first(); 8];
     for build in &plan.order {
-        turn(host, plan, &mut done, *build, text)?;
+        turn(host, plan, &mut places, *build, text)?;
     }
     Ok(())
 }

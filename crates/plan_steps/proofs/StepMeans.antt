@@ -9,7 +9,7 @@ use Rattle.number_text.proofs.Spelled.{no_space_from_test}
 use Rattle.number_text.proofs.UpTo.{up_to-items, few_from_test}
 use Rattle.build_commands.specs.declared.cmd.Cmd.{Cmd}
 use Rattle.build_commands.specs.declared.cmd.Cmd.TheVariants.{Take, Fill, Peek, Delegate, Realm, Rtt, Ripas, Data, Unknown, Rec, Activate, Enter, Exit, Poke}
-use Rattle.build_commands.specs.declared.cmd.Step.TheVariants.{Ask, Undo}
+use Rattle.build_commands.specs.declared.cmd.Step.TheVariants.{Ask, Undo, Abort, Mark, Back}
 use Rattle.plan_steps.specs.declared.step.PlanStep.{PlanStep}
 use Rattle.plan_steps.specs.declared.step.PlanStep.TheVariants.{Whole, WidthLeftOut}
 use Rattle.plan_steps.specs.Steps.{whole, step_at}
@@ -35,6 +35,9 @@ cmd_means (Poke number ipa o v) h = rw (le-leb number u16 h.at_most.0, le-leb ip
 pub means : (s : PlanStep) → IsInRange s → step_at (written_step s).word (written_step s).numbers ≡ Some s
 means (Whole (Ask c)) h = cmd_means c h
 means (Whole Undo) h = refl
+means (Whole Abort) h = refl
+means (Whole Mark) h = refl
+means (Whole Back) h = refl
 means (WidthLeftOut rd root) h = rw (le-leb rd page h.at_most.0, le-leb root page h.at_most.1.0) refl
 
 -- ---- words have no space, and there are few numbers
@@ -46,6 +49,9 @@ no_space_test _ = refl
 pub one_word : (s : PlanStep) → HasNoSpace (written_step s).word
 one_word (Whole (Ask c)) = no_space_from_test (written_cmd c).word (no_space_test c)
 one_word (Whole Undo) = no_space_from_test (written_step (Whole Undo)).word refl
+one_word (Whole Abort) = no_space_from_test (written_step (Whole Abort)).word refl
+one_word (Whole Mark) = no_space_from_test (written_step (Whole Mark)).word refl
+one_word (Whole Back) = no_space_from_test (written_step (Whole Back)).word refl
 one_word (WidthLeftOut rd root) = no_space_from_test (written_step (WidthLeftOut rd root)).word refl
 
 cmd_numbers : (c : Cmd) → IsInRange (whole c) → AreNumbers 17 (written_cmd c).numbers
@@ -55,4 +61,7 @@ cmd_numbers c h = few_from_test 17 (written_cmd c).numbers (written_cmd c).maxim
 pub few_numbers : (s : PlanStep) → IsInRange s → AreNumbers 17 (written_step s).numbers
 few_numbers (Whole (Ask c)) h = cmd_numbers c h
 few_numbers (Whole Undo) h = few_from_test 17 [] [] h.at_most refl
+few_numbers (Whole Abort) h = few_from_test 17 [] [] h.at_most refl
+few_numbers (Whole Mark) h = few_from_test 17 [] [] h.at_most refl
+few_numbers (Whole Back) h = few_from_test 17 [] [] h.at_most refl
 few_numbers (WidthLeftOut rd root) h = few_from_test 17 (rd ∷ root ∷ []) (page ∷ page ∷ []) h.at_most refl

@@ -8,10 +8,10 @@ use Rattle.number_text.proofs.Grammars.{Spells, map_some}
 use Rattle.number_text.proofs.Rows.{none_makes, one_makes, two_makes, three_makes, four_makes, choose, either}
 use Rattle.number_text.proofs.UpTo.{up_to-some}
 use Rattle.build_commands.specs.declared.cmd.Cmd.TheVariants.{Take, Fill, Peek, Delegate, Realm, Rtt, Ripas, Data, Unknown, Rec, Activate, Enter, Exit, Poke}
-use Rattle.build_commands.specs.declared.cmd.Step.TheVariants.{Undo}
+use Rattle.build_commands.specs.declared.cmd.Step.TheVariants.{Undo, Abort, Mark, Back}
 use Rattle.plan_steps.specs.declared.step.PlanStep.{PlanStep}
 use Rattle.plan_steps.specs.declared.step.PlanStep.TheVariants.{Whole, WidthLeftOut}
-use Rattle.plan_steps.specs.Steps.{whole, page_step_at, realm_at, realm_step_at, table_step_at, rec_at, rec_step_at, undo_step_at, step_at}
+use Rattle.plan_steps.specs.Steps.{whole, page_step_at, realm_at, realm_step_at, table_step_at, rec_at, rec_step_at, way_back_step_at, step_at}
 use Rattle.plan_steps.specs.Written.{page, offset, written_step, HasCount, IsInRange}
 
 abbrev pub SpellsStep : List ℕ → List ℕ → PlanStep → Type 0
@@ -68,14 +68,17 @@ rec_step_spells word ns s =
     (choose SpellsStep word ns s (codes "poke") (four u16 u32 offset u8 (λ k l m n. whole (Poke k l m n))) _ (four_makes (SpellsStep (codes "poke")) u16 u32 offset u8 _ (λ k l m n h i j o. made (whole (Poke k l m n)) (h, (i, (j, (o, tt)))) tt))
     (λ e. absurd (cc)))))
 
-undo_spells : (word ns : List ℕ) (s : PlanStep) → undo_step_at word ns ≡ Some s → SpellsStep word ns s
-undo_spells word ns s =
+way_back_spells : (word ns : List ℕ) (s : PlanStep) → way_back_step_at word ns ≡ Some s → SpellsStep word ns s
+way_back_spells word ns s =
     choose SpellsStep word ns s (codes "undo") (none (Whole Undo)) _ (none_makes (SpellsStep (codes "undo")) _ (made (Whole Undo) tt tt))
-    (λ e. absurd (cc))
+    (choose SpellsStep word ns s (codes "abort") (none (Whole Abort)) _ (none_makes (SpellsStep (codes "abort")) _ (made (Whole Abort) tt tt))
+    (choose SpellsStep word ns s (codes "mark") (none (Whole Mark)) _ (none_makes (SpellsStep (codes "mark")) _ (made (Whole Mark) tt tt))
+    (choose SpellsStep word ns s (codes "back") (none (Whole Back)) _ (none_makes (SpellsStep (codes "back")) _ (made (Whole Back) tt tt))
+    (λ e. absurd (cc)))))
 
 pub spells : (word ns : List ℕ) (s : PlanStep) → step_at word ns ≡ Some s → SpellsStep word ns s
 spells word ns s =
     either SpellsStep word ns s (page_step_at word ns) _ (page_spells word ns s)
     (either SpellsStep word ns s (realm_step_at word ns) _ (realm_step_spells word ns s)
     (either SpellsStep word ns s (table_step_at word ns) _ (table_spells word ns s)
-    (either SpellsStep word ns s (rec_step_at word ns) (undo_step_at word ns) (rec_step_spells word ns s) (undo_spells word ns s))))
+    (either SpellsStep word ns s (rec_step_at word ns) (way_back_step_at word ns) (rec_step_spells word ns s) (way_back_spells word ns s))))

@@ -1,5 +1,5 @@
 -- The step that is written with a word and its numbers, as a function: a row for each word.
-use Rattle.std.specs.Prelude.{ℕ, nat_le, List, [], ◌∷◌, codes, if◌then◌else◌, Option, Some, None, option_map}
+use Rattle.std.specs.Prelude.{ℕ, nat_le, List, [], ◌∷◌, codes, if◌then◌else◌, Option, None, option_map}
 use Rattle.std.specs.Option.{option_or}
 use Rattle.std.specs.Str.{bytes_eq}
 use Rattle.number_text.specs.Grammar.{meaning_of_text}
@@ -7,7 +7,7 @@ use Rattle.number_text.specs.Rows.{none, one, two, three, four, up_to}
 use Rattle.number_text.specs.Written.{u8, u16, u32}
 use Rattle.build_commands.specs.declared.cmd.Cmd.{Cmd}
 use Rattle.build_commands.specs.declared.cmd.Cmd.TheVariants.{Take, Fill, Peek, Delegate, Realm, Rtt, Ripas, Data, Unknown, Rec, Activate, Enter, Exit, Poke}
-use Rattle.build_commands.specs.declared.cmd.Step.TheVariants.{Ask, Undo}
+use Rattle.build_commands.specs.declared.cmd.Step.TheVariants.{Ask, Undo, Abort, Mark, Back}
 use Rattle.plan_steps.specs.declared.step.PlanStep.{PlanStep}
 use Rattle.plan_steps.specs.declared.step.PlanStep.TheVariants.{Whole, WidthLeftOut}
 use Rattle.plan_steps.specs.Written.{page, offset}
@@ -59,13 +59,19 @@ rec_step_at word ns =
     else if bytes_eq word (codes "poke") then four u16 u32 offset u8 (λ number ipa o value. whole (Poke number ipa o value)) ns
     else None
 
-abbrev pub undo_step_at : List ℕ → List ℕ → Option PlanStep
-undo_step_at word ns = if bytes_eq word (codes "undo") then none (Whole Undo) ns else None
+-- the four words by which a build goes back over its own steps
+abbrev pub way_back_step_at : List ℕ → List ℕ → Option PlanStep
+way_back_step_at word ns =
+    if bytes_eq word (codes "undo") then none (Whole Undo) ns
+    else if bytes_eq word (codes "abort") then none (Whole Abort) ns
+    else if bytes_eq word (codes "mark") then none (Whole Mark) ns
+    else if bytes_eq word (codes "back") then none (Whole Back) ns
+    else None
 
 abbrev pub step_at : List ℕ → List ℕ → Option PlanStep
 step_at word ns =
     option_or (page_step_at word ns) (option_or (realm_step_at word ns)
-    (option_or (table_step_at word ns) (option_or (rec_step_at word ns) (undo_step_at word ns))))
+    (option_or (table_step_at word ns) (option_or (rec_step_at word ns) (way_back_step_at word ns))))
 
 -- the step of a text: the word before the first space, and a number behind each
 abbrev pub step_of : List ℕ → Option PlanStep

@@ -6,7 +6,7 @@ use Rattle.number_text.specs.Ranges.{AreAtMost}
 use Rattle.number_text.specs.Written.{Written, written, u8, u16, u32}
 use Rattle.build_commands.specs.declared.cmd.Cmd.{Cmd}
 use Rattle.build_commands.specs.declared.cmd.Cmd.TheVariants.{Take, Fill, Peek, Delegate, Realm, Rtt, Ripas, Data, Unknown, Rec, Activate, Enter, Exit, Poke}
-use Rattle.build_commands.specs.declared.cmd.Step.TheVariants.{Ask, Undo}
+use Rattle.build_commands.specs.declared.cmd.Step.TheVariants.{Ask, Undo, Abort, Mark, Back}
 use Rattle.plan_steps.specs.declared.step.PlanStep.{PlanStep}
 use Rattle.plan_steps.specs.declared.step.PlanStep.TheVariants.{Whole, WidthLeftOut}
 
@@ -37,6 +37,9 @@ written_cmd (Poke number ipa o value) = written (codes "poke") (number ∷ ipa �
 abbrev pub written_step : PlanStep → Written
 written_step (Whole (Ask cmd)) = written_cmd cmd
 written_step (Whole Undo) = written (codes "undo") [] []
+written_step (Whole Abort) = written (codes "abort") [] []
+written_step (Whole Mark) = written (codes "mark") [] []
+written_step (Whole Back) = written (codes "back") [] []
 written_step (WidthLeftOut rd root) = written (codes "realm") (rd ∷ root ∷ []) (page ∷ page ∷ [])
 
 -- the word, and each number in decimal behind one space

@@ -1,6 +1,8 @@
 //! The step that a word and its numbers are.
 ghost use Rattle.std.specs.Prelude.{◌≡◌, ◌≤◌, Some};
-ghost use Rattle.plan_steps.specs.Steps.{whole, page_step_at, short_realm_at, whole_realm_at, realm_at, realm_step_at, table_step_at, rec_at, rec_step_at, undo_step_at, step_at};
+ghost use Rattle.number_text.specs.Rows.{none};
+ghost use Rattle.plan_steps.specs.declared.step.PlanStep.TheVariants.{Whole};
+ghost use Rattle.plan_steps.specs.Steps.{whole, page_step_at, short_realm_at, whole_realm_at, realm_at, realm_step_at, table_step_at, rec_at, rec_step_at, way_back_step_at, step_at};
 
 use crate::step::PlanStep;
 use build_commands::{Cmd, Step};
@@ -191,14 +193,22 @@ fn rec_step(word: &str, numbers: &[u32]) -> Option<PlanStep>
     }
 }
 
-fn undo_step(word: &str, numbers: &[u32]) -> Option<PlanStep>
-    ensures { result ≡ undo_step_at word.now numbers.now }
+// The step, which is a word alone.
+fn word_alone(step: Step, numbers: &[u32]) -> Option<PlanStep>
+    ensures { result ≡ none (Whole step) numbers.now }
+{
+    let [] = at_most(numbers, [])?;
+    Some(PlanStep::Whole(step))
+}
+
+fn way_back_step(word: &str, numbers: &[u32]) -> Option<PlanStep>
+    ensures { result ≡ way_back_step_at word.now numbers.now }
 {
     match word {
-        "undo" => {
-            let [] = at_most(numbers, [])?;
-            Some(PlanStep::Whole(Step::Undo))
-        }
+        "undo" => word_alone(Step::Undo, numbers),
+        "abort" => word_alone(Step::Abort, numbers),
+        "mark" => word_alone(Step::Mark, numbers),
+        "back" => word_alone(Step::Back, numbers),
         _ => None,
     }
 }
@@ -219,5 +229,5 @@ pub fn step(word: &str, numbers: &[u32]) -> Option<PlanStep>
     if let Some(found) = rec_step(word, numbers) {
         return Some(found);
     }
-    undo_step(word, numbers)
+    way_back_step(word, numbers)
 }

@@ -76,6 +76,9 @@ impl fmt::Display for StepText<'_> {
         match self.0 {
             PlanStep::Whole(Step::Ask(cmd)) => write!(f, "{}", CmdText(cmd)),
             PlanStep::Whole(Step::Undo) => write!(f, "undo"),
+            PlanStep::Whole(Step::Abort) => write!(f, "abort"),
+            PlanStep::Whole(Step::Mark) => write!(f, "mark"),
+            PlanStep::Whole(Step::Back) => write!(f, "back"),
             PlanStep::WidthLeftOut { rd, root } => write!(f, "realm {rd} {root}"),
         }
     }

@@ -22,6 +22,9 @@ impl PlanStep {
         match self {
             PlanStep::Whole(Step::Ask(cmd)) => Step::Ask(cmd.again()),
             PlanStep::Whole(Step::Undo) => Step::Undo,
+            PlanStep::Whole(Step::Abort) => Step::Abort,
+            PlanStep::Whole(Step::Mark) => Step::Mark,
+            PlanStep::Whole(Step::Back) => Step::Back,
             PlanStep::WidthLeftOut { rd, root } => Step::Ask(Cmd::Realm {
                 rd: *rd,
                 root: *root,

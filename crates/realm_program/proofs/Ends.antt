@@ -1,5 +1,5 @@
 -- How a replay ends.
-use Rattle.std.proofs.Common.{◌≡◌, ◌↔◌, ℕ, List, Option, None, Some, IfSome, Result, Ok, Err, Bool, true, false, refl, ap, sym, ◌∙◌}
+use Rattle.std.proofs.Common.{◌≡◌, ◌≢◌, ◌↔◌, ℕ, List, Option, None, Some, IfSome, Result, Ok, Err, Bool, true, false, refl, ap, subst, sym, ◌∙◌}
 use Rattle.std.specs.Io.KnownBytes.{Appends, Keeps}
 use Rattle.realm_plan.specs.Outcome.{Fails}
 use Rattle.realm_plan.specs.Plan.{Plan, plan_of}
@@ -7,10 +7,12 @@ use Rattle.realm_plan.specs.declared.fault.PlanFault.{PlanFault}
 use Rattle.realm_plan.specs.declared.fault.PlanError.{PlanError}
 use Rattle.realm_plan.specs.declared.fault.PlanError.TheVariants as plan_error
 use Rattle.realm_program.specs.Fault.{fault_of_plan}
-use Rattle.realm_program.specs.Whole.{kept_of, AppendsFront}
-use Rattle.realm_program.specs.Replay.{IsText, IsTextOf, IsPrinted, IsEnd}
-use Rattle.realm_program.specs.declared.fault.Fault.TheVariants.{Device}
-use Rattle.realm_program.specs.declared.told.ReadError.TheVariants.{Device as ReadDevice}
+use Rattle.told_device.specs.Whole.{AppendsFront}
+use Rattle.realm_program.specs.Whole.{kept_of}
+use Rattle.realm_program.specs.Replay.{IsAskedText, IsWithoutText, IsTextOf, IsPrinted, IsEnd}
+use Rattle.realm_program.specs.declared.fault.Fault.{Fault}
+use Rattle.realm_program.specs.declared.fault.Fault.TheVariants.{Plan as PlanIsFaulty, EraseNamesNoBuild, Memory, Mismatch, Device}
+use Rattle.realm_program.specs.declared.input.ReadError.TheVariants.{Device as ReadDevice}
 use Rattle.realm_program.proofs.KeptPlan.{plan_of-kept_of}
 
 -- nothing was written
@@ -26,12 +28,27 @@ read_of (Some xs) bytes outcome kept read = sym (plan_of-kept_of xs) ∙ ap plan
 
 -- no plan, or no memory for it
 pub no_plan :
-    (unread : Bool) (input output : Option (List ℕ)) (bytes : List ℕ) (error : PlanError)
+    (unread : Bool) (erase : Option ℕ) (input output : Option (List ℕ)) (bytes : List ℕ) (error : PlanError)
     → IfSome input (λ xs. bytes ≡ kept_of xs)
     → Fails error (plan_of bytes)
-    → IsEnd unread input output output (Err (fault_of_plan error))
-no_plan unread input output bytes plan_error.Memory kept fails = keeps_same output
-no_plan unread input output bytes (plan_error.Fault fault) kept fails = (read_of input bytes (Err fault) kept fails, keeps_same output)
+    → IsEnd unread erase input output output (Err (fault_of_plan error))
+no_plan unread erase input output bytes plan_error.Memory kept fails = keeps_same output
+no_plan unread erase input output bytes (plan_error.Fault fault) kept fails = (read_of input bytes (Err fault) kept fails, keeps_same output)
+
+-- a plan, and no text of it
+pub no_text :
+    (unread : Bool) (erase : Option ℕ) (input output : Option (List ℕ)) (bytes : List ℕ) (plan : Plan) (fault : Fault)
+    → IfSome input (λ xs. bytes ≡ kept_of xs)
+    → plan_of bytes ≡ Ok plan
+    → IsWithoutText plan erase fault
+    → IsEnd unread erase input output output (Err fault)
+no_text unread erase input output bytes plan Memory kept is_plan none = keeps_same output
+no_text unread (Some build) input output bytes plan EraseNamesNoBuild kept is_plan none =
+    (record { plan = plan; of_input = read_of input bytes (Ok plan) kept is_plan; no_text = none }, keeps_same output)
+no_text unread None input output bytes plan EraseNamesNoBuild kept is_plan none = absurd none
+no_text unread erase input output bytes plan (PlanIsFaulty fault) kept is_plan none = absurd none
+no_text unread erase input output bytes plan Mismatch kept is_plan none = absurd none
+no_text unread erase input output bytes plan Device kept is_plan none = absurd none
 
 -- where bytes were read, no read failed
 pub read_well : {A : Type 0} (failed : Bool) (bytes : A) → (failed ≡ true) ↔ (Ok bytes ≡ Err ReadDevice) → failed ≡ false
@@ -40,12 +57,12 @@ read_well true bytes told = let failed = told.0 refl in absurd (cc)
 
 -- the text of the plan
 pub text_of_input :
-    (input : Option (List ℕ)) (bytes : List ℕ) (plan : Plan) (text : List ℕ)
+    (erase : Option ℕ) (input : Option (List ℕ)) (bytes : List ℕ) (plan : Plan) (text : List ℕ)
     → IfSome input (λ xs. bytes ≡ kept_of xs)
     → plan_of bytes ≡ Ok plan
-    → IsText plan text
-    → IsTextOf input text
-text_of_input input bytes plan text kept is_plan is_text = record {
+    → IsAskedText plan erase text
+    → IsTextOf erase input text
+text_of_input erase input bytes plan text kept is_plan is_text = record {
   plan = plan;
   of_input = read_of input bytes (Ok plan) kept is_plan;
   is_text = is_text;
@@ -53,17 +70,21 @@ text_of_input input bytes plan text kept is_plan is_text = record {
 
 -- it was written
 pub printed :
-    (input old new : Option (List ℕ)) (text : List ℕ)
-    → IsTextOf input text
+    (erase : Option ℕ) (input old new : Option (List ℕ)) (text : List ℕ)
+    → IsTextOf erase input text
     → Appends old new text
-    → IsPrinted input old new
-printed input old new text text_of written = record { text = text; text_of = text_of; written = written }
+    → IsPrinted erase input old new
+printed erase input old new text text_of written = record { text = text; text_of = text_of; written = written }
 
 -- a front of it was written
 pub cut :
-    (unread : Bool) (input old new : Option (List ℕ)) (text : List ℕ)
+    (unread : Bool) (erase : Option ℕ) (input old new : Option (List ℕ)) (text : List ℕ)
     → unread ≡ false
-    → IsTextOf input text
+    → IsTextOf erase input text
     → AppendsFront old new text
-    → IsEnd unread input old new (Err Device)
-cut unread input old new text read text_of written = rw read (record { text = text; text_of = text_of; written = written })
+    → IsEnd unread erase input old new (Err Device)
+cut unread erase input old new text read text_of written = rw read (record { text = text; text_of = text_of; written = written })
+
+-- whatever the end, it is no mismatch
+pub not_mismatch : (unread : Bool) (erase : Option ℕ) (input old new : Option (List ℕ)) (result : Result (Unit {0}) Fault) → IsEnd unread erase input old new result → result ≢ Err Mismatch
+not_mismatch unread erase input old new result ends is = subst (IsEnd unread erase input old new) is ends

@@ -1,5 +1,4 @@
 pub mod Words
-pub mod Written
 pub mod Kept
 pub mod KeptPlan
 mod Ends

@@ -1,14 +1,19 @@
 -- What clap's definition says of this program, whatever the words.
-use Rattle.std.proofs.Common.{◌≡◌, ◌∙◌, List, [], ◌∷◌, Bool, true, false, refl, sym, ap, codes, ◌⊎◌, inl, inr}
-use Rattle.std.specs.Prelude.{not, ◌&&◌, find, Option, Some, None, option_map, is_some}
-use Rattle.std.proofs.lemmas.Bool.{false≢true, cases_Bool}
+use Rattle.std.proofs.Common.{◌≡◌, ◌∙◌, ◌<◌, ℕ, arith, subst, List, [], ◌∷◌, Bool, true, false, refl, sym, ap, codes, ◌⊎◌, inl, inr}
+use Rattle.std.specs.Prelude.{not, ◌&&◌, find, Option, Some, None, option_map, option_and_then, is_some, nat_lt, if◌then◌else◌, Result, Ok, Err, Box}
+use Rattle.std.specs.Box.{box_value}
+use Rattle.std.specs.Str.Parse.{ParsesUnsigned}
+use Rattle.std.proofs.lemmas.Bool.{false≢true, cases_Bool, lt-ltb, ltb-true}
 use Rattle.std.proofs.lemmas.Option.{same_Some}
 use Rattle.clap.specs.Kinds.{or_else, check_kinds}
 use Rattle.clap.specs.Simple.{rows_at, entered, built, argument_words, names_of, label_of}
 use Rattle.clap.specs.Walk.{Held, Names, walk, walk_from, nothing_held, finished, settled, stop_after, answers_to}
 use Rattle.clap.specs.Faults.{level_fault, check_fault, defaults_fault, settle_fault, walk_fault, built_fault, entered_fault}
-use Rattle.clap.specs.Words.{App, Kinds, Row, Shape, Text, fault_of, is_simple, is_simple_and_free, subcommand_of}
-use Rattle.realm_program.specs.Line.{IsLine}
+use Rattle.clap.specs.Words.{App, Kinds, Row, Shape, Text, fault_of, is_simple, is_simple_and_free, one_of, ReadsOne, subcommand_name_of, subcommand_of, subcommand_rows, subcommand_rows_of}
+use Rattle.clap.specs.declared.parser.matches.ArgMatches.{ArgMatches}
+use Rattle.clap.specs.declared.parser.matches.ArgMatches.TheViews.{out-ArgMatches, out-SubCommand}
+use Rattle.clap.specs.declared.parser.matches.SubCommand.{SubCommand}
+use Rattle.realm_program.specs.Line.{IsErase, IsLine}
 use Rattle.realm_program.specs.Program.{realmhost}
 use Rattle.realm_program.specs.declared.line.Line.TheVariants.{Replay}
 
@@ -76,13 +81,53 @@ replay_named : (t : Text) → NamesOne t (built realmhost).subs → t ≡ codes 
 replay_named t (inl replay) = replay
 replay_named t (inr more) = absurd more
 
-line_from : (sub : Option (Text × List Row)) → ((r : Text × List Row) → sub ≡ Some r → r.0 ≡ codes "replay") → is_some sub ≡ true → IsLine sub Replay
-line_from None names has = absurd (false≢true has)
-line_from (Some r) names has = names r refl
+abbrev pub name_in : Option (Text × List Row) → Option Text
+name_in sub = option_map (λ r. r.0) sub
+
+named_from : (sub : Option (Text × List Row)) → ((r : Text × List Row) → sub ≡ Some r → r.0 ≡ codes "replay") → is_some sub ≡ true → name_in sub ≡ Some (codes "replay")
+named_from None names has = absurd (false≢true has)
+named_from (Some r) names has = ap Some (names r refl)
 
 -- words that have no fault ask for a replay
-pub line_is_replay : (words : List Text) → fault_of realmhost words ≡ [] → IsLine (subcommand_of realmhost words) Replay
-line_is_replay words e =
-    line_from (subcommand_of realmhost words)
+pub replay_is_asked : (words : List Text) → fault_of realmhost words ≡ [] → name_in (subcommand_of realmhost words) ≡ Some (codes "replay")
+replay_is_asked words e =
+    named_from (subcommand_of realmhost words)
     (λ r is. replay_named r.0 (entered_one (built realmhost) (stop_after (built realmhost).top.rules (names_of (built realmhost)) (argument_words realmhost words)) r is))
     (there words e)
+
+rows_name : {Z : Type 0} (found : Option (Box SubCommand Z)) → option_map (λ b. (out-SubCommand (box_value b)).name.now) found ≡ name_in (subcommand_rows found)
+rows_name None = refl
+rows_name (Some b) = refl
+
+-- the name that a parse gives is that of the words' subcommand
+pub name_of_rows : (m : ArgMatches) (sub : Option (Text × List Row)) → subcommand_rows_of m ≡ sub → subcommand_name_of m ≡ name_in sub
+name_of_rows m sub is = rows_name (out-ArgMatches m).subcommand ∙ ap name_in is
+
+-- ---- the build that is left out
+
+abbrev pub build_in : Option ℕ → Option ℕ
+build_in number = option_and_then (λ n. if nat_lt n 8 then Some n else None) number
+
+-- a number of 8 bits that the text is read as
+read_below : (text : Text) (n : ℕ) → ParsesUnsigned {E = Unit {0}} 8 10 text (Ok n) → IsErase (Some text) (build_in (Some n))
+read_below text n read = elim (nat_lt n 8) as (λ t. nat_lt n 8 ≡ t → IsErase (Some text) (if t then Some n else None)) [
+  | true ↦ λ below. let small : n < 8 = ltb-true n 8 below in ((read.0.0, subst (λ k. k < 8) read.1 small), read.1)
+  | false ↦ λ above parses. let small : n < 8 = subst (λ k. k < 8) (sym read.1) parses.1 in absurd (false≢true (sym above ∙ lt-ltb n 8 small))
+] refl
+
+pub erase_from : {E : Type 0} (o : Option Text) (b : Option ℕ) (gives : List ℕ → Result ℕ E → Type 0)
+    → ((t : List ℕ) (r : Result ℕ E) → gives t r → ParsesUnsigned 8 10 t r)
+    → (o ≡ None → b ≡ None) → ((t : Text) → o ≡ Some t → ReadsOne gives t b) → IsErase o (build_in b)
+erase_from None b gives parses none value = ap build_in (none refl)
+erase_from (Some t) None gives parses none value =
+    let g = value t refl in
+    λ small. parses t (Err g.0) g.1 (small.0, omega (arith, small.1))
+erase_from (Some t) (Some n) gives parses none value = let g = value t refl in read_below t n (parses t (Ok n) g)
+
+pub line_is : (sub : Option (Text × List Row)) (rows : List Row) (b : Option ℕ)
+    → name_in sub ≡ Some (codes "replay") → option_map (λ p. p.1) sub ≡ Some rows → IsErase (one_of (codes "erase") rows) b → IsLine sub (Replay b)
+line_is None rows b name found erase = absurd (cc)
+line_is (Some s) rows b name found erase =
+    let same_name : s.0 ≡ codes "replay" = cc in
+    let same_rows : s.1 ≡ rows = cc in
+    (same_name, rw same_rows erase)

@@ -3,13 +3,15 @@ use Rattle.std.specs.Prelude.{ℕ}
 use Rattle.realm_plan.specs.declared.fault.PlanError.{PlanError}
 use Rattle.realm_plan.specs.declared.fault.PlanError.TheVariants as plan_error
 use Rattle.realm_program.specs.declared.fault.Fault.{Fault}
-use Rattle.realm_program.specs.declared.fault.Fault.TheVariants.{Plan, Memory, Device}
-use Rattle.realm_program.specs.declared.told.ReadError.{ReadError}
-use Rattle.realm_program.specs.declared.told.ReadError.TheVariants as read_error
+use Rattle.realm_program.specs.declared.fault.Fault.TheVariants.{Plan, EraseNamesNoBuild, Memory, Mismatch, Device}
+use Rattle.realm_program.specs.declared.input.ReadError.{ReadError}
+use Rattle.realm_program.specs.declared.input.ReadError.TheVariants as read_error
 
 abbrev pub status_of : Fault → ℕ
 status_of (Plan fault) = 1
+status_of EraseNamesNoBuild = 2
 status_of Memory = 3
+status_of Mismatch = 4
 status_of Device = 5
 
 abbrev pub fault_of_plan : PlanError → Fault

@@ -2,6 +2,5 @@ pub mod Fault
 pub mod Stop
 pub mod Line
 pub mod Program
-pub mod Told
 pub mod Whole
 pub mod Replay

@@ -1,9 +1,15 @@
 -- What the command line's reader is told of the program.
-use Rattle.std.specs.Prelude.{codes, true}
-use Rattle.clap.specs.Words.{App, new_app, with_subcommand}
+use Rattle.std.specs.Prelude.{codes, true, Some, pos}
+use Rattle.clap.specs.Words.{App, Rule, new_app, new_rule, with_rule, with_subcommand}
+use Rattle.clap.specs.declared.builder.action.ArgAction.TheVariants.{Set}
+use Rattle.clap.specs.declared.builder.value_parser.ValueParser.TheVariants as parser
+
+-- `--erase B`, B from 0 to 7
+abbrev pub erase : Rule
+erase = record (new_rule (codes "erase")) { long = Some (codes "erase"); value_names = 1; action = Some Set; parser = Some (parser.Signed (pos 0) (pos 7)) }
 
 abbrev pub replay : App
-replay = new_app (codes "replay")
+replay = with_rule (new_app (codes "replay")) erase
 
 -- it has a version; a subcommand is required, and there is none called `help`
 abbrev pub program : App

@@ -21,7 +21,7 @@ status_of_outcome (Err stop) = status_of_stop stop
 
 -- the statuses of a program that has not printed the whole text of a run
 abbrev pub IsStatus : ℕ → Type 0
-IsStatus status = (status ≡ 1) ⊎ (status ≡ 2) ⊎ (status ≡ 3) ⊎ (status ≡ 5)
+IsStatus status = (status ≡ 1) ⊎ (status ≡ 2) ⊎ (status ≡ 3) ⊎ (status ≡ 4) ⊎ (status ≡ 5)
 
 -- a command line that is not taken is a matter of usage, unless what was wanting is memory
 abbrev pub stop_of_kind : ErrorKind → Error → Stop

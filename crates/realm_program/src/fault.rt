@@ -2,10 +2,11 @@
 ghost use Rattle.std.specs.Prelude.{◌≡◌};
 ghost use Rattle.realm_program.specs.declared.fault.Fault.TheVariants.{Memory, Device};
 
-use crate::told::{DeviceFailed, ReadError};
+use crate::input::ReadError;
 use realm_plan::{PlanError, PlanFault};
 use std::alloc::AllocError;
 use thiserror::Error;
+use told_device::DeviceFailed;
 
 /// Why nothing is printed, or a front of the text alone. Its line goes to standard error.
 #[derive(Clone, Copy, Debug, PartialEq, Eq, Error)]
@@ -13,9 +14,15 @@ pub enum Fault {
     /// The input is no plan.
     #[error(transparent)]
     Plan(PlanFault),
+    /// The build to be left out is none of the plan's.
+    #[error("erase names no build")]
+    EraseNamesNoBuild,
     /// A growth was refused.
     #[error("memory")]
     Memory,
+    /// A recorded event was refused when it was applied again.
+    #[error("mismatch")]
+    Mismatch,
     /// A read or a write failed.
     #[error("device")]
     Device,
@@ -30,7 +37,9 @@ impl Fault {
     {
         match self {
             Fault::Plan(_) => 1,
+            Fault::EraseNamesNoBuild => 2,
             Fault::Memory => 3,
+            Fault::Mismatch => 4,
             Fault::Device => 5,
         }
     }

@@ -6,13 +6,13 @@
 #![tactic(auto)]
 
 mod fault;
+mod input;
 mod line;
 mod stop;
 mod text;
-mod told;
 
 pub use fault::Fault;
+pub use input::{ReadError, read_whole};
 pub use line::Line;
 pub use stop::Stop;
 pub use text::replay;
-pub use told::{DeviceFailed, ReadError, Told};

@@ -1,18 +1,21 @@
 //! A plan in, the text of its run out.
-ghost use Rattle.std.specs.Prelude.{◌≡◌, ◌+◌, ◌≤◌, ◌↔◌, ◌⊎◌, false, true, Err, IfOk, string_bytes};
+ghost use Rattle.std.specs.Prelude.{◌≡◌, ◌+◌, ◌≤◌, ◌↔◌, ◌⊎◌, ◌≢◌, false, true, Err, IfOk, IfErr, string_bytes};
+ghost use Rattle.plan_runs.specs.Run.{IsToldRun};
 ghost use Rattle.realm_plan.specs.PlanView.{plan_view};
-ghost use Rattle.realm_program.specs.Replay.{opening_host, IsText, IsEnd};
-ghost use Rattle.realm_program.specs.declared.fault.Fault.TheVariants.{Device};
+ghost use Rattle.realm_program.specs.Replay.{opening_host, IsText, IsErasedText, IsAskedText, IsWithoutText, IsEnd};
+ghost use Rattle.realm_program.specs.declared.fault.Fault.TheVariants.{Device, Mismatch};
 
 use crate::fault::Fault;
-use crate::told::Told;
+use crate::input::read_whole;
 use buddy::BuddyArena;
+use granule_addr::BuildId;
 use page_arena::BuildError;
-use plan_runs::{push_map, run_turns};
-use realm_host::{Host, Settings};
+use plan_runs::{map_text, push_map, run_turns};
+use realm_host::{Host, Settings, apply_without};
 use realm_plan::Plan;
 use std::alloc::{AllocError, Global};
 use std::io::{Read, Write};
+use told_device::Told;
 
 // A host of the plan's size, over pages that are all free.
 fn boot(alloc: Global, plan: &Plan) -> Result<Host<BuddyArena>, AllocError>
@@ -35,35 +38,75 @@ fn boot(alloc: Global, plan: &Plan) -> Result<Host<BuddyArena>, AllocError>
     }
 }
 
-/// The text of a run of the plan, made whole in memory.
-pub fn text_of(alloc: Global, plan: &Plan) -> Result<String, AllocError>
-    ensures { IfOk result (λ text. IsText (plan_view plan.now) (string_bytes text)) }
+// The host after a run of the plan. The lines of its turns are appended.
+fn run_plan(alloc: Global, plan: &Plan, lines: &mut String) -> Result<Host<BuddyArena>, AllocError>
+    ensures { IfOk result (λ host. IsToldRun (plan_view plan.now) (opening_host (plan_view plan.now)) host (string_bytes lines.old) (string_bytes lines.new)) }
 {
     let mut host = boot(alloc, plan)?;
+    run_turns(&mut host, plan, lines)?;
+    Ok(host)
+}
+
+// The text of a run of the plan, made whole in memory.
+fn text_of(alloc: Global, plan: &Plan) -> Result<String, AllocError>
+    ensures { IfOk result (λ text. IsText (plan_view plan.now) (string_bytes text)) }
+{
     let mut text = String::new(alloc);
-    run_turns(&mut host, plan, &mut text)?;
+    let host = run_plan(alloc, plan, &mut text)?;
     push_map(&mut text, &host)?;
     Ok(text)
 }
 
-/// Reads a plan, runs it, and writes the text of the run.
+// The map of a run of the plan with a build left out: its history without the build's events is applied to a fresh host.
+fn erased_text_of(alloc: Global, plan: &Plan, build: BuildId) -> Result<String, Fault>
+    ensures ok { IfOk result (λ text. IsErasedText (plan_view plan.now) build (string_bytes text)) }
+    ensures err { IfErr result (IsWithoutText (plan_view plan.now) (Some build)) }
+{
+    if build.number() as usize >= plan.builds.len() {
+        return Err(Fault::EraseNamesNoBuild);
+    }
+    let mut lines = String::new(alloc);
+    let host = run_plan(alloc, plan, &mut lines)?;
+    let mut fresh = boot(alloc, plan)?;
+    if !apply_without(&host, build, &mut fresh) {
+        return Err(Fault::Mismatch);
+    }
+    Ok(map_text(alloc, &fresh)?)
+}
+
+// The text that is asked for: a build may be left out.
+fn asked_text_of(alloc: Global, plan: &Plan, erase: Option<BuildId>) -> Result<String, Fault>
+    ensures ok { IfOk result (λ text. IsAskedText (plan_view plan.now) erase (string_bytes text)) }
+    ensures err { IfErr result (IsWithoutText (plan_view plan.now) erase) }
+{
+    match erase {
+        Some(build) => erased_text_of(alloc, plan, build),
+        None => Ok(text_of(alloc, plan)?),
+    }
+}
+
+/// Reads a plan, runs it, and writes the text of the run; or, where a build is to be left out, the map that its history
+/// leads to without the build's events.
 ///
-/// The text is made whole before any of it is written. Errors: the fault of a plan; Memory, where a growth was refused;
-/// Device, where a read failed, and then nothing is written, or a write, and then a front of the text is.
+/// The text is made whole before any of it is written. Errors: the fault of a plan; EraseNamesNoBuild, where the build to be
+/// left out is none of the plan's; Memory, where a growth was refused; Device, where a read failed, and then nothing is
+/// written, or a write, and then a front of the text is.
 pub fn replay<R: Read, W: Write>(
     alloc: Global,
     input: &mut Told<R>,
     output: &mut Told<W>,
+    erase: Option<BuildId>,
 ) -> Result<(), Fault>
     requires readable { input.old.failed ≡ false }
     requires writable { output.old.failed ≡ false }
-    ensures end { IsEnd input.new.failed (R.remaining input.old.device) (W.contents output.old.device) (W.contents output.new.device) result }
+    ensures end { IsEnd input.new.failed erase (R.remaining input.old.device) (W.contents output.old.device) (W.contents output.new.device) result }
+    ensures never_mismatch { result ≢ Err Mismatch }
     ensures device { ((input.new.failed ≡ true) ⊎ (output.new.failed ≡ true)) ↔ (result ≡ Err Device) }
     ensures asked { input.new.reads ≤ input.old.reads + 1048578 }
 {
-    let bytes = input.read_whole(alloc)?;
+    let bytes = read_whole(alloc, input)?;
     let plan = Plan::from_bytes(alloc, &bytes)?;
-    let text = text_of(alloc, &plan)?;
+    let text = asked_text_of(alloc, &plan, erase)?;
     output.write_whole(text.as_bytes())?;
     Ok(())
 }

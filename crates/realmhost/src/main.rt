@@ -7,9 +7,10 @@ ghost use Rattle.realm_program.specs.Stop.{status_of_outcome};
 ghost use Rattle.realm_program.specs.declared.fault.Fault.TheVariants.{Memory};
 ghost use Rattle.realm_program.specs.declared.stop.Stop.TheVariants.{NotUtf8, Run};
 
-use realm_program::{Fault, Line, Stop, Told, replay};
+use realm_program::{Fault, Line, Stop, replay};
 use std::process::ExitCode;
 use std::{env, io};
+use told_device::Told;
 
 /// The words of the command line, the program's name first.
 fn arguments(rt: &HostRuntime) -> Result<Vec<String>, Stop>
@@ -32,10 +33,10 @@ fn run(rt: &HostRuntime) -> Result<(), Stop> {
     for argument in &arguments {
         words.push(argument.as_str()).map_err(|_| Fault::Memory)?;
     }
-    let Line::Replay = Line::of(alloc, &words)?;
+    let Line::Replay(erase) = Line::of(alloc, &words)?;
     let mut input = Told::new(rt.stdin());
     let mut output = Told::new(rt.stdout());
-    replay(alloc, &mut input, &mut output)?;
+    replay(alloc, &mut input, &mut output, erase)?;
     Ok(())
 }
 

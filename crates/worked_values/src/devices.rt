@@ -5,10 +5,10 @@ ghost use Rattle.std.specs.Prelude.{◌≡◌, false};
 mod replay;
 mod told;
 
-use realm_program::Told;
 use std::alloc::Global;
 use std::io;
 use std::io::{Read, Write};
+use told_device::Told;
 
 /// Errors after which a caller might ask again, in turn.
 fn failure(call: u64) -> io::Error {

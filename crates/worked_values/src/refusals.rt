@@ -1,10 +1,11 @@
 use crate::built::Built;
 use buddy::BuddyArena;
+use build_commands::Step;
 use granule_addr::{BuildId, Order};
 use page_arena::PlainStore;
-use plan_runs::push_turn;
+use plan_runs::{TurnAnswer, push_turn};
 use plan_steps::PlanStep;
-use realm_host::{Answer, Cmd, Host, Refusal, Settings, Step};
+use realm_host::{Cmd, Host, Refusal, Settings};
 use realm_model::{Rmi, Status};
 use std::alloc::Global;
 use std::process::Abort;
@@ -85,7 +86,7 @@ fn lines_of_refusals_that_no_plan_meets(rt: HostRuntime) -> Result<(), Fail> {
         (Refusal::Aborting, "7 undo = no 2 Aborting\n"),
     ] {
         let mut text = String::new(rt.alloc());
-        push_turn(&mut text, build, &undo, Answer::Refused(refusal))?;
+        push_turn(&mut text, build, &undo, TurnAnswer::Refused(refusal))?;
         assert_eq!(rt; text.as_str(), line);
     }
     Ok(())

@@ -1,9 +1,10 @@
 //! A device is asked as often as is told, never again where it has failed, and flushed once.
 use super::{Sink, Source, told_sink, told_source};
 use crate::wanted::{equal, holds};
-use realm_program::{ReadError, Told};
+use realm_program::{ReadError, read_whole};
 use std::process::Abort;
 use std::test::Fail;
+use told_device::Told;
 
 // A reader was asked so often, and that is told.
 fn was_read(rt: &impl Abort, input: &Told<Source<'_>>, has_failed: bool, reads: u64) {
@@ -23,7 +24,7 @@ fn was_written(rt: &impl Abort, output: &Told<Sink>, has_failed: bool, writes: u
 fn reads_an_input(rt: HostRuntime) -> Result<(), Fail> {
     for (bytes, reads) in [(b"pages = 1\n".as_slice(), 5), (b"", 1)] {
         let mut input = told_source(bytes, 3, None);
-        let got = input.read_whole(rt.alloc()).ok().ok_or("refused")?;
+        let got = read_whole(rt.alloc(), &mut input).ok().ok_or("refused")?;
         holds(&rt, "the bytes", got.as_slice() == bytes);
         was_read(&rt, &input, false, reads);
     }
@@ -34,7 +35,7 @@ fn reads_an_input(rt: HostRuntime) -> Result<(), Fail> {
 fn asks_no_reader_again_that_has_failed(rt: HostRuntime) {
     for n in 0_u64..5 {
         let mut input = told_source(b"pages = 1\n", 3, Some(n));
-        let outcome = input.read_whole(rt.alloc());
+        let outcome = read_whole(rt.alloc(), &mut input);
         let is_device = matches!(outcome, Err(ReadError::Device));
         holds(&rt, "a read failed", is_device);
         was_read(&rt, &input, true, n + 1);
@@ -50,7 +51,7 @@ fn keeps_no_more_than_it_must(rt: HostRuntime) -> Result<(), Fail> {
     ] {
         let spaces = vec![in rt.alloc(); b' '; size]?;
         let mut input = told_source(&spaces, most, None);
-        let bytes = input.read_whole(rt.alloc()).ok().ok_or("refused")?;
+        let bytes = read_whole(rt.alloc(), &mut input).ok().ok_or("refused")?;
         equal(&rt, "bytes", bytes.len() as u64, kept);
         was_read(&rt, &input, false, reads);
     }

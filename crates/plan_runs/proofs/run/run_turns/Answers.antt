@@ -10,8 +10,8 @@ loop-build-preserved g c =
     let plan = plan_view c.args.plan.now in
     let order = c.args.plan.now.order.items in
     let i = c.loop-build.build-index in
-    let from : Position = record { host = c.loop-build.host; done = c.loop-build.done } in
-    let to : Position = record { host = c.turn.new.host; done = c.turn.new.done } in
+    let from : Position = record { host = c.loop-build.host; places = c.loop-build.places } in
+    let to : Position = record { host = c.turn.new.host; places = c.turn.new.places } in
     let old = string_bytes c.args.text.now in
     let between = string_bytes c.loop-build.text in
     let new = string_bytes c.turn.new.text in
@@ -22,7 +22,7 @@ loop-build-preserved g c =
 
 pub returns : goal.returns
 returns g c =
-    let at : Position = record { host = c.loop-build.host; done = c.loop-build.done } in
+    let at : Position = record { host = c.loop-build.host; places = c.loop-build.places } in
     IsToldRun-whole (plan_view c.args.plan.now) c.loop-build.build-index c.args.host.now at (string_bytes c.args.text.now) (string_bytes c.loop-build.text)
     (subst (λ items. length items ≤ c.loop-build.build-index) c.deref-build-items.ensures.value c.loop-build-test.false)
     c.loop-build.invariant

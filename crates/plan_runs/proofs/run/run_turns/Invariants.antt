@@ -5,4 +5,4 @@ use Rattle.plan_runs.proofs.run.run_turns.Given as goal
 
 abbrev pub invariant-loop-build : goal.invariant-loop-build
 invariant-loop-build g l =
-    IsToldFront (plan_view l.plan) (take l.build-index l.plan.order.items) l.fn.host (record { host = l.host; done = l.done }) (string_bytes l.fn.text) (string_bytes l.text)
+    IsToldFront (plan_view l.plan) (take l.build-index l.plan.order.items) l.fn.host (record { host = l.host; places = l.places }) (string_bytes l.fn.text) (string_bytes l.text)

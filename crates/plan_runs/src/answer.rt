@@ -1,0 +1,39 @@
+//! What turns tell, and how.
+use build_commands::{Refusal, Reply};
+use plan_steps::{KindWord, RefusalText, ReplyText};
+use realm_host::Kind;
+use std::fmt;
+
+/// What a turn tells of its step.
+#[derive(Clone, Copy, Debug, PartialEq, Eq)]
+pub enum TurnAnswer {
+    /// The command was accepted.
+    Replied(Reply),
+    /// The build's point is kept, at so many acts that are open.
+    Marked(u16),
+    /// An act was undone; of an abort or a way back, others are still to be.
+    Undone(Kind),
+    /// The last act of an abort or of a way back was undone.
+    Ended(Kind),
+    /// An abort or a way back had nothing to undo.
+    Nothing,
+    Refused(Refusal),
+}
+
+impl fmt::Display for TurnAnswer {
+    ghost use Rattle.std.specs.Prelude.{Some};
+    ghost use Rattle.plan_runs.specs.Text.{answer_text};
+
+    ghost output = { λ a. Some (answer_text a) };
+
+    fn fmt<W: fmt::Write>(&self, f: &mut fmt::Formatter<W>) -> fmt::Result {
+        match *self {
+            TurnAnswer::Replied(reply) => write!(f, "{}", ReplyText(reply)),
+            TurnAnswer::Marked(length) => write!(f, "ok {length}"),
+            TurnAnswer::Undone(kind) => write!(f, "ok {}", KindWord(kind)),
+            TurnAnswer::Ended(kind) => write!(f, "done {}", KindWord(kind)),
+            TurnAnswer::Nothing => write!(f, "done"),
+            TurnAnswer::Refused(refusal) => write!(f, "no {}", RefusalText(refusal)),
+        }
+    }
+}

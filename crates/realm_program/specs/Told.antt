@@ -1,9 +1,0 @@
--- What is seen of a reader or a writer.
-use Rattle.std.specs.Prelude.{ℕ, Bool}
-
-pub record ToldView (D : Type 0) : Type 0 where
-  pub device : D
-  -- whether a call of the device has failed
-  pub failed : Bool
-  -- how often the device was asked to read, up to the greatest `u64`
-  pub reads : ℕ

@@ -1,0 +1,54 @@
+//! The whole of an input, as far as a plan may be long.
+ghost use Rattle.std.specs.Prelude.{◌≡◌, ◌+◌, ◌≤◌, ◌↔◌, false, true, IfOk, IfSome, Err};
+ghost use Rattle.realm_program.specs.Whole.{kept_of};
+ghost use Rattle.realm_program.specs.declared.input.ReadError.TheVariants.{Device};
+
+use std::alloc::Global;
+use std::io::Read;
+use told_device::Told;
+
+/// How many bytes are kept of an input: one more than a plan may have.
+pub const KEPT: usize = 1_048_577;
+
+/// How often a reader is asked at most for one input.
+pub const MOST_READS: usize = 1_048_578;
+
+/// Why an input is not given.
+#[derive(Clone, Copy, Debug, PartialEq, Eq)]
+pub enum ReadError {
+    /// A growth was refused.
+    Memory,
+    /// A read failed.
+    Device,
+}
+
+/// All that the reader gives, or its first 1,048,577 bytes where there are more.
+///
+/// `Device` is given where a read failed, and `Memory` only where a growth was refused.
+pub fn read_whole<R: Read>(alloc: Global, input: &mut Told<R>) -> Result<Vec<u8>, ReadError>
+    requires { input.old.failed ≡ false }
+    ensures told { (input.new.failed ≡ true) ↔ (result ≡ Err Device) }
+    ensures asked { input.new.reads ≤ input.old.reads + 1048578 }
+    ensures not_lowered { input.old.reads ≤ input.new.reads }
+    ensures bytes { IfOk result (λ v. IfSome (R.remaining input.old.device) (λ xs. v.items ≡ kept_of xs)) }
+{
+    let mut bytes = Vec::new(alloc);
+    let mut buf = [0u8; 4096];
+    for _ in 0..MOST_READS {
+        let room = (KEPT - bytes.len()).min(buf.len());
+        let part = &mut buf[..room];
+        let Ok(n) = input.read(part) else {
+            return Err(ReadError::Device);
+        };
+        if n == 0 {
+            return Ok(bytes);
+        }
+        let Ok(()) = bytes.extend_from_slice(&part[..n]) else {
+            return Err(ReadError::Memory);
+        };
+        if bytes.len() >= KEPT {
+            return Ok(bytes);
+        }
+    }
+    unreachable!()
+}
