@@ -9,9 +9,10 @@ use page_arena::{BuildError, PlainStore};
 use plan_runs::{push_map, run_turns};
 use realm_host::{Host, Settings};
 use realm_plan::Plan;
-use realm_program::{Fault, Told};
+use realm_program::{Fault, read_whole};
 use std::alloc::{AllocError, Global};
 use std::process::ExitCode;
+use told_device::Told;
 
 /// A host of the plan's size, over pages that are all free.
 fn boot(alloc: Global, plan: &Plan) -> Result<Host<PlainStore>, AllocError>
@@ -48,7 +49,7 @@ fn text_of(alloc: Global, plan: &Plan) -> Result<String, AllocError>
 /// Reads a plan from standard input, and writes its text to standard output.
 fn run(rt: &HostRuntime) -> Result<(), Fault> {
     let alloc = rt.alloc();
-    let bytes = Told::new(rt.stdin()).read_whole(alloc)?;
+    let bytes = read_whole(alloc, &mut Told::new(rt.stdin()))?;
     let plan = Plan::from_bytes(alloc, &bytes)?;
     let text = text_of(alloc, &plan)?;
     Told::new(rt.stdout()).write_whole(text.as_bytes())?;
