@@ -42,11 +42,11 @@ undo_same host build (Ok it) new is = (ap (λ (h : HostView). h.limits) is.accep
 undo_same host build (Err refusal) new is = equal_same host new is.1
 
 begin_same : (host : HostView) (build : ℕ) (result : Result ℕ Refusal) (new : HostView) → IsBegun host build result new → SameSettings host new
-begin_same host build (Ok count) new is = (ap (λ (h : HostView). h.limits) is.1.1, ap (λ (h : HostView). h.capacity) is.1.1)
+begin_same host build (Ok count) new is = (ap (λ (h : HostView). h.limits) is.1.new_is, ap (λ (h : HostView). h.capacity) is.1.new_is)
 begin_same host build (Err refusal) new is = equal_same host new is.1
 
 mark_same : (host : HostView) (build : ℕ) (result : Result Mark Refusal) (new : HostView) → IsMarked host build result new → SameSettings host new
-mark_same host build (Ok mark) new is = (ap (λ (h : HostView). h.limits) is.1.1, ap (λ (h : HostView). h.capacity) is.1.1)
+mark_same host build (Ok mark) new is = (ap (λ (h : HostView). h.limits) is.1.new_is, ap (λ (h : HostView). h.capacity) is.1.new_is)
 mark_same host build (Err refusal) new is = equal_same host new is.1
 
 -- ---- turns
