@@ -1,5 +1,5 @@
-//! Tests alone: worked numbers, digests of another tool, commands of the monitor with their result words, calls that find
-//! the memory that is there, and devices that fail.
+//! Tests alone: worked numbers, digests of another tool, commands of the monitor with their result words, calls of the host
+//! whose answers no plan prints, calls that find the memory that is there, and devices that fail.
 //!
 //! What a contract says needs no test. A rule that a definition and the code share is pinned here by a value that comes
 //! from neither. The tests stand in a crate of their own, since a crate with tests is proved twice.
@@ -9,6 +9,8 @@
 mod built;
 #[cfg(test)]
 mod devices;
+#[cfg(test)]
+mod host;
 #[cfg(test)]
 mod measurement;
 #[cfg(test)]
