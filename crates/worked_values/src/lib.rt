@@ -6,11 +6,17 @@
 #![tactic(auto)]
 
 #[cfg(test)]
+mod aborts;
+#[cfg(test)]
 mod built;
+#[cfg(test)]
+mod calls;
 #[cfg(test)]
 mod devices;
 #[cfg(test)]
 mod host;
+#[cfg(test)]
+mod marks;
 #[cfg(test)]
 mod measurement;
 #[cfg(test)]
@@ -19,6 +25,8 @@ mod memory;
 mod monitor;
 #[cfg(test)]
 mod numbers;
+#[cfg(test)]
+mod recorded;
 #[cfg(test)]
 mod refusals;
 #[cfg(test)]
