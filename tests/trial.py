@@ -20,8 +20,10 @@ LONGEST = 160
 UNPROVED = re.compile(r"\w+ (\S+): (?:not proved|no proof|could not tell)\b(.*)")
 # .. where it has nothing against a body but what that calls, or waits for;
 BY_OTHERS = re.compile(r"it calls|it passes|it waits for|a call of|depends on|for what it cites")
-# .. a goal or a text that it refuses, and where.
-FAULT = re.compile(r"(?:note: )?((?:\./)?(\S+?):(\d+):\d+: (?:error|it is not proved|`search` found no proof).*)")
+# .. a goal or a text that it refuses, and where, but for what it leaves unread since that cites a refused text.
+FAULT = re.compile(
+    r"(?:note: )?((?:\./)?(\S+?):(\d+):\d+: (?:error(?!.*which was rejected)|it is not proved|`search` found no proof).*)"
+)
 # What does not reach the prover.
 NOT_COMPILED = re.compile(r"((?:\./)?(\S+?):(\d+):\d+: error\[.*)")
 # Where a line goes on in the next one: what is no longer there is named first, and told there.
