@@ -4,7 +4,8 @@ use Rattle.std.specs.Prelude.{nat_le, slice_get, IfSome, IfNone}
 use Rattle.std.specs.List.{find, range_with_len}
 use Rattle.std.proofs.lemmas.Bool.{and_parts, leb-true, cases_eq}
 use Rattle.std.proofs.lemmas.Option.{slice_get_within, get_or_from_slice_get}
-use Rattle.leases.specs.Vmids.{Vmids, is_free, is_used, IsLowestFree}
+use Rattle.granule_addr.specs.Vmids.{is_used}
+use Rattle.leases.specs.Vmids.{Vmids, is_free, IsLowestFree}
 use Rattle.build_books.specs.View.{HostView, world_of}
 use Rattle.build_books.specs.Vmids.{is_vmid_free, lowest_vmid}
 
@@ -41,7 +42,7 @@ find_none test first (suc count) never =
     ap (λ t. cond t (Some first) (find test (range_with_len (first + 1) count))) (never first) ∙ find_none test (first + 1) count never
 
 module _ (host : HostView) (vmids : Vmids) (range : vmids.vmids ≡ host.limits.vmids)
-    (are : (vmid : ℕ) → is_used vmids vmid ≡ Rattle.realm_acts.specs.VmidsUsed.is_vmid_used (world_of host).machine vmid) where
+    (are : (vmid : ℕ) → is_used vmids.used vmid ≡ Rattle.realm_acts.specs.VmidsUsed.is_vmid_used (world_of host).machine vmid) where
   pub same_free : (vmid : ℕ) → is_free vmids vmid ≡ is_vmid_free host vmid
   same_free vmid = λ i. nat_le 1 vmid && nat_le vmid (range i) && not (are vmid i)
 

@@ -7,7 +7,8 @@ use Rattle.std.proofs.lemmas.Option.{same_Some, slice_get-get_or, slice_get_with
 use Rattle.std.proofs.lemmas.List.{get_or-replicate, length-replicate}
 use Rattle.std.proofs.lemmas.List.Elements.{All-nil}
 use Rattle.leases.specs.Stacks.{Stacks, stack_of}
-use Rattle.leases.specs.Vmids.{Vmids, is_used}
+use Rattle.granule_addr.specs.Vmids.{is_used}
+use Rattle.leases.specs.Vmids.{Vmids}
 use Rattle.realm_model.specs.declared.act.Event.{Event}
 use Rattle.realm_model.specs.Machine.{Limits, blank}
 use Rattle.realm_model.specs.World.{World, opening, realm_of}
@@ -77,7 +78,7 @@ no_mark = None
 
 module _ (pages vmids aux count capacity : ℕ) (builds : List Build) (leases : Stacks) (holders : List (Option ℕ)) (pool : Vmids) (events : Vec Event)
     (builds_are : builds ≡ replicate count new_build) (leases_are : leases ≡ record { stacks = replicate count []; room = pages }) (holders_are : holders ≡ replicate pages None)
-    (range : pool.vmids ≡ vmids) (none_used : (vmid : ℕ) → is_used pool vmid ≡ false) (none : events.items ≡ []) where
+    (range : pool.vmids ≡ vmids) (none_used : (vmid : ℕ) → is_used pool.used vmid ≡ false) (none : events.items ≡ []) where
   long : length builds ≡ count
   long = ap length builds_are ∙ length-replicate count new_build
 

@@ -6,7 +6,8 @@ use Rattle.std.proofs.lemmas.Bool.{and_parts, and_from, cases_eq}
 use Rattle.granule_addr.specs.Ipa.{is_width}
 use Rattle.granule_addr.specs.Root.{start_count, starting_tables}
 use Rattle.granule_addr.specs.declared.root.Root.{Root}
-use Rattle.leases.specs.Vmids.{Vmids, is_used}
+use Rattle.granule_addr.specs.Vmids.{is_used}
+use Rattle.leases.specs.Vmids.{Vmids}
 use Rattle.realm_model.specs.declared.act.Act.{Act}
 use Rattle.realm_model.specs.declared.act.Act.TheVariants.{Realm, UnRealm}
 use Rattle.realm_model.specs.declared.rmi.Rmi.{Rmi}
@@ -48,7 +49,7 @@ free_for limits w build rd root vmid us e =
     (not (is_vmid_used w.machine vmid)) all
 
 module _ (limits : Limits) (w : World) (vmids : Vmids) (range : vmids.vmids ≡ limits.vmids)
-    (are : (vmid : ℕ) → is_used vmids vmid ≡ is_vmid_used w.machine vmid) where
+    (are : (vmid : ℕ) → is_used vmids.used vmid ≡ is_vmid_used w.machine vmid) where
   pub can_follow_vmids : (build : ℕ) (act : Act) (v : World) → step limits w (by build act) ≡ Some v → CanFollowVmids vmids act
   can_follow_vmids build (Realm rd root vmid) v s =
       let is = step_is limits w v (by build (Realm rd root vmid)) s in
@@ -56,16 +57,16 @@ module _ (limits : Limits) (w : World) (vmids : Vmids) (range : vmids.vmids ≡ 
   can_follow_vmids build _ v s = tt
 
   pub vmids_are_after : (act : Act) (new : Vmids) (machine : Machine) → IsVmidsAfter act vmids new → VmidsFollow act w.machine machine
-      → (vmid : ℕ) → is_used new vmid ≡ is_vmid_used machine vmid
+      → (vmid : ℕ) → is_used new.used vmid ≡ is_vmid_used machine vmid
   vmids_are_after (Realm rd root used) new machine after follow vmid = ⊎_elim
-      (λ same. ap (is_used new) same ∙ after.one ∙ sym follow.one ∙ ap (is_vmid_used machine) (sym same))
-      (λ other. after.others vmid other ∙ are vmid ∙ sym (follow.others vmid other))
+      (λ same. ap (is_used new.used) same ∙ after.marked.one ∙ sym follow.one ∙ ap (is_vmid_used machine) (sym same))
+      (λ other. after.marked.others vmid other ∙ are vmid ∙ sym (follow.others vmid other))
       (cases_eq vmid used)
   vmids_are_after (UnRealm rd root used) new machine after follow vmid = ⊎_elim
-      (λ same. ap (is_used new) same ∙ after.one ∙ sym follow.one ∙ ap (is_vmid_used machine) (sym same))
-      (λ other. after.others vmid other ∙ are vmid ∙ sym (follow.others vmid other))
+      (λ same. ap (is_used new.used) same ∙ after.marked.one ∙ sym follow.one ∙ ap (is_vmid_used machine) (sym same))
+      (λ other. after.marked.others vmid other ∙ are vmid ∙ sym (follow.others vmid other))
       (cases_eq vmid used)
-  vmids_are_after act new machine after follow vmid = ap (λ (v : Vmids). is_used v vmid) after ∙ are vmid ∙ sym (follow vmid)
+  vmids_are_after act new machine after follow vmid = ap (λ (v : Vmids). is_used v.used vmid) after ∙ are vmid ∙ sym (follow vmid)
 
 -- there are as many VMIDs as before
 pub same_range : (act : Act) (old new : Vmids) → IsVmidsAfter act old new → new.vmids ≡ old.vmids

@@ -2,9 +2,10 @@
 use Rattle.std.specs.Prelude.{◌≡◌, ℕ, nat_lt, ◌+◌, ◌-◌, ◌*◌, ◌^◌, ◌<◌, ◌≤◌, true, false, ◌&&◌, List, [], ◌∷◌, ◌++◌, map, take, Option, Some, None, length, slice_get, vec_capacity}
 use Rattle.std.specs.List.{All}
 use Rattle.std.specs.Global.{Vec}
+use Rattle.granule_addr.specs.Vmids.{is_used}
 use Rattle.leases.specs.Holders.{held}
 use Rattle.leases.specs.Stacks.{Stacks, stack_of}
-use Rattle.leases.specs.Vmids.{Vmids, is_used}
+use Rattle.leases.specs.Vmids.{Vmids}
 use Rattle.realm_model.specs.declared.act.Act.{Act}
 use Rattle.realm_model.specs.declared.act.Act.TheVariants.{Take, UnTake, Realm, UnRealm, Rec, UnRec, Enter, Exit}
 use Rattle.realm_model.specs.declared.act.Event.{Event}
@@ -168,7 +169,7 @@ pub record IsKept (host : HostView) (builds : List Build) (leases : Stacks) (hol
   pub builds_are : (number : ℕ) (build : Build) → slice_get builds number ≡ Some build → IsBuildOf host.history (world_of host) number build
   pub stacks_are : (number : ℕ) → number < host.limits.builds → stack_of leases number ≡ pages_of number host.history
   pub holders_are : holders ≡ (world_of host).leases
-  pub vmids_are : (vmid : ℕ) → is_used vmids vmid ≡ is_vmid_used (world_of host).machine vmid
+  pub vmids_are : (vmid : ℕ) → is_used vmids.used vmid ≡ is_vmid_used (world_of host).machine vmid
   pub room : (number : ℕ) → number < host.limits.builds → HasRoom host number
   pub points : (number : ℕ) → number < host.limits.builds → PointsHold host number
   pub of_builds : All (λ event. event.build < host.limits.builds) host.history

@@ -1,7 +1,7 @@
 -- The VMIDs that a host's realms have.
 use Rattle.std.specs.Prelude.{◌≡◌, ℕ, Bool, true, false, Option, not, ◌&&◌, nat_le}
 use Rattle.std.specs.List.{find, range_with_len}
-use Rattle.leases.specs.Vmids.{Vmids, is_free, IsMarked}
+use Rattle.leases.specs.Vmids.{Vmids, is_free, IsClaimed}
 use Rattle.realm_model.specs.declared.act.Act.{Act}
 use Rattle.realm_model.specs.declared.act.Act.TheVariants.{Realm, UnRealm}
 use Rattle.realm_acts.specs.VmidsUsed.{is_vmid_used}
@@ -24,6 +24,6 @@ CanFollowVmids vmids _ = Unit {0}
 
 -- a realm that is made has its VMID from then on, and one that ends has it no more
 abbrev pub IsVmidsAfter : Act → Vmids → Vmids → Type 0
-IsVmidsAfter (Realm rd root vmid) old new = IsMarked old new vmid true
-IsVmidsAfter (UnRealm rd root vmid) old new = IsMarked old new vmid false
+IsVmidsAfter (Realm rd root vmid) old new = IsClaimed old new vmid true
+IsVmidsAfter (UnRealm rd root vmid) old new = IsClaimed old new vmid false
 IsVmidsAfter _ old new = new ≡ old

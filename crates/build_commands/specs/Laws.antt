@@ -3,10 +3,9 @@ use Rattle.std.specs.Prelude.{◌≡◌, ◌==◌, ℕ, List, length, slice_inde
 use Rattle.std.specs.List.{All}
 use Rattle.granule_addr.specs.Ipa.{is_width}
 use Rattle.realm_model.specs.declared.act.Act.{Act}
-use Rattle.realm_model.specs.declared.act.Act.TheVariants.{Take as TakeAct, UnTake}
 use Rattle.realm_model.specs.Machine.{Limits, RealmRow, Seen}
 use Rattle.realm_model.specs.Update.{Outcome}
-use Rattle.realm_model.specs.Act.{named, is_paired, is_reverse}
+use Rattle.realm_model.specs.Act.{is_command, named, is_paired, is_reverse}
 use Rattle.realm_model.specs.Room.{room_taken}
 use Rattle.realm_model.specs.Command.Check.{error_input}
 use Rattle.realm_model.specs.Command.Table.{rtt_create, rtt_init_ripas}
@@ -19,16 +18,10 @@ use Rattle.build_commands.specs.declared.picked.Picked.{Picked}
 use Rattle.build_commands.specs.Needs.{operands, needs_of}
 use Rattle.build_commands.specs.Acts.{act_of}
 
--- the act is a command of the monitor: it leases no block, and gives none back
-abbrev pub is_of_monitor : Act → Bool
-is_of_monitor (TakeAct order first) = false
-is_of_monitor (UnTake order first) = false
-is_of_monitor _ = true
-
 -- The act is a forward command of the monitor, names the granules, is paired where its command is, and takes the room that
 -- its command needs.
 pub record IsOfCommand (cmd : Cmd) (granules : List ℕ) (act : Act) : Type 0 where
-  pub command : is_of_monitor act ≡ true
+  pub command : is_command act ≡ true
   pub forward : is_reverse act ≡ false
   pub names : named act ≡ granules
   pub paired : is_paired act ≡ (needs_of cmd).paired

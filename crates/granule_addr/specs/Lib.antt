@@ -1,3 +1,4 @@
 pub mod Ipa
 pub mod Page
 pub mod Root
+pub mod Vmids

@@ -11,6 +11,7 @@ mod ipa;
 mod level;
 mod page;
 mod root;
+mod vmid_set;
 mod width;
 
 pub use block::{Order, align_down, buddy_of};
@@ -20,4 +21,5 @@ pub use ipa::{IpaGran, index_at, is_protected, start_table};
 pub use level::Level;
 pub use page::PageOff;
 pub use root::Root;
+pub use vmid_set::VmidSet;
 pub use width::IpaWidth;

@@ -1,16 +1,17 @@
 //! The VMIDs that realms have.
 ghost use Rattle.std.specs.Prelude.{◌≡◌, ℕ, true, false, IfSome, IfNone};
 ghost use Rattle.std.specs.Bool.{OnTrue, OnFalse};
-ghost use Rattle.leases.specs.Vmids.{is_used, is_free, IsLowestFree, IsMarked};
+ghost use Rattle.granule_addr.specs.Vmids.{is_used};
+ghost use Rattle.leases.specs.Vmids.{is_free, IsLowestFree, IsClaimed};
 
-use granule_addr::Vmid;
+use granule_addr::{Vmid, VmidSet};
 use std::marker::Model;
 
-/// The VMIDs of a machine, 1 to a greatest one: a flag for each says whether it is in use.
+/// The VMIDs of a machine, 1 to a greatest one, and those in use.
 #[derive(Drop)]
 pub struct VmidPool {
     vmids: u8,
-    used: [bool; 256],
+    used: VmidSet,
 }
 
 impl Model for VmidPool {
@@ -25,11 +26,11 @@ impl VmidPool {
     /// The VMIDs up to that one, none of them in use.
     pub fn new(vmids: u8) -> VmidPool
         ensures range { result.vmids ≡ vmids }
-        ensures none { (vmid : ℕ) → is_used result vmid ≡ false }
+        ensures none { (vmid : ℕ) → is_used result.used vmid ≡ false }
     {
         VmidPool {
             vmids,
-            used: [false; 256],
+            used: VmidSet::new(),
         }
     }
 
@@ -39,8 +40,9 @@ impl VmidPool {
         ensures none { IfNone result ((vmid : ℕ) → is_free self.now vmid ≡ false) }
     {
         for number in 1..=self.vmids {
-            if !self.used[number as usize] {
-                return Vmid::new(number);
+            let vmid = Vmid::new(number).unwrap();
+            if !self.used.contains(vmid) {
+                return Some(vmid);
             }
         }
         None
@@ -49,21 +51,20 @@ impl VmidPool {
     /// The VMID is in use from now on. `false`, with nothing changed, comes exactly where it is not free.
     pub fn claim(&mut self, vmid: Vmid) -> bool
         ensures answer { result ≡ is_free self.old vmid }
-        ensures claimed { OnTrue result (IsMarked self.old self.new vmid true) }
+        ensures claimed { OnTrue result (IsClaimed self.old self.new vmid true) }
         ensures unchanged { OnFalse result (self.new ≡ self.old) }
     {
-        let number = vmid.number();
-        if number > self.vmids || self.used[number as usize] {
+        if vmid.number() > self.vmids || self.used.contains(vmid) {
             return false;
         }
-        self.used[number as usize] = true;
+        self.used.insert(vmid);
         true
     }
 
     /// The VMID is in use no more.
     pub fn give_back(&mut self, vmid: Vmid)
-        ensures { IsMarked self.old self.new vmid false }
+        ensures { IsClaimed self.old self.new vmid false }
     {
-        self.used[vmid.number() as usize] = false;
+        self.used.remove(vmid);
     }
 }

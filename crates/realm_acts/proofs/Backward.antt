@@ -5,7 +5,7 @@ use Rattle.std.specs.List.{All}
 use Rattle.realm_model.specs.declared.act.Act.{Act}
 use Rattle.realm_model.specs.declared.act.Event.{Event}
 use Rattle.realm_model.specs.Machine.{Limits}
-use Rattle.realm_model.specs.Act.{named}
+use Rattle.realm_model.specs.Act.{is_command, named}
 use Rattle.realm_model.specs.World.{World}
 use Rattle.realm_model.specs.Step.{step}
 use Rattle.realm_model.specs.Undoing.{by}
@@ -13,7 +13,6 @@ use Rattle.realm_model.proofs.Progress.{undoable}
 use Rattle.realm_model.proofs.StepSays.{step_is}
 use Rattle.rmi_monitor.specs.View.{MonitorView}
 use Rattle.realm_acts.specs.declared.place.Place.{Place}
-use Rattle.realm_acts.specs.Performing.{is_command}
 use Rattle.realm_acts.specs.Mirror.{IsAsked, NewestIsAccepted}
 use Rattle.realm_acts.proofs.Forward.{holder_is, same_outcome}
 

@@ -8,7 +8,7 @@ use Rattle.realm_model.specs.declared.act.Event.{Event}
 use Rattle.realm_model.specs.declared.rmi.Rmi.{Rmi}
 use Rattle.realm_model.specs.Machine.{Limits, Machine, Seen, seen}
 use Rattle.realm_model.specs.Update.{Outcome, Update, machine_after_all}
-use Rattle.realm_model.specs.Act.{named, holder}
+use Rattle.realm_model.specs.Act.{is_command, named, holder}
 use Rattle.realm_model.specs.Outcome.{outcome_of}
 use Rattle.realm_model.specs.World.{World, realm_of}
 use Rattle.realm_model.specs.Step.{step, used_vmids, outcome_in}
@@ -20,7 +20,7 @@ use Rattle.realm_model.proofs.Reaching.{step_says_reached}
 use Rattle.realm_model.proofs.RealmOf.{IsAt, IsAt-realm_of}
 use Rattle.rmi_monitor.specs.View.{MonitorView, Answers, after_command}
 use Rattle.realm_acts.specs.declared.place.Place.{Place}
-use Rattle.realm_acts.specs.Performing.{is_command, realm_on, outcome_on}
+use Rattle.realm_acts.specs.Performing.{realm_on, outcome_on}
 use Rattle.realm_acts.specs.Mirror.{IsMirror, IsPlaceOf, IsAsked, IsPerformed, PerformedIsStep, rd_of}
 
 -- ---- of an act that is a command

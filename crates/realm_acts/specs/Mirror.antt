@@ -7,7 +7,7 @@ use Rattle.realm_model.specs.declared.act.Event.{Event}
 use Rattle.realm_model.specs.declared.rmi.Rmi.{Rmi}
 use Rattle.realm_model.specs.Machine.{Limits, Seen}
 use Rattle.realm_model.specs.Update.{Update}
-use Rattle.realm_model.specs.Act.{named, reverse_of}
+use Rattle.realm_model.specs.Act.{is_command, named, reverse_of}
 use Rattle.realm_model.specs.Outcome.{is_in_range, fits}
 use Rattle.realm_model.specs.World.{World, opening, realm_of}
 use Rattle.realm_model.specs.Step.{step, named_cells, outcome_in}
@@ -17,7 +17,7 @@ use Rattle.realm_model.specs.Running.{is_running}
 use Rattle.realm_model.specs.Undoing.{by}
 use Rattle.rmi_monitor.specs.View.{MonitorView, Answers, after_command, fresh}
 use Rattle.realm_acts.specs.declared.place.Place.{Place}
-use Rattle.realm_acts.specs.Performing.{is_command, rec_named, rec_granule, outcome_on, IsReady}
+use Rattle.realm_acts.specs.Performing.{rec_named, rec_granule, outcome_on, IsReady}
 
 -- The history is legal and leads to the world, and the monitor has its machine; a granule is free exactly where nobody
 -- leases it.

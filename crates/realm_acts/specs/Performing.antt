@@ -6,19 +6,13 @@ use Rattle.realm_model.specs.declared.act.Act.{Act}
 use Rattle.realm_model.specs.declared.act.Act.TheVariants.{Take, UnTake, Activate, Rtt, UnRtt, Ripas, Data, Unknown, UnData, Rec, UnRec, Enter, Exit, Poke}
 use Rattle.realm_model.specs.Machine.{RealmRow, RecRow, Seen, cell_at}
 use Rattle.realm_model.specs.Update.{Outcome}
-use Rattle.realm_model.specs.Act.{named}
+use Rattle.realm_model.specs.Act.{is_command, named}
 use Rattle.realm_model.specs.Outcome.{outcome_of}
 use Rattle.realm_model.specs.Step.{used_vmids}
 use Rattle.rmi_monitor.specs.View.{MonitorView, IsTaken, seen_in}
 use Rattle.realm_acts.specs.declared.place.Place.{Place}
 
 -- ---- acts
-
--- the act is a command of the monitor: it leases no block, and gives none back
-abbrev pub is_command : Act → Bool
-is_command (Take order first) = false
-is_command (UnTake order first) = false
-is_command _ = true
 
 -- the act is a command on the realm of its build
 abbrev pub is_in_realm : Act → Bool

@@ -11,7 +11,7 @@ use Rattle.page_arena.specs.Block.{IsFreeBlock}
 use Rattle.realm_model.specs.declared.act.Act.{Act}
 use Rattle.realm_model.specs.declared.act.Act.TheVariants.{Take, UnTake, Rec, UnRec}
 use Rattle.realm_model.specs.declared.rmi.Rmi.{Rmi}
-use Rattle.realm_model.specs.Act.{block, named, is_reverse, reverse_of}
+use Rattle.realm_model.specs.Act.{is_command, block, named, is_reverse, reverse_of}
 use Rattle.realm_model.specs.Command.Check.{error_input, error_rec, is_ready, check, with_realm, with_rec, put_realm}
 use Rattle.realm_model.specs.Command.Rec.{rec_destroy}
 use Rattle.realm_model.specs.History.{open_entries, replay, IsLegal, IsInTurn}
@@ -25,7 +25,6 @@ use Rattle.realm_model.specs.World.{World, is_leased_to, realm_of}
 use Rattle.realm_model.proofs.HistoryParts.{split}
 use Rattle.realm_model.proofs.Leases.{leased, leased_all}
 use Rattle.realm_model.proofs.StepSays.{step_is}
-use Rattle.realm_acts.specs.Performing.{is_command}
 use Rattle.realm_acts.proofs.Forward.{holder_is}
 use Rattle.rmi_monitor.specs.View.{MonitorView}
 use Rattle.build_books.specs.View.{HostView, world_of}

@@ -11,7 +11,7 @@ use Rattle.realm_model.specs.declared.rmi.Rmi.{Rmi}
 use Rattle.realm_model.specs.Machine.{RealmRow, Seen, seen, cell_at}
 use Rattle.realm_model.specs.Update.{Update}
 use Rattle.realm_model.specs.Command.Check.{error_input}
-use Rattle.realm_model.specs.Act.{named, is_reverse}
+use Rattle.realm_model.specs.Act.{is_command, named, is_reverse}
 use Rattle.realm_model.specs.Outcome.{outcome_of, realm_is, is_in_range, fits}
 use Rattle.realm_model.specs.World.{World, realm_of}
 use Rattle.realm_model.specs.Step.{used_vmids, outcome_in}
@@ -23,7 +23,6 @@ use Rattle.realm_model.specs.Undoing.{by}
 use Rattle.realm_model.proofs.Leases.{leased as leased_to}
 use Rattle.realm_model.proofs.Lists.{is_in, is_in_head, is_in_more}
 use Rattle.realm_model.proofs.Pages.{is_in-pages_of}
-use Rattle.realm_acts.specs.Performing.{is_command}
 use Rattle.realm_acts.specs.Mirror.{rd_of}
 use Rattle.build_commands.specs.declared.cmd.Cmd.{Cmd}
 use Rattle.build_commands.specs.declared.cmd.Cmd.TheVariants.{Take, Peek, Realm, Rec}
@@ -32,7 +31,7 @@ use Rattle.build_commands.specs.declared.refusal.Refusal.TheVariants.{Rmi as Rmi
 use Rattle.build_commands.specs.Needs.{operands, needs_of}
 use Rattle.build_commands.specs.Acts.{act_of}
 use Rattle.build_commands.specs.Checks.{AreFound, checks_of, first_that_holds}
-use Rattle.build_commands.specs.Laws.{is_of_monitor, IsThere, outcome_of_act}
+use Rattle.build_commands.specs.Laws.{IsThere, outcome_of_act}
 use Rattle.build_commands.proofs.ActOf.{of_command}
 use Rattle.build_commands.proofs.Picks.{act_fits}
 use Rattle.build_books.specs.View.{HostView, world_of, granule_of_page}
@@ -48,12 +47,6 @@ use Rattle.realm_host.specs.Answer.{IsActOf, IsReplied}
 use Rattle.realm_host.specs.Acting.{CanAct, IsRecorded}
 use Rattle.realm_host.proofs.Checked.{IsWanted, passes, stops, realm_wanted, journal_fits, room_fits, named_are, as_many, all_found}
 use Rattle.realm_host.proofs.Pairs.{one_step}
-
--- a command of the monitor is one in both tables
-same_kind : (act : Act) → is_of_monitor act ≡ true → is_command act ≡ true
-same_kind (acts.Take order first) is = cc
-same_kind (acts.UnTake order first) is = cc
-same_kind _ is = refl
 
 pub forward_turn : (history : _) (build : ℕ) (act : Act) → is_reverse act ≡ false → IsInTurn history (by build act)
 forward_turn history build act forward = λ reverse. absurd (never (is_reverse act) forward reverse)
@@ -171,7 +164,7 @@ module _ (host : HostView) (legal : IsLegal host.limits host.history) (build : �
       let of = of_command (picked_for host build cmd granules) cmd granules act long is in
       record {
         asked = record {
-          command = same_kind act of.command;
+          command = of.command;
           there = there;
           granules = subst (All (λ g. slice_get world.leases g ≡ Some (Some build))) (sym of.names) all_leased;
           in_range = in_range;

@@ -6,7 +6,7 @@ use Rattle.std.proofs.lemmas.Option.{same_Some}
 use Rattle.realm_model.specs.declared.act.Act.{Act}
 use Rattle.realm_model.specs.declared.act.Act.TheVariants.{Take, UnTake, Delegate, Realm, Rtt, Data, Unknown, Rec}
 use Rattle.realm_model.specs.declared.rmi.Rmi.{Rmi}
-use Rattle.realm_model.specs.Act.{named, is_paired, is_reverse, reverse_of}
+use Rattle.realm_model.specs.Act.{is_command, named, is_paired, is_reverse, reverse_of}
 use Rattle.realm_model.specs.History.{IsLegal, IsInTurn}
 use Rattle.realm_model.specs.Room.{room_taken}
 use Rattle.realm_model.specs.Step.{step, outcome_in}
@@ -15,7 +15,6 @@ use Rattle.realm_model.specs.Undoing.{by}
 use Rattle.realm_model.specs.World.{World}
 use Rattle.realm_model.proofs.Progress.{undoable}
 use Rattle.realm_model.proofs.StepSays.{step_is}
-use Rattle.realm_acts.specs.Performing.{is_command}
 use Rattle.realm_acts.proofs.Forward.{holder_is}
 use Rattle.build_books.specs.View.{HostView, world_of, open_of}
 use Rattle.build_books.proofs.Worlds.{world_is}

@@ -12,7 +12,7 @@ use Rattle.realm_model.specs.declared.act.Act.{Act}
 use Rattle.realm_model.specs.declared.act.Act.TheVariants.{Take, UnTake, Fill, Peek, Delegate, Undelegate, Realm, UnRealm, Rtt, UnRtt, Data, Unknown, UnData, Rec, UnRec}
 use Rattle.realm_model.specs.declared.rmi.Rmi.{Rmi}
 use Rattle.realm_model.specs.Machine.{Machine, RealmRow, Seen, seen, cell_at}
-use Rattle.realm_model.specs.Act.{named, is_reverse}
+use Rattle.realm_model.specs.Act.{is_command, named, is_reverse}
 use Rattle.realm_model.specs.Update.{Outcome}
 use Rattle.realm_model.specs.Outcome.{outcome_of, fits}
 use Rattle.realm_model.specs.Command.Granule.{host_peek}
@@ -26,7 +26,6 @@ use Rattle.realm_model.proofs.StepSays.{step_is}
 use Rattle.realm_objects.specs.Attributes.{RealmAttributes}
 use Rattle.rmi_monitor.specs.View.{MonitorView, IsTaken, Answers, seen_in, attributes_of}
 use Rattle.realm_acts.specs.Mirror.{rd_of}
-use Rattle.realm_acts.specs.Performing.{is_command}
 use Rattle.realm_acts.proofs.Ready.{all_taken}
 use Rattle.build_books.specs.View.{HostView, world_of}
 use Rattle.realm_host.specs.Acting.{IsNoStep}

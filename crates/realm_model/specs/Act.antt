@@ -32,6 +32,12 @@ named (Enter number) = []
 named (Exit number) = []
 named (Poke number ipa offset value) = []
 
+-- the act is a command of the monitor: it leases no block, and gives none back
+abbrev pub is_command : Act → Bool
+is_command (Take order first) = false
+is_command (UnTake order first) = false
+is_command _ = true
+
 -- who leases the granules that an act of a build names: for a Take nobody, else the build
 abbrev pub holder : ℕ → Act → Option ℕ
 holder build (Take order first) = None

@@ -28,7 +28,7 @@ use Rattle.rtt.specs.Calls.{with_state, with_states, Keeps}
 use Rattle.rmi_monitor.specs.View.{MonitorView, IsTaken, seen_in, after_command, make_realm}
 use Rattle.rmi_monitor.specs.Inside.{Fields, machine_of, seen_as, IsWhole}
 use Rattle.rmi_monitor.specs.Places.{is_delegated_at, is_fit_to_start, are_fit_for_realm}
-use Rattle.rmi_monitor.specs.Vmids.{is_used, IsMarked}
+use Rattle.granule_addr.specs.Vmids.{is_used, IsMarked}
 use Rattle.rmi_monitor.proofs.Granules.{machine_is, as_many_granules, cell_is, in_granules, after_done}
 use Rattle.rmi_monitor.proofs.Checks.{delegated_state, delegated_test}
 use Rattle.rmi_monitor.proofs.Comparisons.{test_held, test_failed}

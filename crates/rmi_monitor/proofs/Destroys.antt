@@ -23,7 +23,7 @@ use Rattle.rtt.specs.Tables.{rows}
 use Rattle.rtt.specs.Calls.{with_state, with_states}
 use Rattle.rmi_monitor.specs.View.{MonitorView, IsTaken, seen_in, after_command}
 use Rattle.rmi_monitor.specs.Places.{IsInState, HasPage}
-use Rattle.rmi_monitor.specs.Vmids.{IsMarked}
+use Rattle.granule_addr.specs.Vmids.{IsMarked}
 use Rattle.rmi_monitor.specs.Inside.{Fields, realm_at, rec_at, rec_count_at, machine_of, seen_as, IsWhole}
 use Rattle.rmi_monitor.proofs.Granules.{machine_is, in_granules, in_pages, not_free, after_done}
 use Rattle.rmi_monitor.proofs.RealmPlaces.{in_rd}

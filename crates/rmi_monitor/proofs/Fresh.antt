@@ -12,13 +12,13 @@ use Rattle.realm_model.specs.Machine.{RecRow, blank}
 use Rattle.realm_model.specs.Sound.{is_rd_state}
 use Rattle.rmi_monitor.specs.Inside.{Fields, fields_of, realm_at, rec_at, rec_of, recs_of, machine_of, seen_as, is_rec_state, IsSoundAt, IsWhole}
 use Rattle.rmi_monitor.specs.View.{fresh}
-use Rattle.rmi_monitor.specs.Vmids.{is_used}
+use Rattle.granule_addr.specs.Vmids.{is_used}
 use Rattle.rmi_monitor.proofs.Gathered.{gathered-none}
 use Rattle.rmi_monitor.proofs.RecEntries.{rec_of-none}
 use Rattle.rmi_monitor.proofs.UsedVmids.{used-none}
 use Rattle.rmi_monitor.proofs.Machines.{length-machine_of, cell_at-machine_of, same_machine}
 use Rattle.rmi_monitor.proofs.HostMoves.{cell_of-host}
-use Rattle.rmi_monitor.proofs.Listed.{same_each}
+use Rattle.granule_addr.proofs.Same.{same_each}
 
 -- the fields when nothing has happened
 abbrev pub new_fields : ℕ → ℕ → List Bool → ℕ → Fields

@@ -49,9 +49,3 @@ pub some_inside : {A : Type 0} (xs : List (Option A)) (i : ℕ) (x : A) → get_
 some_inside [] i x e = cc
 some_inside (y ∷ ys) zero x e = omega arith
 some_inside (y ∷ ys) (suc i) x e = let below = some_inside ys i x e in omega (arith, below)
-
--- a list of one thing has it at each place
-pub same_each : {A : Type 0} (n i : ℕ) (x : A) → get_or (replicate n x) i x ≡ x
-same_each zero i x = refl
-same_each (suc n) zero x = refl
-same_each (suc n) (suc i) x = same_each n i x

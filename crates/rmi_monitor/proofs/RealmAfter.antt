@@ -16,7 +16,7 @@ use Rattle.realm_objects.specs.Attributes.{RealmAttributes, realm_row}
 use Rattle.rtt.specs.Tables.{rows}
 use Rattle.rtt.specs.Realm.{IsBacked, HasTables, LeavesOthers}
 use Rattle.rmi_monitor.specs.Inside.{Fields, realm_at, recs_of, descriptor_of, bytes_of, cell_of, is_rec_state, IsSoundAt, IsWhole}
-use Rattle.rmi_monitor.specs.Vmids.{is_used}
+use Rattle.granule_addr.specs.Vmids.{is_used}
 use Rattle.rmi_monitor.proofs.Frames.{Stays, LeavesRecs, Leaves, whole_after, cell_after}
 use Rattle.rmi_monitor.proofs.RealmPlaces.{in_rd}
 use Rattle.rmi_monitor.proofs.UsedVmids.{used-kept}

@@ -26,7 +26,7 @@ use Rattle.realm_objects.specs.Attributes.{RealmAttributes, realm_row}
 use Rattle.rtt.specs.Tables.{rows}
 use Rattle.rtt.specs.Realm.{IsBacked, HasTables, LeavesAlone, LeavesOthers}
 use Rattle.rmi_monitor.specs.Inside.{Fields, realm_at, recs_of, descriptor_of, bytes_of, cell_of, machine_of, is_rec_state, IsSoundAt, IsWhole}
-use Rattle.rmi_monitor.specs.Vmids.{is_used, IsMarked}
+use Rattle.granule_addr.specs.Vmids.{is_used, IsMarked}
 use Rattle.rmi_monitor.proofs.Machines.{cell_plain}
 use Rattle.rmi_monitor.proofs.Frames.{Stays, StayRecs, recs_of_stay, recs_stay, Leaves, whole_after, cell_after}
 use Rattle.rmi_monitor.proofs.Listed.{each_in}

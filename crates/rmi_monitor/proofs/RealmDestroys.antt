@@ -23,7 +23,7 @@ use Rattle.rtt.specs.Realm.{LeavesAlone}
 use Rattle.rtt.specs.Calls.{with_state, with_states}
 use Rattle.rtt.proofs.Walks.{start_in}
 use Rattle.rmi_monitor.specs.Inside.{Fields, realm_at, rec_at, machine_of, is_rec_state, IsSoundAt, IsWhole}
-use Rattle.rmi_monitor.specs.Vmids.{IsMarked}
+use Rattle.granule_addr.specs.Vmids.{IsMarked}
 use Rattle.rmi_monitor.proofs.Frames.{Stays, StayRecs, backed_after, recs_stay, Leaves, whole_after, cell_after}
 use Rattle.rmi_monitor.proofs.HostMoves.{cell_of-host}
 use Rattle.rmi_monitor.proofs.Comparisons.{or_rest}

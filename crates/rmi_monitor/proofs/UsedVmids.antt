@@ -12,7 +12,7 @@ use Rattle.realm_objects.specs.Attributes.{RealmAttributes, realm_row}
 use Rattle.rtt.specs.Tables.{rows}
 use Rattle.rmi_monitor.specs.Inside.{Fields, realm_at, recs_of, cell_of, machine_of, IsWhole}
 use Rattle.rmi_monitor.specs.Places.{is_realm_with}
-use Rattle.rmi_monitor.specs.Vmids.{is_used, IsMarked}
+use Rattle.granule_addr.specs.Vmids.{is_used, IsMarked}
 
 list_any-map : {A B : Type 0} (p : B → Bool) (f : A → B) (xs : List A) → list_any p (map f xs) ≡ list_any (λ x. p (f x)) xs
 list_any-map p f [] = refl

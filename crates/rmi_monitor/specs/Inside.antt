@@ -18,7 +18,7 @@ use Rattle.rtt.specs.Realm.{IsBacked, HasTables}
 use Rattle.rmi_monitor.specs.View.{MonitorView}
 use Rattle.rmi_monitor.specs.Gathered.{gathered, IsOnce}
 use Rattle.rmi_monitor.specs.Places.{is_realm_with}
-use Rattle.rmi_monitor.specs.Vmids.{is_used}
+use Rattle.granule_addr.specs.Vmids.{is_used}
 
 -- The VMIDs that are used, and of each granule: its state and realm, the bytes of its page, whether it is free, the realm or
 -- the REC that it is, and how many RECs that realm has.

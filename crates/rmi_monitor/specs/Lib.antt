@@ -4,4 +4,3 @@ pub mod Gathered
 pub mod Inside
 pub mod Places
 pub mod Named
-pub mod Vmids

@@ -16,6 +16,5 @@ mod realm;
 mod rec;
 mod recs;
 mod table;
-mod vmids;
 
 pub use monitor::Monitor;

@@ -9,8 +9,7 @@ ghost use Rattle.realm_model.specs.Machine.{RealmRow, cell_at};
 ghost use Rattle.rtt.specs.RowWords.{AreWordsOf};
 ghost use Rattle.rmi_monitor.specs.View.{IsGivable, IsPageOf, fresh, with_block, without_block};
 
-use crate::vmids::VmidSet;
-use granule_addr::{Gran, Order};
+use granule_addr::{Gran, Order, VmidSet};
 use granule_table::GranuleTable;
 use page_arena::PageStore;
 use realm_model::GranuleState;

@@ -1,4 +1,4 @@
--- A flag for each VMID that is down.
+-- Lists of one thing.
 use Rattle.std.proofs.Common.{◌≡◌, ℕ, zero, suc, replicate, get_or, refl}
 
 -- a list of one thing has it at each place

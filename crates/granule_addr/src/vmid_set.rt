@@ -1,8 +1,8 @@
-//! The VMIDs that realms have.
+//! Sets of VMIDs.
 ghost use Rattle.std.specs.Prelude.{◌≡◌, ℕ, true, false};
-ghost use Rattle.rmi_monitor.specs.Vmids.{is_used, IsMarked};
+ghost use Rattle.granule_addr.specs.Vmids.{is_used, IsMarked};
 
-use granule_addr::Vmid;
+use crate::Vmid;
 use std::marker::Model;
 
 /// A set of VMIDs: a flag for each number.
