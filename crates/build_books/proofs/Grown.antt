@@ -20,6 +20,7 @@ use Rattle.realm_model.specs.History.{acts_of, open_entries, pages_of, replay}
 use Rattle.realm_model.specs.Pages.{PagesAreLeased}
 use Rattle.realm_model.specs.Room.{used_room, room_taken}
 use Rattle.realm_model.specs.Running.{running_count}
+use Rattle.realm_model.specs.StepLaw.{leases_after}
 use Rattle.realm_model.specs.Undoing.{by}
 use Rattle.realm_model.proofs.Growth.{Grows, grows, acts_of-other, open_entries-own, open_entries-other}
 use Rattle.realm_model.proofs.Lists.{slice_get-set}
@@ -34,7 +35,7 @@ use Rattle.build_books.specs.declared.build.Build.{Build}
 use Rattle.build_books.specs.Marks.{mark_while}
 use Rattle.build_books.specs.View.{HostView, world_of, with_event, used, is_aborting, mark_of}
 use Rattle.build_books.specs.Vmids.{CanFollowVmids, IsVmidsAfter}
-use Rattle.build_books.specs.Kept.{books_of, build_after, pages_after, held_after, CanFollow, CanFollowRec, CanFollowPages, CanFollowHolders, CanRecord, IsBuildOf, HasRoom, IsKept}
+use Rattle.build_books.specs.Kept.{books_of, build_after, pages_after, CanFollow, CanFollowRec, CanFollowPages, CanFollowHolders, CanRecord, IsBuildOf, HasRoom, IsKept}
 use Rattle.build_books.proofs.Desks.{said_of}
 use Rattle.build_books.proofs.HoldersFollow.{leases_follow, can_follow_holders}
 use Rattle.build_books.proofs.PagesFollow.{pages_follow, can_follow_pages}
@@ -213,7 +214,7 @@ module _ (builds : List Build) (leases : Stacks) (holders : List (Option ℕ)) (
 
     module _ (new : Build) (new_leases : Stacks) (new_holders : List (Option ℕ)) (new_vmids : Vmids) (after : Vec Event) (followed : new ≡ build_after old act)
         (leases_are : new_leases ≡ with_stack leases build (pages_after (stack_of leases build) act))
-        (holders_are : new_holders ≡ held_after build act holders) (vmids_after : IsVmidsAfter act vmids new_vmids)
+        (holders_are : new_holders ≡ leases_after build act holders) (vmids_after : IsVmidsAfter act vmids new_vmids)
         (items : after.items ≡ later) (memory : vec_capacity after ≡ vec_capacity events) where
       abbrev new_builds : List Build
       new_builds = set builds number new
@@ -315,7 +316,7 @@ module _ (builds : List Build) (leases : Stacks) (holders : List (Option ℕ)) (
           ∙ sym (pages_of-other b events.items event (λ e. other (sym e))))
           (cases_eq b build)
 
-      holders_grow : held_after build act holders ≡ (world_of new_host).leases
+      holders_grow : leases_after build act holders ≡ (world_of new_host).leases
       holders_grow =
           leases_follow host.limits world can.next build act can.stepped holders kept.holders_are
           ∙ ap (λ (w : World). w.leases) (sym world_after)

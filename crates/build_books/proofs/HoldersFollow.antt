@@ -4,33 +4,17 @@ use Rattle.std.specs.Prelude.{slice_get}
 use Rattle.std.specs.List.{All}
 use Rattle.std.proofs.lemmas.Nat.{pow_pos}
 use Rattle.std.proofs.lemmas.Option.{slice_get_within}
-use Rattle.leases.specs.Holders.{held, is_held_by}
 use Rattle.realm_model.specs.declared.act.Act.{Act}
 use Rattle.realm_model.specs.declared.act.Act.TheVariants.{Take, UnTake}
 use Rattle.realm_model.specs.Act.{block, named, holder}
 use Rattle.realm_model.specs.Machine.{Limits}
 use Rattle.realm_model.specs.Step.{step}
-use Rattle.realm_model.specs.StepLaw.{set_each, leases_after}
+use Rattle.realm_model.specs.StepLaw.{leases_after}
 use Rattle.realm_model.specs.Undoing.{by}
-use Rattle.realm_model.specs.World.{World, is_leased_to}
+use Rattle.realm_model.specs.World.{World}
 use Rattle.realm_model.proofs.StepSays.{step_is}
 use Rattle.realm_acts.proofs.Ranges.{of_all_range}
-use Rattle.build_books.specs.Kept.{held_after, CanFollowHolders}
-
--- one lease at each of some granules, in both words
-pub held-set_each : (lease : Option ℕ) (granules : List ℕ) (leases : List (Option ℕ)) → held leases lease granules ≡ set_each lease granules leases
-unfolding held set_each
-held-set_each lease [] leases = refl
-held-set_each lease (granule ∷ granules) leases = held-set_each lease granules (set leases granule lease)
-
-pub holders_follow : (build : ℕ) (act : Act) (leases : List (Option ℕ)) → held_after build act leases ≡ leases_after build act leases
-holders_follow build (Take order first) leases = held-set_each (Some build) (block order first) leases
-holders_follow build (UnTake order first) leases = held-set_each None (block order first) leases
-holders_follow build act leases = refl
-
--- a build holds a granule exactly where it is leased to the build
-pub is_held_by-is_leased_to : (build granule : ℕ) (leases : List (Option ℕ)) → is_held_by leases granule build ≡ is_leased_to (Some build) leases granule
-is_held_by-is_leased_to build granule leases = refl
+use Rattle.build_books.specs.Kept.{CanFollowHolders}
 
 -- ---- in a step
 
@@ -58,8 +42,7 @@ module _ (limits : Limits) (world next : World) (build : ℕ) (act : Act) (stepp
       (granules_inside build act world.leases (step_is limits world next (by build act) stepped).granules)
 
   -- and the holders after it are the leases of the world after it
-  pub leases_follow : (holders : List (Option ℕ)) → holders ≡ world.leases → held_after build act holders ≡ next.leases
+  pub leases_follow : (holders : List (Option ℕ)) → holders ≡ world.leases → leases_after build act holders ≡ next.leases
   leases_follow holders same =
-      ap (held_after build act) same
-      ∙ holders_follow build act world.leases
+      ap (leases_after build act) same
       ∙ sym (step_is limits world next (by build act) stepped).leases

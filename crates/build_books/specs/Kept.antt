@@ -3,7 +3,6 @@ use Rattle.std.specs.Prelude.{◌≡◌, ℕ, nat_lt, ◌+◌, ◌-◌, ◌*◌,
 use Rattle.std.specs.List.{All}
 use Rattle.std.specs.Global.{Vec}
 use Rattle.granule_addr.specs.Vmids.{is_used}
-use Rattle.leases.specs.Holders.{held}
 use Rattle.leases.specs.Stacks.{Stacks, stack_of}
 use Rattle.leases.specs.Vmids.{Vmids}
 use Rattle.realm_model.specs.declared.act.Act.{Act}
@@ -56,12 +55,6 @@ abbrev pub pages_after : List ℕ → Act → List ℕ
 pages_after pages (Take order first) = pages ++ block order first
 pages_after pages (UnTake order first) = take (length pages - 2 ^ order) pages
 pages_after pages _ = pages
-
--- who leases each granule: the build those of a block that it takes, nobody those of one that it gives back
-abbrev pub held_after : ℕ → Act → List (Option ℕ) → List (Option ℕ)
-held_after build (Take order first) leases = held leases (Some build) (block order first)
-held_after build (UnTake order first) leases = held leases None (block order first)
-held_after build _ leases = leases
 
 -- it is out of abort with nothing open, and its mark is dropped where fewer acts are open than at the mark
 abbrev pub points_after : Build → Build

@@ -4,6 +4,7 @@ ghost use Rattle.std.specs.Bool.{OnFalse};
 ghost use Rattle.std.specs.List.{last_or};
 ghost use Rattle.realm_model.specs.History.{acts_of, IsLegal, LeavesNoTrace};
 ghost use Rattle.realm_model.specs.Act.{is_paired};
+ghost use Rattle.realm_model.specs.StepLaw.{leases_after};
 ghost use Rattle.realm_model.specs.World.{realm_of, is_leased_to};
 ghost use Rattle.realm_model.specs.Running.{running_count};
 ghost use Rattle.realm_acts.specs.Mirror.{rd_of};
@@ -11,7 +12,7 @@ ghost use Rattle.realm_acts.specs.Performing.{rec_granule};
 ghost use Rattle.leases.specs.Stacks.{stack_of, with_stack};
 ghost use Rattle.build_books.specs.Marks.{mark_while};
 ghost use Rattle.build_books.specs.View.{world_of, open_of, used, pages_of_build, granule_of_page, is_aborting, mark_of, mark_now, with_mark, begun, with_event};
-ghost use Rattle.build_books.specs.Kept.{new_build, pages_after, held_after, CanFollowPages, CanFollowHolders, CanRecord, HasRoom, IsMarkOf, AreOfEach, PointsHold};
+ghost use Rattle.build_books.specs.Kept.{new_build, pages_after, CanFollowPages, CanFollowHolders, CanRecord, HasRoom, IsMarkOf, AreOfEach, PointsHold};
 ghost use Rattle.realm_acts.specs.Mirror.{IsPlaceOf};
 ghost use Rattle.build_books.specs.Vmids.{lowest_vmid, CanFollowVmids, IsVmidsAfter};
 ghost use Rattle.build_books.specs.Booted.{booted};
@@ -79,7 +80,7 @@ fn follow_pages(leases: &mut Leases, build: BuildId, act: &Act)
 // that it gives back.
 fn follow_holders(holders: &mut Holders, build: BuildId, act: &Act)
     requires { CanFollowHolders holders.old act.now }
-    ensures { holders.new ≡ held_after build act.now holders.old }
+    ensures { holders.new ≡ leases_after build act.now holders.old }
 {
     match act {
         Act::Take { order, first } => holders.lease(build, *first, *order),

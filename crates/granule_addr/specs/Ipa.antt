@@ -5,9 +5,17 @@ use Rattle.std.specs.Prelude.{ℕ, ◌-◌, ◌*◌, ◌/◌, ◌%◌, ◌^◌, 
 abbrev pub is_width : ℕ → Bool
 is_width width = nat_le 39 width && nat_le width 43
 
+-- how many IPA granules an address space of that width has
+abbrev pub space_of : ℕ → ℕ
+space_of width = 2 ^ (width - 12)
+
+-- how many the widest has
+abbrev pub widest_space : ℕ
+widest_space = space_of 43
+
 -- an IPA granule lies in the realm's address space
 abbrev pub is_in_space : ℕ → ℕ → Bool
-is_in_space ipa width = nat_lt ipa (2 ^ (width - 12))
+is_in_space ipa width = nat_lt ipa (space_of width)
 
 -- an IPA granule lies in the protected half of the address space: the top bit of the IPA is 0
 abbrev pub is_protected_at : ℕ → ℕ → Bool
@@ -32,7 +40,3 @@ served_count level = covered_count level * 512
 -- which of the starting tables, of level 1, covers the IPA granule
 abbrev pub start_index : ℕ → ℕ
 start_index ipa = ipa / served_count 1
-
--- how many IPA granules the widest address space has
-abbrev pub widest_space : ℕ
-widest_space = 2 ^ 31

@@ -1,16 +1,20 @@
 -- The starting tables of a realm. RMM 1.0, Realm attributes: RTT base address, number of starting-level RTTs.
-use Rattle.std.specs.Prelude.{ℕ, ◌+◌, ◌-◌, ◌*◌, ◌^◌, List}
+use Rattle.std.specs.Prelude.{◌≡◌, ℕ, ◌+◌, ◌-◌, ◌*◌, ◌^◌, List, true}
 use Rattle.std.specs.List.{range_with_len}
-use Rattle.granule_addr.specs.Ipa.{served_count, start_index}
+use Rattle.granule_addr.specs.Ipa.{is_width, served_count, space_of, start_index}
 use Rattle.granule_addr.specs.declared.root.Root.{Root}
 
 -- how many starting tables an address space of that width needs: 1, 2, 4, 8 or 16
 abbrev pub start_count : ℕ → ℕ
 start_count width = 2 ^ (width - 39)
 
--- how many IPA granules they serve: all of the address space
-abbrev pub space_of : ℕ → ℕ
-space_of width = start_count width * served_count 1
+-- how many IPA granules they serve
+abbrev pub served_space : ℕ → ℕ
+served_space width = start_count width * served_count 1
+
+-- that is all of the address space, and no more
+abbrev pub ServesSpace : ℕ → Type 0
+ServesSpace width = is_width width ≡ true → served_space width ≡ space_of width
 
 -- the starting tables: adjacent granules, from the first on
 unfoldable pub starting_tables : Root → List ℕ

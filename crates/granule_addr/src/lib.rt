@@ -8,6 +8,7 @@ mod block;
 mod granule;
 mod ids;
 mod ipa;
+pub mod law;
 mod level;
 mod page;
 mod root;

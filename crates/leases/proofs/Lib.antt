@@ -1,2 +1,2 @@
 pub mod Written
-pub mod Held
+pub mod Leased

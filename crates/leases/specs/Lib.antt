@@ -1,4 +1,3 @@
 pub mod Stacks
 pub mod StackLaws
 pub mod Vmids
-pub mod Holders

@@ -1,7 +1,8 @@
 //! Which build leases each granule of a machine.
 ghost use Rattle.std.specs.Prelude.{◌≡◌, ◌+◌, ◌^◌, ◌≤◌, length, replicate, Some, None, IfOk};
 ghost use Rattle.std.specs.List.{range_with_len};
-ghost use Rattle.leases.specs.Holders.{held, is_held_by};
+ghost use Rattle.realm_model.specs.StepLaw.{set_each};
+ghost use Rattle.realm_model.specs.World.{is_leased_to};
 
 use granule_addr::{BuildId, Gran, Order};
 use std::alloc::{AllocError, Global};
@@ -34,7 +35,7 @@ impl Holders {
     /// The build leases the granules of a block from now on.
     pub fn lease(&mut self, build: BuildId, first: Gran, order: Order)
         requires { first + 2 ^ order ≤ length self.old }
-        ensures { self.new ≡ held self.old (Some build) (range_with_len first (2 ^ order)) }
+        ensures { self.new ≡ set_each (Some build) (range_with_len first (2 ^ order)) self.old }
     {
         self.set_run(first.number(), order.size(), Some(build));
     }
@@ -42,14 +43,14 @@ impl Holders {
     /// Nobody leases the granules of a block from now on.
     pub fn give_back(&mut self, first: Gran, order: Order)
         requires { first + 2 ^ order ≤ length self.old }
-        ensures { self.new ≡ held self.old None (range_with_len first (2 ^ order)) }
+        ensures { self.new ≡ set_each None (range_with_len first (2 ^ order)) self.old }
     {
         self.set_run(first.number(), order.size(), None);
     }
 
     /// Whether the granule is one of the machine that the build leases.
     pub fn is_held_by(&self, granule: Gran, build: BuildId) -> bool
-        ensures { result ≡ is_held_by self.now granule build }
+        ensures { result ≡ is_leased_to (Some build) self.now granule }
     {
         matches!(self.of.get(granule.number() as usize), Some(Some(holder)) if *holder == build)
     }
@@ -57,7 +58,7 @@ impl Holders {
     // Sets the lease of `count` granules from `first` on.
     fn set_run(&mut self, first: u16, count: u16, lease: Option<BuildId>)
         requires { first + count ≤ length self.old }
-        ensures { self.new ≡ held self.old lease (range_with_len first count) }
+        ensures { self.new ≡ set_each lease (range_with_len first count) self.old }
     {
         let start = first as usize;
         self.of[start..start + count as usize].fill(lease);

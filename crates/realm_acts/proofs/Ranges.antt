@@ -9,7 +9,8 @@ use Rattle.page_arena.specs.Runs.{inside_or_outside, length-with_run, get_or-wit
 use Rattle.realm_model.specs.Act.{block}
 use Rattle.realm_model.specs.StepLaw.{set_each}
 use Rattle.realm_model.proofs.Booleans.{false_from}
-use Rattle.realm_model.proofs.Lists.{is_in, is_in_head, is_in_more}
+use Rattle.realm_model.specs.Command.Check.{is_in}
+use Rattle.realm_model.proofs.Lists.{is_in_head, is_in_more}
 use Rattle.realm_model.proofs.SetEach.{length-set_each, get_or-set_each}
 
 -- ---- what holds of each number of a range

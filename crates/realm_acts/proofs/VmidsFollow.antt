@@ -19,7 +19,8 @@ use Rattle.realm_model.specs.Undoing.{by}
 use Rattle.realm_model.proofs.Booleans.{or_none, or_true, false_from}
 use Rattle.realm_model.proofs.Growth.{Grows, grows, open_entries-own, open_entries-other, takes_away}
 use Rattle.realm_model.proofs.Leases.{leased}
-use Rattle.realm_model.proofs.Lists.{is_in, is_in_head, is_in-append}
+use Rattle.realm_model.specs.Command.Check.{is_in}
+use Rattle.realm_model.proofs.Lists.{is_in_head, is_in-append}
 use Rattle.realm_model.proofs.OpenRealm.{maker_at, realm_is_open}
 use Rattle.realm_model.proofs.Reachable.{realm_of_build, reachable_worlds}
 use Rattle.realm_model.proofs.RealmAfter.{is_realm_destroy}

@@ -1,9 +1,9 @@
 -- The VMIDs in use before an act and after it. RMM 1.0, RMI_REALM_CREATE, RMI_REALM_DESTROY.
 use Rattle.std.specs.Prelude.{◌≡◌, ◌≢◌, ◌==◌, ℕ, List, Bool, true, false, Some}
-use Rattle.std.specs.List.{list_any}
 use Rattle.realm_model.specs.declared.act.Act.{Act}
 use Rattle.realm_model.specs.declared.act.Act.TheVariants.{Realm, UnRealm}
 use Rattle.realm_model.specs.declared.act.Event.{Event}
+use Rattle.realm_model.specs.Command.Check.{is_in}
 use Rattle.realm_model.specs.Machine.{Limits, Machine}
 use Rattle.realm_model.specs.World.{World}
 use Rattle.realm_model.specs.Step.{step, used_vmids}
@@ -12,7 +12,7 @@ use Rattle.realm_model.specs.Undoing.{by}
 
 -- a realm of the machine has the VMID
 abbrev pub is_vmid_used : Machine → ℕ → Bool
-is_vmid_used machine vmid = list_any (λ used. vmid == used) (used_vmids machine)
+is_vmid_used machine vmid = is_in vmid (used_vmids machine)
 
 -- one VMID is in use, or not, from now on, and the others are as they were
 pub record IsUsedNow (old new : Machine) (vmid : ℕ) (used : Bool) : Type 0 where

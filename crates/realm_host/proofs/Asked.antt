@@ -10,7 +10,7 @@ use Rattle.realm_model.specs.declared.act.Act.TheVariants as acts
 use Rattle.realm_model.specs.declared.rmi.Rmi.{Rmi}
 use Rattle.realm_model.specs.Machine.{RealmRow, Seen, seen, cell_at}
 use Rattle.realm_model.specs.Update.{Update}
-use Rattle.realm_model.specs.Command.Check.{error_input}
+use Rattle.realm_model.specs.Command.Check.{error_input, is_in}
 use Rattle.realm_model.specs.Act.{is_command, named, is_reverse}
 use Rattle.realm_model.specs.Outcome.{outcome_of, realm_is, is_in_range, fits}
 use Rattle.realm_model.specs.World.{World, realm_of}
@@ -21,7 +21,7 @@ use Rattle.realm_model.proofs.StepSays.{step_is}
 use Rattle.realm_model.specs.Running.{next_number}
 use Rattle.realm_model.specs.Undoing.{by}
 use Rattle.realm_model.proofs.Leases.{leased as leased_to}
-use Rattle.realm_model.proofs.Lists.{is_in, is_in_head, is_in_more}
+use Rattle.realm_model.proofs.Lists.{is_in_head, is_in_more}
 use Rattle.realm_model.proofs.Pages.{is_in-pages_of}
 use Rattle.realm_acts.specs.Mirror.{rd_of}
 use Rattle.build_commands.specs.declared.cmd.Cmd.{Cmd}

@@ -2,7 +2,8 @@
 use Rattle.std.proofs.Common.{◌≡◌, ℕ, zero, suc, ◌+◌, ◌<◌, ◌≤◌, Bool, true, false, ◌||◌, List, [], ◌∷◌, refl, sym, ap, ◌∙◌, subst, arith, ⊎_elim}
 use Rattle.std.specs.List.{list_any, range_with_len}
 use Rattle.std.proofs.lemmas.Bool.{cases_eq, ne_eqb}
-use Rattle.realm_model.proofs.Lists.{is_in, is_in_head, is_in_more}
+use Rattle.realm_model.specs.Command.Check.{is_in}
+use Rattle.realm_model.proofs.Lists.{is_in_head, is_in_more}
 use Rattle.realm_model.proofs.Booleans.{false_from}
 
 pub in_range_from : (first count k : ℕ) → first ≤ k → k < first + count → is_in k (range_with_len first count) ≡ true

@@ -9,6 +9,7 @@ pub mod Wide
 pub mod Recs
 -- translations
 pub mod Tables
+pub mod TwoTables
 pub mod Ram
 pub mod Data
 pub mod WideTables

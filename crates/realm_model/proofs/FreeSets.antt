@@ -9,7 +9,8 @@ use Rattle.realm_model.specs.declared.act.Event.{Event}
 use Rattle.realm_model.specs.Machine.{Limits, Cell, Machine, blank}
 use Rattle.realm_model.specs.World.{World, same_lease, is_leased_to, free_set, each, hidden, unleased, is_of, is_of_other, part_of, without}
 use Rattle.realm_model.specs.History.{pages_of, replay, IsLegal}
-use Rattle.realm_model.proofs.Lists.{is_in, Contains-from_in, in_from_Contains}
+use Rattle.realm_model.specs.Command.Check.{is_in}
+use Rattle.realm_model.proofs.Lists.{Contains-from_in, in_from_Contains}
 use Rattle.realm_model.proofs.Leases.{leased}
 use Rattle.realm_model.proofs.Pages.{is_in-pages_of}
 use Rattle.realm_model.proofs.Booleans.{or_true}

@@ -4,7 +4,7 @@ use Rattle.std.specs.Prelude.{option_map, is_some, ◌==◌}
 use Rattle.std.specs.FinMap.{get, insert, empty, get-empty}
 use Rattle.std.proofs.lemmas.Bool.{and_parts, eqb-true, eqb-false}
 use Rattle.granule_addr.specs.Ipa.{covered_count, first_covered}
-use Rattle.granule_addr.specs.Root.{start_count, space_of}
+use Rattle.granule_addr.specs.Root.{start_count, served_space}
 use Rattle.realm_model.specs.declared.states.EntryState.TheVariants.{Unassigned}
 use Rattle.realm_model.specs.declared.states.Ripas.{Ripas}
 use Rattle.realm_model.specs.declared.states.Ripas.TheVariants.{Empty, Destroyed}
@@ -194,7 +194,7 @@ module _ {width : ℕ} (rows : Rows) (level ipa : ℕ) (at : IsTablePlace ipa le
 -- ---- walks
 
 -- every one ends at a row
-pub walk_ends : {width : ℕ} (rows : Rows) → IsFull width (look rows) → (ipa level : ℕ) → ipa < space_of width → 1 ≤ level → is_some (walk rows ipa level) ≡ true
+pub walk_ends : {width : ℕ} (rows : Rows) → IsFull width (look rows) → (ipa level : ℕ) → ipa < served_space width → 1 ≤ level → is_some (walk rows ipa level) ≡ true
 unfolding walk
 walk_ends rows full ipa zero inside low = absurd (omega arith)
 walk_ends rows full ipa (suc zero) inside low =

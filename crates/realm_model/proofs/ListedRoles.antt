@@ -6,7 +6,8 @@ use Rattle.std.proofs.lemmas.Option.{same_Some}
 use Rattle.realm_model.specs.declared.states.GranuleState.{GranuleState}
 use Rattle.realm_model.specs.Roles.{Role}
 use Rattle.realm_model.proofs.Booleans.{true_false}
-use Rattle.realm_model.proofs.Lists.{is_in, is_in_at, AllDistinct}
+use Rattle.realm_model.specs.Command.Check.{is_in}
+use Rattle.realm_model.proofs.Lists.{is_in_at, AllDistinct}
 
 module _ (role : ℕ → Role) where
   -- the role of a granule, if it is in the list, whose places are counted from i on

@@ -10,7 +10,7 @@ use Rattle.std.proofs.lemmas.Bool.Decides.{Decides-eqb}
 use Rattle.std.proofs.lemmas.Map.Made.{IsDistinct-from_AllPairs}
 use Rattle.std.proofs.lemmas.Map.Steps.{length-le_from_distinct_below}
 use native.Mathlib.Numerals.{unary_clauses}
-use Rattle.realm_model.specs.Command.Check.{are_distinct}
+use Rattle.realm_model.specs.Command.Check.{are_distinct, is_in}
 use Rattle.realm_model.proofs.Booleans.{or_parts, true_false, not_true}
 
 -- ---- the last element and the rest
@@ -103,9 +103,6 @@ module _ {A : Type 0} where
   same_list (x ∷ xs) (y ∷ ys) h = λ i. same_Some _ _ (h 0) i ∷ same_list xs ys (λ k. h (suc k)) i
 
 -- ---- membership of numbers, as a test
-
-abbrev pub is_in : ℕ → List ℕ → Bool
-is_in k xs = list_any (λ x. k == x) xs
 
 pub is_in-append : (k : ℕ) (xs ys : List ℕ) → is_in k (xs ++ ys) ≡ (is_in k xs || is_in k ys)
 is_in-append k xs ys = list_any-append (λ x. k == x) xs ys

@@ -10,10 +10,10 @@ use Rattle.granule_addr.specs.Page.{zero_page}
 use Rattle.realm_model.specs.declared.states.GranuleState.TheVariants.{Rd, Rtt as InRtt}
 use Rattle.realm_model.specs.Machine.{Cell, Machine, Seen, seen, held}
 use Rattle.realm_model.specs.Update.{Update, Put}
-use Rattle.realm_model.specs.Command.Check.{is_delegated}
+use Rattle.realm_model.specs.Command.Check.{is_delegated, is_in}
 use Rattle.realm_model.specs.Command.Realm.{new_realm, is_start}
 use Rattle.realm_model.proofs.Booleans.{not_true}
-use Rattle.realm_model.proofs.Lists.{is_in, AllDistinct}
+use Rattle.realm_model.proofs.Lists.{AllDistinct}
 use Rattle.realm_model.proofs.Roots.{starting_tables-AllDistinct}
 use Rattle.realm_model.proofs.Written.{each_put, put_seen, seen-each_put, put_at, put_at-each_put}
 

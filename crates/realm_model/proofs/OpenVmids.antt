@@ -12,7 +12,8 @@ use Rattle.realm_model.specs.Step.{used_vmids}
 use Rattle.realm_model.specs.History.{open_entries, replay, IsLegal}
 use Rattle.realm_model.specs.OpenRealm.{makes_realm, maker, makers, uses_vmid, VmidIsOpen}
 use Rattle.realm_model.proofs.Booleans.{or_none}
-use Rattle.realm_model.proofs.Lists.{is_in, Contains-from_in, in_from_Contains}
+use Rattle.realm_model.specs.Command.Check.{is_in}
+use Rattle.realm_model.proofs.Lists.{Contains-from_in, in_from_Contains}
 use Rattle.realm_model.proofs.UsedVmids.{used_at, used_by}
 use Rattle.realm_model.proofs.OpenRealm.{maker_at, realm_is_open}
 use Rattle.realm_model.proofs.Reachable.{realm_of_build}

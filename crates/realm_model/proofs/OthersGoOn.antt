@@ -15,7 +15,8 @@ use Rattle.realm_model.specs.World.{World, is_leased_to, realm_of, each, hidden,
 use Rattle.realm_model.specs.Step.{step, used_vmids}
 use Rattle.realm_model.specs.StepLaw.{leases_after, IsStep, StepIsWhatItSays}
 use Rattle.realm_model.proofs.Booleans.{true_false}
-use Rattle.realm_model.proofs.Lists.{is_in, all_in, all_from_in}
+use Rattle.realm_model.specs.Command.Check.{is_in}
+use Rattle.realm_model.proofs.Lists.{all_in, all_from_in}
 use Rattle.realm_model.proofs.Leases.{lease_is, lease_same, leased, leased_from, leased_all, all_leased}
 use Rattle.realm_model.proofs.HiddenSteps.{named_seen, realm_kept, step-without, part_of-other_step, leased_in_part}
 use Rattle.realm_model.proofs.Written.{IsSquare}

@@ -8,7 +8,7 @@ use Rattle.realm_model.specs.declared.act.Act.TheVariants.{Take, UnTake, Fill, P
 use Rattle.realm_model.specs.declared.act.Event.{Event}
 use Rattle.realm_model.specs.Machine.{Limits, blank, cell_at}
 use Rattle.realm_model.specs.Update.{Outcome, Update}
-use Rattle.realm_model.specs.Command.Check.{check}
+use Rattle.realm_model.specs.Command.Check.{check, is_in}
 use Rattle.realm_model.specs.Act.{named, reverse_of, is_paired}
 use Rattle.realm_model.specs.Outcome.{outcome_of}
 use Rattle.realm_model.specs.World.{World, is_leased_to, realm_of, updated_all, part_of}
@@ -21,7 +21,7 @@ use Rattle.realm_model.proofs.Puts.{puts, is_of_block}
 use Rattle.realm_model.proofs.Reversal.{Leads, Reversal, undone, rev, reverse_is}
 use Rattle.realm_model.proofs.Written.{takes, leases_taken, put_takes, put_frees, puts_leases, seen_takes, seen_frees, is_put, cell_put, put_at, IsSquare, frees, leases_freed}
 use Rattle.realm_model.proofs.SoundParts.{sound_after, IsSound, IsClean-part_of, IsSound-step, IsSquare-part_of}
-use Rattle.realm_model.proofs.Lists.{is_in, same_list}
+use Rattle.realm_model.proofs.Lists.{same_list}
 use Rattle.realm_model.proofs.Outcomes.{Yields, of_check}
 use Rattle.realm_model.proofs.StepBack.{done, asked, planned}
 use Rattle.realm_model.proofs.OwnsSame.{cell_itself, same_whole, own_itself}

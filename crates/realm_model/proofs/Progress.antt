@@ -9,7 +9,7 @@ use Rattle.realm_model.specs.declared.act.Act.TheVariants.{Take, UnTake, Fill, P
 use Rattle.realm_model.specs.declared.act.Event.{Event}
 use Rattle.realm_model.specs.Machine.{Limits, Cell, Seen, cell_at, seen}
 use Rattle.realm_model.specs.Update.{Free}
-use Rattle.realm_model.specs.Command.Check.{is_undelegated}
+use Rattle.realm_model.specs.Command.Check.{is_undelegated, is_in}
 use Rattle.realm_model.specs.Act.{named, holder, reverse_of, is_reverse, is_paired}
 use Rattle.realm_model.specs.Outcome.{outcome_of, is_in_range, fits}
 use Rattle.realm_model.specs.World.{World, is_leased_to, realm_of, updated_all, part_of, is_of_other}
@@ -18,7 +18,7 @@ use Rattle.realm_model.specs.History.{open_entries, IsInTurn, replay, IsLegal}
 use Rattle.realm_model.specs.Ownership.{OwnsSame}
 use Rattle.realm_model.specs.Running.{is_running}
 use Rattle.realm_model.specs.Undoing.{by}
-use Rattle.realm_model.proofs.Lists.{all_from_in, is_in}
+use Rattle.realm_model.proofs.Lists.{all_from_in}
 use Rattle.realm_model.proofs.Clean.{clean_at}
 use Rattle.realm_model.proofs.Written.{leases_taken, seen_frees}
 use Rattle.realm_model.proofs.PairBack.{same_leases, were_free, reversed, back_of_block, take_did, taken_cells}

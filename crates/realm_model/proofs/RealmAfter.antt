@@ -13,7 +13,7 @@ use Rattle.granule_addr.specs.Root.{starting_tables}
 use Rattle.granule_addr.specs.declared.root.Root.{Root}
 use Rattle.realm_model.specs.Machine.{Limits, RecRow, RealmRow, Cell, Seen, blank, cell_at, seen}
 use Rattle.realm_model.specs.Update.{Update, Put, PutByte, cell_after}
-use Rattle.realm_model.specs.Command.Check.{is_ready, is_undelegated}
+use Rattle.realm_model.specs.Command.Check.{is_ready, is_undelegated, is_in}
 use Rattle.realm_model.specs.Act.{block, named}
 use Rattle.realm_model.specs.Outcome.{outcome_of, fits}
 use Rattle.realm_model.specs.World.{World, realm_of}
@@ -23,7 +23,6 @@ use Rattle.realm_model.specs.Step.{step, used_vmids}
 use Rattle.realm_model.specs.Undoing.{by}
 use Rattle.realm_model.specs.Command.Realm.{new_realm}
 use Rattle.realm_model.proofs.Booleans.{none_is, not_true}
-use Rattle.realm_model.proofs.Lists.{is_in}
 use Rattle.realm_model.proofs.Outcomes.{Yields, Yields-Ok, Yields-Err, Yields-check, Yields-with_realm, Yields-with_rec, Yields-with_end, Yields-with_granule}
 use Rattle.realm_model.proofs.RealmOf.{IsAt, IsAt-realm_of}
 use Rattle.realm_model.proofs.Written.{put_at, put_last, seen_takes, seen_frees, put_takes, put_frees, takes, frees, IsSquare, cell_put}

@@ -19,7 +19,8 @@ use Rattle.realm_model.specs.Ownership.{mapping_of_row, granules_of_rec}
 use Rattle.realm_model.specs.Sound.{look}
 use Rattle.realm_model.specs.Roles.{Role, AsStart, AtRow, AsRec, AsAux, row_target, aux_target, target, is_role_state, HasRole}
 use Rattle.realm_model.proofs.Booleans.{true_false, or_parts}
-use Rattle.realm_model.proofs.Lists.{is_in, is_in_at, index_of, AllDistinct}
+use Rattle.realm_model.specs.Command.Check.{is_in}
+use Rattle.realm_model.proofs.Lists.{is_in_at, index_of, AllDistinct}
 use Rattle.realm_model.proofs.NewRealms.{new_rd, creation, put_at-creation, put_at-creation_rd}
 use Rattle.realm_model.proofs.Written.{put_at, put_at-each_put, lefts}
 use Rattle.realm_model.proofs.Rows.{put_kinds}

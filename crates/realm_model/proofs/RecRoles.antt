@@ -11,13 +11,13 @@ use Rattle.realm_model.specs.declared.states.GranuleState.{GranuleState}
 use Rattle.realm_model.specs.declared.states.GranuleState.TheVariants.{Rec as InRec, RecAux}
 use Rattle.realm_model.specs.Machine.{RecRow, RealmRow, Cell, Seen, left, held, cell_at, seen}
 use Rattle.realm_model.specs.Update.{Update, Put, granule_of}
-use Rattle.realm_model.specs.Command.Check.{is_delegated}
+use Rattle.realm_model.specs.Command.Check.{is_delegated, is_in}
 use Rattle.realm_model.specs.World.{World}
 use Rattle.realm_model.specs.Ownership.{granules_of_rec}
 use Rattle.realm_model.specs.Sound.{look, is_host_state}
 use Rattle.realm_model.specs.Roles.{Role, AsStart, AtRow, AsRec, AsAux, row_target, start_target, aux_target, target, is_role_state}
 use Rattle.realm_model.proofs.Booleans.{true_false}
-use Rattle.realm_model.proofs.Lists.{is_in, is_in_at, is_in_more, index_of, AllDistinct}
+use Rattle.realm_model.proofs.Lists.{is_in_at, is_in_more, index_of, AllDistinct}
 use Rattle.realm_model.proofs.Maps.{nat_place}
 use Rattle.realm_model.proofs.Written.{put_at, put_at-each_put, granules-each_put, each_put, lefts}
 use Rattle.realm_model.proofs.Roles.{rec_target}

@@ -28,7 +28,7 @@ use Rattle.realm_model.specs.declared.act.Act.TheVariants.{Take, UnTake, Fill, P
 use Rattle.realm_model.specs.Rows.{Row, row_at, put_row, assigned, unassigned, unmapped_ripas, with_table, without_table, root_rows, is_unassigned, is_assigned, is_table, is_table_unused, place_cmp, is_table_place, has_root_table, is_unassigned_state, is_assigned_state, is_table_state}
 use Rattle.realm_model.specs.Machine.{Limits, RecRow, RealmRow, Cell, Machine, Seen, numbers_of, left, held, held as held_cell, cell_at, seen}
 use Rattle.realm_model.specs.Update.{Update, Put, granule_of}
-use Rattle.realm_model.specs.Command.Check.{error_input, check, is_undelegated, is_delegated, is_ready, is_protected, error_rec}
+use Rattle.realm_model.specs.Command.Check.{error_input, check, is_undelegated, is_delegated, is_ready, is_protected, error_rec, is_in}
 use Rattle.realm_model.specs.Measurement.{measurement_after, data_event, rec_event}
 use Rattle.realm_model.specs.Command.Realm.{new_realm}
 use Rattle.realm_model.specs.Act.{named, reverse_of, is_paired}
@@ -49,7 +49,7 @@ use Rattle.realm_model.proofs.Rows.{place_self, put_there, look-insert, all_rows
 use Rattle.realm_model.proofs.OwnsSame.{descriptor_some, same_bare, descriptor_none}
 use Rattle.realm_model.proofs.Booleans.{none_from, not_true, none_map, not_false}
 use Rattle.realm_model.proofs.SoundCells.{undelegated_state, delegated_state}
-use Rattle.realm_model.proofs.Lists.{is_in, AllDistinct}
+use Rattle.realm_model.proofs.Lists.{AllDistinct}
 use Rattle.realm_model.proofs.TableBack.{table_back}
 use Rattle.realm_model.proofs.TablePlaces.{IsTablePlace, table_place}
 use Rattle.realm_model.proofs.Puts.{is_of_block}

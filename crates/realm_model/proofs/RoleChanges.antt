@@ -9,13 +9,12 @@ use Rattle.realm_model.specs.declared.states.GranuleState.{GranuleState}
 use Rattle.realm_model.specs.declared.states.GranuleState.TheVariants.{Rd}
 use Rattle.realm_model.specs.Machine.{RealmRow, Cell, Seen, blank, cell_at, seen}
 use Rattle.realm_model.specs.Update.{Update, Put, PutByte, granule_of, cell_after}
-use Rattle.realm_model.specs.Command.Check.{is_delegated, is_undelegated}
+use Rattle.realm_model.specs.Command.Check.{is_delegated, is_undelegated, is_in}
 use Rattle.realm_model.specs.World.{World}
 use Rattle.realm_model.specs.Ownership.{granules_of_rec}
 use Rattle.realm_model.specs.Sound.{look, is_host_state, is_rd_state}
 use Rattle.realm_model.specs.Roles.{Role, AsStart, AtRow, AsRec, AsAux, row_target, start_target, aux_target, target, is_role_state, HasRole}
 use Rattle.realm_model.proofs.Booleans.{true_false, none_from}
-use Rattle.realm_model.proofs.Lists.{is_in}
 use Rattle.realm_model.proofs.Written.{put_at, put_more, put_last, put_other}
 use Rattle.realm_model.proofs.SoundCells.{delegated_state, undelegated_state}
 use Rattle.realm_model.proofs.Roles.{SameHead, linked_after, target_state, host_no_role, host_no_rd, role_no_host, rec_target}

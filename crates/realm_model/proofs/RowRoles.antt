@@ -9,13 +9,12 @@ use Rattle.realm_model.specs.declared.states.GranuleState.{GranuleState}
 use Rattle.realm_model.specs.Rows.{Row, Rows, place_cmp}
 use Rattle.realm_model.specs.Machine.{RealmRow, Cell, Seen, left, cell_at, seen}
 use Rattle.realm_model.specs.Update.{Put}
-use Rattle.realm_model.specs.Command.Check.{is_delegated}
+use Rattle.realm_model.specs.Command.Check.{is_delegated, is_in}
 use Rattle.realm_model.specs.World.{World}
 use Rattle.realm_model.specs.Ownership.{mapping_of_row, granules_of_rec}
 use Rattle.realm_model.specs.Sound.{look, is_host_state}
 use Rattle.realm_model.specs.Roles.{Role, AsStart, AtRow, AsRec, AsAux, kind_target, row_target, start_target, aux_target, target, is_role_state}
 use Rattle.realm_model.proofs.Booleans.{true_false}
-use Rattle.realm_model.proofs.Lists.{is_in}
 use Rattle.realm_model.proofs.Maps.{same_place}
 use Rattle.realm_model.proofs.Written.{put_at}
 use Rattle.realm_model.proofs.Rows.{look-insert, place_self}

@@ -5,7 +5,8 @@ use Rattle.std.proofs.lemmas.Bool.{eqb-true, eqb-false}
 use Rattle.std.proofs.lemmas.Option.{slice_get-get_or}
 use Rattle.std.proofs.lemmas.List.{length-set, get_or-set_other}
 use Rattle.realm_model.specs.StepLaw.{set_each}
-use Rattle.realm_model.proofs.Lists.{slice_get-set, is_in, is_in_head, is_in_more}
+use Rattle.realm_model.specs.Command.Check.{is_in}
+use Rattle.realm_model.proofs.Lists.{slice_get-set, is_in_head, is_in_more}
 use Rattle.realm_model.proofs.Booleans.{cond_or}
 
 module _ {X : Type 0} (x : X) where

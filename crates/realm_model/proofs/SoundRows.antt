@@ -4,7 +4,7 @@ use Rattle.std.specs.Prelude.{option_map, is_some, ◌==◌, nat_le, nat_lt}
 use Rattle.std.specs.FinMap.{get, insert, empty, get-empty}
 use Rattle.std.proofs.lemmas.Bool.{and_parts, eqb-true, ne_eqb, eqb-false}
 use Rattle.granule_addr.specs.Ipa.{covered_count, first_covered}
-use Rattle.granule_addr.specs.Root.{start_count, space_of}
+use Rattle.granule_addr.specs.Root.{start_count, served_space}
 use Rattle.realm_model.specs.declared.states.EntryState.TheVariants.{Unassigned, Assigned, Table}
 use Rattle.realm_model.specs.declared.states.Ripas.{Ripas}
 use Rattle.realm_model.specs.declared.states.Ripas.TheVariants.{Empty, Destroyed}
@@ -99,8 +99,8 @@ module _ {width : ℕ} (old : Rows) (level ipa : ℕ) (above : Row) (sound : IsS
   up_placed : IsPlace width up
   up_placed = sound.placed up (ap is_some up_is)
 
-  inside : ipa < space_of width
-  inside = subst (λ n. n < space_of width) at.first up_placed.inside
+  inside : ipa < served_space width
+  inside = subst (λ n. n < served_space width) at.first up_placed.inside
 
   not_first : (level == 1) ≡ false
   not_first = ne_eqb level 1 (λ e. let l = at.low in omega (arith, l, e))

@@ -11,7 +11,7 @@ use Rattle.realm_model.specs.World.{World, part_of}
 use Rattle.realm_model.specs.Step.{step}
 use Rattle.realm_model.specs.StepLaw.{IsStep}
 use Rattle.realm_model.specs.Undoing.{by}
-use Rattle.realm_model.proofs.Lists.{is_in}
+use Rattle.realm_model.specs.Command.Check.{is_in}
 use Rattle.realm_model.proofs.Leases.{in_leased, leased_all}
 use Rattle.realm_model.proofs.SetEach.{slice_get-set_each}
 use Rattle.realm_model.proofs.HiddenSteps.{step-part_of}

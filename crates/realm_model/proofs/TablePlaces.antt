@@ -3,7 +3,7 @@ use Rattle.std.proofs.Common.{◌≡◌, ℕ, ◌+◌, ◌-◌, ◌*◌, ◌/◌
 use Rattle.std.specs.Prelude.{◌==◌}
 use Rattle.std.proofs.lemmas.Bool.{and_parts, and_from, eqb-true, eq-eqb, lt-ltb, le-leb, ltb-true, leb-true}
 use Rattle.granule_addr.specs.Ipa.{covered_count, first_covered}
-use Rattle.granule_addr.specs.Root.{start_count, space_of}
+use Rattle.granule_addr.specs.Root.{start_count, served_space}
 use Rattle.realm_model.specs.Rows.{is_table_place}
 use Rattle.realm_model.specs.Sound.{IsPlace}
 use Rattle.realm_model.proofs.Rows.{is_among}
@@ -22,7 +22,7 @@ pub record IsTablePlace (ipa level : ℕ) : Type 0 where
   pub from_among : (i : ℕ) → is_among level ipa (512 * covered_count level) (level, i) ≡ true → first_covered (level - 1) i ≡ ipa
   pub below : (k : ℕ) → k < 512 → first_covered (level - 1) (ipa + k * covered_count level) ≡ ipa
   pub aligned : (i : ℕ) → first_covered (level - 1) (first_covered level i) ≡ ipa → (k : ℕ) × (k < 512) × (first_covered level i ≡ ipa + k * covered_count level)
-  pub places : (width : ℕ) → ipa < space_of width → (k : ℕ) → k < 512 → IsPlace width (level, ipa + k * covered_count level)
+  pub places : (width : ℕ) → ipa < served_space width → (k : ℕ) → k < 512 → IsPlace width (level, ipa + k * covered_count level)
 
 among_from : (level ipa n i : ℕ) → ipa ≤ i → i < ipa + n → is_among level ipa n (level, i) ≡ true
 among_from level ipa n i h k = and_from _ _ (and_from _ _ (eq-eqb level level refl) (le-leb ipa i h)) (lt-ltb i (ipa + n) k)

@@ -11,7 +11,8 @@ use Rattle.realm_model.specs.Outcome.{outcome_of}
 use Rattle.realm_model.specs.World.{each, hidden}
 use Rattle.realm_model.specs.Step.{used_vmids}
 use Rattle.realm_model.proofs.Booleans.{false_from, not_true, true_false}
-use Rattle.realm_model.proofs.Lists.{is_in, is_in_head, is_in_more}
+use Rattle.realm_model.specs.Command.Check.{is_in}
+use Rattle.realm_model.proofs.Lists.{is_in_head, is_in_more}
 use Rattle.realm_model.proofs.Outcomes.{Yields-Ok, Yields-check, check_true}
 
 -- with that of the realm, if there is one

@@ -20,7 +20,7 @@ use Rattle.realm_model.specs.History.{replay}
 use Rattle.realm_model.specs.OpenRealm.{makes_realm}
 use Rattle.realm_model.specs.Undoing.{by}
 use Rattle.realm_model.proofs.Booleans.{true_false}
-use Rattle.realm_model.proofs.Lists.{is_in}
+use Rattle.realm_model.specs.Command.Check.{is_in}
 use Rattle.realm_model.proofs.NewRealms.{CanBeMade, can_be_made}
 use Rattle.realm_model.proofs.UsedVmids.{used_at}
 use Rattle.realm_model.proofs.Outcomes.{Yields, Yields-Ok, Yields-Err, Yields-check, Yields-with_realm, Yields-with_rec, Yields-with_end, Yields-with_granule}

@@ -10,7 +10,8 @@ use Rattle.realm_model.specs.Update.{Update, Put, PutByte, Lease, Free, granule_
 use Rattle.realm_model.specs.World.{World, updated, updated_all, is_leased_to}
 use Rattle.realm_model.proofs.Booleans.{guarded, cond_or}
 use Rattle.realm_model.proofs.Leases.{set_lease, leased}
-use Rattle.realm_model.proofs.Lists.{is_in, slice_get-set}
+use Rattle.realm_model.specs.Command.Check.{is_in}
+use Rattle.realm_model.proofs.Lists.{slice_get-set}
 
 -- a world with a lease for each cell
 abbrev pub IsSquare : World → Type 0

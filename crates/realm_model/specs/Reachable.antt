@@ -2,7 +2,7 @@
 use Rattle.std.specs.Prelude.{◌≡◌, ◌%◌, ◌<◌, ◌≤◌, ℕ, true, Some, None, is_some, length, slice_get}
 use Rattle.std.specs.FinMap.{get}
 use Rattle.granule_addr.specs.Ipa.{is_width}
-use Rattle.granule_addr.specs.Root.{start_count, space_of}
+use Rattle.granule_addr.specs.Root.{start_count, served_space}
 use Rattle.realm_model.specs.declared.states.GranuleState.{GranuleState}
 use Rattle.realm_model.specs.Rows.{walk}
 use Rattle.realm_model.specs.Machine.{Limits, RecRow, RealmRow, blank, cell_at}
@@ -40,7 +40,7 @@ pub record IsReachable (limits : Limits) (world : World) : Type 0 where
   -- The numbers of RECs are below the next.
   pub rows : (rd : ℕ) (realm : RealmRow) → IsRealmAt world rd realm → IsSoundRows realm.root.width (look realm.rows)
   pub full : (rd : ℕ) (realm : RealmRow) → IsRealmAt world rd realm → IsFull realm.root.width (look realm.rows)
-  pub walks : (rd : ℕ) (realm : RealmRow) → IsRealmAt world rd realm → (ipa level : ℕ) → ipa < space_of realm.root.width → 1 ≤ level → is_some (walk realm.rows ipa level) ≡ true
+  pub walks : (rd : ℕ) (realm : RealmRow) → IsRealmAt world rd realm → (ipa level : ℕ) → ipa < served_space realm.root.width → 1 ≤ level → is_some (walk realm.rows ipa level) ≡ true
   pub empty : (rd : ℕ) (realm : RealmRow) → IsRealmAt world rd realm → HasEmptyRows realm.root.width realm.rows
   pub recs : (rd : ℕ) (realm : RealmRow) → IsRealmAt world rd realm → (number : ℕ) (rec : RecRow) → get realm.recs number ≡ Some rec → number < realm.next
   -- Each granule that a realm names is in the state that goes with its role, belongs to the realm, and is leased by its

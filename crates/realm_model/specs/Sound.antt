@@ -2,7 +2,7 @@
 use Rattle.std.specs.Prelude.{◌≡◌, ℕ, ◌+◌, ◌-◌, ◌<◌, ◌≤◌, ◌==◌, ◌||◌, Bool, true, false, Option, Some, None, is_some, option_map}
 use Rattle.std.specs.FinMap.{get}
 use Rattle.granule_addr.specs.Ipa.{first_covered, is_protected_at}
-use Rattle.granule_addr.specs.Root.{space_of}
+use Rattle.granule_addr.specs.Root.{served_space}
 use Rattle.realm_model.specs.declared.states.GranuleState.{GranuleState}
 use Rattle.realm_model.specs.declared.states.GranuleState.TheVariants.{Undelegated, Delegated, Rd, Data}
 use Rattle.realm_model.specs.declared.states.EntryState.{EntryState}
@@ -39,7 +39,7 @@ pub record IsPlace (width : ℕ) (place : ℕ × ℕ) : Type 0 where
   pub least : 1 ≤ place.0
   pub most : place.0 ≤ 3
   pub first : first_covered place.0 place.1 ≡ place.1
-  pub inside : place.1 < space_of width
+  pub inside : place.1 < served_space width
 
 -- an UNASSIGNED row has no granule, an ASSIGNED one is of level 3, and above each row but those of level 1 is a table
 pub record IsSoundRows (width : ℕ) (rows : ℕ × ℕ → Option Mapping) : Type 0 where
@@ -50,7 +50,7 @@ pub record IsSoundRows (width : ℕ) (rows : ℕ × ℕ → Option Mapping) : Ty
 -- the starting tables have a row for each of their places, and so has each table: at every place below a TABLE row there
 -- is a row
 pub record IsFull (width : ℕ) (rows : ℕ × ℕ → Option Mapping) : Type 0 where
-  pub root : (ipa : ℕ) → ipa < space_of width → is_some (rows (1, first_covered 1 ipa)) ≡ true
+  pub root : (ipa : ℕ) → ipa < served_space width → is_some (rows (1, first_covered 1 ipa)) ≡ true
   pub tables : (level ipa : ℕ) → is_table_kind (rows (level, first_covered level ipa)) ≡ true → is_some (rows (level + 1, first_covered (level + 1) ipa)) ≡ true
 
 -- in a realm of that width the rows that cover an unprotected IPA granule are UNASSIGNED and EMPTY, and a TABLE row counts as EMPTY

@@ -18,10 +18,10 @@ use Rattle.realm_model.specs.Machine.{Cell, Seen, blank, held}
 use Rattle.realm_model.specs.Step.{used_vmids}
 use Rattle.realm_model.specs.StepLaw.{set_each}
 use Rattle.realm_model.specs.Update.{Update, Outcome, Put, machine_after_all}
-use Rattle.realm_model.specs.Command.Check.{check, error_input, is_delegated}
+use Rattle.realm_model.specs.Command.Check.{check, error_input, is_delegated, is_in}
 use Rattle.realm_model.specs.Command.Realm.{is_start, new_realm}
 use Rattle.realm_model.proofs.Booleans.{not_true}
-use Rattle.realm_model.proofs.Lists.{is_in, all_in}
+use Rattle.realm_model.proofs.Lists.{all_in}
 use Rattle.realm_objects.specs.Attributes.{RealmAttributes, realm_row}
 use Rattle.rtt.specs.Tables.{rows}
 use Rattle.rtt.specs.Calls.{with_state, with_states, Keeps}

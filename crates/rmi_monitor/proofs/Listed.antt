@@ -4,9 +4,9 @@ use Rattle.std.specs.Prelude.{slice_get}
 use Rattle.std.proofs.lemmas.Bool.{and_parts, and_from}
 use Rattle.std.proofs.lemmas.List.{set-get_or, get_or_default}
 use Rattle.std.proofs.lemmas.Option.{slice_get_within, slice_get-get_or, get_or_from_slice_get}
-use Rattle.realm_model.specs.Command.Check.{are_distinct}
+use Rattle.realm_model.specs.Command.Check.{are_distinct, is_in}
 use Rattle.realm_model.proofs.Booleans.{not_true, true_false, false_from}
-use Rattle.realm_model.proofs.Lists.{is_in, is_in_at, index_of}
+use Rattle.realm_model.proofs.Lists.{is_in_at, index_of}
 
 -- what is in a list that is not there twice stands at one place
 pub once_from_distinct : (xs : List ℕ) → are_distinct xs ≡ true → (i j a : ℕ) → slice_get xs i ≡ Some a → slice_get xs j ≡ Some a → i ≡ j

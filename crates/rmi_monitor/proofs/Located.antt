@@ -1,7 +1,7 @@
 -- What a command on a realm's tables goes on with, where the IPA granule that it is given is protected.
 use Rattle.std.proofs.Common.{◌≡◌, ℕ, ◌<◌, true, false, cond, Option, Some, None, sym, ap, ◌∙◌, subst}
 use Rattle.granule_addr.specs.Ipa.{is_protected_at}
-use Rattle.granule_addr.specs.Root.{space_of}
+use Rattle.granule_addr.specs.Root.{served_space}
 use Rattle.granule_addr.specs.declared.root.Root.{Root}
 use Rattle.realm_objects.specs.Attributes.{RealmAttributes}
 use Rattle.rtt.specs.declared.tables.Tables.{Tables}
@@ -31,7 +31,7 @@ module _ (realm : RealmAttributes) (rd ipa : ℕ) (at : Tables) (given : ℕ) (t
   pub located_tables : (fields : Fields) → IsWhole fields → realm_at fields rd ≡ Some realm → HasTables fields.pages fields.granules at.rd at.root
   located_tables fields whole stands = subst (λ (t : Tables). HasTables fields.pages fields.granules t.rd t.root) (sym there.tables) (whole.tables rd realm stands)
 
-  pub located_inside : given < space_of at.root.width
+  pub located_inside : given < served_space at.root.width
   located_inside =
-      subst (λ (t : Tables). given < space_of t.root.width) (sym there.tables)
-      (subst (λ n. n < space_of realm.root.width) (sym there.same) (protected_inside realm.root.width ipa there.protected))
+      subst (λ (t : Tables). given < served_space t.root.width) (sym there.tables)
+      (subst (λ n. n < served_space realm.root.width) (sym there.same) (protected_inside realm.root.width ipa there.protected))

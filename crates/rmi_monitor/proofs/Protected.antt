@@ -4,11 +4,11 @@ use Rattle.std.proofs.lemmas.Bool.{cases_lt, ltb-true, lt-ltb, le-leb, and_from}
 use Rattle.std.proofs.lemmas.Nat.{pow-add, pow_pos}
 use Rattle.std.proofs.Math.Pow.{pow_mono}
 use Rattle.granule_addr.specs.Ipa.{is_width, is_in_space, is_protected_at}
-use Rattle.granule_addr.specs.Root.{start_count, space_of}
+use Rattle.granule_addr.specs.Root.{start_count, served_space}
 use Rattle.realm_model.proofs.Booleans.{false_from, true_false}
 use Rattle.rmi_monitor.proofs.Comparisons.{test_failed}
 
-pub protected_inside : (width ipa : ℕ) → is_protected_at ipa width ≡ true → ipa < space_of width
+pub protected_inside : (width ipa : ℕ) → is_protected_at ipa width ≡ true → ipa < served_space width
 protected_inside width ipa protected =
     let below : ipa < 2 ^ (width - 13) = ltb-true ipa (2 ^ (width - 13)) protected in
     ⊎_elim

@@ -7,7 +7,7 @@ use Rattle.realm_model.specs.Machine.{Cell, Machine, blank, cell_at}
 use Rattle.realm_model.specs.StepLaw.{set_each}
 use Rattle.realm_model.specs.Update.{Update, Put, machine_after_all}
 use Rattle.realm_model.proofs.Booleans.{or_parts}
-use Rattle.realm_model.proofs.Lists.{is_in}
+use Rattle.realm_model.specs.Command.Check.{is_in}
 use Rattle.realm_model.proofs.SetEach.{length-set_each}
 use Rattle.rmi_monitor.specs.Inside.{Fields, cell_of, machine_of}
 use Rattle.rmi_monitor.proofs.Machines.{length-machine_of, cell_at-machine_of, same_machine}

@@ -21,7 +21,7 @@ use Rattle.realm_model.specs.StepLaw.{set_each}
 use Rattle.realm_model.specs.Update.{Put, machine_after_all}
 use Rattle.realm_model.specs.Command.Realm.{new_realm}
 use Rattle.realm_model.proofs.Booleans.{or_parts, false_from}
-use Rattle.realm_model.proofs.Lists.{is_in}
+use Rattle.realm_model.specs.Command.Check.{is_in}
 use Rattle.realm_objects.specs.Attributes.{RealmAttributes, realm_row}
 use Rattle.rtt.specs.Tables.{rows}
 use Rattle.rtt.specs.Realm.{IsBacked, HasTables, LeavesAlone, LeavesOthers}

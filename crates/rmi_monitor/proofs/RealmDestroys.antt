@@ -16,7 +16,7 @@ use Rattle.realm_model.specs.Sound.{is_rd_state}
 use Rattle.realm_model.specs.StepLaw.{set_each}
 use Rattle.realm_model.specs.Update.{Put, machine_after_all}
 use Rattle.realm_model.proofs.Booleans.{or_parts, false_from}
-use Rattle.realm_model.proofs.Lists.{is_in}
+use Rattle.realm_model.specs.Command.Check.{is_in}
 use Rattle.realm_model.proofs.SetEach.{length-set_each}
 use Rattle.realm_objects.specs.Attributes.{RealmAttributes, RecAttributes}
 use Rattle.rtt.specs.Realm.{LeavesAlone}

@@ -17,10 +17,10 @@ use Rattle.realm_model.specs.Measurement.{measurement_after, rec_event}
 use Rattle.realm_model.specs.Machine.{Cell, RealmRow, Seen, cell_at, held, numbers_of}
 use Rattle.realm_model.specs.StepLaw.{set_each}
 use Rattle.realm_model.specs.Update.{Outcome, Update, Put, machine_after_all}
-use Rattle.realm_model.specs.Command.Check.{check, error_input, error_realm, is_delegated, is_new, are_distinct}
+use Rattle.realm_model.specs.Command.Check.{check, error_input, error_realm, is_delegated, is_new, are_distinct, is_in}
 use Rattle.realm_model.specs.Command.Rec.{rec_create}
 use Rattle.realm_model.proofs.Booleans.{not_true, true_false}
-use Rattle.realm_model.proofs.Lists.{is_in, all_in, is_in_at, is_in_head, is_in_more}
+use Rattle.realm_model.proofs.Lists.{all_in, is_in_at, is_in_head, is_in_more}
 use Rattle.realm_model.proofs.Outcomes.{check_true}
 use Rattle.realm_objects.specs.Attributes.{RealmAttributes, RecAttributes, realm_row, rec_row}
 use Rattle.rtt.specs.Tables.{rows}

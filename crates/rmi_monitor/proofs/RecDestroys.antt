@@ -10,9 +10,9 @@ use Rattle.realm_model.specs.declared.states.GranuleState.TheVariants.{Rec as In
 use Rattle.realm_model.specs.Machine.{Cell, cell_at, left}
 use Rattle.realm_model.specs.StepLaw.{set_each}
 use Rattle.realm_model.specs.Update.{Update, Put, machine_after_all}
-use Rattle.realm_model.specs.Command.Check.{check, error_rec, is_ready, put_realm, are_distinct}
+use Rattle.realm_model.specs.Command.Check.{check, error_rec, is_ready, put_realm, are_distinct, is_in}
 use Rattle.realm_model.specs.Command.Rec.{rec_destroy}
-use Rattle.realm_model.proofs.Lists.{is_in, is_in_head, is_in_at, is_in_more}
+use Rattle.realm_model.proofs.Lists.{is_in_head, is_in_at, is_in_more}
 use Rattle.realm_model.proofs.Outcomes.{check_true}
 use Rattle.realm_objects.specs.Attributes.{RealmAttributes, RecAttributes}
 use Rattle.rmi_monitor.specs.View.{MonitorView, IsOnRec, seen_in, after_command}

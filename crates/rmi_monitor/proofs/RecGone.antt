@@ -10,7 +10,8 @@ use Rattle.realm_model.specs.declared.states.GranuleState.{GranuleState}
 use Rattle.realm_model.specs.declared.states.GranuleState.TheVariants.{Undelegated, Delegated, Rec as InRec, RecAux as InRecAux}
 use Rattle.realm_model.specs.Sound.{is_rd_state}
 use Rattle.realm_model.proofs.Booleans.{true_false, false_from}
-use Rattle.realm_model.proofs.Lists.{is_in, index_of}
+use Rattle.realm_model.specs.Command.Check.{is_in}
+use Rattle.realm_model.proofs.Lists.{index_of}
 use Rattle.realm_objects.specs.Attributes.{RealmAttributes, RecAttributes}
 use Rattle.rmi_monitor.specs.Inside.{Fields, rec_count_at, rec_at, is_rec_state, IsSoundAt, IsWhole}
 use Rattle.rmi_monitor.proofs.Puts.{put_all, length-put_all, put_all-first, put_all-rest, put_all-out}

@@ -9,7 +9,8 @@ use Rattle.realm_model.specs.declared.states.GranuleState.TheVariants.{Rec as In
 use Rattle.realm_model.specs.Machine.{RealmRow, left}
 use Rattle.realm_model.specs.Update.{Put, machine_after_all}
 use Rattle.realm_model.proofs.Booleans.{false_from}
-use Rattle.realm_model.proofs.Lists.{is_in, is_in_head, is_in_more, index_of}
+use Rattle.realm_model.specs.Command.Check.{is_in}
+use Rattle.realm_model.proofs.Lists.{is_in_head, is_in_more, index_of}
 use Rattle.realm_objects.specs.Attributes.{RealmAttributes, RecAttributes, realm_row, rec_row}
 use Rattle.rtt.specs.Tables.{rows}
 use Rattle.rmi_monitor.specs.Gathered.{gathered}

@@ -7,7 +7,8 @@ use Rattle.std.proofs.lemmas.Option.{slice_get-get_or, slice_get_within, get_or_
 use Rattle.granule_addr.specs.Root.{start_count, starting_tables}
 use Rattle.granule_addr.specs.declared.root.Root.{Root}
 use Rattle.realm_model.proofs.Booleans.{false_from, true_false}
-use Rattle.realm_model.proofs.Lists.{is_in, is_in_at, index_of, all_in}
+use Rattle.realm_model.specs.Command.Check.{is_in}
+use Rattle.realm_model.proofs.Lists.{is_in_at, index_of, all_in}
 
 all_range : (test : ℕ → Bool) (first n : ℕ) → ((number : ℕ) → number < n → test (first + number) ≡ true) → list_all test (range_with_len first n) ≡ true
 all_range test first zero each = refl

@@ -6,11 +6,11 @@ use Rattle.std.proofs.lemmas.List.{drop_all, length-set, get_or-set_other}
 use Rattle.std.proofs.lemmas.Option.{slice_get-get_or}
 use Rattle.granule_table.specs.Granules.{undelegated}
 use Rattle.granule_table.specs.declared.granule.Granule.{Granule}
-use Rattle.realm_model.specs.Command.Check.{is_apart_from, are_distinct}
+use Rattle.realm_model.specs.Command.Check.{is_apart_from, are_distinct, is_in}
 use Rattle.realm_model.specs.declared.states.GranuleState.{GranuleState}
 use Rattle.realm_model.specs.StepLaw.{set_each}
 use Rattle.realm_model.proofs.Booleans.{not_true, true_false}
-use Rattle.realm_model.proofs.Lists.{is_in, is_in_at}
+use Rattle.realm_model.proofs.Lists.{is_in_at}
 use Rattle.rmi_monitor.specs.Places.{IsInState, HasPage}
 
 -- none of the others is the granule

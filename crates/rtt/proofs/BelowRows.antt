@@ -3,7 +3,7 @@ use Rattle.std.proofs.Common.{◌≡◌, ℕ, suc, ◌+◌, ◌-◌, ◌*◌, �
 use Rattle.std.specs.FinMap.{get}
 use Rattle.std.proofs.lemmas.Bool.{and_parts, eqb-true}
 use Rattle.granule_addr.specs.Ipa.{covered_count, first_covered, entry_index, served_count}
-use Rattle.granule_addr.specs.Root.{space_of}
+use Rattle.granule_addr.specs.Root.{served_space}
 use Rattle.granule_addr.specs.declared.root.Root.{Root}
 use Rattle.realm_model.specs.Rows.{is_unassigned, is_table_place, is_table_unused}
 use Rattle.realm_model.proofs.Rows.{is_among}
@@ -36,10 +36,10 @@ module _ (level above ipa : ℕ) (next : above + 1 ≡ level) (place : is_table_
   pub first : first_covered above ipa ≡ ipa
   first = ap (λ (k : ℕ). first_covered k ipa) (sym above_is) ∙ facts.first
 
-  pub above_inside : (width : ℕ) → ipa < space_of width → IsInside width above ipa
+  pub above_inside : (width : ℕ) → ipa < served_space width → IsInside width above ipa
   above_inside width below = let l = low in let h = high in record { least = l; most = omega arith; below = below }
 
-  pub level_inside : (width : ℕ) → ipa < space_of width → IsInside width level ipa
+  pub level_inside : (width : ℕ) → ipa < served_space width → IsInside width level ipa
   level_inside width below = let l = low in let h = high in record { least = omega arith; most = omega arith; below = below }
 
   -- the places of the table are those under the entry above it
@@ -59,7 +59,7 @@ module _ (level above ipa : ℕ) (next : above + 1 ≡ level) (place : is_table_
       ∙ sym u.0)
       (under_cases (suc above) above ipa l i)
 
-  module _ (entries : Entries) (root : Root) (granule : ℕ) (below : ipa < space_of root.width) (at : table_at entries root level ipa ≡ Some granule) where
+  module _ (entries : Entries) (root : Root) (granule : ℕ) (below : ipa < served_space root.width) (at : table_at entries root level ipa ≡ Some granule) where
     -- The rows at a table's places are its entries.
     pub table_rows : (k : ℕ) → k < 512 → get (rows_in entries root) (level, ipa + k * covered_count level) ≡ Some (entries granule k)
     table_rows k few =

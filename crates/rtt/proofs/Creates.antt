@@ -4,7 +4,7 @@ use Rattle.std.specs.Prelude.{option_and_then}
 use Rattle.std.specs.FinMap.{get}
 use Rattle.std.proofs.lemmas.Option.{same_Some}
 use Rattle.granule_addr.specs.Ipa.{covered_count, first_covered, entry_index}
-use Rattle.granule_addr.specs.Root.{space_of}
+use Rattle.granule_addr.specs.Root.{served_space}
 use Rattle.granule_addr.specs.declared.root.Root.{Root}
 use Rattle.granule_table.specs.Granules.{IsIn}
 use Rattle.granule_table.specs.declared.granule.Granule.{Granule}
@@ -81,7 +81,7 @@ module _ (entries new : Entries) (granules : List Granule) (rd : ℕ) (root : Ro
     (own : HasGranules entries granules rd root)
     (next : above + 1 ≡ level)
     (place : is_table_place ipa level ≡ true)
-    (below : ipa < space_of root.width)
+    (below : ipa < served_space root.width)
     (at : table_at entries root above ipa ≡ Some table)
     (was_none : table_of (entries table (entry_index above ipa)) ≡ None)
     (delegated : IsIn granules granule Delegated realm)

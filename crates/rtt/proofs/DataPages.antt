@@ -3,7 +3,7 @@ use Rattle.std.proofs.Common.{◌≡◌, ◌≢◌, ℕ, ◌<◌, Bool, true, Li
 use Rattle.std.proofs.lemmas.List.{length-set, get_or-set_same, get_or-set_other}
 use Rattle.std.proofs.lemmas.Option.{same_Some}
 use Rattle.granule_addr.specs.Ipa.{entry_index}
-use Rattle.granule_addr.specs.Root.{space_of}
+use Rattle.granule_addr.specs.Root.{served_space}
 use Rattle.granule_addr.specs.declared.root.Root.{Root}
 use Rattle.granule_table.specs.Granules.{IsIn}
 use Rattle.granule_table.specs.declared.granule.Granule.{Granule}
@@ -33,7 +33,7 @@ use Rattle.rtt.proofs.Written.{IsExact, same_entry, same_exact, entry_written, e
 -- ---- an entry of the last level is written, in pages where the realm's tables are as they were
 
 module _ (pages mid : List (List ℕ)) (flags : List Bool) (sized : IsSized mid flags) (granules : List Granule) (rd : ℕ) (root : Root) (ipa table : ℕ) (entry : Row)
-    (tables : HasTables pages granules rd root) (below : ipa < space_of root.width) (at : table_at (entries_of pages) root 3 ipa ≡ Some table)
+    (tables : HasTables pages granules rd root) (below : ipa < served_space root.width) (at : table_at (entries_of pages) root 3 ipa ≡ Some table)
     (within : table < length mid) (is : IsEntry entry)
     (same : (granule : ℕ) → IsIn granules granule InRtt (Some rd) → page_at mid granule ≡ page_at pages granule) where
   abbrev pub written_pages : List (List ℕ)

@@ -3,7 +3,7 @@ use Rattle.std.proofs.Common.{◌≡◌, ◌≢◌, ℕ, suc, ◌+◌, ◌*◌, 
 use Rattle.std.specs.FinMap.{get}
 use Rattle.std.proofs.lemmas.Option.{same_Some}
 use Rattle.granule_addr.specs.Ipa.{covered_count, first_covered, entry_index, served_count}
-use Rattle.granule_addr.specs.Root.{space_of}
+use Rattle.granule_addr.specs.Root.{served_space}
 use Rattle.granule_addr.specs.declared.root.Root.{Root}
 use Rattle.granule_table.specs.Granules.{IsIn}
 use Rattle.granule_table.specs.declared.granule.Granule.{Granule}
@@ -34,7 +34,7 @@ module _ (entries new : Entries) (granules : List Granule) (rd : ℕ) (root : Ro
     (own : HasGranules entries granules rd root)
     (next : above + 1 ≡ level)
     (place : is_table_place ipa level ≡ true)
-    (below : ipa < space_of root.width)
+    (below : ipa < served_space root.width)
     (at : table_at entries root above ipa ≡ Some table)
     (was : table_of (entries table (entry_index above ipa)) ≡ Some granule)
     (unused : (index : ℕ) → index < 512 → is_unassigned (entries granule index) ≡ true)

@@ -2,7 +2,7 @@
 use Rattle.std.specs.Prelude.{◌≡◌, ℕ, zero, suc, ◌<◌, ◌≤◌, true, false, cond, List, Option, Some, None, option_and_then}
 use Rattle.std.proofs.Common.{refl, sym, ap, subst, ◌∙◌, arith}
 use Rattle.granule_addr.specs.Ipa.{entry_index}
-use Rattle.granule_addr.specs.Root.{space_of}
+use Rattle.granule_addr.specs.Root.{served_space}
 use Rattle.granule_addr.specs.declared.root.Root.{Root}
 use Rattle.granule_table.specs.Granules.{IsIn}
 use Rattle.granule_table.specs.declared.granule.Granule.{Granule}
@@ -77,7 +77,7 @@ module _ (entries new : Entries) (root : Root)
 
   pub same_rows_in : rows_in new root ≡ rows_in entries root
   unfolding rows_in
-  same_rows_in = ap (rows_by (space_of root.width)) (λ i level ipa. same_row_in level ipa i)
+  same_rows_in = ap (rows_by (served_space root.width)) (λ i level ipa. same_row_in level ipa i)
 
 -- ---- the pages of a realm's own granules
 

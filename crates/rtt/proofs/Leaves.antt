@@ -3,7 +3,7 @@ use Rattle.std.proofs.Common.{◌≡◌, ◌≢◌, ℕ, ◌/◌, ◌<◌, List,
 use Rattle.std.specs.Prelude.{option_and_then}
 use Rattle.std.proofs.lemmas.Option.{same_Some}
 use Rattle.granule_addr.specs.Ipa.{covered_count, entry_index}
-use Rattle.granule_addr.specs.Root.{space_of}
+use Rattle.granule_addr.specs.Root.{served_space}
 use Rattle.granule_addr.specs.declared.root.Root.{Root}
 use Rattle.granule_table.specs.Granules.{IsIn}
 use Rattle.granule_table.specs.declared.granule.Granule.{Granule}
@@ -21,7 +21,7 @@ use Rattle.rtt.proofs.Writes.{Writes, each_written}
 
 module _ (entries new : Entries) (granules : List Granule) (rd : ℕ) (root : Root) (ipa table : ℕ) (entry : Row)
     (own : HasGranules entries granules rd root)
-    (below : ipa < space_of root.width)
+    (below : ipa < served_space root.width)
     (at : table_at entries root 3 ipa ≡ Some table)
     (wrote : new table (entry_index 3 ipa) ≡ entry)
     (kept : (granule index : ℕ) → IsIn granules granule InRtt (Some rd) → index < 512 → ((granule ≡ table) × (index ≡ entry_index 3 ipa) → ⊥) → new granule index ≡ entries granule index) where

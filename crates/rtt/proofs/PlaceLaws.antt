@@ -6,7 +6,7 @@ use Rattle.std.proofs.lemmas.Nat.{div-mul-add}
 use Rattle.std.proofs.lemmas.Bool.{and_parts, and_from, leb-true, le-leb, ltb-true, lt-ltb, eqb-true, eq-eqb}
 use Rattle.std.proofs.lemmas.Bool.Decides.{eqb_tells}
 use Rattle.granule_addr.specs.Ipa.{covered_count, first_covered, entry_index, served_count}
-use Rattle.granule_addr.specs.Root.{space_of}
+use Rattle.granule_addr.specs.Root.{served_space}
 use Rattle.realm_model.specs.Sound.{IsPlace}
 use Rattle.rtt.specs.Tables.{is_place}
 use Rattle.rtt.specs.Realm.{IsInside}
@@ -64,7 +64,7 @@ place_facts width level ipa e =
       least = leb-true 1 level c.0;
       most = leb-true level 3 c.1;
       first = eqb-true (first_covered level ipa) ipa a.1;
-      inside = ltb-true ipa (space_of width) b.1;
+      inside = ltb-true ipa (served_space width) b.1;
     }
 
 pub inside_place : (width level ipa : ℕ) → is_place width level ipa ≡ true → IsInside width level ipa
@@ -74,7 +74,7 @@ pub is_place_from : (width level ipa : ℕ) → IsInside width level ipa → fir
 unfolding is_place
 is_place_from width level ipa inside first =
     and_from _ _ (and_from _ _ (and_from _ _ (le-leb 1 level inside.least) (le-leb level 3 inside.most))
-    (lt-ltb ipa (space_of width) inside.below))
+    (lt-ltb ipa (served_space width) inside.below))
     (eq-eqb (first_covered level ipa) ipa first)
 
 -- the first IPA granule that an entry covers is a place, under that entry
@@ -132,19 +132,19 @@ pub below_is_place : (width level ipa index : ℕ) → IsInside width level ipa 
 below_is_place width zero ipa index inside high few = let low : 1 ≤ 0 = inside.least in absurd (omega arith)
 below_is_place width (suc zero) ipa index inside high few =
     let b = ipa / 262144 in
-    let lt : ipa < space_of width = inside.below in
+    let lt : ipa < served_space width = inside.below in
     let n = b * 262144 + index * 512 in
     let q : n / 262144 ≡ b = div-mul-add b 262144 (index * 512) (omega arith) in
-    let m : n < space_of width = omega arith in
+    let m : n < served_space width = omega arith in
     let f : n / 512 * 512 ≡ n = omega arith in
     let i : n / 512 % 512 ≡ index = omega arith in
     (q, is_place_from width 2 n (record { least = lit≤ tt; most = lit≤ tt; below = m }) f, i)
 below_is_place width (suc (suc zero)) ipa index inside high few =
     let b = ipa / 512 in
-    let lt : ipa < space_of width = inside.below in
+    let lt : ipa < served_space width = inside.below in
     let n = b * 512 + index * 1 in
     let q : n / 512 ≡ b = div-mul-add b 512 (index * 1) (omega arith) in
-    let m : n < space_of width = omega arith in
+    let m : n < served_space width = omega arith in
     let f : n / 1 * 1 ≡ n = omega arith in
     let i : n / 1 % 512 ≡ index = omega arith in
     (q, is_place_from width 3 n (record { least = lit≤ tt; most = lit≤ tt; below = m }) f, i)

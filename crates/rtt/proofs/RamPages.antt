@@ -2,7 +2,7 @@
 use Rattle.std.proofs.Common.{◌≡◌, ◌≢◌, ℕ, ◌+◌, ◌-◌, ◌/◌, ◌%◌, ◌<◌, ◌≤◌, Bool, true, false, List, ◌⊎◌, Some, None, refl, sym, ap, subst, ◌∙◌, arith}
 use Rattle.std.specs.Prelude.{IsTrue, ◌↔◌}
 use Rattle.granule_addr.specs.Ipa.{entry_index}
-use Rattle.granule_addr.specs.Root.{space_of}
+use Rattle.granule_addr.specs.Root.{served_space}
 use Rattle.granule_addr.specs.declared.root.Root.{Root}
 use Rattle.granule_table.specs.Granules.{IsIn}
 use Rattle.granule_table.specs.declared.granule.Granule.{Granule}
@@ -79,7 +79,7 @@ module _ (pages new_pages : List (List ℕ)) (granules : List Granule) (rd : ℕ
     (written : (index : ℕ) → first ≤ index → index < first + count → word_at new_pages table index ≡ entry_word (unassigned Ram))
     (left : (index : ℕ) → index < 512 → (index < first) ⊎ (first + count ≤ index) → word_at new_pages table index ≡ word_at pages table index)
     (others : (granule : ℕ) → granule ≢ table → page_at new_pages granule ≡ page_at pages granule) where
-  below : ipa < space_of root.width
+  below : ipa < served_space root.width
   below = inside.below
 
   was : (k : ℕ) → k < count → is_unassigned (entries_of pages table (entry_index 3 ipa + k)) ≡ true

@@ -5,7 +5,7 @@ use Rattle.std.specs.FinMap.{get}
 use Rattle.std.proofs.lemmas.Bool.{cases_eq, cases_lt}
 use Rattle.std.proofs.lemmas.Option.{same_Some}
 use Rattle.granule_addr.specs.Ipa.{covered_count, first_covered, entry_index, served_count}
-use Rattle.granule_addr.specs.Root.{space_of}
+use Rattle.granule_addr.specs.Root.{served_space}
 use Rattle.granule_addr.specs.declared.root.Root.{Root}
 use Rattle.granule_table.specs.Granules.{IsIn}
 use Rattle.granule_table.specs.declared.granule.Granule.{Granule}
@@ -21,7 +21,7 @@ use Rattle.rtt.proofs.RowsIn.{get-rows_in, rows_in-from, row_in-place, row_in-no
 use Rattle.rtt.proofs.RowRuns.{get-put_rows_at, get-put_rows_beside, all_rows_each, all_rows_true}
 use Rattle.rtt.proofs.FrameLaws.{same_table_at, HasGranules-same}
 
-module _ (entries : Entries) (root : Root) (ipa table count : ℕ) (below : ipa < space_of root.width) (at : table_at entries root 3 ipa ≡ Some table) (fits : entry_index 3 ipa + count ≤ 512) where
+module _ (entries : Entries) (root : Root) (ipa table count : ℕ) (below : ipa < served_space root.width) (at : table_at entries root 3 ipa ≡ Some table) (fits : entry_index 3 ipa + count ≤ 512) where
   abbrev start : ℕ
   start = entry_index 3 ipa
 
@@ -30,8 +30,8 @@ module _ (entries : Entries) (root : Root) (ipa table count : ℕ) (below : ipa 
   page_place k few =
       let room : ipa / 1 % 512 + count ≤ 512 = fits in
       let n = ipa + k * 1 in
-      let lt : ipa < space_of root.width = below in
-      let inside : n < space_of root.width = omega arith in
+      let lt : ipa < served_space root.width = below in
+      let inside : n < served_space root.width = omega arith in
       let first : n / 1 * 1 ≡ n = omega arith in
       let index : n / 1 % 512 ≡ ipa / 1 % 512 + k = omega arith in
       let served : n / 512 ≡ ipa / 512 = omega arith in

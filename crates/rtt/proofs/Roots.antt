@@ -5,7 +5,7 @@ use Rattle.std.specs.FinMap.{get, empty, get-empty}
 use Rattle.std.proofs.lemmas.Bool.{cases_eq}
 use Rattle.std.proofs.lemmas.Option.{same_Some}
 use Rattle.granule_addr.specs.Ipa.{covered_count, first_covered, entry_index, start_index, served_count}
-use Rattle.granule_addr.specs.Root.{start_count, space_of, start_table}
+use Rattle.granule_addr.specs.Root.{start_count, served_space, start_table}
 use Rattle.granule_addr.specs.declared.root.Root.{Root}
 use Rattle.granule_table.specs.Granules.{IsIn}
 use Rattle.granule_table.specs.declared.granule.Granule.{Granule}
@@ -30,21 +30,21 @@ root_place width k few =
 -- ---- starting tables whose entries are all UNASSIGNED and EMPTY
 
 module _ (entries : Entries) (root : Root) (blank : (number index : ℕ) → number < start_count root.width → index < 512 → entries (root.first + number) index ≡ unassigned Empty) where
-  blank_at : (i : ℕ) → i < space_of root.width → entries (start_table root i) (entry_index 1 i) ≡ unassigned Empty
+  blank_at : (i : ℕ) → i < served_space root.width → entries (start_table root i) (entry_index 1 i) ≡ unassigned Empty
   blank_at i below = blank (start_index i) (entry_index 1 i) (start_index_below root.width i below) (index_below 1 i)
 
-  no_second : (l i : ℕ) → i < space_of root.width → table_at entries root (suc (suc l)) i ≡ None
+  no_second : (l i : ℕ) → i < served_space root.width → table_at entries root (suc (suc l)) i ≡ None
   unfolding table_at
   no_second zero i below = ap table_of (blank_at i below)
   no_second (suc l) i below = ap (option_and_then (λ t. table_of (entries t (entry_index (suc (suc l)) i)))) (no_second l i below)
 
-  only_root : (l i table : ℕ) → i < space_of root.width → table_at entries root l i ≡ Some table → (l ≡ 1) × (table ≡ start_table root i)
+  only_root : (l i table : ℕ) → i < served_space root.width → table_at entries root l i ≡ Some table → (l ≡ 1) × (table ≡ start_table root i)
   unfolding table_at
   only_root zero i table below is = cc
   only_root (suc zero) i table below is = (refl, sym (same_Some (start_table root i) table is))
   only_root (suc (suc l)) i table below is = let clash : None ≡ Some table = sym (no_second l i below) ∙ is in cc
 
-  no_data : (l i : ℕ) → i < space_of root.width → data_at entries root l i ≡ None
+  no_data : (l i : ℕ) → i < served_space root.width → data_at entries root l i ≡ None
   unfolding table_at
   no_data zero i below = refl
   no_data (suc zero) i below = ap data_of (blank_at i below)
@@ -72,7 +72,7 @@ module _ (entries : Entries) (root : Root) (blank : (number index : ℕ) → num
   root_each P its l i t index inside is few =
       subst (λ (k : ℕ). P k index) (sym (only_root l i t inside.below is).1) (its (start_index i) index (start_index_below root.width i inside.below) few)
 
-  no_entry : (l i : ℕ) → i < space_of root.width → 1 ≤ l → l ≢ 1 → entry_at entries root l i ≡ None
+  no_entry : (l i : ℕ) → i < served_space root.width → 1 ≤ l → l ≢ 1 → entry_at entries root l i ≡ None
   no_entry zero i below low ne = absurd (omega arith)
   no_entry (suc zero) i below low ne = absurd (ne refl)
   no_entry (suc (suc l)) i below low ne = ap (option_and_then (λ t. Some (entries t (entry_index (suc (suc l)) i)))) (no_second l i below)
@@ -88,7 +88,7 @@ module _ (entries : Entries) (root : Root) (blank : (number index : ℕ) → num
       beside : (l i : ℕ) → ((k : ℕ) → k < count → ◌≡◌ {A = ℕ × ℕ} (l, i) (1, 0 + k * covered_count 1) → ⊥) → None ≡ get (put_rows (λ _. unassigned Empty) empty 1 0 count) (l, i)
       beside l i out = sym (get-put_rows_beside (λ _. unassigned Empty) empty 1 0 count (l, i) out ∙ get-empty place_cmp (l, i))
 
-      place_index : (i : ℕ) → i / 262144 * 262144 ≡ i → i < space_of root.width → (i / 262144 < count) × (i ≡ 0 + i / 262144 * 262144)
+      place_index : (i : ℕ) → i / 262144 * 262144 ≡ i → i < served_space root.width → (i / 262144 < count) × (i ≡ 0 + i / 262144 * 262144)
       place_index i first lt = (omega arith, omega arith)
 
       blank_row : (l i : ℕ) → row_in entries root l i ≡ get (put_rows (λ _. unassigned Empty) empty 1 0 count) (l, i)

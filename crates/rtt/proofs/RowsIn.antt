@@ -4,7 +4,7 @@ use Rattle.std.specs.Prelude.{option_and_then}
 use Rattle.std.specs.FinMap.{get}
 use Rattle.std.proofs.lemmas.Bool.{cases_eq}
 use Rattle.granule_addr.specs.Ipa.{first_covered, entry_index}
-use Rattle.granule_addr.specs.Root.{space_of}
+use Rattle.granule_addr.specs.Root.{served_space}
 use Rattle.granule_addr.specs.declared.root.Root.{Root}
 use Rattle.realm_model.specs.Rows.{Row, Rows, row_at, walk, table_of}
 use Rattle.rtt.specs.FiniteRows.{IsBounded}
@@ -14,20 +14,20 @@ use Rattle.rtt.specs.Realm.{IsInside}
 use Rattle.rtt.proofs.PlaceLaws.{place_facts, first_covers, first_is_place}
 use Rattle.rtt.proofs.TableAt.{entry_at-same, entry_at-some, no_table}
 
-row_in-bounded : (entries : Entries) (root : Root) → IsBounded (space_of root.width) (row_in entries root)
+row_in-bounded : (entries : Entries) (root : Root) → IsBounded (served_space root.width) (row_in entries root)
 unfolding row_in
 row_in-bounded entries root =
     let nothing : (level ipa : ℕ) → (is_place root.width level ipa ≡ true → ⊥) → row_in entries root level ipa ≡ None = λ level ipa n.
     elim (is_place root.width level ipa) as (λ b. is_place root.width level ipa ≡ b → cond b (entry_at entries root level ipa) None ≡ None) [ true ↦ λ k. absurd (n k) | false ↦ λ k. refl ] refl in
     record {
       levels = λ level ipa out. nothing level ipa (λ k. let facts = place_facts root.width level ipa k in let low : 1 ≤ level = facts.least in let high : level ≤ 3 = facts.most in ⊎_elim (λ z. omega arith) (λ z. omega arith) out);
-      granules = λ level ipa past. nothing level ipa (λ k. let facts = place_facts root.width level ipa k in let lt : ipa < space_of root.width = facts.inside in omega arith);
+      granules = λ level ipa past. nothing level ipa (λ k. let facts = place_facts root.width level ipa k in let lt : ipa < served_space root.width = facts.inside in omega arith);
     }
 
 -- The rows have at each place what the tables have there.
 pub get-rows_in : (entries : Entries) (root : Root) (level ipa : ℕ) → get (rows_in entries root) (level, ipa) ≡ row_in entries root level ipa
 unfolding rows_in
-get-rows_in entries root level ipa = get-rows_by (space_of root.width) (row_in entries root) (row_in-bounded entries root) level ipa
+get-rows_in entries root level ipa = get-rows_by (served_space root.width) (row_in entries root) (row_in-bounded entries root) level ipa
 
 -- rows that have at each place what the tables have there are theirs
 pub rows_in-from : (entries : Entries) (root : Root) (rows : Rows) → ((level ipa : ℕ) → row_in entries root level ipa ≡ get rows (level, ipa)) → rows_in entries root ≡ rows

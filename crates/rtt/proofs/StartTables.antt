@@ -6,7 +6,7 @@ use Rattle.std.proofs.lemmas.List.FromFn.{length-range_with_len, get_or-range_wi
 use Rattle.std.proofs.lemmas.Bool.{cases_eq}
 use Rattle.std.proofs.lemmas.Nat.{pow_pos}
 use Rattle.granule_addr.specs.Ipa.{start_index, served_count}
-use Rattle.granule_addr.specs.Root.{start_count, space_of, starting_tables}
+use Rattle.granule_addr.specs.Root.{start_count, served_space, starting_tables}
 use Rattle.granule_addr.specs.declared.root.Root.{Root}
 use Rattle.realm_model.specs.StepLaw.{set_each}
 
@@ -62,9 +62,9 @@ starts_fit root n each =
 -- ---- IPA granules that a starting table serves
 
 -- the number of the one that serves an IPA granule
-pub start_index_below : (width ipa : ℕ) → ipa < space_of width → start_index ipa < start_count width
+pub start_index_below : (width ipa : ℕ) → ipa < served_space width → start_index ipa < start_count width
 start_index_below width ipa below = omega arith
 
 -- the first IPA granule of the one of a number
-pub first_served : (width number : ℕ) → number < start_count width → (number * served_count 1 < space_of width) × (start_index (number * served_count 1) ≡ number)
+pub first_served : (width number : ℕ) → number < start_count width → (number * served_count 1 < served_space width) × (start_index (number * served_count 1) ≡ number)
 first_served width number few = (omega arith, omega arith)

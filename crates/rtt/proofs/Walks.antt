@@ -2,7 +2,7 @@
 use Rattle.std.proofs.Common.{◌≡◌, ℕ, ◌+◌, ◌*◌, ◌<◌, ◌≤◌, List, length, Some, None, ◌⊎◌, ⊎_elim, inl, inr, refl, sym, ap, ◌∙◌, arith, add-one}
 use Rattle.std.specs.Prelude.{option_and_then}
 use Rattle.granule_addr.specs.Ipa.{entry_index, served_count}
-use Rattle.granule_addr.specs.Root.{start_count, space_of, start_table}
+use Rattle.granule_addr.specs.Root.{start_count, served_space, start_table}
 use Rattle.granule_addr.specs.declared.root.Root.{Root}
 use Rattle.granule_table.specs.Granules.{IsIn}
 use Rattle.granule_table.specs.declared.granule.Granule.{Granule}
@@ -33,7 +33,7 @@ table_inside pages granules rd root level ipa table as_many tables inside at =
     let lies = (tables.own.tables level ipa table inside at).inside in
     omega arith
 
-pub start_inside : (pages : List (List ℕ)) (granules : List Granule) (rd : ℕ) (root : Root) (ipa : ℕ) → length granules ≡ length pages → HasTables pages granules rd root → ipa < space_of root.width
+pub start_inside : (pages : List (List ℕ)) (granules : List Granule) (rd : ℕ) (root : Root) (ipa : ℕ) → length granules ≡ length pages → HasTables pages granules rd root → ipa < served_space root.width
     → start_table root ipa < length pages
 start_inside pages granules rd root ipa as_many tables below =
     table_inside pages granules rd root 1 ipa (start_table root ipa) as_many tables (record { least = omega arith; most = omega arith; below = below }) (table_at-root (entries_of pages) root ipa)

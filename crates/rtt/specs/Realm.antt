@@ -1,7 +1,7 @@
 -- What always holds of a realm's tables, and what keeps them.
 use Rattle.std.specs.Prelude.{◌≡◌, ◌≢◌, ℕ, ◌/◌, ◌*◌, ◌<◌, ◌≤◌, Bool, false, List, length, Some}
 use Rattle.granule_addr.specs.Ipa.{covered_count, served_count}
-use Rattle.granule_addr.specs.Root.{space_of}
+use Rattle.granule_addr.specs.Root.{served_space}
 use Rattle.granule_addr.specs.declared.root.Root.{Root}
 use Rattle.granule_table.specs.Granules.{granule_at, IsIn}
 use Rattle.granule_table.specs.declared.granule.Granule.{Granule}
@@ -21,7 +21,7 @@ pub record IsBacked (pages : List (List ℕ)) (flags : List Bool) (granules : Li
 pub record IsInside (width level ipa : ℕ) : Type 0 where
   pub least : 1 ≤ level
   pub most : level ≤ 3
-  pub below : ipa < space_of width
+  pub below : ipa < served_space width
 
 -- Tables are granules in RTT of the realm, pages of data are in DATA of the realm, and no granule is there twice.
 pub record HasGranules (entries : Entries) (granules : List Granule) (rd : ℕ) (root : Root) : Type 0 where

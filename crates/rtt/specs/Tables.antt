@@ -1,7 +1,7 @@
 -- The rows that tables hold, over the entries in granules. RMM 1.0, Realm Translation Table.
 use Rattle.std.specs.Prelude.{ℕ, zero, suc, ◌&&◌, ◌==◌, Bool, cond, nat_lt, nat_le, List, Option, Some, None, option_and_then, if◌then◌else◌}
 use Rattle.granule_addr.specs.Ipa.{first_covered, entry_index}
-use Rattle.granule_addr.specs.Root.{start_table, space_of}
+use Rattle.granule_addr.specs.Root.{start_table, served_space}
 use Rattle.granule_addr.specs.declared.root.Root.{Root}
 use Rattle.page_arena.specs.Word.{word_at}
 use Rattle.realm_model.specs.Rows.{Row, Rows, table_of, data_of}
@@ -34,14 +34,14 @@ data_at entries root level ipa = option_and_then (λ table. data_of (entries tab
 
 -- a row of a level can begin at the IPA granule, in an address space of that width
 unfoldable pub is_place : ℕ → ℕ → ℕ → Bool
-is_place width level ipa = nat_le 1 level && nat_le level 3 && nat_lt ipa (space_of width) && first_covered level ipa == ipa
+is_place width level ipa = nat_le 1 level && nat_le level 3 && nat_lt ipa (served_space width) && first_covered level ipa == ipa
 
 -- the row at a place
 unfoldable pub row_in : Entries → Root → ℕ → ℕ → Option Row
 row_in entries root level ipa = cond (is_place root.width level ipa) (entry_at entries root level ipa) None
 
 unfoldable pub rows_in : Entries → Root → Rows
-rows_in entries root = rows_by (space_of root.width) (row_in entries root)
+rows_in entries root = rows_by (served_space root.width) (row_in entries root)
 
 -- A realm's rows: what its tables say, from the starting tables on, in the words of pages.
 unfoldable pub rows : List (List ℕ) → Root → Rows

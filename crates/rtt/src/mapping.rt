@@ -2,7 +2,7 @@
 ghost use Rattle.std.specs.Prelude.{◌≡◌, ℕ, ◌+◌, ◌-◌, ◌/◌, ◌<◌, ◌≤◌, Some, None, OnOk, OnErr};
 ghost use Rattle.granule_table.specs.Granules.{IsIn};
 ghost use Rattle.granule_addr.specs.Page.{zero_page};
-ghost use Rattle.granule_addr.specs.Root.{space_of};
+ghost use Rattle.granule_addr.specs.Root.{served_space};
 ghost use Rattle.page_arena.specs.Page.{page_at};
 ghost use Rattle.realm_model.specs.Rows.{with_ram, unmapped_ripas};
 ghost use Rattle.rtt.specs.Tables.{rows};
@@ -36,7 +36,7 @@ impl Tables {
     ) -> Result<(), Rtt>
         requires backed { IsBacked (S.page_bytes store.old) (S.free_flags store.old) granules.old }
         requires tables { HasTables (S.page_bytes store.old) granules.old self.now.rd self.now.root }
-        requires inside { ipa < space_of self.now.root.width }
+        requires inside { ipa < served_space self.now.root.width }
         requires delegated { IsIn granules.old page GranuleState.Delegated None }
         ensures answer { Answers result (with_free_page (rows (S.page_bytes store.old) self.now.root) ipa) }
         ensures rows { OnOk result (GainsPage (rows (S.page_bytes store.old) self.now.root) ipa page ripas
@@ -82,7 +82,7 @@ impl Tables {
     ) -> Result<(), Rtt>
         requires backed { IsBacked (S.page_bytes store.old) (S.free_flags store.old) granules.old }
         requires tables { HasTables (S.page_bytes store.old) granules.old self.now.rd self.now.root }
-        requires inside { ipa < space_of self.now.root.width }
+        requires inside { ipa < served_space self.now.root.width }
         ensures answer { Answers result (with_mapped_page (rows (S.page_bytes store.old) self.now.root) ipa) }
         ensures rows { OnOk result
             (LosesPage (rows (S.page_bytes store.old) self.now.root) ipa (rows (S.page_bytes store.new) self.now.root)) }
@@ -131,7 +131,7 @@ impl Tables {
     ) -> Result<(), Rtt>
         requires backed { IsBacked (S.page_bytes store.old) (S.free_flags store.old) granules.now }
         requires tables { HasTables (S.page_bytes store.old) granules.now self.now.rd self.now.root }
-        requires inside { ipa < space_of self.now.root.width }
+        requires inside { ipa < served_space self.now.root.width }
         requires some { 1 ≤ count }
         requires few { count ≤ 512 }
         requires one_table { ipa / 512 ≡ (ipa + count - 1) / 512 }

@@ -2,7 +2,7 @@
 ghost use Rattle.std.specs.Prelude.{◌≡◌, ℕ, ◌-◌, ◌<◌, true, Some, None, OnOk, OnErr};
 ghost use Rattle.granule_table.specs.Granules.{IsIn};
 ghost use Rattle.granule_addr.specs.Page.{zero_page};
-ghost use Rattle.granule_addr.specs.Root.{space_of};
+ghost use Rattle.granule_addr.specs.Root.{served_space};
 ghost use Rattle.page_arena.specs.Page.{page_at};
 ghost use Rattle.realm_model.specs.Rows.{is_table_place, without_table};
 ghost use Rattle.rtt.specs.Tables.{rows};
@@ -35,7 +35,7 @@ impl Tables {
     ) -> Result<(), Rtt>
         requires backed { IsBacked (S.page_bytes store.old) (S.free_flags store.old) granules.old }
         requires tables { HasTables (S.page_bytes store.old) granules.old self.now.rd self.now.root }
-        requires inside { ipa < space_of self.now.root.width }
+        requires inside { ipa < served_space self.now.root.width }
         requires delegated { IsIn granules.old table GranuleState.Delegated None }
         requires place { is_table_place ipa level ≡ true }
         ensures answer { Answers result (with_room_for_table (rows (S.page_bytes store.old) self.now.root) ipa level) }
@@ -81,7 +81,7 @@ impl Tables {
     ) -> Result<(), Rtt>
         requires backed { IsBacked (S.page_bytes store.old) (S.free_flags store.old) granules.old }
         requires tables { HasTables (S.page_bytes store.old) granules.old self.now.rd self.now.root }
-        requires inside { ipa < space_of self.now.root.width }
+        requires inside { ipa < served_space self.now.root.width }
         requires place { is_table_place ipa level ≡ true }
         ensures answer { Answers result (with_unused_table (rows (S.page_bytes store.old) self.now.root) ipa level) }
         ensures rows { OnOk result (rows (S.page_bytes store.new) self.now.root

@@ -1,7 +1,7 @@
 //! The tables of a realm, and walks.
 ghost use Rattle.std.specs.Prelude.{◌≡◌, ℕ, ◌<◌, ◌≤◌, length, Some};
 ghost use Rattle.granule_addr.specs.Ipa.{entry_index};
-ghost use Rattle.granule_addr.specs.Root.{space_of};
+ghost use Rattle.granule_addr.specs.Root.{served_space};
 ghost use Rattle.granule_table.specs.Granules.{IsIn};
 ghost use Rattle.realm_model.specs.declared.states.GranuleState.{GranuleState};
 ghost use Rattle.realm_model.specs.Rows.{walk, table_of, data_of};
@@ -43,7 +43,7 @@ impl Tables {
     ) -> Walk
         requires as_many { length granules.now ≡ length (S.page_bytes store.now) }
         requires tables { HasTables (S.page_bytes store.now) granules.now self.now.rd self.now.root }
-        requires inside { ipa < space_of self.now.root.width }
+        requires inside { ipa < served_space self.now.root.width }
         ensures walk { walk (rows (S.page_bytes store.now) self.now.root) ipa to ≡ Some result }
         ensures page { (page : ℕ) → data_of result.row ≡ Some page
             → IsIn granules.now page GranuleState.Data (Some self.now.rd) }
@@ -66,7 +66,7 @@ pub fn find<S: PageStore>(
 ) -> Place
     requires as_many { length granules.now ≡ length (S.page_bytes store.now) }
     requires tables { HasTables (S.page_bytes store.now) granules.now tables.rd tables.root }
-    requires inside { ipa < space_of tables.root.width }
+    requires inside { ipa < served_space tables.root.width }
     ensures walk { walk (rows (S.page_bytes store.now) tables.root) ipa to
         ≡ Some (record { level = result.level; row = result.entry }) }
     ensures table { table_at (entries_of (S.page_bytes store.now)) tables.root result.level ipa

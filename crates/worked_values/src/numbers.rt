@@ -107,7 +107,7 @@ fn result_words(rt: HostRuntime) {
     }
 }
 
-// Bits 0 and 1 are the HIPAS, bits 2 and 3 the RIPAS, and from bit 12 on lies the granule.
+// Bits 0 and 1 are the state of the entry, bits 2 and 3 the RIPAS, and from bit 12 on lies the granule.
 #[test]
 fn entry_words(rt: HostRuntime) {
     let granule = |number| Gran::new(number, 4096).unwrap_or_default();

@@ -88,13 +88,13 @@ data-refused =
 abbrev pub tabled : Rows
 tabled = with_table start_rows 2 0 2 Empty
 
-tabled-above : get tabled (1, 0) ≡ Some (leads 2)
+pub tabled-above : get tabled (1, 0) ≡ Some (leads 2)
 unfolding with_table
 tabled-above =
     get-put_rows_other (λ _. unassigned Empty) (put_row start_rows 1 0 (table 2)) 2 0 512 (1, 0) (λ k less. refl)
     ∙ get-insert place_total start_rows (1, 0) (table 2) (1, 0)
 
-tabled-beside : get tabled (1, 262144) ≡ Some (vacant Empty)
+pub tabled-beside : get tabled (1, 262144) ≡ Some (vacant Empty)
 unfolding with_table
 tabled-beside =
     get-put_rows_other (λ _. unassigned Empty) (put_row start_rows 1 0 (table 2)) 2 0 512 (1, 262144) (λ k less. refl)
@@ -104,7 +104,7 @@ pub tabled-first : get tabled (2, 0) ≡ Some (vacant Empty)
 unfolding with_table
 tabled-first = get-put_rows (λ _. unassigned Empty) (put_row start_rows 1 0 (table 2)) 2 0 512 0 (lit≤ tt)
 
-tabled-last : get tabled (2, 261632) ≡ Some (vacant Empty)
+pub tabled-last : get tabled (2, 261632) ≡ Some (vacant Empty)
 unfolding with_table
 tabled-last = get-put_rows (λ _. unassigned Empty) (put_row start_rows 1 0 (table 2)) 2 0 512 511 (lit≤ tt)
 

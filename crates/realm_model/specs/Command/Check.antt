@@ -45,9 +45,12 @@ is_undelegated g = elim g.cell.state [ Undelegated ↦ true | _ ↦ false ]
 abbrev pub is_delegated : Seen → Bool
 is_delegated g = elim g.cell.state [ Delegated ↦ true | _ ↦ false ]
 
+abbrev pub is_in : ℕ → List ℕ → Bool
+is_in number others = list_any (λ other. number == other) others
+
 -- none of the others is that number, and no number is there twice
 abbrev pub is_apart_from : ℕ → List ℕ → Bool
-is_apart_from number others = not (list_any (λ other. number == other) others)
+is_apart_from number others = not (is_in number others)
 
 abbrev pub are_distinct : List ℕ → Bool
 are_distinct [] = true

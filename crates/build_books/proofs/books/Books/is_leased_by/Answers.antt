@@ -1,12 +1,10 @@
 use Rattle.std.proofs.Common.{◌∙◌, ap, ℕ, List, Option, Some}
 use Rattle.realm_model.specs.World.{is_leased_to}
 use Rattle.build_books.specs.View.{HostView, world_of}
-use Rattle.build_books.proofs.HoldersFollow.{is_held_by-is_leased_to}
 use Rattle.build_books.proofs.books.Books.is_leased_by.Goals as goal
 
 pub returns : goal.returns
 returns c =
     c.is_held_by.ensures
-    ∙ is_held_by-is_leased_to c.args.build c.args.granule c.self.inside.holders
     ∙ ap (λ (leases : List (Option ℕ)). is_leased_to (Some c.args.build) leases c.args.granule) c.self.invariant.holders_are
     ∙ ap (λ (h : HostView). is_leased_to (Some c.args.build) (world_of h).leases c.args.granule) c.self.view_is

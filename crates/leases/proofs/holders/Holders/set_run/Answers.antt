@@ -1,5 +1,5 @@
 use Rattle.std.proofs.Common.{ℕ, ◌+◌, ◌-◌, ◌≤◌, List, length, Option, sym, ap, ◌∙◌, subst, arith, rules}
-use Rattle.leases.proofs.Held.{written-held}
+use Rattle.leases.proofs.Leased.{written-set_each}
 use Rattle.leases.proofs.holders.Holders.set_run.Goals as goal
 
 pub returns : goal.returns
@@ -7,5 +7,5 @@ returns c =
     let leases = c.self.inside.of.items in
     let fits : c.args.first + c.args.count ≤ length leases = subst (λ (xs : List (Option ℕ)). c.args.first + c.args.count ≤ length xs) (sym c.self.view_is) c.requires in
     rw (← c.self.view_is)
-    (written-held leases c.deref_mut.result.now c.fill.new.self c.args.lease c.self.inside.of.len c.args.first c.args.count (c.args.first + c.args.count - c.args.first)
+    (written-set_each leases c.deref_mut.result.now c.fill.new.self c.args.lease c.self.inside.of.len c.args.first c.args.count (c.args.first + c.args.count - c.args.first)
     c.deref_mut.ensures.value (sym c.deref_mut.ensures.len ∙ ap length c.deref_mut.ensures.value) (omega arith) (c.fill.ensures.after (λ y is. search rules)) fits)

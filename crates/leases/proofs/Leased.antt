@@ -5,15 +5,15 @@ use Rattle.std.proofs.lemmas.List.{length-set, length-replicate, length-take-le,
 use Rattle.std.proofs.lemmas.List.Edits.{length-paste}
 use Rattle.std.proofs.lemmas.Slice.{put_mid-paste}
 use Rattle.std.specs.List.{range_with_len}
-use Rattle.leases.specs.Holders.{held}
+use Rattle.realm_model.specs.StepLaw.{set_each}
 use borrow.Rule.Slice.PartMut.{put_mid}
 
 -- a run of one lease pasted over the leases
-pub paste-held : (leases : List (Option ℕ)) (lease : Option ℕ) (first count : ℕ) → first + count ≤ length leases
-    → paste leases first (replicate count lease) count ≡ held leases lease (range_with_len first count)
-unfolding held
-paste-held leases lease first zero fits = sym (paste-zero leases first [])
-paste-held leases lease first (suc count) fits =
+pub paste-set_each : (leases : List (Option ℕ)) (lease : Option ℕ) (first count : ℕ) → first + count ≤ length leases
+    → paste leases first (replicate count lease) count ≡ set_each lease (range_with_len first count) leases
+unfolding set_each
+paste-set_each leases lease first zero fits = sym (paste-zero leases first [])
+paste-set_each leases lease first (suc count) fits =
     let once : List (Option ℕ) = set leases first lease in
     let same : length once ≡ length leases = length-set leases first lease in
     let end : first + suc count ≡ first + 1 + count = omega arith in
@@ -24,13 +24,13 @@ paste-held leases lease first (suc count) fits =
     ap (λ (n : ℕ). drop n leases) end ∙ sym (drop-set-lt (first + 1 + count) leases first lease (omega arith)) in
     ap (λ (xs : List (Option ℕ)). xs ++ drop (first + suc count) leases) head
     ∙ ap (λ (xs : List (Option ℕ)). take (first + 1) once ++ run ++ xs) tail
-    ∙ paste-held once lease (first + 1) count (omega arith)
+    ∙ paste-set_each once lease (first + 1) count (omega arith)
 
 -- the leases after a write of a part of them, as the check sees them
-pub written-held : (leases seen run : List (Option ℕ)) (lease : Option ℕ) (len first count many : ℕ)
+pub written-set_each : (leases seen run : List (Option ℕ)) (lease : Option ℕ) (len first count many : ℕ)
     → seen ≡ leases → len ≡ length leases → many ≡ count → run ≡ replicate (length (take many (drop first seen))) lease → first + count ≤ length leases
-    → take len (put_mid first many seen run ++ drop (length (put_mid first many seen run)) leases) ≡ held leases lease (range_with_len first count)
-written-held leases seen run lease len first count many seen_is len_is many_is run_is fits =
+    → take len (put_mid first many seen run ++ drop (length (put_mid first many seen run)) leases) ≡ set_each lease (range_with_len first count) leases
+written-set_each leases seen run lease len first count many seen_is len_is many_is run_is fits =
     let fits' : first + count ≤ length seen = rw seen_is fits in
     let long : length (replicate count lease) ≡ count = length-replicate count lease in
     let rest : length (drop first seen) ≡ length seen - first = length-drop first seen in
@@ -44,4 +44,4 @@ written-held leases seen run lease len first count many seen_is len_is many_is r
     ∙ take_all len (put_mid first many seen run) (omega arith)
     ∙ written
     ∙ ap (λ (xs : List (Option ℕ)). paste xs first (replicate count lease) count) seen_is
-    ∙ paste-held leases lease first count fits
+    ∙ paste-set_each leases lease first count fits
