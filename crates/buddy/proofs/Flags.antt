@@ -5,8 +5,8 @@ use Rattle.std.proofs.lemmas.Bool.{cases_Bool, cases_eq, cases_lt, true≢false}
 use Rattle.std.proofs.lemmas.List.{ext_get_or, get_or_past}
 use Rattle.std.proofs.lemmas.Nat.{pow_pos}
 use Rattle.page_arena.specs.Page.{is_free}
-use Rattle.page_arena.specs.Block.{IsBlock, IsFreeBlock, with_taken, with_given}
-use Rattle.page_arena.specs.Blocks.{given_back, length-with_taken, is_free-with_taken_inside, is_free-with_taken_outside}
+use Rattle.page_arena.specs.Block.{IsBlock, IsFreeBlock, with_taken}
+use Rattle.page_arena.specs.Blocks.{length-with_taken, is_free-with_taken_inside, is_free-with_taken_outside}
 use Rattle.page_arena.specs.Runs.{inside_or_outside}
 use Rattle.buddy.specs.MaximalBlock.{LiesWithin}
 use Rattle.buddy.specs.Halves.{AreHalves}
@@ -179,6 +179,3 @@ module _ (flags : List Bool) (order base one other : ℕ) (halves : AreHalves or
                   | inr in_other ↦ elim o [ inl l ↦ absurd (omega arith) | inr l ↦ absurd (omega arith) ]
                 ]
           ]
-
-  pub one_given_back : with_given (with_taken flags (order + 1) base) order other ≡ less
-  one_given_back = ap (λ (fs : List Bool). with_given fs order other) (sym both_taken) ∙ given_back less order other second_half

@@ -6,7 +6,7 @@ use Rattle.std.proofs.lemmas.Bool.{cases_lt, true≢false}
 use Rattle.std.proofs.lemmas.Nat.{pow_pos, pow_below}
 use Rattle.page_arena.specs.Block.{IsFreeBlock, with_taken}
 use Rattle.buddy.specs.Heads.{head_at, start_at, buddy_at, AreMaximal}
-use Rattle.buddy.specs.InHand.{InHand, AllBelow, HasLooked}
+use Rattle.buddy.specs.InHand.{InHand, HasLooked}
 use Rattle.buddy.proofs.Aligned.{start_is}
 use Rattle.buddy.proofs.Halves.{buddies}
 use Rattle.buddy.proofs.Maximal.{holder}
@@ -81,7 +81,3 @@ module _ (heads : List ℕ) (flags : List Bool) (order first : ℕ) (aligned : f
   pub looked_all : order ≤ 9 → (found : Bool) → HasLooked heads flags first order found → (IsTrue found ↔ IsFreeBlock flags order first) × OnTrue found (AreMaximal heads (with_taken flags order first))
   looked_all low true looked = ((λ _. (found_free looked).0, λ _. refl), (found_free looked).1)
   looked_all low false looked = ((λ is. absurd (true≢false (sym is)), λ free. absurd (none_found low looked free)), tt)
-
--- before the look no order is known to have none
-pub not_looked : (heads : List ℕ) (flags : List Bool) (granule order : ℕ) → AreMaximal heads flags → AllBelow flags granule order → HasLooked heads flags granule order false
-not_looked heads flags granule order lists below = record { in_hand = λ is. absurd (true≢false (sym is)); not_yet = λ _. (lists, below) }

@@ -11,14 +11,6 @@ pub record IsBetween (recs : List (ℕ × ℕ)) (number low high : ℕ) : Type 0
   pub above : (i : ℕ) → i < low → number_at recs i < number
   pub below : (i : ℕ) → high ≤ i → i < length recs → number < number_at recs i
 
-pub all_between : (recs : List (ℕ × ℕ)) (number high : ℕ) → high ≡ length recs → IsBetween recs number 0 high
-all_between recs number high is = record {
-  order = omega arith;
-  inside = omega arith;
-  above = λ i less. absurd (omega arith);
-  below = λ i past inside. absurd (omega arith);
-}
-
 -- a place before another, at it, or after it
 data Side (i place : ℕ) : Type 0 where
   Less : i < place → Side i place
@@ -80,19 +72,4 @@ module _ (recs : List (ℕ × ℕ)) (number low high place : ℕ) (rec d : ℕ �
           | More after ↦ absurd (omega arith)
         ];
         below = between.below;
-      }
-
-  pub lower_half : number < rec.0 → IsBetween recs number low place
-  lower_half over =
-      let inside = between.inside in
-      let at = at_place in
-      record {
-        order = from;
-        inside = omega arith;
-        above = between.above;
-        below = λ i past in_i. elim (side i place) [
-          | Less before ↦ absurd (omega arith)
-          | Same here ↦ let same = ap (number_at recs) here in omega (arith, same, at, over)
-          | More after ↦ let higher = rising place i after in_i in omega (arith, higher, at, over)
-        ];
       }

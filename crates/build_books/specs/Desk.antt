@@ -12,6 +12,6 @@ desk_of host = record {
   pages = λ build. pages_of_build host build;
   realm = λ build. is_some (rd_of build (world_of host));
   opened = λ build. length (open_of host build);
-  left = λ build. host.capacity - used host build;
+  room_left = λ build. host.capacity - used host build;
   vmid = is_some (lowest_vmid host);
 }

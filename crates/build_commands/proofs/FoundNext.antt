@@ -16,25 +16,6 @@ module _ (desk : DeskView) (build : ℕ) where
   checks_append : (xs ys : List ℕ) → first_that_holds (page_checks desk build (xs ++ ys)) ≡ first_that_holds (page_checks desk build xs ++ page_checks desk build ys)
   checks_append xs ys = ap first_that_holds (map-append _ xs ys)
 
-  -- none yet
-  pub none_next : (gs : List ℕ) → AreFoundNext desk build [] gs (Ok tt) gs
-  none_next gs = (omega arith, λ before old. ap (λ (ps : List ℕ). map found ps) (append_nil before) ∙ old)
-    where
-      append_nil : (xs : List ℕ) → xs ++ [] ≡ xs
-      append_nil [] = refl
-      append_nil (x ∷ xs) = ap (λ r. x ∷ r) (append_nil xs)
-
-  -- one more
-  pub page_there : (page granule : ℕ) (old new : List ℕ) → found page ≡ Some granule → new ≡ old ++ granule ∷ [] → AreFoundNext desk build (page ∷ []) old (Ok tt) new
-  page_there page granule old new some is = (
-    ap (λ (gs : List ℕ). length gs) is ∙ length-append old (granule ∷ []),
-    λ before had.
-        map-append found before (page ∷ [])
-        ∙ (λ i. had i ++ some i ∷ [])
-        ∙ sym (map-append (λ g. Some g) old (granule ∷ []))
-        ∙ ap (λ (gs : List ℕ). map (λ g. Some g) gs) (sym is),
-  )
-
   pub page_missing : (page : ℕ) (old new : List ℕ) → found page ≡ None → AreFoundNext desk build (page ∷ []) old (Err (NotLeased page)) new
   page_missing page old new none = λ before had.
       checks_append before (page ∷ [])

@@ -42,7 +42,7 @@ journal_checks desk build false = []
 
 -- 10
 abbrev pub room_checks : DeskView → ℕ → ℕ → List Check
-room_checks desk build needed = (nat_lt (desk.left build) needed, HistoryFull) ∷ []
+room_checks desk build needed = (nat_lt (desk.room_left build) needed, HistoryFull) ∷ []
 
 -- 12
 abbrev pub vmid_checks : DeskView → Bool → List Check

@@ -9,7 +9,7 @@ pub record DeskView : Type 0 where
   pub pages : ℕ → List ℕ
   pub realm : ℕ → Bool
   pub opened : ℕ → ℕ
-  pub left : ℕ → ℕ
+  pub room_left : ℕ → ℕ
   pub vmid : Bool
 
 -- the granule of a build's page

@@ -1,5 +1,5 @@
 -- How the act of a command fits the command, and what comes of it.
-use Rattle.std.specs.Prelude.{◌≡◌, ◌==◌, ℕ, List, length, slice_index, Bool, true, false, Option, Some, None, Err}
+use Rattle.std.specs.Prelude.{◌≡◌, ◌==◌, ℕ, List, length, slice_index, true, false, Option, Some, None, Err}
 use Rattle.std.specs.List.{All}
 use Rattle.granule_addr.specs.Ipa.{is_width}
 use Rattle.realm_model.specs.declared.act.Act.{Act}

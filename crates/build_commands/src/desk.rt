@@ -36,7 +36,7 @@ pub trait Desk {
     /// How much of its room the build has left.
     fn room_left(&self, build: BuildId) -> u16
         requires { build < (seen self.now).builds }
-        ensures { result ≡ (seen self.now).left build };
+        ensures { result ≡ (seen self.now).room_left build };
 
     /// Whether a VMID is free.
     fn has_vmid(&self) -> bool

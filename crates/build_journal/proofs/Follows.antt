@@ -1,11 +1,11 @@
 -- A stack that follows an act.
 use Rattle.std.proofs.Common.{◌≡◌, ◌+◌, ◌-◌, ◌≤◌, true, false, List, [], ◌∷◌, ◌++◌, length, take, refl, sym, ap, ◌∙◌, subst, length-append}
-use Rattle.std.proofs.lemmas.Bool.{and_parts, and_from}
+use Rattle.std.proofs.lemmas.Bool.{and_from}
 use Rattle.std.proofs.lemmas.List.Folds.{list_all-append}
 use Rattle.realm_model.specs.declared.act.Act.{Act}
 use Rattle.realm_model.specs.Act.{is_paired, is_reverse}
 use Rattle.realm_model.specs.Stack.{pushed}
-use Rattle.realm_model.proofs.Lists.{front, take-front}
+use Rattle.realm_model.proofs.Lists.{take-front}
 use Rattle.realm_model.proofs.Stack.{pushed_paired, pushed_back}
 use Rattle.build_journal.specs.Stack.{are_paired}
 
@@ -15,11 +15,6 @@ module _ (stack : List Act) (act : Act) (paired : is_paired act ≡ true) where
 
   pub are_paired_push : are_paired stack ≡ true → are_paired (stack ++ act ∷ []) ≡ true
   are_paired_push h = list_all-append is_paired stack (act ∷ []) ∙ and_from _ _ h (and_from _ _ paired refl)
-
-pub are_paired_front : (stack : List Act) → are_paired stack ≡ true → are_paired (front stack) ≡ true
-are_paired_front [] h = refl
-are_paired_front (x ∷ []) h = refl
-are_paired_front (x ∷ y ∷ ys) h = let parts = and_parts _ _ h in and_from _ _ parts.0 (are_paired_front (y ∷ ys) parts.1)
 
 -- the top is taken off
 pub pushed_taken : (stack : List Act) (act : Act) → is_paired act ≡ false → is_reverse act ≡ true → take (length stack - 1) stack ≡ pushed stack act

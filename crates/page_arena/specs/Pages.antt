@@ -1,22 +1,16 @@
 -- Laws of pages: their bytes, and that a store stays sized.
-use Rattle.std.specs.Prelude.{◌≡◌, ℕ, ◌+◌, ◌<◌, ◌≤◌, Bool, List, [], length, replicate, get_or, set}
+use Rattle.std.specs.Prelude.{◌≡◌, ℕ, ◌+◌, ◌<◌, ◌≤◌, Bool, List, [], length, replicate, set}
 use Rattle.std.proofs.Common.{sym, ap, ◌∙◌, ⊎_elim, arith}
-use Rattle.std.proofs.lemmas.List.{length-set, length-replicate, get_or-replicate}
+use Rattle.std.proofs.lemmas.List.{length-set, length-replicate}
 use Rattle.std.proofs.lemmas.List.Elements.{All-set, All-from_get_or, All-replicate}
 use Rattle.granule_addr.specs.Page.{page_of, zero_page}
 use Rattle.page_arena.specs.Page.{page_at, IsSized}
 use Rattle.page_arena.specs.Block.{with_run}
-use Rattle.page_arena.specs.Word.{with_word}
 use Rattle.page_arena.specs.Runs.{length-with_run, get_or-with_run_inside, get_or-with_run_outside, inside_or_outside}
-use Rattle.page_arena.specs.Words.{length-page_with_word}
 
 pub length-page_of : (value : ℕ) → length (page_of value) ≡ 4096
 unfolding page_of
 length-page_of value = length-replicate 4096 value
-
-pub get_or-page_of : (value i d : ℕ) → i < 4096 → get_or (page_of value) i d ≡ value
-unfolding page_of
-get_or-page_of value i d within = get_or-replicate 4096 i value d within
 
 -- sized as it is built
 pub IsSized-replicate : (count : ℕ) (flag : Bool) → 1 ≤ count → count ≤ 4096 → IsSized (replicate count zero_page) (replicate count flag)
@@ -47,11 +41,6 @@ module _ (pages : List (List ℕ)) (flags : List Bool) (sized : IsSized pages fl
         whole = All-set (λ p. length p ≡ 4096) pages granule page whole sized.whole;
         flagged = omega arith;
       }
-
-  -- sized after a word is written
-  pub IsSized-with_word : (granule i word : ℕ) → granule < length pages → i < 512 → IsSized (with_word pages granule i word) flags
-  IsSized-with_word granule i word inside index =
-      IsSized-set granule _ (length-page_with_word (page_at pages granule) i word (length-page_at granule inside) index)
 
   -- sized after flags are set
   pub IsSized-flags : (first count : ℕ) (flag : Bool) → first + count ≤ length flags → IsSized pages (with_run flags first count flag)

@@ -1,9 +1,8 @@
 -- Laws of a list that is written from one place on, as flags and pages are by a take or a give.
 use Rattle.std.specs.Prelude.{◌≡◌, ℕ, ◌+◌, ◌-◌, ◌<◌, ◌≤◌, ◌⊎◌, List, [], ◌∷◌, ◌++◌, length, take, drop, replicate, get_or, set}
 use Rattle.std.proofs.Common.{sym, ap, ◌∙◌, inl, inr, ⊎_elim, arith, length-append, append-nil, append_assoc, take-append-drop}
-use Rattle.std.proofs.lemmas.List.{length-drop, length-replicate, length-take-le, drop_more, set_at, replicate_more, get_or_append_left, get_or-append_right, get_or-take, get_or-drop, get_or-replicate, get_or-set_other, length-set, ext_get_or}
+use Rattle.std.proofs.lemmas.List.{length-drop, length-replicate, length-take-le, drop_more, set_at, replicate_more, get_or_append_left, get_or-append_right, get_or-take, get_or-drop, get_or-replicate, ext_get_or}
 use Rattle.std.proofs.lemmas.Bool.{cases_lt}
-use Rattle.std.proofs.lemmas.Grind.{get_or-set_at}
 use Rattle.page_arena.specs.Block.{with_run}
 
 -- a place is in a run, or below it, or above
@@ -85,23 +84,3 @@ with_run-with_run {X} xs first count x y fits =
     (λ h. get_or-with_run_inside ys first count x ys_fits i x h.0 h.1 ∙ sym (get_or-with_run_inside xs first count x fits i x h.0 h.1))
     (λ h. get_or-with_run_outside ys first count x ys_fits i x h ∙ get_or-with_run_outside xs first count y fits i x h ∙ sym (get_or-with_run_outside xs first count x fits i x h))
     (inside_or_outside first count i))
-
--- a run of one more place, written from the front
-pub with_run_first : {X : Type 0} (xs : List X) (first count : ℕ) (x : X) → first + (count + 1) ≤ length xs → with_run (set xs first x) (first + 1) count x ≡ with_run xs first (count + 1) x
-with_run_first {X} xs first count x fits =
-    let ys : List X = set xs first x in
-    let len : length ys ≡ length xs = length-set xs first x in
-    let rest_fits : first + 1 + count ≤ length ys = omega arith in
-    ext_get_or x _ _ (length-with_run ys (first + 1) count x rest_fits ∙ len ∙ sym (length-with_run xs first (count + 1) x fits)) (λ i lt.
-    ⊎_elim
-    (λ h.
-    ⊎_elim
-    (λ front. get_or-with_run_outside ys (first + 1) count x rest_fits i x (inl front) ∙ get_or-set_at xs first i x x (omega arith) (omega arith))
-    (λ behind. get_or-with_run_inside ys (first + 1) count x rest_fits i x behind (omega arith))
-    (cases_lt i (first + 1))
-    ∙ sym (get_or-with_run_inside xs first (count + 1) x fits i x h.0 h.1))
-    (λ h.
-    get_or-with_run_outside ys (first + 1) count x rest_fits i x (⊎_elim (λ below. inl (omega arith)) (λ above. inr (omega arith)) h)
-    ∙ get_or-set_other xs first i x x (λ (same : i ≡ first). ⊎_elim (λ below. omega arith) (λ above. omega arith) h)
-    ∙ sym (get_or-with_run_outside xs first (count + 1) x fits i x h))
-    (inside_or_outside first (count + 1) i))

@@ -1,7 +1,7 @@
 -- Pages that are written before pages of zeros that are not.
 use Rattle.std.proofs.Common.{◌≡◌, ◌≢◌, ℕ, suc, ◌+◌, ◌-◌, ◌<◌, ◌≤◌, ◌⊎◌, List, [], ◌∷◌, ◌++◌, length, replicate, set, get_or, refl, sym, ap, ◌∙◌, inl, inr, ⊎_elim, arith, length-append, length-set, append_assoc}
 use Rattle.std.proofs.lemmas.Bool.{cases_lt, cases_eq}
-use Rattle.std.proofs.lemmas.List.{length-replicate, get_or-replicate, replicate-append-replicate, replicate_more, append-nil, get_or_append_left, get_or-append_right, get_or_default, set-append_left, set-append_right, get_or-set_same, get_or-set_other, ext_get_or}
+use Rattle.std.proofs.lemmas.List.{length-replicate, get_or-replicate, replicate-append-replicate, replicate_more, get_or_append_left, get_or-append_right, get_or_default, set-append_left, set-append_right, get_or-set_same, get_or-set_other, ext_get_or}
 use Rattle.page_arena.specs.Block.{with_run}
 use Rattle.raw_pages.specs.Owned.{put_at}
 use Rattle.raw_pages.proofs.Puts.{put_last, put_inside}
@@ -14,9 +14,6 @@ module _ {X : Type 0} (xs : List X) (zero : X) where
       let sum : upto - from + (count - upto) ≡ count - from = omega arith in
       append_assoc xs (replicate (upto - from) zero) (replicate (count - upto) zero)
       ∙ ap (λ ys. xs ++ ys) (replicate-append-replicate (upto - from) (count - upto) zero ∙ ap (λ (k : ℕ). replicate k zero) sum)
-
-  pub zeros_none : (n : ℕ) → n ≡ 0 → xs ≡ xs ++ replicate n zero
-  zeros_none n e = sym (ap (λ (k : ℕ). xs ++ replicate k zero) e ∙ append-nil xs)
 
   -- one more of them
   pub zeros_more : (n m : ℕ) → n + 1 ≡ m → (xs ++ replicate n zero) ++ zero ∷ [] ≡ xs ++ replicate m zero
@@ -75,9 +72,6 @@ pub record IsCleared {X : Type 0} (zero : X) (xs ys : List X) (first end : ℕ) 
   pub kept : (i : ℕ) (d : X) → (i < first) ⊎ (end ≤ i) → get_or ys i d ≡ get_or xs i d
 
 module _ {X : Type 0} (zero : X) (xs : List X) where
-  pub cleared_none : (first : ℕ) → IsCleared zero xs xs first first
-  cleared_none first = record { same = refl; zeros = λ i d low high. absurd (omega arith); kept = λ i d out. refl }
-
   pub cleared_more : (ys : List X) (first i : ℕ) → IsCleared zero xs ys first i → first ≤ i → i < length xs → IsCleared zero xs (set ys i zero) first (i + 1)
   cleared_more ys first i was low lt =
       let same = was.same in

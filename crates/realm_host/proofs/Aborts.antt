@@ -229,9 +229,6 @@ module _ (host : HostView) (legal : IsLegal host.limits host.history) (build cou
     backward : IsReverse back
     backward = reverse_is newest.act back back_is
 
-    pub legal_after : IsLegal new.limits new.history
-    legal_after = done.grown.legal
-
     world_after : world_of new ≡ done.world
     world_after = world_of-replay new done.world done.grown.world_is
 

@@ -6,12 +6,11 @@ use Rattle.std.proofs.lemmas.Bool.{eq-eqb}
 use Rattle.std.proofs.lemmas.Option.{same_Some}
 use Rattle.std.proofs.lemmas.List.Elements.{All-nil, All-cons}
 use Rattle.realm_model.specs.declared.act.Act.{Act}
-use Rattle.realm_model.specs.declared.act.Act.TheVariants as acts
 use Rattle.realm_model.specs.declared.rmi.Rmi.{Rmi}
 use Rattle.realm_model.specs.Machine.{RealmRow, Seen, seen, cell_at}
 use Rattle.realm_model.specs.Update.{Update}
 use Rattle.realm_model.specs.Command.Check.{error_input, is_in}
-use Rattle.realm_model.specs.Act.{is_command, named, is_reverse}
+use Rattle.realm_model.specs.Act.{named, is_reverse}
 use Rattle.realm_model.specs.Outcome.{outcome_of, realm_is, is_in_range, fits}
 use Rattle.realm_model.specs.World.{World, realm_of}
 use Rattle.realm_model.specs.Step.{used_vmids, outcome_in}

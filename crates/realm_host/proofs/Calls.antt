@@ -6,8 +6,7 @@ use Rattle.std.proofs.lemmas.Bool.{leb-false, le-leb, ltb-true, ltb-false, and_p
 use Rattle.std.proofs.lemmas.List.{take_all, length-drop, get_or-set_same, get_or_past, set_past}
 use Rattle.build_commands.specs.declared.refusal.Refusal.{Refusal}
 use Rattle.build_commands.specs.declared.refusal.Refusal.TheVariants.{NoBuild, Aborting, NothingToUndo, RecRunning}
-use Rattle.build_commands.specs.Checks.{Check, build_checks, first_that_holds}
-use Rattle.build_commands.proofs.Refused.{first_passes}
+use Rattle.build_commands.specs.Checks.{build_checks, first_that_holds}
 use Rattle.realm_model.specs.declared.act.Act.{Act}
 use Rattle.realm_model.specs.declared.act.Event.{Event}
 use Rattle.realm_model.specs.History.{open_entries, IsLegal}
@@ -50,17 +49,6 @@ pub there_of : (host : HostView) (build : ℕ) → first_that_holds (build_check
 there_of host build none =
     let parts = passed_parts (nat_le host.limits.builds build) NoBuild _ none in
     leb-false host.limits.builds build parts.0
-
--- one more check after those that pass
-pub holds_next : (checks : List Check) (t : Bool) (refusal : Refusal) (rest : List Check) → first_that_holds checks ≡ None → t ≡ true
-    → first_that_holds (checks ++ (t, refusal) ∷ rest) ≡ Some refusal
-holds_next checks t refusal rest none holds =
-    first_passes checks ((t, refusal) ∷ rest) none ∙ ap (λ b. cond b (Some refusal) (first_that_holds rest)) holds
-
-pub passes_next : (checks : List Check) (t : Bool) (refusal : Refusal) (rest : List Check) → first_that_holds checks ≡ None → t ≡ false
-    → first_that_holds (checks ++ (t, refusal) ∷ rest) ≡ first_that_holds rest
-passes_next checks t refusal rest none not_held =
-    first_passes checks ((t, refusal) ∷ rest) none ∙ ap (λ b. cond b (Some refusal) (first_that_holds rest)) not_held
 
 -- ---- the way back to a mark that stands
 

@@ -110,10 +110,10 @@ module _ (desk : DeskView) (build : ℕ) (cmd : Cmd) (none : first_that_holds (c
       at true is e = leb-false 512 (desk.opened build) (head_false (nat_le 512 (desk.opened build), JournalFull) [] e)
       at false is e = cc
 
-  pub room_fits : (needs_of cmd).room ≤ desk.left build
+  pub room_fits : (needs_of cmd).room ≤ desk.room_left build
   room_fits =
-      ltb-false (desk.left build) (needs_of cmd).room
-      (head_false (nat_lt (desk.left build) (needs_of cmd).room, HistoryFull) []
+      ltb-false (desk.room_left build) (needs_of cmd).room
+      (head_false (nat_lt (desk.room_left build) (needs_of cmd).room, HistoryFull) []
       (first_none (room_checks desk build (needs_of cmd).room) (vmid_checks desk (needs_of cmd).vmid) (rest_none (journal_checks desk build (needs_of cmd).paired) room_part after_realm)))
 
 -- ---- the granules of its operands

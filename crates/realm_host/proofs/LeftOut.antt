@@ -1,7 +1,7 @@
 -- A history without a build, applied event by event.
-use Rattle.std.proofs.Common.{◌≡◌, ◌≢◌, ℕ, ◌+◌, ◌<◌, ◌≤◌, true, false, not, List, [], ◌∷◌, ◌++◌, length, take, drop, get_or, Some, refl, sym, ap, ◌∙◌, subst, zero, suc, ◌&&◌, set, replicate, Option, None}
+use Rattle.std.proofs.Common.{◌≡◌, ◌≢◌, ℕ, ◌+◌, ◌<◌, ◌≤◌, false, not, List, [], ◌∷◌, ◌++◌, length, take, drop, get_or, Some, refl, sym, ap, ◌∙◌, subst, zero, suc, ◌&&◌, set, replicate, Option, None}
 use Rattle.std.specs.Prelude.{option_map, ◌==◌, nat_lt}
-use Rattle.std.proofs.lemmas.Bool.{eq-eqb, ne_eqb}
+use Rattle.std.proofs.lemmas.Bool.{ne_eqb}
 use Rattle.std.proofs.lemmas.List.{append-nil, append_assoc, take_all, take_more, take-append-drop, set-get_or}
 use Rattle.std.proofs.lemmas.List.Elements.{filter-append}
 use Rattle.realm_model.specs.declared.act.Event.{Event}
@@ -60,15 +60,6 @@ module _ (host : HostView) (legal : IsLegal host.limits host.history) (room : (b
   module _ (count : ℕ) (event : Event) (inside : count < length host.history) (event_is : event ≡ get_or host.history count event) (fresh : HostView) (so_far : IsSoFar host build count fresh) where
     more : take (count + 1) host.history ≡ take count host.history ++ event ∷ []
     more = take_more host.history count event inside ∙ ap (λ (e : Event). take count host.history ++ e ∷ []) (sym event_is)
-
-    -- an event of the build is passed over
-    pub passed_over : event.build ≡ build → IsSoFar host build (count + 1) fresh
-    passed_over same = record {
-      fresh_is = so_far.fresh_is
-          ∙ ap (λ es. record (fresh_like host) { history = es }) (sym (append-nil (erase build (take count host.history)))
-          ∙ sym (ap (erase build) more ∙ erase_push build (take count host.history) event true (eq-eqb event.build build same)));
-      legal = so_far.legal;
-    }
 
     module _ (apart : event.build ≢ build) where
       erased_more : erase build (take (count + 1) host.history) ≡ erase build (take count host.history) ++ event ∷ []

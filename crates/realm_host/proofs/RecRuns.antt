@@ -62,16 +62,16 @@ module _ (limits : Limits) (world : World) (sound : IsReachable limits world) (g
           let other = named_some world.machine granule named.0 named.1 some in
           λ i. Some (same_rd named.0 named.1 rd number other is i, same_number named.0 named.1 rd number other is i)
 
-  pub runs_as : (rd number : ℕ) (is : IsRec world.machine rd number granule) → state_runs (rec_attributes_at world.machine granule) ≡ is_rec_running (Some is.rec)
-  runs_as rd number is =
-      ap (λ o. state_runs (option_and_then (λ (named : ℕ × ℕ). option_map (rec_attributes_of named.1) (rec_in world.machine named.0 named.1)) o)) (found rd number is)
-      ∙ ap (λ o. state_runs (option_map (rec_attributes_of number) (option_and_then (λ (realm : RealmRow). get realm.recs number) o))) is.there
-      ∙ ap (λ o. state_runs (option_map (rec_attributes_of number) o)) is.numbered
+  pub attributes_as : (rd number : ℕ) (is : IsRec world.machine rd number granule) → rec_attributes_at world.machine granule ≡ Some (rec_attributes_of number is.rec)
+  attributes_as rd number is =
+      ap (λ o. option_and_then (λ (named : ℕ × ℕ). option_map (rec_attributes_of named.1) (rec_in world.machine named.0 named.1)) o) (found rd number is)
+      ∙ ap (λ o. option_map (rec_attributes_of number) (option_and_then (λ (realm : RealmRow). get realm.recs number) o)) is.there
+      ∙ ap (option_map (rec_attributes_of number)) is.numbered
 
 -- ---- of an act of a build, by the granule of the REC of its number
 
 module _ (limits : Limits) (history : List Event) (world : World) (at_world : replay limits history ≡ Some world) (build granule number : ℕ)
-    (aux : ArrayVec ℕ 16 (Unit {0})) (granule_is : rec_granule (realm_of build world) number ≡ Some granule) where
+    (granule_is : rec_granule (realm_of build world) number ≡ Some granule) where
   record There : Type 0 where
     rd : Seen
     realm_is : realm_of build world ≡ Some (seen world.machine rd.number)
@@ -98,24 +98,18 @@ module _ (limits : Limits) (history : List Event) (world : World) (at_world : re
         rec = by_row rd rd.cell.descriptor (ap (λ (c : Cell). c.descriptor) there) e;
       }
 
-  pub runs_is : state_runs (rec_attributes_at world.machine granule) ≡ is_running (realm_of build world) (Rec granule aux number)
-  runs_is =
+  pub is_there : rec_attributes_at world.machine granule ≡ None → ⊥
+  is_there none =
       let found = rec_there in
-      runs_as limits world (reachable_worlds limits history world at_world) granule found.rd.number number found.rec
+      some_is_not_none (attributes_as limits world (reachable_worlds limits history world at_world) granule found.rd.number number found.rec) none
+    where
+      some_is_not_none : {A : Type 0} {o : Option A} {a : A} → o ≡ Some a → o ≡ None → ⊥
+      some_is_not_none some none = let both = sym some ∙ none in cc
+
+  pub runs_is : (aux : ArrayVec ℕ 16 (Unit {0})) → state_runs (rec_attributes_at world.machine granule) ≡ is_running (realm_of build world) (Rec granule aux number)
+  runs_is aux =
+      let found = rec_there in
+      ap state_runs (attributes_as limits world (reachable_worlds limits history world at_world) granule found.rd.number number found.rec)
       ∙ sym (ap (λ o. rec_runs o number) found.realm_is
       ∙ ap (λ o. elim o [ Some realm ↦ is_rec_running (get realm.recs number) | None ↦ false ]) found.rec.there
       ∙ ap is_rec_running found.rec.numbered)
-
--- without such a REC none runs
-pub none_runs : (realm : Option Seen) (number : ℕ) → rec_granule realm number ≡ None → rec_runs realm number ≡ false
-none_runs None number none = refl
-none_runs (Some rd) number none = by_row rd.cell.descriptor none
-  where
-    by_rec : (o : Option RecRow) → option_map (λ (rec : RecRow). rec.granule) o ≡ None → is_rec_running o ≡ false
-    by_rec None e = refl
-    by_rec (Some rec) e = cc
-
-    by_row : (o : Option RealmRow) → option_map (λ (rec : RecRow). rec.granule) (option_and_then (λ (row : RealmRow). get row.recs number) o) ≡ None
-        → elim o [ Some realm ↦ is_rec_running (get realm.recs number) | None ↦ false ] ≡ false
-    by_row None e = refl
-    by_row (Some realm) e = by_rec (get realm.recs number) e

@@ -1,5 +1,5 @@
 -- Whether an act of a build made a REC that runs, over the fields of a host.
-use Rattle.std.proofs.Common.{◌≡◌, ℕ, ◌<◌, false, length, Option, Some, None, sym, ap, ◌∙◌}
+use Rattle.std.proofs.Common.{◌≡◌, ℕ, ◌<◌, length, Option, Some, None, sym, ap, ◌∙◌}
 use Rattle.arrayvec.specs.declared.array_vec.ArrayVec.{ArrayVec}
 use Rattle.realm_model.specs.declared.act.Act.{Act}
 use Rattle.realm_model.specs.declared.act.Act.TheVariants.{Rec}
@@ -13,24 +13,24 @@ use Rattle.realm_acts.specs.Performing.{rec_granule}
 use Rattle.realm_acts.proofs.Ready.{rec_ready}
 use Rattle.build_books.specs.View.{HostView, world_of}
 use Rattle.realm_host.specs.Host.{IsWhole}
-use Rattle.realm_host.proofs.RecRuns.{state_runs, runs_is, none_runs}
+use Rattle.realm_host.proofs.RecRuns.{state_runs, is_there, runs_is}
 
 module _ (books : HostView) (monitor : MonitorView) (whole : IsWhole books monitor) (now : HostView) (view_is : books ≡ now) (build number : ℕ) where
   pub inside_rec : (granule : ℕ) → Some granule ≡ rec_granule (realm_of build (world_of books)) number → granule < length monitor.machine
   inside_rec granule granule_is =
       (rec_ready books.limits books.history (world_of books) monitor whole.mirror build (Some number) (Some granule) granule_is).taken.inside
 
+  pub told_there : (granule : ℕ) → Some granule ≡ rec_granule (realm_of build (world_of books)) number
+      → (told : Option RecAttributes) → told ≡ rec_attributes_at monitor.machine granule → told ≡ None → ⊥
+  told_there granule granule_is told told_is none =
+      is_there books.limits books.history (world_of books) whole.mirror.world_is build granule number (sym granule_is)
+      (sym (told_is ∙ ap (λ (m : Machine). rec_attributes_at m granule) whole.mirror.machine) ∙ none)
+
   module _ (granule_of_act : ℕ) (aux : ArrayVec ℕ 16 (Unit {0})) (act : Act) (is : act ≡ Rec granule_of_act aux number) where
     pub runs_told : (granule : ℕ) → Some granule ≡ rec_granule (realm_of build (world_of books)) number
         → (told : Option RecAttributes) → told ≡ rec_attributes_at monitor.machine granule → state_runs told ≡ is_running (realm_of build (world_of now)) act
     runs_told granule granule_is told told_is =
         ap state_runs (told_is ∙ ap (λ (m : Machine). rec_attributes_at m granule) whole.mirror.machine)
-        ∙ runs_is books.limits books.history (world_of books) whole.mirror.world_is build granule number aux (sym granule_is)
-        ∙ ap (λ (h : HostView). is_running (realm_of build (world_of h)) (Rec granule_of_act aux number)) view_is
-        ∙ ap (is_running (realm_of build (world_of now))) (sym is)
-
-    pub no_rec_runs : None ≡ rec_granule (realm_of build (world_of books)) number → false ≡ is_running (realm_of build (world_of now)) act
-    no_rec_runs none =
-        sym (none_runs (realm_of build (world_of books)) number (sym none))
+        ∙ runs_is books.limits books.history (world_of books) whole.mirror.world_is build granule number (sym granule_is) aux
         ∙ ap (λ (h : HostView). is_running (realm_of build (world_of h)) (Rec granule_of_act aux number)) view_is
         ∙ ap (is_running (realm_of build (world_of now))) (sym is)

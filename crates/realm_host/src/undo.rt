@@ -57,7 +57,7 @@ impl<S: PageStore> Host<S> {
         };
         match self.monitor.rec_at(granule) {
             Some(rec) => !rec.is_ready(),
-            None => false,
+            None => unreachable!(),
         }
     }
 

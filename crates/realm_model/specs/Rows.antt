@@ -132,7 +132,7 @@ without_table rows level ipa =
 unfoldable pub is_table_unused : Rows → ℕ → ℕ → Bool
 is_table_unused rows level ipa = all_rows is_unassigned rows level ipa 512
 
--- a row that becomes RAM
+-- A row that becomes RAM. A command makes it of rows that are there, so of none it never does.
 abbrev pub as_ram : Option Row → Row
 as_ram None = unassigned Ram
 as_ram (Some row) = record row { ripas = Ram }

@@ -84,7 +84,3 @@ pub cut :
     → AppendsFront old new text
     → IsEnd unread erase input old new (Err Device)
 cut unread erase input old new text read text_of written = rw read (record { text = text; text_of = text_of; written = written })
-
--- whatever the end, it is no mismatch
-pub not_mismatch : (unread : Bool) (erase : Option ℕ) (input old new : Option (List ℕ)) (result : Result (Unit {0}) Fault) → IsEnd unread erase input old new result → result ≢ Err Mismatch
-not_mismatch unread erase input old new result ends is = subst (IsEnd unread erase input old new) is ends

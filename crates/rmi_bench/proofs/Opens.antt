@@ -8,7 +8,7 @@ use Rattle.page_arena.specs.Page.{is_free}
 use Rattle.page_arena.specs.Block.{IsFreeBlock}
 use Rattle.page_arena.specs.Runs.{length-with_run, get_or-with_run_inside, get_or-with_run_outside, inside_or_outside}
 use Rattle.rmi_monitor.specs.View.{MonitorView, with_block}
-use Rattle.rmi_bench.specs.Machine.{all_taken, IsBench}
+use Rattle.rmi_bench.specs.Machine.{all_taken}
 
 -- so many granules are taken, and nothing else is other than it was
 pub record IsTakenBelow (count : ℕ) (old monitor : MonitorView) : Type 0 where
@@ -80,14 +80,3 @@ all_below old monitor count whole below =
     let inside : i < length old.machine = subst (λ n. i < n) below.flagged lt in
     below.taken i (subst (λ n. i < n) (sym whole) inside) ∙ sym (get_or-replicate (length old.machine) i false false inside)) in
     λ i. record { vmids = below.vmids i; aux = below.aux i; machine = below.machine i; free = flags i }
-
--- a bench is one
-pub opened_bench : (monitor old : MonitorView) → monitor ≡ all_taken old → length old.machine ≤ 4096 → old.aux ≤ 16 → IsBench monitor
-opened_bench monitor old is few aux = subst IsBench (sym is) (record {
-  all = record {
-    size = refl;
-    each = λ granule inside. record { inside = inside; taken = get_or-replicate (length old.machine) granule false false inside };
-  };
-  few_pages = few;
-  few_auxiliaries = aux;
-})

@@ -1,12 +1,10 @@
 -- What the commands of the monitor keep: a bench is a bench.
-use Rattle.std.proofs.Common.{◌≡◌, ℕ, ◌<◌, ◌≤◌, true, List, [], ◌∷◌, length, Ok, Err, refl, sym, ◌∙◌, subst}
+use Rattle.std.proofs.Common.{◌≡◌, ℕ, ◌<◌, ◌≤◌, List, [], ◌∷◌, length, Ok, Err, refl, sym, ◌∙◌, subst}
 use Rattle.std.proofs.lemmas.List.{length-set}
-use Rattle.std.proofs.lemmas.Bool.{ltb-true}
 use Rattle.realm_model.specs.Machine.{Machine}
 use Rattle.realm_model.specs.Update.{Update, Outcome, granule_of, machine_after, machine_after_all, machine_after_command}
 use Rattle.rmi_monitor.specs.View.{MonitorView, IsTaken, after_command}
 use Rattle.rmi_bench.specs.Machine.{IsBench}
-use Rattle.rmi_bench.specs.Calls.{is_inside}
 
 length_after_all : (updates : List Update) (machine : Machine) → length (machine_after_all updates machine) ≡ length machine
 unfolding machine_after_all
@@ -35,7 +33,3 @@ bench_after_command outcome monitor is =
 
 pub bench_after : (outcome : Outcome) (monitor after : MonitorView) → after ≡ after_command outcome monitor → IsBench monitor → IsBench after
 bench_after outcome monitor after is bench = subst IsBench (sym is) (bench_after_command outcome monitor bench)
-
--- a granule that the machine has is taken
-pub taken_inside : (monitor : MonitorView) (granule : ℕ) → IsBench monitor → is_inside monitor granule ≡ true → IsTaken monitor granule
-taken_inside monitor granule bench inside = bench.all.each granule (ltb-true granule (length monitor.machine) inside)

@@ -1,7 +1,6 @@
 -- Where a line is cut at its answer.
-use Rattle.std.proofs.Common.{◌≡◌, ℕ, suc, ◌<◌, ◌+◌, List, [], ◌∷◌, ◌++◌, length, get_or, take, drop, Bool, true, false, cond, nat_eq, codes, Some, None, refl, sym, ap, ◌∙◌, add-one, append_assoc, drop-cons, drop-drop, length-drop, ◌-◌, arith}
-use mathlib.Core.List.{append-nil}
-use Rattle.std.proofs.Math.Seq.{take-suc, take-length, drop-length}
+use Rattle.std.proofs.Common.{◌≡◌, ℕ, suc, ◌<◌, ◌+◌, List, [], ◌∷◌, ◌++◌, length, get_or, take, drop, Bool, true, false, cond, nat_eq, codes, Some, sym, ap, ◌∙◌, add-one, append_assoc, drop-cons, drop-drop, length-drop, ◌-◌, arith}
+use Rattle.std.proofs.Math.Seq.{take-suc}
 use Rattle.std.proofs.lemmas.List.{take_all}
 use Rattle.std.specs.List.{starts_with}
 use Rattle.rmi_trace.specs.Lines.{before_answer, answer_in}
@@ -21,9 +20,6 @@ pub record Passed (text : List ℕ) (at : ℕ) : Type 0 where
   pub before : before_answer text ≡ take at text ++ before_answer (drop at text)
   pub answer : answer_in text ≡ answer_in (drop at text)
 
-pub passed_none : (text : List ℕ) → Passed text 0
-passed_none text = record { before = refl; answer = refl }
-
 pub passed_more : (text : List ℕ) (at : ℕ) → at < length text → begins (drop at text) ≡ false → Passed text at → Passed text (at + 1)
 passed_more text at within test passed =
     let is = drop-cons text at 0 within in
@@ -35,20 +31,10 @@ passed_more text at within test passed =
       answer = passed.answer ∙ answer_at (drop at text) b bs false is test;
     })
 
-pub before_here : (text : List ℕ) (at : ℕ) → at < length text → begins (drop at text) ≡ true → Passed text at → take at text ≡ before_answer text
-before_here text at within test passed =
-    sym (passed.before ∙ ap (λ t. take at text ++ t) (before_at (drop at text) (get_or text at 0) (drop (suc at) text) true (drop-cons text at 0 within) test) ∙ append-nil (take at text))
-
 pub answer_here : (text : List ℕ) (at : ℕ) → at < length text → begins (drop at text) ≡ true → Passed text at → Some (drop (at + 3) text) ≡ answer_in text
 answer_here text at within test passed =
     let is = drop-cons text at 0 within in
     sym (passed.answer ∙ answer_at (drop at text) (get_or text at 0) (drop (suc at) text) true is test ∙ ap (λ t. Some (drop 3 t)) (sym is) ∙ ap Some (drop-drop 3 at text))
-
-pub passed_all : (text : List ℕ) → Passed text (length text) → (text ≡ before_answer text) × (None ≡ answer_in text)
-passed_all text passed = (
-  sym (passed.before ∙ ap (λ t. t ++ before_answer (drop (length text) text)) (take-length text) ∙ ap (λ t. text ++ before_answer t) (drop-length text) ∙ append-nil text),
-  sym (passed.answer ∙ ap answer_in (drop-length text)),
-)
 
 -- what a slice from a place on holds
 pub rest_from : (text : List ℕ) (at : ℕ) → take (length text - at) (drop at text) ≡ drop at text

@@ -1,9 +1,8 @@
 -- What a writer holds, one write after another.
-use Rattle.std.proofs.Common.{◌≡◌, ℕ, List, [], ◌++◌, take, drop, Option, Some, None, refl, sym, ap, ◌∙◌}
+use Rattle.std.proofs.Common.{◌≡◌, ℕ, List, [], ◌++◌, take, drop, Option, Some, None, sym, ap, ◌∙◌}
 use mathlib.Core.List.{append_assoc, append-nil}
 use Rattle.std.proofs.lemmas.List.{take-append-drop}
 use Rattle.std.specs.Io.KnownBytes.{Appends, Keeps}
-use Rattle.told_device.specs.Whole.{AppendsFront}
 
 -- known bytes have grown by a front of the text, and this is left of it
 pub record Wrote (old new : Option (List ℕ)) (text rest : List ℕ) : Type 0 where
@@ -27,23 +26,9 @@ appends_more (Some xs) None c front more h k = absurd h
 appends_more (Some xs) (Some ys) None front more h k = absurd k
 appends_more (Some xs) (Some ys) (Some zs) front more h k = k ∙ rw h (append_assoc xs front more)
 
-pub wrote_none : (old : Option (List ℕ)) (text : List ℕ) → Wrote old old text text
-wrote_none old text = record { front = []; split = refl; grows = appends_none old }
-
 pub wrote_more : (a b c : Option (List ℕ)) (text rest : List ℕ) (n : ℕ) → Wrote a b text rest → Appends b c (take n rest) → Wrote a c text (drop n rest)
 wrote_more a b c text rest n wrote takes = record {
   front = wrote.front ++ take n rest;
   split = wrote.split ∙ ap (λ t. wrote.front ++ t) (sym (take-append-drop n rest)) ∙ sym (append_assoc wrote.front (take n rest) (drop n rest));
   grows = appends_more a b c wrote.front (take n rest) wrote.grows takes;
 }
-
--- a write or a flush that fails leaves the front that was written
-pub front_from_wrote : (a b c : Option (List ℕ)) (text rest : List ℕ) → Wrote a b text rest → Keeps b c → AppendsFront a c text
-front_from_wrote a b c text rest wrote keeps =
-    record { front = wrote.front; rest = rest; split = wrote.split; grows = appends_keeps a b c wrote.front wrote.grows keeps }
-
--- where nothing is left, all was written
-pub all_from_wrote : (a b c : Option (List ℕ)) (text rest : List ℕ) → Wrote a b text rest → rest ≡ [] → Keeps b c → Appends a c text
-all_from_wrote a b c text rest wrote none keeps =
-    let whole : text ≡ wrote.front = wrote.split ∙ ap (λ t. wrote.front ++ t) none ∙ append-nil wrote.front in
-    rw whole (appends_keeps a b c wrote.front wrote.grows keeps)
