@@ -36,7 +36,7 @@ fn place_of(numbers: &[u16], number: u16) -> usize
     let mut place = 0;
     'places: while place < numbers.len() {
         if number <= numbers[place] {
-            break 'places;
+            return place;
         }
         place += 1;
     }
@@ -48,9 +48,10 @@ fn enter(running: &mut ArrayVec<u16, MOST>, number: u16)
     ensures { running.new.items ≡ with_number number running.old.items }
 {
     let place = place_of(running.as_slice(), number);
-    if place == running.len() || running[place] != number {
-        running.insert(place, number);
+    if place < running.len() && running[place] == number {
+        return;
     }
+    running.insert(place, number);
 }
 
 fn exit(running: &mut ArrayVec<u16, MOST>, number: u16)

@@ -39,6 +39,7 @@ fn exit_each<T: Teller, G: Gate>(
     requires turns { standing.old.turn + length numbers.now < 2 ^ 64 }
     requires few { left_to_clear standing.old < 1024 }
     ensures exited { IsStretch (T.tells teller.old) (T.tells teller.new) (G.passes gate.now report.old.build) (G.stops gate.now report.old.build) standing.old standing.new report.old.lines.items report.new.lines.items result (λ exchanges lines. ArePut (map exit_of numbers.now) exchanges lines result) }
+    ensures no_more { left_to_clear standing.new ≤ left_to_clear standing.old }
     ensures loan { T.loan teller.new ≡ T.loan teller.old }
     ensures same { (report.new.build ≡ report.old.build) × (vec_capacity report.new.lines ≡ vec_capacity report.old.lines) }
 {
@@ -87,6 +88,7 @@ fn take_steps<T: Teller, G: Gate>(
     requires first { standing.old ≡ first_standing }
     requires room { 2 * length steps.now + 1 ≤ vec_capacity report.old.lines }
     ensures taken { IsStretch (T.tells teller.old) (T.tells teller.new) (G.passes gate.now report.old.build) (G.stops gate.now report.old.build) standing.old standing.new report.old.lines.items report.new.lines.items result (λ exchanges lines. IsReport 0 standing.old steps.now exchanges lines (is_over result)) }
+    ensures few_lines { vec_len report.new.lines ≤ 2 * length steps.now + 1 }
     ensures loan { T.loan teller.new ≡ T.loan teller.old }
     ensures same { (report.new.build ≡ report.old.build) × (vec_capacity report.new.lines ≡ vec_capacity report.old.lines) }
 {
