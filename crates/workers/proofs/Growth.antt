@@ -22,6 +22,7 @@ use Rattle.workers.specs.declared.report.Line.{Line}
 use Rattle.workers.specs.declared.ask.Question.{Question}
 use Rattle.workers.specs.declared.ask.Question.TheVariants as question
 use Rattle.workers.specs.declared.ask.Ending.{Ending}
+use Rattle.workers.specs.declared.ask.Ending.TheVariants as ending
 use Rattle.workers.proofs.Questions.{length-ArePut}
 
 choice_le : (is : Bool) (xs ys : List ℕ) (n : ℕ) → length xs ≤ n → length ys ≤ n → length (cond is xs ys) ≤ n
@@ -68,6 +69,15 @@ left-after_exchange (KeptMark (Ok mark)) standing = omega arith
 left-after_exchange (KeptMark (Err refusal)) standing = omega arith
 left-after_exchange (LookedBack mark result) standing = omega arith
 
+left-refused : (exchange : Exchange) (standing : StandingView) → is_refused (told exchange) ≡ true → left_to_clear (after_exchange exchange standing) ≤ left_to_clear standing
+left-refused (Did cmd (Ok reply)) standing is = absurd (cc)
+left-refused (Did cmd (Err refusal)) standing is = omega arith
+left-refused (Undid (Ok undone)) standing is = absurd (cc)
+left-refused (Undid (Err refusal)) standing is = omega arith
+left-refused (KeptMark (Ok mark)) standing is = absurd (cc)
+left-refused (KeptMark (Err refusal)) standing is = omega arith
+left-refused (LookedBack mark result) standing is = omega arith
+
 -- ---- questions that leave no more to clear
 
 abbrev pub IsCloser : Question → Type 0
@@ -101,22 +111,27 @@ closed standing closes (accepted {exchange = exchange} of_question is all_put) =
 
 -- ---- steps
 
--- So much more there is to clear at most, with the lines that were added; and so many turns were taken.
-pub record IsGrowth (standing : StandingView) (exchanges : List Exchange) (lines : List Line) : Type 0 where
+-- So much more there is to clear at most, with the lines that were added, and no more after a refusal; and so many turns
+-- were taken.
+pub record IsGrowth (standing : StandingView) (exchanges : List Exchange) (lines : List Line) (end : Ending) : Type 0 where
   pub left : left_to_clear (standing_after exchanges standing) ≤ left_to_clear standing + 1
   pub with_lines : length lines + left_to_clear (standing_after exchanges standing) ≤ left_to_clear standing + 2
   pub turns : length exchanges ≤ length lines + 1
+  pub if_refused : end ≡ ending.Refused → left_to_clear (standing_after exchanges standing) ≤ left_to_clear standing
 
-IsGrowth-asked : {asked : Asked} {asks : Question} {exchanges : List Exchange} {lines : List Line} {end : Ending} (standing : StandingView) → ArePut ((asked, asks) ∷ []) exchanges lines end → IsGrowth standing exchanges lines
-IsGrowth-asked standing cut_short = record { left = omega arith; with_lines = omega arith; turns = omega arith }
+IsGrowth-asked : {asked : Asked} {asks : Question} {exchanges : List Exchange} {lines : List Line} {end : Ending} (standing : StandingView) → ArePut ((asked, asks) ∷ []) exchanges lines end → IsGrowth standing exchanges lines end
+IsGrowth-asked standing cut_short = record { left = omega arith; with_lines = omega arith; turns = omega arith; if_refused = λ _. omega arith }
 IsGrowth-asked standing (refused {exchange = exchange} of_question is) =
-    let more = left-after_exchange exchange standing in record { left = more; with_lines = omega arith; turns = omega arith }
+    let more = left-after_exchange exchange standing in
+    record { left = more; with_lines = omega arith; turns = omega arith; if_refused = λ _. left-refused exchange standing is }
 IsGrowth-asked standing (accepted {exchange = exchange} of_question is all_put) =
-    let more = left-after_exchange exchange standing in record { left = more; with_lines = omega arith; turns = omega arith }
+    let more = left-after_exchange exchange standing in
+    record { left = more; with_lines = omega arith; turns = omega arith; if_refused = λ not. absurd (cc) }
 
-IsGrowth-told : {place : ℕ} {answer : Answer} {exchanges : List Exchange} {lines : List Line} {end : Ending} (standing : StandingView) → IsTold place answer exchanges lines end → IsGrowth standing exchanges lines
-IsGrowth-told {lines = lines} standing tells =
-    subst (λ es. IsGrowth standing es lines) (sym tells.nothing_asked) (subst (λ ls. IsGrowth standing [] ls) (sym tells.line_is) (record { left = omega arith; with_lines = omega arith; turns = omega arith }))
+IsGrowth-told : {place : ℕ} {answer : Answer} {exchanges : List Exchange} {lines : List Line} {end : Ending} (standing : StandingView) → IsTold place answer exchanges lines end → IsGrowth standing exchanges lines end
+IsGrowth-told {lines = lines} {end = end} standing tells =
+    subst (λ es. IsGrowth standing es lines end) (sym tells.nothing_asked)
+    (subst (λ ls. IsGrowth standing [] ls end) (sym tells.line_is) (record { left = omega arith; with_lines = omega arith; turns = omega arith; if_refused = λ _. omega arith }))
 
 one_undone : (exchange : Exchange) (standing : StandingView) → question_of exchange ≡ Some question.Undo → is_refused (told exchange) ≡ false → ((after_exchange exchange standing).journal ≡ standing.journal - 1) × ((after_exchange exchange standing).running ≡ standing.running)
 one_undone (Did cmd result) standing is taken = absurd (cc)
@@ -135,32 +150,44 @@ undone_lines (suc more) asked standing enough (accepted {exchange = exchange} of
     let rest = undone_lines more asked (after_exchange exchange standing) (omega (arith, one.0)) put in
     omega (arith, one.0, shorter, rest)
 
--- So much more there is, where no more lines than exchanges are short.
-IsGrowth-undone : (place count : ℕ) (end : Ending) {exchanges : List Exchange} {lines : List Line} (standing : StandingView) → count ≤ standing.journal → AreUndone place count exchanges lines end → IsGrowth standing exchanges lines × (length exchanges ≤ length lines)
+undone_left : (count : ℕ) (asked : Asked) {exchanges : List Exchange} {lines : List Line} {end : Ending} (standing : StandingView) → ArePut (replicate count (asked, question.Undo)) exchanges lines end → left_to_clear (standing_after exchanges standing) ≤ left_to_clear standing
+undone_left zero asked standing all_put = omega arith
+undone_left (suc more) asked standing cut_short = omega arith
+undone_left (suc more) asked standing (refused {exchange = exchange} of_question is) = undo_closes exchange standing of_question
+undone_left (suc more) asked standing (accepted {exchange = exchange} of_question is put) =
+    let one = undo_closes exchange standing of_question in
+    let rest = undone_left more asked (after_exchange exchange standing) put in
+    omega (arith, one, rest)
+
+-- What a step undoes has a line for each exchange.
+IsGrowth-undone : (place count : ℕ) (end : Ending) {exchanges : List Exchange} {lines : List Line} (standing : StandingView) → count ≤ standing.journal → AreUndone place count exchanges lines end → IsGrowth standing exchanges lines end × (length exchanges ≤ length lines)
 IsGrowth-undone place zero end standing enough tells =
     (IsGrowth-told standing tells, omega (arith, ap (length {A = Exchange}) tells.nothing_asked))
 IsGrowth-undone place (suc more) end standing enough put =
     let few = undone_lines (suc more) (asked.Step place) standing enough put in
     let long = length-ArePut put in
-    (record { left = omega arith; with_lines = omega arith; turns = omega (arith, long.0) }, omega (arith, long.0))
+    (
+      record { left = omega arith; with_lines = omega arith; turns = omega (arith, long.0); if_refused = λ _. undone_left (suc more) (asked.Step place) standing put },
+      omega (arith, long.0),
+    )
 
-IsGrowth-abort : (place : ℕ) (running : List ℕ) (end : Ending) {exchanges : List Exchange} {lines : List Line} (standing : StandingView) → IsAbort place running standing.journal exchanges lines end → IsGrowth standing exchanges lines
+IsGrowth-abort : (place : ℕ) (running : List ℕ) (end : Ending) {exchanges : List Exchange} {lines : List Line} (standing : StandingView) → IsAbort place running standing.journal exchanges lines end → IsGrowth standing exchanges lines end
 IsGrowth-abort place [] end standing undone = (IsGrowth-undone place standing.journal end standing (omega arith) undone).0
 IsGrowth-abort place (number ∷ numbers) end standing tells = IsGrowth-told standing tells
 
-IsGrowth-way_back : {place : ℕ} {mark : Mark} {exchanges : List Exchange} {lines : List Line} {end : Ending} (standing : StandingView) → IsWayBack place mark standing.journal exchanges lines end → IsGrowth standing exchanges lines
-IsGrowth-way_back standing report.cut_short = record { left = omega arith; with_lines = omega arith; turns = omega arith }
-IsGrowth-way_back standing (report.refused refusal) = record { left = omega arith; with_lines = omega arith; turns = omega arith }
+IsGrowth-way_back : {place : ℕ} {mark : Mark} {exchanges : List Exchange} {lines : List Line} {end : Ending} (standing : StandingView) → IsWayBack place mark standing.journal exchanges lines end → IsGrowth standing exchanges lines end
+IsGrowth-way_back standing report.cut_short = record { left = omega arith; with_lines = omega arith; turns = omega arith; if_refused = λ _. omega arith }
+IsGrowth-way_back standing (report.refused refusal) = record { left = omega arith; with_lines = omega arith; turns = omega arith; if_refused = λ _. omega arith }
 IsGrowth-way_back {place = place} {end = end} standing (opened count undone) =
     let now = record standing { turn = standing.turn + 1 } in
     let rest = IsGrowth-undone place (min count standing.journal) end now (omega arith) undone in
-    record { left = rest.0.left; with_lines = rest.0.with_lines; turns = omega (arith, rest.1) }
+    record { left = rest.0.left; with_lines = rest.0.with_lines; turns = omega (arith, rest.1); if_refused = rest.0.if_refused }
 
-IsGrowth-back : (place : ℕ) (mark : Option Mark) (end : Ending) {exchanges : List Exchange} {lines : List Line} (standing : StandingView) → IsBack place mark standing.journal exchanges lines end → IsGrowth standing exchanges lines
+IsGrowth-back : (place : ℕ) (mark : Option Mark) (end : Ending) {exchanges : List Exchange} {lines : List Line} (standing : StandingView) → IsBack place mark standing.journal exchanges lines end → IsGrowth standing exchanges lines end
 IsGrowth-back place None end standing tells = IsGrowth-told standing tells
 IsGrowth-back place (Some mark) end standing way = IsGrowth-way_back standing way
 
-pub IsGrowth-step : (place : ℕ) (taken : Step) (end : Ending) {exchanges : List Exchange} {lines : List Line} (standing : StandingView) → IsStep place standing taken exchanges lines end → IsGrowth standing exchanges lines
+pub IsGrowth-step : (place : ℕ) (taken : Step) (end : Ending) {exchanges : List Exchange} {lines : List Line} (standing : StandingView) → IsStep place standing taken exchanges lines end → IsGrowth standing exchanges lines end
 IsGrowth-step place (step.Ask cmd) end standing put = IsGrowth-asked standing put
 IsGrowth-step place step.Undo end standing put = IsGrowth-asked standing put
 IsGrowth-step place step.Abort end standing abort = IsGrowth-abort place standing.running end standing abort

@@ -4,8 +4,8 @@ use Rattle.std.proofs.lemmas.List.{append-nil}
 use Rattle.build_commands.specs.declared.cmd.Step.{Step}
 use Rattle.workers.specs.Asked.{ArePut}
 use Rattle.workers.specs.Exchange.{Exchange}
-use Rattle.workers.specs.Report.{IsStep, IsReport, clearing, is_over, no_step_left, accepted, refused, cut_short}
-use Rattle.workers.specs.Standing.{StandingView, left_to_clear, standing_after}
+use Rattle.workers.specs.Report.{IsStep, IsReport, IsWork, clearing, is_over, no_step_left, accepted, refused, cut_short}
+use Rattle.workers.specs.Standing.{StandingView, first_standing, left_to_clear, standing_after}
 use Rattle.workers.specs.Stretch.{IsStretch}
 use Rattle.workers.specs.declared.report.Line.{Line}
 use Rattle.workers.specs.declared.ask.Ending.{Ending}
@@ -104,3 +104,54 @@ grown_step {old = old} {old_lines = old_lines} {end = end} place step taken =
     let turns = ap (λ (s : StandingView). s.turn) taken.counted ∙ turn-standing_after taken.exchanges old in
     let left = ap left_to_clear taken.counted in
     (omega (arith, growth.left, left), omega (arith, growth.with_lines, left, lines), omega (arith, growth.turns, lines, turns))
+
+pub left_if_refused : {before after : List Exchange → Type 0} {passes stops : ℕ → Type 0} {old new : StandingView} {old_lines new_lines : List Line} (place : ℕ) (step : Step)
+    → IsStretch before after passes stops old new old_lines new_lines ending.Refused (λ exchanges lines. IsStep place old step exchanges lines ending.Refused)
+    → left_to_clear new ≤ left_to_clear old
+left_if_refused {old = old} place step taken =
+    let growth = IsGrowth-step place step ending.Refused old taken.are_those in
+    let left = ap left_to_clear taken.counted in
+    omega (arith, growth.if_refused refl, left)
+
+-- ---- the whole
+
+over_unless_cut : (end : Ending) → (end ≡ ending.Cut → ⊥) → is_over end ≡ true
+over_unless_cut ending.Done goes = refl
+over_unless_cut ending.Refused goes = refl
+over_unless_cut ending.Cut goes = absurd (goes refl)
+
+cut_if_not_over : (end : Ending) → is_over end ≡ false → end ≡ ending.Cut
+cut_if_not_over ending.Done is = cc
+cut_if_not_over ending.Refused is = cc
+cut_if_not_over ending.Cut is = refl
+
+-- A report that was empty when the worker began is its work.
+pub IsWork-stretch : {before after : List Exchange → Type 0} {passes stops : ℕ → Type 0} {old new : StandingView} {old_lines new_lines : List Line} {end : Ending} (steps : List Step) (ended : Bool)
+    → old ≡ first_standing
+    → old_lines ≡ []
+    → is_over end ≡ ended
+    → IsStretch before after passes stops old new old_lines new_lines end (λ exchanges lines. IsReport 0 old steps exchanges lines (is_over end))
+    → IsWork before after passes stops steps new_lines ended
+IsWork-stretch {stops = stops} {old = old} {new = new} {old_lines = old_lines} {new_lines = new_lines} {end = end} steps ended first empty over stretch =
+    let zero : old.turn ≡ 0 = ap (λ (s : StandingView). s.turn) first in
+    let turns = ap (λ (s : StandingView). s.turn) stretch.counted ∙ turn-standing_after stretch.exchanges old in
+    let last : new.turn ≡ length stretch.exchanges = omega arith in
+    let all : new_lines ≡ stretch.lines = stretch.added ∙ ap (λ ls. ls ++ stretch.lines) empty in
+    record {
+      exchanges = stretch.exchanges;
+      told = stretch.told;
+      passed = λ turn below. stretch.passed turn (omega arith) (omega arith);
+      stopped = λ is. subst stops last (stretch.stopped (cut_if_not_over end (over ∙ is)));
+      is_report =
+        subst (λ s. IsReport 0 s steps stretch.exchanges new_lines ended) first
+        (subst (λ ls. IsReport 0 old steps stretch.exchanges ls ended) (sym all)
+          (subst (λ e. IsReport 0 old steps stretch.exchanges stretch.lines e) over stretch.are_those))
+    }
+
+pub IsWork-ended : {before after : List Exchange → Type 0} {passes stops : ℕ → Type 0} {old new : StandingView} {old_lines new_lines : List Line} {end : Ending} (steps : List Step)
+    → old ≡ first_standing
+    → old_lines ≡ []
+    → (end ≡ ending.Cut → ⊥)
+    → IsStretch before after passes stops old new old_lines new_lines end (λ exchanges lines. IsReport 0 old steps exchanges lines (is_over end))
+    → IsWork before after passes stops steps new_lines true
+IsWork-ended {end = end} steps first empty goes stretch = IsWork-stretch steps true first empty (over_unless_cut end goes) stretch
