@@ -4,3 +4,4 @@ pub mod Growth
 pub mod Loops
 pub mod Told
 pub mod Plans
+pub mod Events

@@ -3,3 +3,4 @@ pub mod Standing
 pub mod Asked
 pub mod Report
 pub mod Stretch
+pub mod Events

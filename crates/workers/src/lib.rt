@@ -7,6 +7,7 @@
 #![tactic(auto)]
 
 mod ask;
+pub mod law;
 mod report;
 mod standing;
 mod step;
