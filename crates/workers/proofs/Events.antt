@@ -41,9 +41,9 @@ AllZip-append R (x ∷ xs) (y ∷ ys) us vs h k = (h.0, AllZip-append R xs ys us
 Fit-append : (steps : List Step) (lines : List Line) (exchanges : List Exchange) (its : List Line) (more : List Exchange) → Fit steps lines exchanges → Fit steps its more → Fit steps (lines ++ its) (exchanges ++ more)
 Fit-append steps lines exchanges its more h k = record {
   one_by_one =
-    subst (λ ls. AllZip (IsLineOf steps) ls (filter is_event (exchanges ++ more))) (sym (filter-append is_accepted lines its))
-    (subst (λ es. AllZip (IsLineOf steps) (filter is_accepted lines ++ filter is_accepted its) es) (sym (filter-append is_event exchanges more))
-      (AllZip-append (IsLineOf steps) (filter is_accepted lines) (filter is_event exchanges) (filter is_accepted its) (filter is_event more) h.one_by_one k.one_by_one))
+      subst (λ ls. AllZip (IsLineOf steps) ls (filter is_event (exchanges ++ more))) (sym (filter-append is_accepted lines its))
+      (subst (λ es. AllZip (IsLineOf steps) (filter is_accepted lines ++ filter is_accepted its) es) (sym (filter-append is_event exchanges more))
+      (AllZip-append (IsLineOf steps) (filter is_accepted lines) (filter is_event exchanges) (filter is_accepted its) (filter is_event more) h.one_by_one k.one_by_one));
 }
 
 Fit-both : {steps : List Step} {lines its its_more : List Line} {exchanges first more : List Exchange} → lines ≡ its ++ its_more → exchanges ≡ first ++ more → Fit steps its first → Fit steps its_more more → Fit steps lines exchanges
@@ -69,8 +69,8 @@ zip_both R false x y xs ys here rest = rest
 Fit-one : (steps : List Step) (at : Asked) (exchange : Exchange) (lines : List Line) (exchanges : List Exchange) → question_of exchange ≡ question_at steps at → Fit steps lines exchanges → Fit steps (line at (told exchange) ∷ lines) (exchange ∷ exchanges)
 Fit-one steps at exchange lines exchanges asks rest = record {
   one_by_one =
-    subst (λ b. AllZip (IsLineOf steps) (cond b (line at (told exchange) ∷ filter is_accepted lines) (filter is_accepted lines)) (cond (is_event exchange) (exchange ∷ filter is_event exchanges) (filter is_event exchanges))) (sym (is_done-told exchange))
-    (zip_both (IsLineOf steps) (is_event exchange) (line at (told exchange)) exchange (filter is_accepted lines) (filter is_event exchanges) (record { asks = asks; tells = refl }) rest.one_by_one)
+      subst (λ b. AllZip (IsLineOf steps) (cond b (line at (told exchange) ∷ filter is_accepted lines) (filter is_accepted lines)) (cond (is_event exchange) (exchange ∷ filter is_event exchanges) (filter is_event exchanges))) (sym (is_done-told exchange))
+      (zip_both (IsLineOf steps) (is_event exchange) (line at (told exchange)) exchange (filter is_accepted lines) (filter is_event exchanges) (record { asks = asks; tells = refl }) rest.one_by_one);
 }
 
 -- ---- questions
@@ -101,7 +101,7 @@ Fit-told : (steps : List Step) (place : ℕ) (answer : Answer) {exchanges : List
 Fit-told steps place answer {exchanges} {lines} not tells =
     subst (λ es. Fit steps lines es) (sym tells.nothing_asked)
     (subst (λ ls. Fit steps ls []) (sym tells.line_is)
-      (record { one_by_one = subst (λ b. AllZip (IsLineOf steps) (cond b (line (asked.Step place) answer ∷ []) []) []) (sym not) tt }))
+    (record { one_by_one = subst (λ b. AllZip (IsLineOf steps) (cond b (line (asked.Step place) answer ∷ []) []) []) (sym not) tt }))
 
 Fit-undone : (steps : List Step) (place count : ℕ) {exchanges : List Exchange} {lines : List Line} (end : Ending) → Some question.Undo ≡ question_at steps (asked.Step place) → AreUndone place count exchanges lines end → Fit steps lines exchanges
 Fit-undone steps place zero end at tells = Fit-told steps place Nothing refl tells

@@ -165,8 +165,7 @@ IsGrowth-undone place zero end standing enough tells =
     (IsGrowth-told standing tells, omega (arith, ap (length {A = Exchange}) tells.nothing_asked))
 IsGrowth-undone place (suc more) end standing enough put =
     let few = undone_lines (suc more) (asked.Step place) standing enough put in
-    let long = length-ArePut put in
-    (
+    let long = length-ArePut put in (
       record { left = omega arith; with_lines = omega arith; turns = omega (arith, long.0); if_refused = λ _. undone_left (suc more) (asked.Step place) standing put },
       omega (arith, long.0),
     )

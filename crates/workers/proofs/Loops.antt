@@ -79,8 +79,8 @@ pub cleared : {before between after : List Exchange → Type 0} {passes stops : 
     → IsStretch before after passes stops old new old_lines new_lines end (λ exchanges lines. ArePut (clearing standing) exchanges lines end)
 cleared {end = end} standing numbers opened runs opens exits undos =
     IsStretch-append exits undos (λ exchanges lines more its _ _ exit undo.
-      subst (λ ns. ArePut (map exit_of ns ++ replicate standing.journal (asked.Undo, question.Undo)) (exchanges ++ more) (lines ++ its) end) runs
-      (subst (λ n. ArePut (map exit_of numbers ++ replicate n (asked.Undo, question.Undo)) (exchanges ++ more) (lines ++ its) end) opens (ArePut-append exit undo)))
+    subst (λ ns. ArePut (map exit_of ns ++ replicate standing.journal (asked.Undo, question.Undo)) (exchanges ++ more) (lines ++ its) end) runs
+    (subst (λ n. ArePut (map exit_of numbers ++ replicate n (asked.Undo, question.Undo)) (exchanges ++ more) (lines ++ its) end) opens (ArePut-append exit undo)))
 
 -- an exit ended it
 pub cleared_stop : {before after : List Exchange → Type 0} {passes stops : ℕ → Type 0} {old new : StandingView} {old_lines new_lines : List Line} {end : Ending} (standing : StandingView) (numbers : List ℕ)
@@ -90,8 +90,8 @@ pub cleared_stop : {before after : List Exchange → Type 0} {passes stops : ℕ
     → IsStretch before after passes stops old new old_lines new_lines end (λ exchanges lines. ArePut (clearing standing) exchanges lines end)
 cleared_stop {end = end} standing numbers runs goes exits =
     IsStretch-so exits (λ exchanges lines _ exit.
-      subst (λ ns. ArePut (map exit_of ns ++ replicate standing.journal (asked.Undo, question.Undo)) exchanges lines end) runs
-      (ArePut-append_stop (replicate standing.journal (asked.Undo, question.Undo)) goes exit))
+    subst (λ ns. ArePut (map exit_of ns ++ replicate standing.journal (asked.Undo, question.Undo)) exchanges lines end) runs
+    (ArePut-append_stop (replicate standing.journal (asked.Undo, question.Undo)) goes exit))
 
 pub length-exits : (numbers : List ℕ) → length (map exit_of numbers) ≡ length numbers
 length-exits numbers = length-map numbers exit_of

@@ -26,8 +26,8 @@ report_along start steps ended {es} {es'} {ls} {ls'} e l h = subst (λ x. IsRepo
 LeadsOn-next : (place : ℕ) (standing start : StandingView) (step : Step) (rest steps : List Step) (exchanges more : List Exchange) (lines its : List Line) → LeadsOn place standing (step ∷ rest) start steps exchanges lines → IsStep place standing step more its ending.Done → LeadsOn (place + 1) (standing_after more standing) rest start steps (exchanges ++ more) (lines ++ its)
 LeadsOn-next place standing start step rest steps exchanges more lines its leads taken = record {
   on = λ after after_lines ended report.
-    report_along start steps ended (sym (append_assoc exchanges more after)) (sym (append_assoc lines its after_lines))
-    (leads.on (more ++ after) (its ++ after_lines) ended (accepted more after its after_lines taken report refl refl))
+      report_along start steps ended (sym (append_assoc exchanges more after)) (sym (append_assoc lines its after_lines))
+      (leads.on (more ++ after) (its ++ after_lines) ended (accepted more after its after_lines taken report refl refl));
 }
 
 -- the next step is accepted
@@ -38,8 +38,8 @@ pub steps_next : {before between after : List Exchange → Type 0} {passes stops
     → IsStretch before after passes stops old new old_lines new_lines ending.Done (LeadsOn (place + 1) new rest old steps)
 steps_next {old = old} {mid = mid} place step from rest steps is so_far taken =
     IsStretch-append so_far taken (λ exchanges lines more its _ counts leads one.
-      subst (λ s. LeadsOn (place + 1) s rest old steps (exchanges ++ more) (lines ++ its)) (sym counts)
-      (LeadsOn-next place mid old step rest steps exchanges more lines its (subst (λ xs. LeadsOn place mid xs old steps exchanges lines) is leads) one))
+    subst (λ s. LeadsOn (place + 1) s rest old steps (exchanges ++ more) (lines ++ its)) (sym counts)
+    (LeadsOn-next place mid old step rest steps exchanges more lines its (subst (λ xs. LeadsOn place mid xs old steps exchanges lines) is leads) one))
 
 -- the rest is reported
 reported : {before between after : List Exchange → Type 0} {passes stops : ℕ → Type 0} {old mid new : StandingView} {old_lines mid_lines new_lines : List Line} {end : Ending} (place : ℕ) (from steps : List Step) (ended : Bool)
@@ -59,8 +59,8 @@ pub steps_cleared : {before between further after : List Exchange → Type 0} {p
 steps_cleared {mid = mid} {end = end} place step from rest steps is so_far taken clear =
     reported place from steps (is_over end) so_far
     (IsStretch-append taken clear (λ exchanges lines more its counts _ one cleared.
-        subst (λ xs. IsReport place mid xs (exchanges ++ more) (lines ++ its) (is_over end)) (sym is)
-        (refused exchanges more lines its one (subst (λ s. ArePut (clearing s) more its end) counts cleared) refl refl)))
+    subst (λ xs. IsReport place mid xs (exchanges ++ more) (lines ++ its) (is_over end)) (sym is)
+    (refused exchanges more lines its one (subst (λ s. ArePut (clearing s) more its end) counts cleared) refl refl)))
 
 -- the next step waits for a turn that does not come
 pub steps_cut : {before between after : List Exchange → Type 0} {passes stops : ℕ → Type 0} {old mid new : StandingView} {old_lines mid_lines new_lines : List Line} (place : ℕ) (step : Step) (from rest steps : List Step)
@@ -79,8 +79,8 @@ pub steps_done : {before after : List Exchange → Type 0} {passes stops : ℕ �
     → IsStretch before after passes stops old new old_lines new_lines ending.Done (λ exchanges lines. IsReport 0 old steps exchanges lines true)
 steps_done {old = old} {new = new} place from steps is so_far =
     IsStretch-so so_far (λ exchanges lines _ leads.
-      report_along old steps true (append-nil exchanges) (append-nil lines)
-      (leads.on [] [] true (subst (λ xs. IsReport place new xs [] [] true) (sym is) no_step_left)))
+    report_along old steps true (append-nil exchanges) (append-nil lines)
+    (leads.on [] [] true (subst (λ xs. IsReport place new xs [] [] true) (sym is) no_step_left)))
 
 -- ---- the steps that are left
 
@@ -143,9 +143,9 @@ IsWork-stretch {stops = stops} {old = old} {new = new} {old_lines = old_lines} {
       passed = λ turn below. stretch.passed turn (omega arith) (omega arith);
       stopped = λ is. subst stops last (stretch.stopped (cut_if_not_over end (over ∙ is)));
       is_report =
-        subst (λ s. IsReport 0 s steps stretch.exchanges new_lines ended) first
-        (subst (λ ls. IsReport 0 old steps stretch.exchanges ls ended) (sym all)
-          (subst (λ e. IsReport 0 old steps stretch.exchanges stretch.lines e) over stretch.are_those))
+          subst (λ s. IsReport 0 s steps stretch.exchanges new_lines ended) first
+          (subst (λ ls. IsReport 0 old steps stretch.exchanges ls ended) (sym all)
+          (subst (λ e. IsReport 0 old steps stretch.exchanges stretch.lines e) over stretch.are_those));
     }
 
 pub IsWork-ended : {before after : List Exchange → Type 0} {passes stops : ℕ → Type 0} {old new : StandingView} {old_lines new_lines : List Line} {end : Ending} (steps : List Step)

@@ -29,7 +29,7 @@ both_along P {es} {es'} {ls} {ls'} e l h = subst (P es') l (subst (λ x. P x ls)
 pub Leads-next : {question : Asked × Question} {rest all : Questions} {exchanges more : List Exchange} {lines its : List Line} → Leads (question ∷ rest) all exchanges lines → ArePut (question ∷ []) more its ending.Done → Leads rest all (exchanges ++ more) (lines ++ its)
 Leads-next {all = all} {exchanges = exchanges} {lines = lines} leads (accepted {exchange = exchange} of_question is all_put) = record {
   on = λ after after_lines end put.
-    both_along (λ es ls. ArePut all es ls end) (sym (append_assoc exchanges (exchange ∷ []) after)) (sym (append_assoc lines (line _ (told exchange) ∷ []) after_lines)) (leads.on (exchange ∷ after) (line _ (told exchange) ∷ after_lines) end (accepted of_question is put))
+      both_along (λ es ls. ArePut all es ls end) (sym (append_assoc exchanges (exchange ∷ []) after)) (sym (append_assoc lines (line _ (told exchange) ∷ []) after_lines)) (leads.on (exchange ∷ after) (line _ (told exchange) ∷ after_lines) end (accepted of_question is put));
 }
 
 -- nothing of the rest is left

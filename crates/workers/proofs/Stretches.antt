@@ -71,7 +71,7 @@ IsStretch-exchange {passes = passes} {old = old} {new = new} {turn = turn} excha
       stopped = λ cut. absurd (uncut cut);
       counted = counts;
       added = adds;
-      are_those = those
+      are_those = those;
     }
 
 -- A question that was put after its turn had passed, with its line.
@@ -101,7 +101,7 @@ IsStretch-cut {before} {passes} {stops} {standing} {lines} {AreThose} {turn} at 
   stopped = λ _. subst stops at stop;
   counted = refl;
   added = sym (append-nil lines);
-  are_those = those
+  are_those = those;
 }
 
 -- Nothing is asked, and a line is added.
@@ -118,7 +118,7 @@ IsStretch-told {before = before} asked answer is adds those = record {
   stopped = λ cut. absurd (not_cut answer (sym is ∙ cut));
   counted = refl;
   added = adds;
-  are_those = those
+  are_those = those;
 }
 
 -- Nothing is asked yet, and no line added.
@@ -133,7 +133,7 @@ IsStretch-none {before = before} {lines = lines} those = record {
   stopped = λ cut. absurd (cut_at false cut);
   counted = refl;
   added = sym (append-nil lines);
-  are_those = those
+  are_those = those;
 }
 
 -- Two stretches, one after the other.
@@ -147,13 +147,13 @@ IsStretch-append {before} {between} {after} {passes} {stops} {old} {mid} {new} {
   lines = first.lines ++ second.lines;
   told = λ earlier tells. subst after (append_assoc earlier first.exchanges second.exchanges) (second.told (earlier ++ first.exchanges) (first.told earlier tells));
   passed = λ turn from below. (elim (ltb turn mid.turn) as (λ b. ltb turn mid.turn ≡ b → passes turn) [
-    true ↦ λ is. first.passed turn from (ltb-true turn mid.turn is)
+    | true ↦ λ is. first.passed turn from (ltb-true turn mid.turn is)
     | false ↦ λ is. second.passed turn (ltb-false turn mid.turn is) below
   ]) refl;
   stopped = second.stopped;
   counted = second.counted ∙ ap (standing_after second.exchanges) first.counted ∙ sym (standing_after-append first.exchanges second.exchanges old);
   added = second.added ∙ ap (λ ls. ls ++ second.lines) first.added ∙ append_assoc old_lines first.lines second.lines;
-  are_those = whole first.exchanges first.lines second.exchanges second.lines first.counted second.counted first.are_those second.are_those
+  are_those = whole first.exchanges first.lines second.exchanges second.lines first.counted second.counted first.are_those second.are_those;
 }
 
 -- The same stretch, said otherwise.
@@ -169,7 +169,7 @@ IsStretch-so stretch so = record {
   stopped = stretch.stopped;
   counted = stretch.counted;
   added = stretch.added;
-  are_those = so stretch.exchanges stretch.lines stretch.counted stretch.are_those
+  are_those = so stretch.exchanges stretch.lines stretch.counted stretch.are_those;
 }
 
 -- the gate is asked for the same build

@@ -75,7 +75,7 @@ go_opened : (place : ℕ) (mark : Mark) (journal count undos : ℕ) (exchanges :
 go_opened place mark journal count undos exchanges lines more its end least opening undone =
     subst (λ es. IsWayBack place mark journal (es ++ more) (lines ++ its) end) (sym opening.looked)
     (subst (λ ls. IsWayBack place mark journal (LookedBack mark (Ok count) ∷ more) (ls ++ its) end) (sym opening.no_line)
-      (opened count (subst (λ n. AreUndone place n more its end) least undone)))
+    (opened count (subst (λ n. AreUndone place n more its end) least undone)))
 
 -- a way back that is open
 pub IsWayBack-opened : {before between after : List Exchange → Type 0} {passes stops : ℕ → Type 0} {old mid new : StandingView} {old_lines new_lines : List Line} {end : Ending} {turn : ℕ} (place : ℕ) (mark : Mark) (journal count undos : ℕ)
@@ -88,5 +88,5 @@ pub IsWayBack-opened : {before between after : List Exchange → Type 0} {passes
     → IsStretch before after passes stops old new old_lines new_lines end (λ exchanges lines. IsWayBack place mark journal exchanges lines end)
 IsWayBack-opened {before} {between} {after} {passes} {stops} {old} {mid} {new} {old_lines} {new_lines} {end} place mark journal count undos at pass tells counts least undone =
     let opening : IsStretch before between passes stops old mid old_lines old_lines ending.Done (IsOpening mark count) =
-        IsStretch-exchange (LookedBack mark (Ok count)) [] at pass tells counts (λ cut. cut_at false cut) (sym (append-nil old_lines)) (record { looked = refl; no_line = refl }) in
+    IsStretch-exchange (LookedBack mark (Ok count)) [] at pass tells counts (λ cut. cut_at false cut) (sym (append-nil old_lines)) (record { looked = refl; no_line = refl }) in
     IsStretch-append opening undone (λ exchanges lines more its _ _ opens undo. go_opened place mark journal count undos exchanges lines more its end least opens undo)

@@ -43,13 +43,13 @@ line asked answer = record { asked = asked; answer = answer }
 pub data ArePut : List (Asked × Question) → List Exchange → List Line → Ending → Type 0 where
   all_put : ArePut [] [] [] ending.Done
   cut_short : {question : Asked × Question} {questions : List (Asked × Question)}
-    → ArePut (question ∷ questions) [] [] ending.Cut
+      → ArePut (question ∷ questions) [] [] ending.Cut
   refused : {question : Asked × Question} {questions : List (Asked × Question)} {exchange : Exchange}
-    → question_of exchange ≡ Some question.1
-    → is_refused (told exchange) ≡ true
-    → ArePut (question ∷ questions) (exchange ∷ []) (line question.0 (told exchange) ∷ []) ending.Refused
+      → question_of exchange ≡ Some question.1
+      → is_refused (told exchange) ≡ true
+      → ArePut (question ∷ questions) (exchange ∷ []) (line question.0 (told exchange) ∷ []) ending.Refused
   accepted : {question : Asked × Question} {questions : List (Asked × Question)} {exchange : Exchange} {exchanges : List Exchange} {lines : List Line} {end : Ending}
-    → question_of exchange ≡ Some question.1
-    → is_refused (told exchange) ≡ false
-    → ArePut questions exchanges lines end
-    → ArePut (question ∷ questions) (exchange ∷ exchanges) (line question.0 (told exchange) ∷ lines) end
+      → question_of exchange ≡ Some question.1
+      → is_refused (told exchange) ≡ false
+      → ArePut questions exchanges lines end
+      → ArePut (question ∷ questions) (exchange ∷ exchanges) (line question.0 (told exchange) ∷ lines) end

@@ -50,10 +50,10 @@ IsAbort place (number ∷ numbers) journal exchanges lines end = IsTold place (R
 pub data IsWayBack (place : ℕ) (mark : Mark) (journal : ℕ) : List Exchange → List Line → Ending → Type 0 where
   cut_short : IsWayBack place mark journal [] [] ending.Cut
   refused : (refusal : Refusal)
-    → IsWayBack place mark journal (LookedBack mark (Err refusal) ∷ []) (line (asked.Step place) (Refused refusal) ∷ []) ending.Refused
+      → IsWayBack place mark journal (LookedBack mark (Err refusal) ∷ []) (line (asked.Step place) (Refused refusal) ∷ []) ending.Refused
   opened : (count : ℕ) {exchanges : List Exchange} {lines : List Line} {end : Ending}
-    → AreUndone place (min count journal) exchanges lines end
-    → IsWayBack place mark journal (LookedBack mark (Ok count) ∷ exchanges) lines end
+      → AreUndone place (min count journal) exchanges lines end
+      → IsWayBack place mark journal (LookedBack mark (Ok count) ∷ exchanges) lines end
 
 -- A step back is refused, with nothing asked, where there is no mark.
 abbrev pub IsBack : ℕ → Option Mark → ℕ → List Exchange → List Line → Ending → Type 0
@@ -88,20 +88,20 @@ is_over ending.Cut = false
 pub data IsReport : ℕ → StandingView → List Step → List Exchange → List Line → Bool → Type 0 where
   no_step_left : {place : ℕ} {standing : StandingView} → IsReport place standing [] [] [] true
   accepted : {place : ℕ} {standing : StandingView} {step : Step} {steps : List Step} {exchanges : List Exchange} {lines : List Line} {ended : Bool} (first more : List Exchange) (its its_more : List Line)
-    → IsStep place standing step first its ending.Done
-    → IsReport (place + 1) (standing_after first standing) steps more its_more ended
-    → exchanges ≡ first ++ more
-    → lines ≡ its ++ its_more
-    → IsReport place standing (step ∷ steps) exchanges lines ended
+      → IsStep place standing step first its ending.Done
+      → IsReport (place + 1) (standing_after first standing) steps more its_more ended
+      → exchanges ≡ first ++ more
+      → lines ≡ its ++ its_more
+      → IsReport place standing (step ∷ steps) exchanges lines ended
   refused : {place : ℕ} {standing : StandingView} {step : Step} {steps : List Step} {exchanges : List Exchange} {lines : List Line} {end : Ending} (first more : List Exchange) (its its_more : List Line)
-    → IsStep place standing step first its ending.Refused
-    → ArePut (clearing (standing_after first standing)) more its_more end
-    → exchanges ≡ first ++ more
-    → lines ≡ its ++ its_more
-    → IsReport place standing (step ∷ steps) exchanges lines (is_over end)
+      → IsStep place standing step first its ending.Refused
+      → ArePut (clearing (standing_after first standing)) more its_more end
+      → exchanges ≡ first ++ more
+      → lines ≡ its ++ its_more
+      → IsReport place standing (step ∷ steps) exchanges lines (is_over end)
   cut_short : {place : ℕ} {standing : StandingView} {step : Step} {steps : List Step} {exchanges : List Exchange} {lines : List Line}
-    → IsStep place standing step exchanges lines ending.Cut
-    → IsReport place standing (step ∷ steps) exchanges lines false
+      → IsStep place standing step exchanges lines ending.Cut
+      → IsReport place standing (step ∷ steps) exchanges lines false
 
 -- A worker has done its work, or waits for a turn that does not come. The teller was asked just this, and before each
 -- question the gate let its turn pass; and the report tells it.

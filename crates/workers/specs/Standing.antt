@@ -39,7 +39,7 @@ running_after _ running = running
 unfoldable pub after_command : Cmd → StandingView → StandingView
 after_command cmd standing = record standing {
   journal = if (needs_of cmd).paired then standing.journal + 1 else standing.journal;
-  running = running_after cmd standing.running
+  running = running_after cmd standing.running;
 }
 
 -- what an answer changes; a refusal changes nothing

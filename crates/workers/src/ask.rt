@@ -123,7 +123,10 @@ pub fn ask<T: Teller, G: Gate>(
     requires room { vec_len report.old.lines < vec_capacity report.old.lines }
     requires turns { standing.old.turn + 1 < 2 ^ 64 }
     requires few { left_to_clear standing.old < 1024 }
-    ensures asked { IsStretch (T.tells teller.old) (T.tells teller.new) (G.passes gate.now report.old.build) (G.stops gate.now report.old.build) standing.old standing.new report.old.lines.items report.new.lines.items result (λ exchanges lines. ArePut ((asked, question) ∷ []) exchanges lines result) }
+    ensures asked { IsStretch (T.tells teller.old) (T.tells teller.new)
+        (G.passes gate.now report.old.build) (G.stops gate.now report.old.build)
+        standing.old standing.new report.old.lines.items report.new.lines.items result
+        (λ exchanges lines. ArePut ((asked, question) ∷ []) exchanges lines result) }
     ensures loan { T.loan teller.new ≡ T.loan teller.old }
     ensures same { (report.new.build ≡ report.old.build) × (vec_capacity report.new.lines ≡ vec_capacity report.old.lines) }
 {

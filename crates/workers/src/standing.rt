@@ -8,7 +8,7 @@ use build_commands::Cmd;
 use std::marker::Model;
 
 /// How many RECs of a build can run: no more than a plan has steps.
-const MOST: usize = 1024;
+pub const MOST: usize = 1024;
 
 /// What a worker knows of its build by its own replies.
 #[derive(Drop)]

@@ -25,7 +25,10 @@ pub fn undo_each<T: Teller, G: Gate>(
     requires room { vec_len report.old.lines + count ≤ vec_capacity report.old.lines }
     requires turns { standing.old.turn + count < 2 ^ 64 }
     requires few { left_to_clear standing.old < 1024 }
-    ensures undone { IsStretch (T.tells teller.old) (T.tells teller.new) (G.passes gate.now report.old.build) (G.stops gate.now report.old.build) standing.old standing.new report.old.lines.items report.new.lines.items result (λ exchanges lines. ArePut (replicate count (asked.now, Question.Undo)) exchanges lines result) }
+    ensures undone { IsStretch (T.tells teller.old) (T.tells teller.new)
+        (G.passes gate.now report.old.build) (G.stops gate.now report.old.build)
+        standing.old standing.new report.old.lines.items report.new.lines.items result
+        (λ exchanges lines. ArePut (replicate count (asked.now, Question.Undo)) exchanges lines result) }
     ensures loan { T.loan teller.new ≡ T.loan teller.old }
     ensures same { (report.new.build ≡ report.old.build) × (vec_capacity report.new.lines ≡ vec_capacity report.old.lines) }
 {
@@ -50,7 +53,10 @@ fn undo_step<T: Teller, G: Gate>(
     requires room { vec_len report.old.lines + count < vec_capacity report.old.lines }
     requires turns { standing.old.turn + count < 2 ^ 64 }
     requires few { left_to_clear standing.old < 1024 }
-    ensures undone { IsStretch (T.tells teller.old) (T.tells teller.new) (G.passes gate.now report.old.build) (G.stops gate.now report.old.build) standing.old standing.new report.old.lines.items report.new.lines.items result (λ exchanges lines. AreUndone place count exchanges lines result) }
+    ensures undone { IsStretch (T.tells teller.old) (T.tells teller.new)
+        (G.passes gate.now report.old.build) (G.stops gate.now report.old.build)
+        standing.old standing.new report.old.lines.items report.new.lines.items result
+        (λ exchanges lines. AreUndone place count exchanges lines result) }
     ensures loan { T.loan teller.new ≡ T.loan teller.old }
     ensures same { (report.new.build ≡ report.old.build) × (vec_capacity report.new.lines ≡ vec_capacity report.old.lines) }
 {
@@ -71,12 +77,20 @@ fn abort<T: Teller, G: Gate>(
     requires room { vec_len report.old.lines + standing.old.journal < vec_capacity report.old.lines }
     requires turns { standing.old.turn + standing.old.journal + 1 < 2 ^ 64 }
     requires few { left_to_clear standing.old < 1024 }
-    ensures aborted { IsStretch (T.tells teller.old) (T.tells teller.new) (G.passes gate.now report.old.build) (G.stops gate.now report.old.build) standing.old standing.new report.old.lines.items report.new.lines.items result (λ exchanges lines. IsAbort place standing.old.running standing.old.journal exchanges lines result) }
+    ensures aborted { IsStretch (T.tells teller.old) (T.tells teller.new)
+        (G.passes gate.now report.old.build) (G.stops gate.now report.old.build)
+        standing.old standing.new report.old.lines.items report.new.lines.items result
+        (λ exchanges lines. IsAbort place standing.old.running standing.old.journal exchanges lines result) }
     ensures loan { T.loan teller.new ≡ T.loan teller.old }
     ensures same { (report.new.build ≡ report.old.build) × (vec_capacity report.new.lines ≡ vec_capacity report.old.lines) }
 {
-    if standing.running().len() > 0 {
-        return tell(report, Asked::Step(place), Answer::Refused(Refusal::RecRunning));
+    let running = standing.running().len();
+    if running > 0 {
+        return tell(
+            report,
+            Asked::Step(place),
+            Answer::Refused(Refusal::RecRunning),
+        );
     }
     let open = standing.journal();
     undo_step(report, standing, teller, gate, place, open)
@@ -104,7 +118,10 @@ fn go_back<T: Teller, G: Gate>(
     requires room { vec_len report.old.lines + standing.old.journal < vec_capacity report.old.lines }
     requires turns { standing.old.turn + standing.old.journal + 1 < 2 ^ 64 }
     requires few { left_to_clear standing.old < 1024 }
-    ensures gone { IsStretch (T.tells teller.old) (T.tells teller.new) (G.passes gate.now report.old.build) (G.stops gate.now report.old.build) standing.old standing.new report.old.lines.items report.new.lines.items result (λ exchanges lines. IsWayBack place mark standing.old.journal exchanges lines result) }
+    ensures gone { IsStretch (T.tells teller.old) (T.tells teller.new)
+        (G.passes gate.now report.old.build) (G.stops gate.now report.old.build)
+        standing.old standing.new report.old.lines.items report.new.lines.items result
+        (λ exchanges lines. IsWayBack place mark standing.old.journal exchanges lines result) }
     ensures loan { T.loan teller.new ≡ T.loan teller.old }
     ensures same { (report.new.build ≡ report.old.build) × (vec_capacity report.new.lines ≡ vec_capacity report.old.lines) }
 {
@@ -130,13 +147,20 @@ fn back<T: Teller, G: Gate>(
     requires room { vec_len report.old.lines + standing.old.journal < vec_capacity report.old.lines }
     requires turns { standing.old.turn + standing.old.journal + 1 < 2 ^ 64 }
     requires few { left_to_clear standing.old < 1024 }
-    ensures gone { IsStretch (T.tells teller.old) (T.tells teller.new) (G.passes gate.now report.old.build) (G.stops gate.now report.old.build) standing.old standing.new report.old.lines.items report.new.lines.items result (λ exchanges lines. IsBack place standing.old.mark standing.old.journal exchanges lines result) }
+    ensures gone { IsStretch (T.tells teller.old) (T.tells teller.new)
+        (G.passes gate.now report.old.build) (G.stops gate.now report.old.build)
+        standing.old standing.new report.old.lines.items report.new.lines.items result
+        (λ exchanges lines. IsBack place standing.old.mark standing.old.journal exchanges lines result) }
     ensures loan { T.loan teller.new ≡ T.loan teller.old }
     ensures same { (report.new.build ≡ report.old.build) × (vec_capacity report.new.lines ≡ vec_capacity report.old.lines) }
 {
     match standing.mark() {
         Some(mark) => go_back(report, standing, teller, gate, place, mark),
-        None => tell(report, Asked::Step(place), Answer::Refused(Refusal::NothingToUndo)),
+        None => tell(
+            report,
+            Asked::Step(place),
+            Answer::Refused(Refusal::NothingToUndo),
+        ),
     }
 }
 
@@ -152,7 +176,10 @@ pub fn take_step<T: Teller, G: Gate>(
     requires room { vec_len report.old.lines + standing.old.journal < vec_capacity report.old.lines }
     requires turns { standing.old.turn + standing.old.journal + 1 < 2 ^ 64 }
     requires few { left_to_clear standing.old < 1024 }
-    ensures taken { IsStretch (T.tells teller.old) (T.tells teller.new) (G.passes gate.now report.old.build) (G.stops gate.now report.old.build) standing.old standing.new report.old.lines.items report.new.lines.items result (λ exchanges lines. IsStep place standing.old step.now exchanges lines result) }
+    ensures taken { IsStretch (T.tells teller.old) (T.tells teller.new)
+        (G.passes gate.now report.old.build) (G.stops gate.now report.old.build)
+        standing.old standing.new report.old.lines.items report.new.lines.items result
+        (λ exchanges lines. IsStep place standing.old step.now exchanges lines result) }
     ensures loan { T.loan teller.new ≡ T.loan teller.old }
     ensures same { (report.new.build ≡ report.old.build) × (vec_capacity report.new.lines ≡ vec_capacity report.old.lines) }
 {
@@ -161,9 +188,23 @@ pub fn take_step<T: Teller, G: Gate>(
             let question = Question::Do(cmd.again());
             ask(report, standing, teller, gate, Asked::Step(place), question)
         }
-        Step::Undo => ask(report, standing, teller, gate, Asked::Step(place), Question::Undo),
+        Step::Undo => ask(
+            report,
+            standing,
+            teller,
+            gate,
+            Asked::Step(place),
+            Question::Undo,
+        ),
         Step::Abort => abort(report, standing, teller, gate, place),
-        Step::Mark => ask(report, standing, teller, gate, Asked::Step(place), Question::Mark),
+        Step::Mark => ask(
+            report,
+            standing,
+            teller,
+            gate,
+            Asked::Step(place),
+            Question::Mark,
+        ),
         Step::Back => back(report, standing, teller, gate, place),
     }
 }

@@ -8,7 +8,7 @@ ghost use Rattle.workers.specs.Stretch.{IsStretch};
 
 use crate::ask::{Ending, Question, ask};
 use crate::report::{Asked, Report, Stuck};
-use crate::standing::Standing;
+use crate::standing::{MOST, Standing};
 use crate::step::{take_step, undo_each};
 use crate::teller::{Gate, Teller};
 use arrayvec::ArrayVec;
@@ -16,7 +16,7 @@ use build_commands::{Cmd, Step};
 use granule_addr::RecNo;
 
 // The same numbers again.
-fn numbers_again(numbers: &[u16]) -> ArrayVec<u16, 1024>
+fn numbers_again(numbers: &[u16]) -> ArrayVec<u16, MOST>
     requires { length numbers.now ≤ 1024 }
     ensures { result.items ≡ numbers.now }
 {
@@ -38,14 +38,24 @@ fn exit_each<T: Teller, G: Gate>(
     requires room { vec_len report.old.lines + length numbers.now ≤ vec_capacity report.old.lines }
     requires turns { standing.old.turn + length numbers.now < 2 ^ 64 }
     requires few { left_to_clear standing.old < 1024 }
-    ensures exited { IsStretch (T.tells teller.old) (T.tells teller.new) (G.passes gate.now report.old.build) (G.stops gate.now report.old.build) standing.old standing.new report.old.lines.items report.new.lines.items result (λ exchanges lines. ArePut (map exit_of numbers.now) exchanges lines result) }
+    ensures exited { IsStretch (T.tells teller.old) (T.tells teller.new)
+        (G.passes gate.now report.old.build) (G.stops gate.now report.old.build)
+        standing.old standing.new report.old.lines.items report.new.lines.items result
+        (λ exchanges lines. ArePut (map exit_of numbers.now) exchanges lines result) }
     ensures no_more { left_to_clear standing.new ≤ left_to_clear standing.old }
     ensures loan { T.loan teller.new ≡ T.loan teller.old }
     ensures same { (report.new.build ≡ report.old.build) × (vec_capacity report.new.lines ≡ vec_capacity report.old.lines) }
 {
     'exits: for number in numbers {
         let number = RecNo::new(*number);
-        match ask(report, standing, teller, gate, Asked::Exit(number), Question::Do(Cmd::Exit { number })) {
+        match ask(
+            report,
+            standing,
+            teller,
+            gate,
+            Asked::Exit(number),
+            Question::Do(Cmd::Exit { number }),
+        ) {
             Ending::Done => {}
             end => return end,
         }
@@ -63,7 +73,10 @@ fn clear<T: Teller, G: Gate>(
     requires room { vec_len report.old.lines + left_to_clear standing.old ≤ vec_capacity report.old.lines }
     requires turns { standing.old.turn + left_to_clear standing.old < 2 ^ 64 }
     requires few { left_to_clear standing.old < 1024 }
-    ensures cleared { IsStretch (T.tells teller.old) (T.tells teller.new) (G.passes gate.now report.old.build) (G.stops gate.now report.old.build) standing.old standing.new report.old.lines.items report.new.lines.items result (λ exchanges lines. ArePut (clearing standing.old) exchanges lines result) }
+    ensures cleared { IsStretch (T.tells teller.old) (T.tells teller.new)
+        (G.passes gate.now report.old.build) (G.stops gate.now report.old.build)
+        standing.old standing.new report.old.lines.items report.new.lines.items result
+        (λ exchanges lines. ArePut (clearing standing.old) exchanges lines result) }
     ensures loan { T.loan teller.new ≡ T.loan teller.old }
     ensures same { (report.new.build ≡ report.old.build) × (vec_capacity report.new.lines ≡ vec_capacity report.old.lines) }
 {
@@ -87,7 +100,10 @@ fn take_steps<T: Teller, G: Gate>(
     requires empty { report.old.lines.items ≡ [] }
     requires first { standing.old ≡ first_standing }
     requires room { 2 * length steps.now + 1 ≤ vec_capacity report.old.lines }
-    ensures taken { IsStretch (T.tells teller.old) (T.tells teller.new) (G.passes gate.now report.old.build) (G.stops gate.now report.old.build) standing.old standing.new report.old.lines.items report.new.lines.items result (λ exchanges lines. IsReport 0 standing.old steps.now exchanges lines (is_over result)) }
+    ensures taken { IsStretch (T.tells teller.old) (T.tells teller.new)
+        (G.passes gate.now report.old.build) (G.stops gate.now report.old.build)
+        standing.old standing.new report.old.lines.items report.new.lines.items result
+        (λ exchanges lines. IsReport 0 standing.old steps.now exchanges lines (is_over result)) }
     ensures few_lines { vec_len report.new.lines ≤ 2 * length steps.now + 1 }
     ensures loan { T.loan teller.new ≡ T.loan teller.old }
     ensures same { (report.new.build ≡ report.old.build) × (vec_capacity report.new.lines ≡ vec_capacity report.old.lines) }
@@ -116,7 +132,9 @@ pub fn work<T: Teller, G: Gate>(
     requires empty { report.old.lines.items ≡ [] }
     requires few { length steps.now ≤ 1024 }
     requires room { 2 * length steps.now + 1 ≤ vec_capacity report.old.lines }
-    ensures work { IsWork (T.tells teller.old) (T.tells teller.new) (G.passes gate.now report.old.build) (G.stops gate.now report.old.build) steps.now report.new.lines.items (is_ok result) }
+    ensures work { IsWork (T.tells teller.old) (T.tells teller.new)
+        (G.passes gate.now report.old.build) (G.stops gate.now report.old.build)
+        steps.now report.new.lines.items (is_ok result) }
     ensures few_lines { vec_len report.new.lines ≤ 2 * length steps.now + 1 }
     ensures build { report.new.build ≡ report.old.build }
     ensures capacity { vec_capacity report.new.lines ≡ vec_capacity report.old.lines }

@@ -10,7 +10,7 @@ returns-in-Ok-clause-exchange g c = record {
   of_question = refl;
   told_after = rw (← c.again.ensures) c.in-Ok.ensures.told;
   counted = c.count_command.ensures ∙ ap (after_command c.args.cmd) c.take_turn.ensures;
-  answer_is = refl
+  answer_is = refl;
 }
 
 pub returns-in-Err-clause-exchange : goal.returns-in-Err-clause-exchange
@@ -19,5 +19,5 @@ returns-in-Err-clause-exchange g c = record {
   of_question = refl;
   told_after = rw (← c.again.ensures) c.in-Err.ensures.told;
   counted = c.take_turn.ensures;
-  answer_is = refl
+  answer_is = refl;
 }

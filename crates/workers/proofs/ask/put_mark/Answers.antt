@@ -11,7 +11,7 @@ returns-in-Ok-clause-exchange g c = record {
   of_question = refl;
   told_after = c.in-Ok.ensures.told;
   counted = c.count_mark.ensures ∙ ap (λ (s : StandingView). record s { mark = Some c.in-Ok.mark }) c.take_turn.ensures;
-  answer_is = ap Marked c.length.ensures
+  answer_is = ap Marked c.length.ensures;
 }
 
 pub returns-in-Err-clause-exchange : goal.returns-in-Err-clause-exchange
@@ -20,5 +20,5 @@ returns-in-Err-clause-exchange g c = record {
   of_question = refl;
   told_after = c.in-Err.ensures.told;
   counted = c.take_turn.ensures;
-  answer_is = refl
+  answer_is = refl;
 }

@@ -16,7 +16,7 @@ undos-init g c = record {
   turns = omega arith;
   left = omega arith;
   build = refl;
-  capacity = refl
+  capacity = refl;
 }
 
 pub undos-preserved : goal.undos-preserved
@@ -32,7 +32,7 @@ undos-preserved g c =
       turns = omega (arith, grows.1, so_far.turns);
       left = omega (arith, less, so_far.left);
       build = cc;
-      capacity = cc
+      capacity = cc;
     }
 
 pub returns-in_default-clause-undone : goal.returns-in_default-clause-undone

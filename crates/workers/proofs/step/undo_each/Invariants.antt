@@ -14,5 +14,5 @@ invariant-undos g l = record {
   turns : l.standing.turn ≤ l.fn.standing.turn + l._done;
   left : left_to_clear l.standing ≤ left_to_clear l.fn.standing;
   build : l.report.build ≡ l.fn.report.build;
-  capacity : vec_capacity l.report.lines ≡ vec_capacity l.fn.report.lines
+  capacity : vec_capacity l.report.lines ≡ vec_capacity l.fn.report.lines;
 }

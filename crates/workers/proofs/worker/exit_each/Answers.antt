@@ -14,7 +14,7 @@ exits-init g c = record {
   turns = omega arith;
   left = omega arith;
   build = refl;
-  capacity = refl
+  capacity = refl;
 }
 
 pub exits-preserved : goal.exits-preserved
@@ -31,7 +31,7 @@ exits-preserved g c =
       turns = omega (arith, grows.1, so_far.turns);
       left = omega (arith, less, so_far.left);
       build = cc;
-      capacity = cc
+      capacity = cc;
     }
 
 pub returns-in_default-clause-exited : goal.returns-in_default-clause-exited

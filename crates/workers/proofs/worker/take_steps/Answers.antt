@@ -18,7 +18,7 @@ steps-init g c =
       lines = omega (arith, nothing, empty);
       turns = omega (arith, first);
       build = refl;
-      capacity = refl
+      capacity = refl;
     }
 
 pub clear-requires-clause-room : goal.clear-requires-clause-room
@@ -53,7 +53,7 @@ steps-preserved g c =
       lines = omega (arith, grows.1, so_far.lines);
       turns = omega (arith, grows.2, so_far.turns);
       build = cc;
-      capacity = cc
+      capacity = cc;
     }
 
 pub returns-in-Refused-clause-taken : goal.returns-in-Refused-clause-taken

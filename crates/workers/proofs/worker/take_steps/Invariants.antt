@@ -13,5 +13,5 @@ invariant-steps g l = record {
   lines : vec_len l.report.lines + left_to_clear l.standing ≤ 2 * l.place;
   turns : l.standing.turn ≤ vec_len l.report.lines + l.place;
   build : l.report.build ≡ l.fn.report.build;
-  capacity : vec_capacity l.report.lines ≡ vec_capacity l.fn.report.lines
+  capacity : vec_capacity l.report.lines ≡ vec_capacity l.fn.report.lines;
 }
