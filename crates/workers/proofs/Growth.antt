@@ -1,5 +1,5 @@
 -- How much a worker has left to clear.
-use Rattle.std.proofs.Common.{◌≡◌, ℕ, zero, suc, ◌+◌, ◌-◌, ◌<◌, ◌≤◌, Bool, true, false, List, [], ◌∷◌, ◌++◌, length, refl, sym, ap, subst, ◌∙◌, arith, cond, eqb, ltb, not}
+use Rattle.std.proofs.Common.{◌≡◌, ℕ, zero, suc, ◌+◌, ◌-◌, ◌≤◌, Bool, true, false, List, [], ◌∷◌, length, refl, sym, ap, subst, arith, cond, eqb, ltb, not}
 use Rattle.std.specs.Prelude.{Option, Some, None, Ok, Err, replicate, min}
 use Rattle.std.proofs.lemmas.List.Filters.{length-filter_both}
 use Rattle.build_books.specs.declared.mark.Mark.{Mark}
@@ -13,7 +13,7 @@ use Rattle.workers.specs.Asked.{told, is_refused, ArePut, question_of, all_put, 
 use Rattle.workers.specs.Exchange.{Exchange, Did, Undid, KeptMark, LookedBack}
 use Rattle.workers.specs.Report.{IsTold, AreUndone, IsAbort, IsWayBack, opened, IsBack, IsStep}
 use Rattle.workers.specs.Report as report
-use Rattle.workers.specs.Standing.{StandingView, with_number, without_number, after_answer, after_command, after_exchange, standing_after, left_to_clear}
+use Rattle.workers.specs.Standing.{StandingView, with_number, without_number, after_command, after_exchange, standing_after, left_to_clear}
 use Rattle.workers.specs.Stretch.{IsStretch}
 use Rattle.workers.specs.declared.report.Asked.{Asked}
 use Rattle.workers.specs.declared.report.Asked.TheVariants as asked

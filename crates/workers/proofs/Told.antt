@@ -1,6 +1,6 @@
 -- Steps that ask nothing, and ways back.
-use Rattle.std.proofs.Common.{◌≡◌, ℕ, ◌<◌, true, false, List, [], ◌∷◌, ◌++◌, length, refl, sym, ap, subst, ◌∙◌, arith}
-use Rattle.std.specs.Prelude.{Ok, Err, min, Option, Some, None}
+use Rattle.std.proofs.Common.{◌≡◌, ℕ, ◌<◌, true, false, List, [], ◌∷◌, ◌++◌, length, refl, sym, subst, ◌∙◌, arith}
+use Rattle.std.specs.Prelude.{Ok, Err, min, Option, None}
 use Rattle.std.proofs.lemmas.List.{append-nil}
 use Rattle.build_books.specs.declared.mark.Mark.{Mark}
 use Rattle.build_commands.specs.declared.refusal.Refusal.{Refusal}

@@ -1,6 +1,5 @@
 -- How questions are put, and what is told of their answers.
-use Rattle.std.specs.Prelude.{◌≡◌, ℕ, Bool, true, false, List, [], ◌∷◌, Option, Some, None, Ok, Err}
-use Rattle.build_commands.specs.declared.cmd.Cmd.{Cmd}
+use Rattle.std.specs.Prelude.{◌≡◌, Bool, true, false, List, [], ◌∷◌, Option, Some, None, Ok, Err}
 use Rattle.workers.specs.Exchange.{Exchange, Did, Undid, KeptMark, LookedBack}
 use Rattle.workers.specs.declared.report.Asked.{Asked}
 use Rattle.workers.specs.declared.report.Answer.{Answer}

@@ -1,5 +1,5 @@
 -- Which lines of a report have an event of the build.
-use Rattle.std.specs.Prelude.{◌≡◌, ℕ, Bool, true, false, List, filter, Option, Some, slice_get, option_map}
+use Rattle.std.specs.Prelude.{◌≡◌, Bool, true, false, List, filter, Option, Some, slice_get, option_map}
 use Rattle.std.specs.List.{AllZip}
 use Rattle.build_commands.specs.declared.cmd.Cmd.TheVariants as cmd
 use Rattle.build_commands.specs.declared.cmd.Step.{Step}

@@ -1,12 +1,12 @@
 -- The report of a plan.
-use Rattle.std.specs.Prelude.{◌≡◌, ℕ, zero, suc, ◌+◌, ◌<◌, min, Bool, true, false, List, [], ◌∷◌, ◌++◌, length, map, replicate, Option, Some, None, Result, Ok, Err, is_ok, OnErr, if◌then◌else◌}
+use Rattle.std.specs.Prelude.{◌≡◌, ℕ, zero, suc, ◌+◌, ◌<◌, min, Bool, true, false, List, [], ◌∷◌, ◌++◌, length, map, replicate, Option, Some, None, Ok, Err, if◌then◌else◌}
 use Rattle.build_books.specs.declared.mark.Mark.{Mark}
 use Rattle.build_commands.specs.declared.cmd.Cmd.TheVariants as cmd
 use Rattle.build_commands.specs.declared.cmd.Step.{Step}
 use Rattle.build_commands.specs.declared.cmd.Step.TheVariants as step
 use Rattle.build_commands.specs.declared.refusal.Refusal.{Refusal}
 use Rattle.build_commands.specs.declared.refusal.Refusal.TheVariants.{NothingToUndo, RecRunning}
-use Rattle.workers.specs.Asked.{told, is_refused, line, ArePut}
+use Rattle.workers.specs.Asked.{is_refused, line, ArePut}
 use Rattle.workers.specs.Exchange.{Exchange, LookedBack}
 use Rattle.workers.specs.Standing.{StandingView, first_standing, standing_after}
 use Rattle.workers.specs.declared.report.Asked.{Asked}
@@ -14,7 +14,6 @@ use Rattle.workers.specs.declared.report.Asked.TheVariants as asked
 use Rattle.workers.specs.declared.report.Answer.{Answer}
 use Rattle.workers.specs.declared.report.Answer.TheVariants.{Nothing, Refused}
 use Rattle.workers.specs.declared.report.Line.{Line}
-use Rattle.workers.specs.declared.report.Stuck.{Stuck}
 use Rattle.workers.specs.declared.ask.Question.{Question}
 use Rattle.workers.specs.declared.ask.Question.TheVariants as question
 use Rattle.workers.specs.declared.ask.Ending.{Ending}

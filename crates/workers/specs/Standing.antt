@@ -1,5 +1,5 @@
 -- What a worker knows of its build by its own replies.
-use Rattle.std.specs.Prelude.{ℕ, ◌+◌, ◌-◌, ◌==◌, nat_lt, not, Bool, List, [], ◌∷◌, length, filter, Option, Some, None, Ok, Err, if◌then◌else◌}
+use Rattle.std.specs.Prelude.{ℕ, ◌+◌, ◌-◌, ◌==◌, nat_lt, not, List, [], ◌∷◌, length, filter, Option, Some, None, Ok, Err, if◌then◌else◌}
 use Rattle.build_books.specs.declared.mark.Mark.{Mark}
 use Rattle.build_commands.specs.Needs.{needs_of}
 use Rattle.build_commands.specs.declared.cmd.Cmd.{Cmd}

@@ -84,8 +84,8 @@ fn abort<T: Teller, G: Gate>(
     ensures loan { T.loan teller.new ≡ T.loan teller.old }
     ensures same { (report.new.build ≡ report.old.build) × (vec_capacity report.new.lines ≡ vec_capacity report.old.lines) }
 {
-    let running = standing.running().len();
-    if running > 0 {
+    let running = standing.running();
+    if running.len() > 0 {
         return tell(
             report,
             Asked::Step(place),

@@ -1,4 +1,4 @@
-use Rattle.std.proofs.Common.{refl, arith, replicate, ◌-◌, ◌+◌, length}
+use Rattle.std.proofs.Common.{refl, arith, replicate, ◌-◌, ◌+◌}
 use Rattle.workers.specs.declared.report.Asked.{Asked}
 use Rattle.workers.specs.declared.ask.Question.{Question}
 use Rattle.workers.specs.declared.ask.Question.TheVariants.{Undo}

@@ -1,4 +1,4 @@
-use Rattle.std.proofs.Common.{refl, arith, ap, ◌+◌, ◌∙◌, length, drop, sym}
+use Rattle.std.proofs.Common.{refl, arith, ap, ◌+◌, ◌∙◌, length, drop}
 use Rattle.workers.specs.Standing.{left_to_clear}
 use Rattle.workers.proofs.Loops.{length-clearing}
 use Rattle.workers.proofs.Plans.{LeadsOn-none, steps_next, steps_cleared, steps_cut, steps_done, drop-step, drop-none, grown_step, left_if_refused}
