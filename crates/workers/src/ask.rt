@@ -1,6 +1,6 @@
 //! One question at a time.
-ghost use Rattle.std.specs.Prelude.{◌≡◌, ◌+◌, ◌^◌, ◌<◌, ◌≤◌, [], ◌∷◌, ◌++◌, vec_len, vec_capacity};
-ghost use Rattle.workers.specs.Asked.{is_refused, line, ArePut};
+ghost use Rattle.std.specs.Prelude.{◌≡◌, ◌+◌, ◌^◌, ◌<◌, [], ◌∷◌, ◌++◌, vec_len, vec_capacity};
+ghost use Rattle.workers.specs.Asked.{line, ArePut};
 ghost use Rattle.workers.specs.Report.{ending_of};
 ghost use Rattle.workers.specs.Standing.{left_to_clear};
 ghost use Rattle.workers.specs.Stretch.{IsExchange, IsStretch};

@@ -1,7 +1,6 @@
 //! The work of a build.
-ghost use Rattle.std.specs.Prelude.{◌≡◌, ℕ, ◌+◌, ◌*◌, ◌^◌, ◌<◌, ◌≤◌, Bool, List, [], ◌∷◌, ◌++◌, length, map, replicate, is_ok, vec_len, vec_capacity};
+ghost use Rattle.std.specs.Prelude.{◌≡◌, ◌+◌, ◌*◌, ◌^◌, ◌<◌, ◌≤◌, [], length, map, is_ok, vec_len, vec_capacity};
 ghost use Rattle.workers.specs.Asked.{ArePut};
-ghost use Rattle.workers.specs.Exchange.{Exchange};
 ghost use Rattle.workers.specs.Report.{clearing, exit_of, is_over, IsReport, IsWork};
 ghost use Rattle.workers.specs.Standing.{left_to_clear, first_standing};
 ghost use Rattle.workers.specs.Stretch.{IsStretch};
