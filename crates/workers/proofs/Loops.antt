@@ -1,0 +1,102 @@
+-- Loops that put a list of questions.
+use Rattle.std.proofs.Common.{◌≡◌, ℕ, suc, ◌+◌, ◌-◌, ◌<◌, ◌≤◌, List, [], ◌∷◌, ◌++◌, length, drop, get_or, replicate, map, sym, ap, ap₂, subst, ◌∙◌, arith, length-append, add-one, drop-cons, drop_of_length-le}
+use Rattle.std.proofs.lemmas.List.{length-map, length-replicate}
+use Rattle.workers.specs.Asked.{ArePut}
+use Rattle.workers.specs.Exchange.{Exchange}
+use Rattle.workers.specs.Report.{exit_of, clearing}
+use Rattle.workers.specs.Standing.{StandingView, left_to_clear}
+use Rattle.workers.specs.Stretch.{IsStretch}
+use Rattle.workers.specs.declared.report.Asked.{Asked}
+use Rattle.workers.specs.declared.report.Asked.TheVariants as asked
+use Rattle.workers.specs.declared.report.Line.{Line}
+use Rattle.workers.specs.declared.ask.Question.{Question}
+use Rattle.workers.specs.declared.ask.Question.TheVariants as question
+use Rattle.workers.specs.declared.ask.Ending.{Ending}
+use Rattle.workers.specs.declared.ask.Ending.TheVariants as ending
+use Rattle.workers.proofs.Questions.{Questions, Leads, Leads-none, Leads-next, Leads-stop, Leads-whole, ArePut-append, ArePut-append_stop}
+use Rattle.workers.proofs.Stretches.{IsStretch-append, IsStretch-so}
+
+-- the next question of the list is accepted
+pub loop_next : {before between after : List Exchange → Type 0} {passes stops : ℕ → Type 0} {old mid new : StandingView} {old_lines mid_lines new_lines : List Line} {first : Asked × Question} {from all : Questions} (rest : Questions)
+    → from ≡ first ∷ rest
+    → IsStretch before between passes stops old mid old_lines mid_lines ending.Done (Leads from all)
+    → IsStretch between after passes stops mid new mid_lines new_lines ending.Done (λ exchanges lines. ArePut (first ∷ []) exchanges lines ending.Done)
+    → IsStretch before after passes stops old new old_lines new_lines ending.Done (Leads rest all)
+loop_next {all = all} rest is so_far put =
+    IsStretch-append so_far put (λ exchanges lines more its _ _ leads one. Leads-next (subst (λ qs. Leads qs all exchanges lines) is leads) one)
+
+-- the next question of the list ends it
+pub loop_stop : {before between after : List Exchange → Type 0} {passes stops : ℕ → Type 0} {old mid new : StandingView} {old_lines mid_lines new_lines : List Line} {end : Ending} {first : Asked × Question} {from all : Questions} (rest : Questions)
+    → from ≡ first ∷ rest
+    → (end ≡ ending.Done → ⊥)
+    → IsStretch before between passes stops old mid old_lines mid_lines ending.Done (Leads from all)
+    → IsStretch between after passes stops mid new mid_lines new_lines end (λ exchanges lines. ArePut (first ∷ []) exchanges lines end)
+    → IsStretch before after passes stops old new old_lines new_lines end (λ exchanges lines. ArePut all exchanges lines end)
+loop_stop {all = all} rest is goes so_far put =
+    IsStretch-append so_far put (λ exchanges lines more its _ _ leads one. Leads-stop {rest = rest} goes (subst (λ qs. Leads qs all exchanges lines) is leads) one)
+
+-- no question is left
+pub loop_whole : {before after : List Exchange → Type 0} {passes stops : ℕ → Type 0} {old new : StandingView} {old_lines new_lines : List Line} {from all : Questions}
+    → from ≡ []
+    → IsStretch before after passes stops old new old_lines new_lines ending.Done (Leads from all)
+    → IsStretch before after passes stops old new old_lines new_lines ending.Done (λ exchanges lines. ArePut all exchanges lines ending.Done)
+loop_whole {all = all} is so_far = IsStretch-so so_far (λ exchanges lines _ leads. Leads-whole (subst (λ qs. Leads qs all exchanges lines) is leads))
+
+-- ---- so many times the same question
+
+pub replicate-next : (again : Asked × Question) (count done : ℕ) → done < count → replicate (count - done) again ≡ again ∷ replicate (count - (done + 1)) again
+replicate-next again count done left =
+    let one : count - done ≡ suc (count - (done + 1)) = omega arith in ap (λ n. replicate n again) one
+
+-- none is done yet
+pub Leads-all : (count : ℕ) (again : Asked × Question) → Leads (replicate (count - 0) again) (replicate count again) [] []
+Leads-all count again =
+    let all : count ≡ count - 0 = omega arith in
+    subst (λ n. Leads (replicate n again) (replicate count again) [] []) all (Leads-none (replicate count again))
+
+pub replicate-none : (again : Asked × Question) (count done : ℕ) → count ≤ done → replicate (count - done) again ≡ []
+replicate-none again count done none =
+    let zero_left : count - done ≡ 0 = omega arith in ap (λ n. replicate n again) zero_left
+
+-- ---- the exits of RECs
+
+pub exits-next : (numbers : List ℕ) (number place : ℕ) → place < length numbers → number ≡ get_or numbers place 0 → map exit_of (drop place numbers) ≡ exit_of number ∷ map exit_of (drop (place + 1) numbers)
+exits-next numbers number place within is =
+    let rest : drop place numbers ≡ get_or numbers place 0 ∷ drop (place + 1) numbers = rw (add-one, drop-cons numbers place 0) in
+    ap (map exit_of) rest ∙ ap (λ n. exit_of n ∷ map exit_of (drop (place + 1) numbers)) (sym is)
+
+pub exits-none : (numbers : List ℕ) (place : ℕ) → length numbers ≤ place → map exit_of (drop place numbers) ≡ []
+exits-none numbers place end = ap (map exit_of) (drop_of_length-le numbers end)
+
+-- ---- the clearing of a build
+
+-- what runs has exited
+pub cleared : {before between after : List Exchange → Type 0} {passes stops : ℕ → Type 0} {old mid new : StandingView} {old_lines mid_lines new_lines : List Line} {end : Ending} (standing : StandingView) (numbers : List ℕ) (opened : ℕ)
+    → numbers ≡ standing.running
+    → opened ≡ standing.journal
+    → IsStretch before between passes stops old mid old_lines mid_lines ending.Done (λ exchanges lines. ArePut (map exit_of numbers) exchanges lines ending.Done)
+    → IsStretch between after passes stops mid new mid_lines new_lines end (λ exchanges lines. ArePut (replicate opened (asked.Undo, question.Undo)) exchanges lines end)
+    → IsStretch before after passes stops old new old_lines new_lines end (λ exchanges lines. ArePut (clearing standing) exchanges lines end)
+cleared {end = end} standing numbers opened runs opens exits undos =
+    IsStretch-append exits undos (λ exchanges lines more its _ _ exit undo.
+    subst (λ ns. ArePut (map exit_of ns ++ replicate standing.journal (asked.Undo, question.Undo)) (exchanges ++ more) (lines ++ its) end) runs
+    (subst (λ n. ArePut (map exit_of numbers ++ replicate n (asked.Undo, question.Undo)) (exchanges ++ more) (lines ++ its) end) opens (ArePut-append exit undo)))
+
+-- an exit ended it
+pub cleared_stop : {before after : List Exchange → Type 0} {passes stops : ℕ → Type 0} {old new : StandingView} {old_lines new_lines : List Line} {end : Ending} (standing : StandingView) (numbers : List ℕ)
+    → numbers ≡ standing.running
+    → (end ≡ ending.Done → ⊥)
+    → IsStretch before after passes stops old new old_lines new_lines end (λ exchanges lines. ArePut (map exit_of numbers) exchanges lines end)
+    → IsStretch before after passes stops old new old_lines new_lines end (λ exchanges lines. ArePut (clearing standing) exchanges lines end)
+cleared_stop {end = end} standing numbers runs goes exits =
+    IsStretch-so exits (λ exchanges lines _ exit.
+    subst (λ ns. ArePut (map exit_of ns ++ replicate standing.journal (asked.Undo, question.Undo)) exchanges lines end) runs
+    (ArePut-append_stop (replicate standing.journal (asked.Undo, question.Undo)) goes exit))
+
+pub length-exits : (numbers : List ℕ) → length (map exit_of numbers) ≡ length numbers
+length-exits numbers = length-map numbers exit_of
+
+pub length-clearing : (standing : StandingView) → length (clearing standing) ≡ left_to_clear standing
+length-clearing standing =
+    length-append (map exit_of standing.running) (replicate standing.journal (asked.Undo, question.Undo))
+    ∙ ap₂ ◌+◌ (length-exits standing.running) (length-replicate standing.journal (asked.Undo, question.Undo))

@@ -1,0 +1,54 @@
+-- How questions are put, and what is told of their answers.
+use Rattle.std.specs.Prelude.{◌≡◌, Bool, true, false, List, [], ◌∷◌, Option, Some, None, Ok, Err}
+use Rattle.workers.specs.Exchange.{Exchange, Did, Undid, KeptMark, LookedBack}
+use Rattle.workers.specs.declared.report.Asked.{Asked}
+use Rattle.workers.specs.declared.report.Answer.{Answer}
+use Rattle.workers.specs.declared.report.Answer.TheVariants.{Replied, Undone, Marked, Nothing, Refused}
+use Rattle.workers.specs.declared.report.Line.{Line}
+use Rattle.workers.specs.declared.ask.Question.{Question}
+use Rattle.workers.specs.declared.ask.Question.TheVariants as question
+use Rattle.workers.specs.declared.ask.Ending.{Ending}
+use Rattle.workers.specs.declared.ask.Ending.TheVariants as ending
+
+-- The answer that a line tells: the teller's own. A way back that is open is told where it has nothing to undo.
+abbrev pub told : Exchange → Answer
+told (Did cmd (Ok reply)) = Replied reply
+told (Did cmd (Err refusal)) = Refused refusal
+told (Undid (Ok undone)) = Undone undone
+told (Undid (Err refusal)) = Refused refusal
+told (KeptMark (Ok mark)) = Marked mark.length
+told (KeptMark (Err refusal)) = Refused refusal
+told (LookedBack mark (Ok count)) = Nothing
+told (LookedBack mark (Err refusal)) = Refused refusal
+
+abbrev pub is_refused : Answer → Bool
+is_refused (Replied reply) = false
+is_refused (Undone undone) = false
+is_refused (Marked length) = false
+is_refused Nothing = false
+is_refused (Refused refusal) = true
+
+-- The question of an exchange. A look back is none that has a line.
+abbrev pub question_of : Exchange → Option Question
+question_of (Did cmd result) = Some (question.Do cmd)
+question_of (Undid result) = Some question.Undo
+question_of (KeptMark result) = Some question.Mark
+question_of (LookedBack mark result) = None
+
+abbrev pub line : Asked → Answer → Line
+line asked answer = record { asked = asked; answer = answer }
+
+-- Questions are put in their order, with a line for each, up to the first that is refused, or until a turn does not come.
+pub data ArePut : List (Asked × Question) → List Exchange → List Line → Ending → Type 0 where
+  all_put : ArePut [] [] [] ending.Done
+  cut_short : {question : Asked × Question} {questions : List (Asked × Question)}
+      → ArePut (question ∷ questions) [] [] ending.Cut
+  refused : {question : Asked × Question} {questions : List (Asked × Question)} {exchange : Exchange}
+      → question_of exchange ≡ Some question.1
+      → is_refused (told exchange) ≡ true
+      → ArePut (question ∷ questions) (exchange ∷ []) (line question.0 (told exchange) ∷ []) ending.Refused
+  accepted : {question : Asked × Question} {questions : List (Asked × Question)} {exchange : Exchange} {exchanges : List Exchange} {lines : List Line} {end : Ending}
+      → question_of exchange ≡ Some question.1
+      → is_refused (told exchange) ≡ false
+      → ArePut questions exchanges lines end
+      → ArePut (question ∷ questions) (exchange ∷ exchanges) (line question.0 (told exchange) ∷ lines) end

@@ -1,0 +1,112 @@
+-- The report of a plan.
+use Rattle.std.specs.Prelude.{◌≡◌, ℕ, zero, suc, ◌+◌, ◌<◌, min, Bool, true, false, List, [], ◌∷◌, ◌++◌, length, map, replicate, Option, Some, None, Ok, Err, if◌then◌else◌}
+use Rattle.build_books.specs.declared.mark.Mark.{Mark}
+use Rattle.build_commands.specs.declared.cmd.Cmd.TheVariants as cmd
+use Rattle.build_commands.specs.declared.cmd.Step.{Step}
+use Rattle.build_commands.specs.declared.cmd.Step.TheVariants as step
+use Rattle.build_commands.specs.declared.refusal.Refusal.{Refusal}
+use Rattle.build_commands.specs.declared.refusal.Refusal.TheVariants.{NothingToUndo, RecRunning}
+use Rattle.workers.specs.Asked.{is_refused, line, ArePut}
+use Rattle.workers.specs.Exchange.{Exchange, LookedBack}
+use Rattle.workers.specs.Standing.{StandingView, first_standing, standing_after}
+use Rattle.workers.specs.declared.report.Asked.{Asked}
+use Rattle.workers.specs.declared.report.Asked.TheVariants as asked
+use Rattle.workers.specs.declared.report.Answer.{Answer}
+use Rattle.workers.specs.declared.report.Answer.TheVariants.{Nothing, Refused}
+use Rattle.workers.specs.declared.report.Line.{Line}
+use Rattle.workers.specs.declared.ask.Question.{Question}
+use Rattle.workers.specs.declared.ask.Question.TheVariants as question
+use Rattle.workers.specs.declared.ask.Ending.{Ending}
+use Rattle.workers.specs.declared.ask.Ending.TheVariants as ending
+
+-- ---- one step
+
+abbrev pub ending_of : Answer → Ending
+ending_of answer = if is_refused answer then ending.Refused else ending.Done
+
+-- Nothing is asked, and a step's line tells this.
+pub record IsTold (place : ℕ) (answer : Answer) (exchanges : List Exchange) (lines : List Line) (end : Ending) : Type 0 where
+  pub nothing_asked : exchanges ≡ []
+  pub line_is : lines ≡ line (asked.Step place) answer ∷ []
+  pub end_is : end ≡ ending_of answer
+
+-- A step asks one question.
+abbrev pub IsAsked : ℕ → Question → List Exchange → List Line → Ending → Type 0
+IsAsked place question exchanges lines end = ArePut ((asked.Step place, question) ∷ []) exchanges lines end
+
+-- A step undoes so many, with a line for each. With none its line says so.
+abbrev pub AreUndone : ℕ → ℕ → List Exchange → List Line → Ending → Type 0
+AreUndone place zero exchanges lines end = IsTold place Nothing exchanges lines end
+AreUndone place (suc more) exchanges lines end =
+    ArePut (replicate (suc more) (asked.Step place, question.Undo)) exchanges lines end
+
+-- An abort undoes the whole journal, but is refused, with nothing asked, where a REC runs.
+abbrev pub IsAbort : ℕ → List ℕ → ℕ → List Exchange → List Line → Ending → Type 0
+IsAbort place [] journal exchanges lines end = AreUndone place journal exchanges lines end
+IsAbort place (number ∷ numbers) journal exchanges lines end = IsTold place (Refused RecRunning) exchanges lines end
+
+-- The way back to a mark is looked for first. Where it is open, that many are undone, but no more than the journal has.
+pub data IsWayBack (place : ℕ) (mark : Mark) (journal : ℕ) : List Exchange → List Line → Ending → Type 0 where
+  cut_short : IsWayBack place mark journal [] [] ending.Cut
+  refused : (refusal : Refusal)
+      → IsWayBack place mark journal (LookedBack mark (Err refusal) ∷ []) (line (asked.Step place) (Refused refusal) ∷ []) ending.Refused
+  opened : (count : ℕ) {exchanges : List Exchange} {lines : List Line} {end : Ending}
+      → AreUndone place (min count journal) exchanges lines end
+      → IsWayBack place mark journal (LookedBack mark (Ok count) ∷ exchanges) lines end
+
+-- A step back is refused, with nothing asked, where there is no mark.
+abbrev pub IsBack : ℕ → Option Mark → ℕ → List Exchange → List Line → Ending → Type 0
+IsBack place None journal exchanges lines end = IsTold place (Refused NothingToUndo) exchanges lines end
+IsBack place (Some mark) journal exchanges lines end = IsWayBack place mark journal exchanges lines end
+
+-- What a step at that place of the plan asks, and what is told of it.
+abbrev pub IsStep : ℕ → StandingView → Step → List Exchange → List Line → Ending → Type 0
+IsStep place standing (step.Ask cmd) exchanges lines end = IsAsked place (question.Do cmd) exchanges lines end
+IsStep place standing step.Undo exchanges lines end = IsAsked place question.Undo exchanges lines end
+IsStep place standing step.Abort exchanges lines end = IsAbort place standing.running standing.journal exchanges lines end
+IsStep place standing step.Mark exchanges lines end = IsAsked place question.Mark exchanges lines end
+IsStep place standing step.Back exchanges lines end = IsBack place standing.mark standing.journal exchanges lines end
+
+-- ---- the whole
+
+abbrev pub exit_of : ℕ → Asked × Question
+exit_of number = (asked.Exit number, question.Do (cmd.Exit number))
+
+-- What is asked after a refusal: the running RECs exit in rising number, then all that is open is undone.
+abbrev pub clearing : StandingView → List (Asked × Question)
+clearing standing = map exit_of standing.running ++ replicate standing.journal (asked.Undo, question.Undo)
+
+-- whether it came to its end, and not because a turn did not come
+abbrev pub is_over : Ending → Bool
+is_over ending.Done = true
+is_over ending.Refused = true
+is_over ending.Cut = false
+
+-- The report of the steps from a place and a standing on: they are taken in order, and after the first refusal the
+-- build is cleared.
+pub data IsReport : ℕ → StandingView → List Step → List Exchange → List Line → Bool → Type 0 where
+  no_step_left : {place : ℕ} {standing : StandingView} → IsReport place standing [] [] [] true
+  accepted : {place : ℕ} {standing : StandingView} {step : Step} {steps : List Step} {exchanges : List Exchange} {lines : List Line} {ended : Bool} (first more : List Exchange) (its its_more : List Line)
+      → IsStep place standing step first its ending.Done
+      → IsReport (place + 1) (standing_after first standing) steps more its_more ended
+      → exchanges ≡ first ++ more
+      → lines ≡ its ++ its_more
+      → IsReport place standing (step ∷ steps) exchanges lines ended
+  refused : {place : ℕ} {standing : StandingView} {step : Step} {steps : List Step} {exchanges : List Exchange} {lines : List Line} {end : Ending} (first more : List Exchange) (its its_more : List Line)
+      → IsStep place standing step first its ending.Refused
+      → ArePut (clearing (standing_after first standing)) more its_more end
+      → exchanges ≡ first ++ more
+      → lines ≡ its ++ its_more
+      → IsReport place standing (step ∷ steps) exchanges lines (is_over end)
+  cut_short : {place : ℕ} {standing : StandingView} {step : Step} {steps : List Step} {exchanges : List Exchange} {lines : List Line}
+      → IsStep place standing step exchanges lines ending.Cut
+      → IsReport place standing (step ∷ steps) exchanges lines false
+
+-- A worker has done its work, or waits for a turn that does not come. The teller was asked just this, and before each
+-- question the gate let its turn pass; and the report tells it.
+pub record IsWork (before after : List Exchange → Type 0) (passes stops : ℕ → Type 0) (steps : List Step) (lines : List Line) (ended : Bool) : Type 0 where
+  pub exchanges : List Exchange
+  pub told : (earlier : List Exchange) → before earlier → after (earlier ++ exchanges)
+  pub passed : (turn : ℕ) → turn < length exchanges → passes turn
+  pub stopped : ended ≡ false → stops (length exchanges)
+  pub is_report : IsReport 0 first_standing steps exchanges lines ended

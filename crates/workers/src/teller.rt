@@ -1,0 +1,52 @@
+//! Who answers a worker, and who gives it its turns.
+ghost use Rattle.std.specs.Prelude.{◌≡◌, ℕ, List, [], ◌∷◌, ◌++◌, OnOk, OnErr};
+ghost use Rattle.workers.specs.Exchange.{Exchange, Did, Undid, KeptMark, LookedBack};
+
+use crate::report::Stuck;
+use build_books::Mark;
+use build_commands::{Cmd, Refusal, Reply};
+use granule_addr::BuildId;
+use realm_host::Undone;
+
+/// Who answers the worker of a build: a build's pass to a host, or what stands for one.
+pub trait Teller {
+    /// Whether these are the questions that it was asked, in their order, with what it answered.
+    ghost tells: { Self → List Exchange → Type 0 };
+
+    /// The loan that it writes through, if there is one.
+    ghost loan: { Self → ℕ };
+
+    /// Asks for a command.
+    fn ask(&mut self, cmd: Cmd) -> Result<Reply, Refusal>
+        ensures told { (earlier : List Exchange) → tells self.old earlier → tells self.new (earlier ++ Did cmd result ∷ []) }
+        ensures loan { loan self.new ≡ loan self.old };
+
+    /// Asks for the reverse of the newest act that the build has open.
+    fn undo(&mut self) -> Result<Undone, Refusal>
+        ensures told { (earlier : List Exchange) → tells self.old earlier → tells self.new (earlier ++ Undid result ∷ []) }
+        ensures loan { loan self.new ≡ loan self.old };
+
+    /// Asks that the build's point be kept.
+    fn mark(&mut self) -> Result<Mark, Refusal>
+        ensures told { (earlier : List Exchange) → tells self.old earlier → tells self.new (earlier ++ KeptMark result ∷ []) }
+        ensures loan { loan self.new ≡ loan self.old };
+
+    /// Asks how many acts the build has open above a mark.
+    fn check_back(&mut self, mark: Mark) -> Result<u16, Refusal>
+        ensures told { (earlier : List Exchange) → tells self.old earlier → tells self.new (earlier ++ LookedBack mark result ∷ []) }
+        ensures loan { loan self.new ≡ loan self.old };
+}
+
+/// Who gives workers their turns.
+pub trait Gate {
+    /// Whether it lets that turn of a build pass.
+    ghost passes: { Self → ℕ → ℕ → Type 0 };
+
+    /// Whether that turn of a build does not come.
+    ghost stops: { Self → ℕ → ℕ → Type 0 };
+
+    /// Asked by the worker of a build before each question. Turns are counted from 0.
+    fn pass(&self, build: BuildId, turn: usize) -> Result<(), Stuck>
+        ensures ok { OnOk result (passes self.now build turn) }
+        ensures stuck { OnErr result (stops self.now build turn) };
+}
