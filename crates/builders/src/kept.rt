@@ -8,7 +8,7 @@ ghost use Rattle.realm_host.specs.Answer.{IsAnswer, replied, undone};
 ghost use Rattle.realm_host.specs.Call.{Ask, Undo};
 ghost use Rattle.realm_host.specs.Marked.{IsMarked, way_back};
 ghost use Rattle.builders.specs.Kept.{IsNoted, IsSound};
-ghost use Rattle.builders.specs.Seats.{with_noted};
+ghost use Rattle.builders.specs.Seats.{events_of, with_noted};
 ghost use Rattle.builders.specs.Told.{IsBehind};
 
 use crate::lanes::{Books, Lane};
@@ -103,7 +103,8 @@ impl<S: PageStore, L0: Lane, L1: Lane, L2: Lane, L3: Lane, L4: Lane, L5: Lane, L
 // The event that ends the history of a host is noted: it ends the trail, and the book and the count of its build rise by one.
 fn note<S: PageStore, L0: Lane, L1: Lane, L2: Lane, L3: Lane, L4: Lane, L5: Lane, L6: Lane, L7: Lane>(host: &Host<S>, books: &mut Books<L0, L1, L2, L3, L4, L5, L6, L7>, seat: &mut Seat<L0, L1, L2, L3, L4, L5, L6, L7>)
     requires some { 0 < length host.now.history }
-    requires room { seat.old.count < L0.room }
+    requires counted { length (events_of seat.old.build host.now.history) ≡ seat.old.count + 1 }
+    requires fits { host.now.capacity ≤ L0.room }
     ensures sound { IsSound host.now }
     ensures books { books.new ≡ slice_set books.old seat.old.build (seat.old.count + 1) }
     ensures seat { (before : List Event) (event : Event) → host.now.history ≡ before ++ event ∷ [] → seat.new ≡ with_noted seat.old event }

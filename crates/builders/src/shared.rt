@@ -122,10 +122,9 @@ fn seated<L0: Lane, L1: Lane, L2: Lane, L3: Lane, L4: Lane, L5: Lane, L6: Lane, 
     requires room { vec_len trails ≤ vec_capacity seats }
     ensures { result.items ≡ map new_seat (range_with_len 0 (vec_len trails)) }
 {
-    for pass in passes {
-        let Some(trail) = trails.pop() else {
-            break;
-        };
+    let mut passes = passes.into_iter();
+    while let Some(trail) = trails.pop() {
+        let pass = passes.next().unwrap();
         seats.push_reserved(Seat { pass, trail });
     }
     seats
