@@ -1,9 +1,11 @@
 -- A trail beside what a history has of its build.
-use Rattle.std.proofs.Common.{◌≡◌, ℕ, ◌-◌, ◌≤◌, ◌↔◌, IsTrue, List, [], length, drop, nat_eq, sym, ap, ◌∙◌, arith, length-drop}
+use Rattle.std.proofs.Common.{◌<◌, ◌≡◌, ℕ, ◌≤◌, ◌↔◌, IsTrue, List, [], length, drop, get_or, nat_eq, refl, sym, ap, ◌∙◌, arith, length-drop}
+use Rattle.std.specs.List.{All}
 use Rattle.std.proofs.lemmas.List.{drop_all}
 use Rattle.std.proofs.lemmas.Bool.{eqb-true, eq-eqb}
 use Rattle.realm_model.specs.declared.act.Event.{Event}
-use Rattle.builders.specs.Seats.{events_of}
+use Rattle.builders.specs.Close.{FitsAll}
+use Rattle.builders.specs.Seats.{SeatView, events_of}
 
 all_used : (at : ℕ) (trail : List Event) → at ≤ length trail → drop at trail ≡ [] → at ≡ length trail
 all_used at trail inside none =
@@ -19,3 +21,9 @@ same_at_end build at i history trail inside done rest =
       (λ t. rest.0 (drop_all at trail (let e : at ≡ length trail = eqb-true at (length trail) t in omega arith) ∙ sym none)),
       (λ e. eq-eqb at (length trail) (all_used at trail inside (rest.1 e ∙ none))),
     )
+
+-- where the seats of each build fit, each seat does
+pub each_fits : (history : List Event) (books : List ℕ) (seats : List SeatView) → FitsAll history seats → All (λ (seat : SeatView). (seat.build < 8) × (get_or books seat.build 0 ≡ seat.count)) seats
+    → All (λ (seat : SeatView). seat.trail ≡ events_of seat.build history) seats
+unfolding FitsAll
+each_fits history books seats fits counted k d inside = fits (get_or seats k d).build (counted k d inside).0 k d inside refl

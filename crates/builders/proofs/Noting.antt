@@ -1,11 +1,11 @@
 -- One event more behind the lock.
-use Rattle.std.proofs.Common.{◌≡◌, ◌≢◌, ℕ, ◌+◌, ◌<◌, ◌≤◌, inl, inr, List, [], ◌∷◌, ◌++◌, Bool, true, false, ◌&&◌, ◌==◌, cond, length, map, get_or, set, refl, sym, ap, ◌∙◌, subst, arith, add-zero, length-set, length-append, get_or-set_same, get_or-set_other}
+use Rattle.std.proofs.Common.{◌≡◌, ◌≢◌, ℕ, ◌+◌, ◌<◌, ◌≤◌, inl, inr, List, [], ◌∷◌, ◌++◌, Bool, true, false, ◌&&◌, ◌==◌, cond, length, get_or, set, refl, sym, ap, ◌∙◌, subst, arith, add-zero, length-set, length-append, get_or-set_same, get_or-set_other}
 use Rattle.std.proofs.lemmas.Bool.{eq-eqb, ne_eqb, cases_eq}
 use Rattle.std.proofs.lemmas.List.Elements.{filter-append}
-use Rattle.std.specs.Prelude.{nat_lt, filter}
+use Rattle.std.specs.Prelude.{nat_lt}
 use Rattle.realm_model.specs.declared.act.Act.{Act}
 use Rattle.realm_model.specs.declared.act.Event.{Event}
-use Rattle.realm_model.specs.History.{acts_of, open_entries}
+use Rattle.realm_model.specs.History.{open_entries}
 use Rattle.realm_model.specs.Undoing.{by}
 use Rattle.realm_model.specs.StepLaw.{set_each}
 use Rattle.realm_model.proofs.Lists.{is_in}

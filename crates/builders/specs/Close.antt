@@ -47,4 +47,4 @@ pub record IsGivenBack (host : HostView) (seats : List SeatView) : Type 0 where
 -- Each build's seat is there, and each trail is what the history has of its build.
 pub record IsClosed (host : HostView) (seats : List SeatView) : Type 0 where
   pub whole : IsWhole host.limits.builds seats
-  pub trails : FitsAll host.history seats
+  pub trails : All (λ seat. seat.trail ≡ events_of seat.build host.history) seats

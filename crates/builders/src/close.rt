@@ -20,7 +20,10 @@ pub enum CloseFault {
 }
 
 /// Shows that each seat counts what its build's book does. Nothing changes.
-pub fn audit<L0: Lane, L1: Lane, L2: Lane, L3: Lane, L4: Lane, L5: Lane, L6: Lane, L7: Lane>(books: &mut Books<L0, L1, L2, L3, L4, L5, L6, L7>, seats: &mut [Seat<L0, L1, L2, L3, L4, L5, L6, L7>])
+pub fn audit<L0: Lane, L1: Lane, L2: Lane, L3: Lane, L4: Lane, L5: Lane, L6: Lane, L7: Lane>(
+    books: &mut Books<L0, L1, L2, L3, L4, L5, L6, L7>,
+    seats: &mut [Seat<L0, L1, L2, L3, L4, L5, L6, L7>],
+)
     ensures books { books.new ≡ books.old }
     ensures seats { seats.new ≡ seats.old }
     ensures counted { All (λ seat. (seat.build < 8) × (slice_index books.old seat.build ≡ seat.count)) seats.old }
@@ -32,7 +35,10 @@ pub fn audit<L0: Lane, L1: Lane, L2: Lane, L3: Lane, L4: Lane, L5: Lane, L6: Lan
 
 /// The lowest build of which there is not one seat.
 #[tactic(auto, unfolding(crate::specs::Close::IsWhole))]
-pub fn missing<L0: Lane, L1: Lane, L2: Lane, L3: Lane, L4: Lane, L5: Lane, L6: Lane, L7: Lane>(seats: &[Seat<L0, L1, L2, L3, L4, L5, L6, L7>], builds: u8) -> Option<BuildId>
+pub fn missing<L0: Lane, L1: Lane, L2: Lane, L3: Lane, L4: Lane, L5: Lane, L6: Lane, L7: Lane>(
+    seats: &[Seat<L0, L1, L2, L3, L4, L5, L6, L7>],
+    builds: u8,
+) -> Option<BuildId>
     requires { builds ≤ 8 }
     ensures some { IfSome result (λ build. IsMissing builds build seats.now) }
     ensures none { IfNone result (IsWhole builds seats.now) }
@@ -47,7 +53,10 @@ pub fn missing<L0: Lane, L1: Lane, L2: Lane, L3: Lane, L4: Lane, L5: Lane, L6: L
 }
 
 // How many seats are of a build.
-fn seat_count<L0: Lane, L1: Lane, L2: Lane, L3: Lane, L4: Lane, L5: Lane, L6: Lane, L7: Lane>(seats: &[Seat<L0, L1, L2, L3, L4, L5, L6, L7>], build: BuildId) -> usize
+fn seat_count<L0: Lane, L1: Lane, L2: Lane, L3: Lane, L4: Lane, L5: Lane, L6: Lane, L7: Lane>(
+    seats: &[Seat<L0, L1, L2, L3, L4, L5, L6, L7>],
+    build: BuildId,
+) -> usize
     ensures { result ≡ seats_of build seats.now }
 {
     seats.iter().filter(|seat| seat.build() == build).count()
@@ -55,7 +64,10 @@ fn seat_count<L0: Lane, L1: Lane, L2: Lane, L3: Lane, L4: Lane, L5: Lane, L6: La
 
 /// The lowest build with a seat whose trail is not what the history has of the build.
 #[tactic(auto, unfolding(crate::specs::Close::FitsAll))]
-pub fn mismatch<L0: Lane, L1: Lane, L2: Lane, L3: Lane, L4: Lane, L5: Lane, L6: Lane, L7: Lane>(seats: &[Seat<L0, L1, L2, L3, L4, L5, L6, L7>], history: &[Event]) -> Option<BuildId>
+pub fn mismatch<L0: Lane, L1: Lane, L2: Lane, L3: Lane, L4: Lane, L5: Lane, L6: Lane, L7: Lane>(
+    seats: &[Seat<L0, L1, L2, L3, L4, L5, L6, L7>],
+    history: &[Event],
+) -> Option<BuildId>
     ensures some { IfSome result (λ build. Differs build history.now seats.now) }
     ensures none { IfNone result (FitsAll history.now seats.now) }
 {
@@ -69,13 +81,21 @@ pub fn mismatch<L0: Lane, L1: Lane, L2: Lane, L3: Lane, L4: Lane, L5: Lane, L6: 
 }
 
 // Whether a build's seats have for their trail what a history has of the build.
-fn fits<L0: Lane, L1: Lane, L2: Lane, L3: Lane, L4: Lane, L5: Lane, L6: Lane, L7: Lane>(seats: &[Seat<L0, L1, L2, L3, L4, L5, L6, L7>], history: &[Event], build: BuildId) -> bool
+fn fits<L0: Lane, L1: Lane, L2: Lane, L3: Lane, L4: Lane, L5: Lane, L6: Lane, L7: Lane>(
+    seats: &[Seat<L0, L1, L2, L3, L4, L5, L6, L7>],
+    history: &[Event],
+    build: BuildId,
+) -> bool
     ensures { IsTrue result ↔ Fits build history.now seats.now }
 {
     seats.iter().all(|seat| seat_fits(seat, history, build))
 }
 
-fn seat_fits<L0: Lane, L1: Lane, L2: Lane, L3: Lane, L4: Lane, L5: Lane, L6: Lane, L7: Lane>(seat: &Seat<L0, L1, L2, L3, L4, L5, L6, L7>, history: &[Event], build: BuildId) -> bool
+fn seat_fits<L0: Lane, L1: Lane, L2: Lane, L3: Lane, L4: Lane, L5: Lane, L6: Lane, L7: Lane>(
+    seat: &Seat<L0, L1, L2, L3, L4, L5, L6, L7>,
+    history: &[Event],
+    build: BuildId,
+) -> bool
     ensures { IsTrue result ↔ (seat.now.build ≡ build → seat.now.trail ≡ events_of build history.now) }
 {
     if seat.build() == build {

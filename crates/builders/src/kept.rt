@@ -20,12 +20,32 @@ use std::marker::Model;
 
 /// A host and the books of its builds. Each book is the number of its build's events in the history, and no build is in abort.
 #[derive(Drop)]
-pub struct Kept<S: PageStore, L0: Lane, L1: Lane, L2: Lane, L3: Lane, L4: Lane, L5: Lane, L6: Lane, L7: Lane> {
+pub struct Kept<
+    S: PageStore,
+    L0: Lane,
+    L1: Lane,
+    L2: Lane,
+    L3: Lane,
+    L4: Lane,
+    L5: Lane,
+    L6: Lane,
+    L7: Lane,
+> {
     pub(crate) host: Host<S>,
     pub(crate) books: Books<L0, L1, L2, L3, L4, L5, L6, L7>,
 }
 
-impl<S: PageStore, L0: Lane, L1: Lane, L2: Lane, L3: Lane, L4: Lane, L5: Lane, L6: Lane, L7: Lane> Model for Kept<S, L0, L1, L2, L3, L4, L5, L6, L7> {
+impl<
+    S: PageStore,
+    L0: Lane,
+    L1: Lane,
+    L2: Lane,
+    L3: Lane,
+    L4: Lane,
+    L5: Lane,
+    L6: Lane,
+    L7: Lane,
+> Model for Kept<S, L0, L1, L2, L3, L4, L5, L6, L7> {
     ghost use Rattle.builders.specs.Codes.{kept_code};
     ghost use Rattle.builders.specs.Kept.{KeptView, IsKept};
 
@@ -38,10 +58,24 @@ impl<S: PageStore, L0: Lane, L1: Lane, L2: Lane, L3: Lane, L4: Lane, L5: Lane, L
     ghost invariant = { λ k. IsKept (record { host = k.host; books = k.books }) L0.room };
 }
 
-impl<S: PageStore, L0: Lane, L1: Lane, L2: Lane, L3: Lane, L4: Lane, L5: Lane, L6: Lane, L7: Lane> Kept<S, L0, L1, L2, L3, L4, L5, L6, L7> {
+impl<
+    S: PageStore,
+    L0: Lane,
+    L1: Lane,
+    L2: Lane,
+    L3: Lane,
+    L4: Lane,
+    L5: Lane,
+    L6: Lane,
+    L7: Lane,
+> Kept<S, L0, L1, L2, L3, L4, L5, L6, L7> {
     /// Asks a command of the seat's build. The answer is the host's, and an accepted command is one event of the build, which
     /// ends the history and the trail. A refusal leaves both as they are. No memory is taken.
-    pub fn call(&mut self, seat: &mut Seat<L0, L1, L2, L3, L4, L5, L6, L7>, cmd: Cmd) -> Result<Reply, Refusal>
+    pub fn call(
+        &mut self,
+        seat: &mut Seat<L0, L1, L2, L3, L4, L5, L6, L7>,
+        cmd: Cmd,
+    ) -> Result<Reply, Refusal>
         ensures answer { IsAnswer self.old.host seat.old.build (Ask cmd) (replied result) self.new.host }
         ensures noted { IfOk result (λ _. IsNoted self.old seat.old self.new seat.new) }
         ensures refused { IfErr result (λ _. (self.new ≡ self.old) × (seat.new ≡ seat.old)) }
@@ -57,7 +91,10 @@ impl<S: PageStore, L0: Lane, L1: Lane, L2: Lane, L3: Lane, L4: Lane, L5: Lane, L
 
     /// Undoes the newest act that the seat's build has open. The answer is the host's, and an accepted undo is one event of the
     /// build, which ends the history and the trail. A refusal leaves both as they are. No memory is taken.
-    pub fn undo(&mut self, seat: &mut Seat<L0, L1, L2, L3, L4, L5, L6, L7>) -> Result<Undone, Refusal>
+    pub fn undo(
+        &mut self,
+        seat: &mut Seat<L0, L1, L2, L3, L4, L5, L6, L7>,
+    ) -> Result<Undone, Refusal>
         ensures answer { IsAnswer self.old.host seat.old.build Undo (undone result) self.new.host }
         ensures noted { IfOk result (λ _. IsNoted self.old seat.old self.new seat.new) }
         ensures refused { IfErr result (λ _. (self.new ≡ self.old) × (seat.new ≡ seat.old)) }
@@ -88,7 +125,11 @@ impl<S: PageStore, L0: Lane, L1: Lane, L2: Lane, L3: Lane, L4: Lane, L5: Lane, L
     }
 
     /// How many acts the seat's build has open above a mark, with the host's answer. Nothing changes.
-    pub fn check_back(&mut self, seat: &mut Seat<L0, L1, L2, L3, L4, L5, L6, L7>, mark: Mark) -> Result<u16, Refusal>
+    pub fn check_back(
+        &mut self,
+        seat: &mut Seat<L0, L1, L2, L3, L4, L5, L6, L7>,
+        mark: Mark,
+    ) -> Result<u16, Refusal>
         ensures answer { result ≡ way_back self.old.host seat.old.build mark }
         ensures stands { OnOk result (IsMarkOf self.old.host seat.old.build mark) }
         ensures same { (self.new ≡ self.old) × (seat.new ≡ seat.old) }
@@ -101,7 +142,21 @@ impl<S: PageStore, L0: Lane, L1: Lane, L2: Lane, L3: Lane, L4: Lane, L5: Lane, L
 }
 
 // The event that ends the history of a host is noted: it ends the trail, and the book and the count of its build rise by one.
-fn note<S: PageStore, L0: Lane, L1: Lane, L2: Lane, L3: Lane, L4: Lane, L5: Lane, L6: Lane, L7: Lane>(host: &Host<S>, books: &mut Books<L0, L1, L2, L3, L4, L5, L6, L7>, seat: &mut Seat<L0, L1, L2, L3, L4, L5, L6, L7>)
+fn note<
+    S: PageStore,
+    L0: Lane,
+    L1: Lane,
+    L2: Lane,
+    L3: Lane,
+    L4: Lane,
+    L5: Lane,
+    L6: Lane,
+    L7: Lane,
+>(
+    host: &Host<S>,
+    books: &mut Books<L0, L1, L2, L3, L4, L5, L6, L7>,
+    seat: &mut Seat<L0, L1, L2, L3, L4, L5, L6, L7>,
+)
     requires some { 0 < length host.now.history }
     requires counted { length (events_of seat.old.build host.now.history) ≡ seat.old.count + 1 }
     requires fits { host.now.capacity ≤ L0.room }

@@ -74,7 +74,8 @@ pub struct Books<L0: Lane, L1: Lane, L2: Lane, L3: Lane, L4: Lane, L5: Lane, L6:
     book7: Book<One<L7>>,
 }
 
-impl<L0: Lane, L1: Lane, L2: Lane, L3: Lane, L4: Lane, L5: Lane, L6: Lane, L7: Lane> Model for Books<L0, L1, L2, L3, L4, L5, L6, L7> {
+impl<L0: Lane, L1: Lane, L2: Lane, L3: Lane, L4: Lane, L5: Lane, L6: Lane, L7: Lane> Model
+    for Books<L0, L1, L2, L3, L4, L5, L6, L7> {
     ghost use Rattle.std.specs.Prelude.{List, [], ◌∷◌, ℕ};
 
     ghost Value = { List ℕ };
@@ -82,7 +83,16 @@ impl<L0: Lane, L1: Lane, L2: Lane, L3: Lane, L4: Lane, L5: Lane, L6: Lane, L7: L
     ghost view = { λ b. b.book0.total ∷ b.book1.total ∷ b.book2.total ∷ b.book3.total ∷ b.book4.total ∷ b.book5.total ∷ b.book6.total ∷ b.book7.total ∷ [] };
 }
 
-impl<L0: Lane, L1: Lane, L2: Lane, L3: Lane, L4: Lane, L5: Lane, L6: Lane, L7: Lane> Books<L0, L1, L2, L3, L4, L5, L6, L7> {
+impl<L0: Lane, L1: Lane, L2: Lane, L3: Lane, L4: Lane, L5: Lane, L6: Lane, L7: Lane> Books<
+    L0,
+    L1,
+    L2,
+    L3,
+    L4,
+    L5,
+    L6,
+    L7,
+> {
     /// Shows that a pass counts what its build's book does. Nothing changes.
     pub fn audit(&mut self, pass: &mut Pass<L0, L1, L2, L3, L4, L5, L6, L7>)
         ensures same { (self.new ≡ self.old) × (pass.new ≡ pass.old) }
@@ -140,7 +150,8 @@ pub struct Pass<L0: Lane, L1: Lane, L2: Lane, L3: Lane, L4: Lane, L5: Lane, L6: 
     whole: Whole<L0, L1, L2, L3, L4, L5, L6, L7>,
 }
 
-impl<L0: Lane, L1: Lane, L2: Lane, L3: Lane, L4: Lane, L5: Lane, L6: Lane, L7: Lane> Model for Pass<L0, L1, L2, L3, L4, L5, L6, L7> {
+impl<L0: Lane, L1: Lane, L2: Lane, L3: Lane, L4: Lane, L5: Lane, L6: Lane, L7: Lane> Model
+    for Pass<L0, L1, L2, L3, L4, L5, L6, L7> {
     ghost use Rattle.std.specs.Prelude.{◌≡◌};
     ghost use Rattle.builders.specs.Lanes.{PassView};
     ghost use Rattle.builders.specs.Whole.{build_of, parts_of, amount_of};
@@ -152,7 +163,16 @@ impl<L0: Lane, L1: Lane, L2: Lane, L3: Lane, L4: Lane, L5: Lane, L6: Lane, L7: L
     ghost invariant = { λ p. parts_of p.whole ≡ 1 };
 }
 
-impl<L0: Lane, L1: Lane, L2: Lane, L3: Lane, L4: Lane, L5: Lane, L6: Lane, L7: Lane> Pass<L0, L1, L2, L3, L4, L5, L6, L7> {
+impl<L0: Lane, L1: Lane, L2: Lane, L3: Lane, L4: Lane, L5: Lane, L6: Lane, L7: Lane> Pass<
+    L0,
+    L1,
+    L2,
+    L3,
+    L4,
+    L5,
+    L6,
+    L7,
+> {
     /// The build whose events it counts.
     pub fn build(&self) -> BuildId
         ensures build { result ≡ self.now.build }
@@ -181,7 +201,16 @@ pub struct Opened<L0: Lane, L1: Lane, L2: Lane, L3: Lane, L4: Lane, L5: Lane, L6
     ghost passes_are: { passes ≡ map unused (range_with_len 0 8) },
 }
 
-impl<L0: Lane, L1: Lane, L2: Lane, L3: Lane, L4: Lane, L5: Lane, L6: Lane, L7: Lane> Opened<L0, L1, L2, L3, L4, L5, L6, L7> {
+impl<L0: Lane, L1: Lane, L2: Lane, L3: Lane, L4: Lane, L5: Lane, L6: Lane, L7: Lane> Opened<
+    L0,
+    L1,
+    L2,
+    L3,
+    L4,
+    L5,
+    L6,
+    L7,
+> {
     /// Opens a ledger on each blank.
     pub fn new(blanks: Blanks) -> Opened<L0, L1, L2, L3, L4, L5, L6, L7>
         requires name0 { blanks.blank0.name ≡ L0.name }

@@ -16,9 +16,6 @@ mod shared;
 pub use acts::is_same_act;
 pub use close::CloseFault;
 pub use kept::Kept;
-pub use lanes::{Blanks, Books, Lane, Opened, Pass};
-pub use seat::{Seat, Trail};
+pub use lanes::{Blanks, Lane};
+pub use seat::Seat;
 pub use shared::Shared;
-
-#[cfg(test)]
-mod tests;

@@ -55,7 +55,11 @@ impl<L0: Lane> Trail<L0> {
 }
 
 /// So many trails without an event.
-pub fn new_trails<L0: Lane>(alloc: Global, count: u8, room: u16) -> Result<Vec<Trail<L0>>, AllocError>
+pub fn new_trails<L0: Lane>(
+    alloc: Global,
+    count: u8,
+    room: u16,
+) -> Result<Vec<Trail<L0>>, AllocError>
     requires { room ≡ L0.room }
     ensures { IfOk result (λ trails. trails.items ≡ replicate count []) }
 {
@@ -74,7 +78,8 @@ pub struct Seat<L0: Lane, L1: Lane, L2: Lane, L3: Lane, L4: Lane, L5: Lane, L6: 
     pub(crate) trail: Trail<L0>,
 }
 
-impl<L0: Lane, L1: Lane, L2: Lane, L3: Lane, L4: Lane, L5: Lane, L6: Lane, L7: Lane> Model for Seat<L0, L1, L2, L3, L4, L5, L6, L7> {
+impl<L0: Lane, L1: Lane, L2: Lane, L3: Lane, L4: Lane, L5: Lane, L6: Lane, L7: Lane> Model
+    for Seat<L0, L1, L2, L3, L4, L5, L6, L7> {
     ghost use Rattle.std.specs.Prelude.{◌≡◌, length};
     ghost use Rattle.builders.specs.Seats.{SeatView};
 
@@ -85,7 +90,16 @@ impl<L0: Lane, L1: Lane, L2: Lane, L3: Lane, L4: Lane, L5: Lane, L6: Lane, L7: L
     ghost invariant = { λ s. s.pass.count ≡ length s.trail };
 }
 
-impl<L0: Lane, L1: Lane, L2: Lane, L3: Lane, L4: Lane, L5: Lane, L6: Lane, L7: Lane> Seat<L0, L1, L2, L3, L4, L5, L6, L7> {
+impl<L0: Lane, L1: Lane, L2: Lane, L3: Lane, L4: Lane, L5: Lane, L6: Lane, L7: Lane> Seat<
+    L0,
+    L1,
+    L2,
+    L3,
+    L4,
+    L5,
+    L6,
+    L7,
+> {
     /// The build whose seat it is.
     pub fn build(&self) -> BuildId
         ensures build { result ≡ self.now.build }
@@ -99,7 +113,7 @@ impl<L0: Lane, L1: Lane, L2: Lane, L3: Lane, L4: Lane, L5: Lane, L6: Lane, L7: L
         ensures count { result ≡ self.now.count }
         ensures trail { result ≡ length self.now.trail }
     {
-        self.trail.events().len()
+        self.trail().len()
     }
 
     /// The accepted events of its build, in their order.

@@ -21,18 +21,44 @@ use std::sync::{Mutex, Wait};
 
 /// A host that threads share. Each call takes the lock once.
 #[derive(Drop)]
-pub struct Shared<S: PageStore, L0: Lane, L1: Lane, L2: Lane, L3: Lane, L4: Lane, L5: Lane, L6: Lane, L7: Lane> {
+pub struct Shared<
+    S: PageStore,
+    L0: Lane,
+    L1: Lane,
+    L2: Lane,
+    L3: Lane,
+    L4: Lane,
+    L5: Lane,
+    L6: Lane,
+    L7: Lane,
+> {
     kept: Mutex<Kept<S, L0, L1, L2, L3, L4, L5, L6, L7>>,
 }
 
-impl<S: PageStore, L0: Lane, L1: Lane, L2: Lane, L3: Lane, L4: Lane, L5: Lane, L6: Lane, L7: Lane> Shared<S, L0, L1, L2, L3, L4, L5, L6, L7> {
+impl<
+    S: PageStore,
+    L0: Lane,
+    L1: Lane,
+    L2: Lane,
+    L3: Lane,
+    L4: Lane,
+    L5: Lane,
+    L6: Lane,
+    L7: Lane,
+> Shared<S, L0, L1, L2, L3, L4, L5, L6, L7> {
     /// Shares a host that has no history, with a seat for each of its builds in their order. All memory for their events is
     /// taken here. Where there is none, blanks and host come back.
     pub fn start(
         alloc: Global,
         blanks: Blanks,
         host: Host<S>,
-    ) -> Result<(Shared<S, L0, L1, L2, L3, L4, L5, L6, L7>, Vec<Seat<L0, L1, L2, L3, L4, L5, L6, L7>>), (AllocError, Blanks, Host<S>)>
+    ) -> Result<
+        (
+            Shared<S, L0, L1, L2, L3, L4, L5, L6, L7>,
+            Vec<Seat<L0, L1, L2, L3, L4, L5, L6, L7>>,
+        ),
+        (AllocError, Blanks, Host<S>),
+    >
         requires empty { host.history ≡ [] }
         requires room { host.capacity ≡ L0.room }
         requires name0 { blanks.blank0.name ≡ L0.name }
@@ -62,7 +88,12 @@ impl<S: PageStore, L0: Lane, L1: Lane, L2: Lane, L3: Lane, L4: Lane, L5: Lane, L
     }
 
     /// Asks a command of the seat's build.
-    pub fn call(&self, rt: &impl Wait, seat: &mut Seat<L0, L1, L2, L3, L4, L5, L6, L7>, cmd: Cmd) -> Result<Reply, Refusal>
+    pub fn call(
+        &self,
+        rt: &impl Wait,
+        seat: &mut Seat<L0, L1, L2, L3, L4, L5, L6, L7>,
+        cmd: Cmd,
+    ) -> Result<Reply, Refusal>
         ensures told { IfOk result (λ reply. IsTold (Ask cmd) (Replied reply) seat.old seat.new) }
         ensures refused { IfErr result (λ refusal. IsRefused (Ask cmd) refusal seat.old × (seat.new ≡ seat.old)) }
     {
@@ -70,7 +101,11 @@ impl<S: PageStore, L0: Lane, L1: Lane, L2: Lane, L3: Lane, L4: Lane, L5: Lane, L
     }
 
     /// Undoes the newest act that the seat's build has open.
-    pub fn undo(&self, rt: &impl Wait, seat: &mut Seat<L0, L1, L2, L3, L4, L5, L6, L7>) -> Result<Undone, Refusal>
+    pub fn undo(
+        &self,
+        rt: &impl Wait,
+        seat: &mut Seat<L0, L1, L2, L3, L4, L5, L6, L7>,
+    ) -> Result<Undone, Refusal>
         ensures told { IfOk result (λ done. IsTold Undo (WasUndone done) seat.old seat.new) }
         ensures refused { IfErr result (λ refusal. IsRefused Undo refusal seat.old × (seat.new ≡ seat.old)) }
     {
@@ -78,7 +113,11 @@ impl<S: PageStore, L0: Lane, L1: Lane, L2: Lane, L3: Lane, L4: Lane, L5: Lane, L
     }
 
     /// Keeps the point of the seat's build, which it can go back to by undos.
-    pub fn mark(&self, rt: &impl Wait, seat: &mut Seat<L0, L1, L2, L3, L4, L5, L6, L7>) -> Result<Mark, Refusal>
+    pub fn mark(
+        &self,
+        rt: &impl Wait,
+        seat: &mut Seat<L0, L1, L2, L3, L4, L5, L6, L7>,
+    ) -> Result<Mark, Refusal>
         ensures told { IsMarkTold seat.old result }
         ensures seat { seat.new ≡ seat.old }
     {
@@ -86,7 +125,12 @@ impl<S: PageStore, L0: Lane, L1: Lane, L2: Lane, L3: Lane, L4: Lane, L5: Lane, L
     }
 
     /// How many acts the seat's build has open above a mark.
-    pub fn check_back(&self, rt: &impl Wait, seat: &mut Seat<L0, L1, L2, L3, L4, L5, L6, L7>, mark: Mark) -> Result<u16, Refusal>
+    pub fn check_back(
+        &self,
+        rt: &impl Wait,
+        seat: &mut Seat<L0, L1, L2, L3, L4, L5, L6, L7>,
+        mark: Mark,
+    ) -> Result<u16, Refusal>
         ensures told { IsBackTold seat.old mark result }
         ensures seat { seat.new ≡ seat.old }
     {
@@ -95,7 +139,10 @@ impl<S: PageStore, L0: Lane, L1: Lane, L2: Lane, L3: Lane, L4: Lane, L5: Lane, L
 
     /// Gives the host back, for its builds' seats: each has to be there once, with the events that the history has of its
     /// build. At `Err` the host comes back too.
-    pub fn close(self, mut seats: Vec<Seat<L0, L1, L2, L3, L4, L5, L6, L7>>) -> Result<Host<S>, (CloseFault, Host<S>)>
+    pub fn close(
+        self,
+        mut seats: Vec<Seat<L0, L1, L2, L3, L4, L5, L6, L7>>,
+    ) -> Result<Host<S>, (CloseFault, Host<S>)>
         ensures closed { IfOk result (λ host. IsClosed host seats.items) }
         ensures fault { IfErr result (λ e. IsFault e.0 e.1 seats.items) }
         ensures host { MatchResult result (λ host. IsGivenBack host seats.items) (λ e. IsGivenBack e.1 seats.items) }
@@ -114,7 +161,11 @@ impl<S: PageStore, L0: Lane, L1: Lane, L2: Lane, L3: Lane, L4: Lane, L5: Lane, L
 }
 
 // A seat for each trail, with the passes in their order. The other passes are dropped.
-fn seated<L0: Lane, L1: Lane, L2: Lane, L3: Lane, L4: Lane, L5: Lane, L6: Lane, L7: Lane>(mut seats: Vec<Seat<L0, L1, L2, L3, L4, L5, L6, L7>>, passes: [Pass<L0, L1, L2, L3, L4, L5, L6, L7>; 8], mut trails: Vec<Trail<L0>>) -> Vec<Seat<L0, L1, L2, L3, L4, L5, L6, L7>>
+fn seated<L0: Lane, L1: Lane, L2: Lane, L3: Lane, L4: Lane, L5: Lane, L6: Lane, L7: Lane>(
+    mut seats: Vec<Seat<L0, L1, L2, L3, L4, L5, L6, L7>>,
+    passes: [Pass<L0, L1, L2, L3, L4, L5, L6, L7>; 8],
+    mut trails: Vec<Trail<L0>>,
+) -> Vec<Seat<L0, L1, L2, L3, L4, L5, L6, L7>>
     requires none { seats.items ≡ [] }
     requires passes { passes ≡ map unused (range_with_len 0 8) }
     requires few { vec_len trails ≤ 8 }

@@ -1,4 +1,4 @@
-use Rattle.std.proofs.Common.{◌≡◌, ℕ, ◌+◌, ◌-◌, ◌<◌, [], map, length, sym, ap, ◌∙◌, arith, vec_len, rules, Some}
+use Rattle.std.proofs.Common.{◌≡◌, ℕ, ◌-◌, ◌<◌, map, length, sym, ap, ◌∙◌, arith, vec_len, rules, Some}
 use Rattle.std.specs.List.{range_with_len}
 use Rattle.builders.specs.Lanes.{PassView, unused}
 use Rattle.builders.specs.Seats.{new_seat}
