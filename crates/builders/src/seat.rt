@@ -113,7 +113,7 @@ impl<L0: Lane, L1: Lane, L2: Lane, L3: Lane, L4: Lane, L5: Lane, L6: Lane, L7: L
         ensures count { result ≡ self.now.count }
         ensures trail { result ≡ length self.now.trail }
     {
-        self.trail().len()
+        self.trail.events().len()
     }
 
     /// The accepted events of its build, in their order.
