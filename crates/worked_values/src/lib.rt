@@ -30,4 +30,6 @@ mod recorded;
 #[cfg(test)]
 mod refusals;
 #[cfg(test)]
+mod shared;
+#[cfg(test)]
 mod wanted;
