@@ -1,4 +1,5 @@
 pub mod Words
+pub mod Passed
 pub mod Kept
 pub mod KeptPlan
 mod Ends

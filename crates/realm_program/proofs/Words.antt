@@ -1,20 +1,25 @@
 -- What clap's definition says of this program, whatever the words.
 use Rattle.std.proofs.Common.{◌≡◌, ◌∙◌, ◌<◌, ℕ, arith, subst, List, [], ◌∷◌, Bool, true, false, refl, sym, ap, codes, ◌⊎◌, inl, inr}
-use Rattle.std.specs.Prelude.{not, ◌&&◌, find, Option, Some, None, option_map, option_and_then, is_some, nat_lt, if◌then◌else◌, Result, Ok, Err, Box}
+use Rattle.std.specs.Prelude.{not, ◌&&◌, find, Option, Some, None, option_map, option_and_then, is_some, nat_lt, pos, if◌then◌else◌, Result, Ok, Box}
 use Rattle.std.specs.Box.{box_value}
 use Rattle.std.specs.Str.Parse.{ParsesUnsigned}
-use Rattle.std.proofs.lemmas.Bool.{false≢true, cases_Bool, lt-ltb, ltb-true}
+use Rattle.std.proofs.lemmas.Bool.{false≢true, cases_Bool, lt-ltb}
 use Rattle.std.proofs.lemmas.Option.{same_Some}
 use Rattle.clap.specs.Kinds.{or_else, check_kinds}
-use Rattle.clap.specs.Simple.{rows_at, entered, built, argument_words, names_of, label_of}
+use Rattle.clap.specs.Values.{IsSignedIn}
+use Rattle.clap.specs.Lexer.{without_minus}
+use Rattle.clap.proofs.CallerReads.{signed_reads}
+use Rattle.clap.specs.declared.builder.value_parser.ValueParser.TheVariants as parser
+use Rattle.clap.specs.Simple.{filled, rows_at, entered, built, argument_words, names_of, label_of}
 use Rattle.clap.specs.Walk.{Held, Names, walk, walk_from, nothing_held, finished, settled, stop_after, answers_to}
 use Rattle.clap.specs.Faults.{level_fault, check_fault, defaults_fault, settle_fault, walk_fault, built_fault, entered_fault}
-use Rattle.clap.specs.Words.{App, Kinds, Row, Shape, Text, fault_of, is_simple, is_simple_and_free, one_of, ReadsOne, subcommand_name_of, subcommand_of, subcommand_rows, subcommand_rows_of}
+use Rattle.clap.specs.Words.{App, Kinds, Row, Rule, Shape, Text, fault_of, is_simple, is_simple_and_free, one_of, ReadsOne, subcommand_name_of, subcommand_of, subcommand_rows, subcommand_rows_of}
 use Rattle.clap.specs.declared.parser.matches.ArgMatches.{ArgMatches}
 use Rattle.clap.specs.declared.parser.matches.ArgMatches.TheViews.{out-ArgMatches, out-SubCommand}
 use Rattle.clap.specs.declared.parser.matches.SubCommand.{SubCommand}
 use Rattle.realm_program.specs.Line.{IsErase, IsLine}
-use Rattle.realm_program.specs.Program.{realmhost}
+use Rattle.realm_program.specs.Program.{erase, realmhost}
+use Rattle.realm_program.proofs.Passed.{Each, IsPassed, accepted, below_nil, entered_passed, text_passed}
 use Rattle.realm_program.specs.declared.line.Line.TheVariants.{Replay}
 
 pub realmhost_is_simple : is_simple realmhost ≡ true
@@ -108,21 +113,48 @@ name_of_rows m sub is = rows_name (out-ArgMatches m).subcommand ∙ ap name_in i
 abbrev pub build_in : Option ℕ → Option ℕ
 build_in number = option_and_then (λ n. if nat_lt n 8 then Some n else None) number
 
--- a number of 8 bits that the text is read as
-read_below : (text : Text) (n : ℕ) → ParsesUnsigned {E = Unit {0}} 8 10 text (Ok n) → IsErase (Some text) (build_in (Some n))
-read_below text n read = elim (nat_lt n 8) as (λ t. nat_lt n 8 ≡ t → IsErase (Some text) (if t then Some n else None)) [
-  | true ↦ λ below. let small : n < 8 = ltb-true n 8 below in ((read.0.0, subst (λ k. k < 8) read.1 small), read.1)
-  | false ↦ λ above parses. let small : n < 8 = subst (λ k. k < 8) (sym read.1) parses.1 in absurd (false≢true (sym above ∙ lt-ltb n 8 small))
-] refl
+-- a number below 8 that the text is read as
+read_below : (text : Text) (n : ℕ) → n < 8 → ParsesUnsigned {E = Unit {0}} 8 10 text (Ok n) → IsErase (Some text) (build_in (Some n))
+read_below text n small read = rw (lt-ltb n 8 small) ((read.0.0, subst (λ k. k < 8) read.1 small), read.1)
 
-pub erase_from : {E : Type 0} (o : Option Text) (b : Option ℕ) (gives : List ℕ → Result ℕ E → Type 0)
+-- the rule of `--erase` where the command is built
+abbrev pub built_erase : Rule
+built_erase = filled erase
+
+pub erase_passed : (words : List Text) → fault_of realmhost words ≡ [] → (rows : List Row) → option_map (λ p. p.1) (subcommand_of realmhost words) ≡ Some rows
+    → Each (IsPassed built_erase) rows
+erase_passed words e rows is = go (subcommand_of realmhost words) refl is
+  where
+    stop : Option (Text × List Text)
+    stop = stop_after (built realmhost).top.rules (names_of (built realmhost)) (argument_words realmhost words)
+
+    entered_well : entered_fault (built realmhost) stop ≡ []
+    entered_well = below_nil (built realmhost).top (names_of (built realmhost)) nothing_held (argument_words realmhost words) (is_some (entered (built realmhost) stop))
+        (entered_fault (built realmhost) stop) e
+
+    go : (sub : Option (Text × List Row)) → subcommand_of realmhost words ≡ sub → option_map (λ p. p.1) sub ≡ Some rows → Each (IsPassed built_erase) rows
+    go None found at = absurd (cc)
+    go (Some r) found at =
+        subst (Each (IsPassed built_erase)) (same_Some _ _ at)
+        (entered_passed built_erase refl (built realmhost) stop r ((inl refl, (inr (refl, refl), tt)), tt) entered_well found)
+
+-- a text of such rows is read as a number from 0 to 7
+erase_in_range : (rows : List Row) (text : Text) → Each (IsPassed built_erase) rows → one_of (codes "erase") rows ≡ Some text
+    → (t : Text) × (text ≡ without_minus t) × IsSignedIn (pos 0) (pos 7) t
+erase_in_range rows text passed is =
+    let p = text_passed built_erase (codes "erase") rows text passed is in
+    (p.0, p.1, accepted false (parser.Signed (pos 0) (pos 7)) p.0 p.2)
+
+pub erase_from : {E : Type 0} (rows : List Row) (o : Option Text) (b : Option ℕ) (gives : List ℕ → Result ℕ E → Type 0)
     → ((t : List ℕ) (r : Result ℕ E) → gives t r → ParsesUnsigned 8 10 t r)
+    → Each (IsPassed built_erase) rows → one_of (codes "erase") rows ≡ o
     → (o ≡ None → b ≡ None) → ((t : Text) → o ≡ Some t → ReadsOne gives t b) → IsErase o (build_in b)
-erase_from None b gives parses none value = ap build_in (none refl)
-erase_from (Some t) None gives parses none value =
-    let g = value t refl in
-    λ small. parses t (Err g.0) g.1 (small.0, omega (arith, small.1))
-erase_from (Some t) (Some n) gives parses none value = let g = value t refl in read_below t n (parses t (Ok n) g)
+erase_from rows None b gives parses passed is none value = ap build_in (none refl)
+erase_from {E} rows (Some t) b gives parses passed is none value =
+    let range = erase_in_range rows t passed is in
+    let reads = value t refl in
+    let number = signed_reads E gives 8 0 7 range.0 b (subst (λ (u : Text). ReadsOne gives u b) range.1 reads) parses (omega arith) range.2 in
+    rw number.1 (read_below t number.0 (omega (arith, number.3)) (parses t (Ok number.0) (rw number.1 at reads)))
 
 pub line_is : (sub : Option (Text × List Row)) (rows : List Row) (b : Option ℕ)
     → name_in sub ≡ Some (codes "replay") → option_map (λ p. p.1) sub ≡ Some rows → IsErase (one_of (codes "erase") rows) b → IsLine sub (Replay b)
