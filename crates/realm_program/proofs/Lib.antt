@@ -1,5 +1,4 @@
 pub mod Words
-pub mod Passed
 pub mod Kept
 pub mod KeptPlan
 mod Ends

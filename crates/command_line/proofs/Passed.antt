@@ -23,7 +23,7 @@ use Rattle.clap.specs.declared.builder.action.ArgAction.TheVariants as action
 use Rattle.clap.specs.declared.error.kind.ErrorKind.TheVariants as kind
 use Rattle.clap.specs.declared.parser.matches.ValueSource.{ValueSource}
 
-none_of_both : (a b : Kinds) → or_else a b ≡ [] → (a ≡ []) × (b ≡ [])
+pub none_of_both : (a b : Kinds) → or_else a b ≡ [] → (a ≡ []) × (b ≡ [])
 none_of_both [] b e = (refl, e)
 none_of_both (k ∷ ks) b e = absurd (cc)
 
@@ -369,10 +369,3 @@ accepted_if false k e = absurd (cc)
 -- the parser takes a text that has no fault
 pub accepted : (ignore_case : Bool) (p : ValueParser) (text : Text) → value_kinds ignore_case p text ≡ [] → Accepts ignore_case p text
 accepted ignore_case p text e = accepts-Accepts ignore_case p text (accepted_if (accepts ignore_case p text) (refused_kind p) e)
-
--- where a level has no fault, the level below it has none
-pub below_nil : (s : Shape) (names : Names) (h : Held) (words : List Text) (has : Bool) (below : Kinds) → level_fault s names h words has below ≡ [] → below ≡ []
-below_nil s names h words has below e =
-    let end : Held = (walk s.rules names h words).held in
-    let after = or_else (settle_fault s.rules s.args_override_self end) (or_else (defaults_fault (settled s.rules end).rows s.rules) (check_fault s (finished s.rules end) has)) in
-    (none_of_both below after (none_of_both (walk_fault s names (walk_from h) words) (or_else below after) e).1).0
