@@ -3,6 +3,7 @@ ghost use Rattle.std.specs.Prelude.{◌≡◌};
 ghost use Rattle.realm_program.specs.declared.fault.Fault.TheVariants.{Memory, Device};
 
 use crate::input::ReadError;
+use command_line::Reason;
 use realm_plan::{PlanError, PlanFault};
 use std::alloc::AllocError;
 use thiserror::Error;
@@ -28,13 +29,14 @@ pub enum Fault {
     Device,
 }
 
-impl Fault {
+impl Reason for Fault {
     ghost use Rattle.realm_program.specs.Fault.{status_of};
 
-    /// The exit status of the program.
-    pub fn status(&self) -> u8
-        ensures { result ≡ status_of self.now }
-    {
+    ghost status_of = { status_of };
+
+    ghost memory = { Memory };
+
+    fn status(&self) -> u8 {
         match self {
             Fault::Plan(_) => 1,
             Fault::EraseNamesNoBuild => 2,
@@ -42,6 +44,10 @@ impl Fault {
             Fault::Mismatch => 4,
             Fault::Device => 5,
         }
+    }
+
+    fn of_memory() -> Fault {
+        Fault::Memory
     }
 }
 

@@ -70,16 +70,16 @@ fn build_of(number: Option<u8>) -> Option<BuildId>
 }
 
 impl Line {
-    ghost use Rattle.std.specs.Prelude.{map};
+    ghost use Rattle.std.specs.Prelude.{map, string_bytes};
     ghost use Rattle.clap.specs.Words.{FailsBy, fault_of, subcommand_of};
     ghost use Rattle.realm_program.specs.Line.{IsLine};
 
     /// The line that the words are. The first word is the program's name.
-    pub fn of<'a>(alloc: Global, words: &'a [&'a str]) -> Result<Line, Error>
+    pub fn of(alloc: Global, words: &[String]) -> Result<Line, Error>
         // What clap's definition of a simple command gives for the words.
-        ensures ok { IfOk result (IsLine (subcommand_of realmhost (map (λ w. w.now) words.entry.now))) }
+        ensures ok { IfOk result (IsLine (subcommand_of realmhost (map string_bytes words.now))) }
         // Which kind an error has: one that the definition names, or want of memory.
-        ensures kinds { FailsBy (fault_of realmhost (map (λ w. w.now) words.entry.now)) result }
+        ensures kinds { FailsBy (fault_of realmhost (map string_bytes words.now)) result }
     {
         let mut program = command(alloc)?;
         let matches = program.try_get_matches_from_mut(words)?;

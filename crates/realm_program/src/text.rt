@@ -5,6 +5,7 @@ ghost use Rattle.realm_plan.specs.PlanView.{plan_view};
 ghost use Rattle.realm_program.specs.Replay.{opening_host, IsText, IsErasedText, IsAskedText, IsWithoutText, IsEnd};
 ghost use Rattle.realm_program.specs.declared.fault.Fault.TheVariants.{Device, Mismatch};
 
+use crate::built::Built;
 use crate::fault::Fault;
 use crate::input::read_whole;
 use buddy::BuddyArena;
@@ -18,7 +19,7 @@ use std::io::{Read, Write};
 use told_device::Told;
 
 // A host of the plan's size, over pages that are all free.
-fn boot(alloc: Global, plan: &Plan) -> Result<Host<BuddyArena>, AllocError>
+fn boot<S: Built>(alloc: Global, plan: &Plan) -> Result<Host<S>, AllocError>
     ensures { IfOk result (λ host. host ≡ opening_host (plan_view plan.now)) }
 {
     let settings = Settings::new(
@@ -27,7 +28,7 @@ fn boot(alloc: Global, plan: &Plan) -> Result<Host<BuddyArena>, AllocError>
         plan.history,
         plan.builds.len() as u8,
     ).unwrap();
-    let store = match BuddyArena::build(alloc, plan.pages) {
+    let store = match S::built(alloc, plan.pages) {
         Ok(store) => store,
         Err(BuildError::Memory(error)) => return Err(error),
         Err(BuildError::BadSize) => unreachable!(),
@@ -39,7 +40,7 @@ fn boot(alloc: Global, plan: &Plan) -> Result<Host<BuddyArena>, AllocError>
 }
 
 // The host after a run of the plan. The lines of its turns are appended.
-fn run_plan(alloc: Global, plan: &Plan, lines: &mut String) -> Result<Host<BuddyArena>, AllocError>
+fn run_plan<S: Built>(alloc: Global, plan: &Plan, lines: &mut String) -> Result<Host<S>, AllocError>
     ensures { IfOk result (λ host. IsToldRun (plan_view plan.now) (opening_host (plan_view plan.now)) host (string_bytes lines.old) (string_bytes lines.new)) }
 {
     let mut host = boot(alloc, plan)?;
@@ -47,12 +48,12 @@ fn run_plan(alloc: Global, plan: &Plan, lines: &mut String) -> Result<Host<Buddy
     Ok(host)
 }
 
-// The text of a run of the plan, made whole in memory.
-fn text_of(alloc: Global, plan: &Plan) -> Result<String, AllocError>
+/// The text of a run of the plan, made whole in memory. The one error is want of memory.
+pub fn text_of<S: Built>(alloc: Global, plan: &Plan) -> Result<String, AllocError>
     ensures { IfOk result (λ text. IsText (plan_view plan.now) (string_bytes text)) }
 {
     let mut text = String::new(alloc);
-    let host = run_plan(alloc, plan, &mut text)?;
+    let host = run_plan::<S>(alloc, plan, &mut text)?;
     push_map(&mut text, &host)?;
     Ok(text)
 }
@@ -66,8 +67,8 @@ fn erased_text_of(alloc: Global, plan: &Plan, build: BuildId) -> Result<String, 
         return Err(Fault::EraseNamesNoBuild);
     }
     let mut lines = String::new(alloc);
-    let host = run_plan(alloc, plan, &mut lines)?;
-    let mut fresh = boot(alloc, plan)?;
+    let host = run_plan::<BuddyArena>(alloc, plan, &mut lines)?;
+    let mut fresh = boot::<BuddyArena>(alloc, plan)?;
     if !apply_without(&host, build, &mut fresh) {
         return Err(Fault::Mismatch);
     }
@@ -81,7 +82,7 @@ fn asked_text_of(alloc: Global, plan: &Plan, erase: Option<BuildId>) -> Result<S
 {
     match erase {
         Some(build) => erased_text_of(alloc, plan, build),
-        None => Ok(text_of(alloc, plan)?),
+        None => Ok(text_of::<BuddyArena>(alloc, plan)?),
     }
 }
 

@@ -1,43 +1,22 @@
--- Why the program stops, and its exit status then.
+-- How the program ends.
 use Rattle.std.specs.Prelude.{◌≡◌, ◌⊎◌, ℕ, Result, Ok, Err}
-use Rattle.clap.specs.Values.{kind_of}
-use Rattle.clap.specs.declared.error.Error.{Error}
-use Rattle.clap.specs.declared.error.kind.ErrorKind.{ErrorKind}
-use Rattle.clap.specs.declared.error.kind.ErrorKind.TheVariants.{OutOfMemory}
+use Rattle.command_line.specs.Stop.{status_of_stop}
+use Rattle.command_line.specs.declared.stop.Stop.{Stop}
+use Rattle.trace_program.specs.declared.checking.Verdict.{Verdict}
+use Rattle.trace_program.specs.declared.checking.Verdict.TheVariants.{Agree, Differ}
 use Rattle.trace_program.specs.declared.fault.Fault.{Fault}
 use Rattle.trace_program.specs.declared.fault.Fault.TheVariants.{Memory, Device}
-use Rattle.trace_program.specs.declared.stop.Stop.{Stop}
-use Rattle.trace_program.specs.declared.stop.Stop.TheVariants.{Usage, NotUtf8, Run, Differs}
 
 abbrev pub status_of : Fault → ℕ
 status_of Memory = 3
 status_of Device = 5
 
-abbrev pub status_of_stop : Stop → ℕ
-status_of_stop Differs = 1
-status_of_stop (Usage error) = 2
-status_of_stop NotUtf8 = 2
-status_of_stop (Run fault) = status_of fault
-
--- a program that has done what it was asked for ends with 0
-abbrev pub status_of_outcome : Result (Unit {0}) Stop → ℕ
-status_of_outcome (Ok _) = 0
-status_of_outcome (Err stop) = status_of_stop stop
+-- a program that has done what it was asked for ends with 0, unless an answer of the trace is wrong
+abbrev pub status_of_outcome : Result Verdict (Stop Fault) → ℕ
+status_of_outcome (Ok Agree) = 0
+status_of_outcome (Ok Differ) = 1
+status_of_outcome (Err stop) = status_of_stop status_of stop
 
 -- the statuses of a program that stops
 abbrev pub IsStatus : ℕ → Type 0
-IsStatus status = (status ≡ 1) ⊎ (status ≡ 2) ⊎ (status ≡ 3) ⊎ (status ≡ 5)
-
--- a command line that is not taken is a matter of usage, unless what was wanting is memory
-abbrev pub stop_of_kind : ErrorKind → Error → Stop
-stop_of_kind OutOfMemory error = Run Memory
-stop_of_kind _ error = Usage error
-
-abbrev pub stop_of_error : Error → Stop
-stop_of_error error = stop_of_kind (kind_of error) error
-
--- what stops a program whose command line was taken
-abbrev pub IsOfRun : Stop → Type 0
-IsOfRun (Run fault) = Unit {0}
-IsOfRun Differs = Unit {0}
-IsOfRun _ = ⊥
+IsStatus status = (status ≡ 2) ⊎ (status ≡ 3) ⊎ (status ≡ 5)

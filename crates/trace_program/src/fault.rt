@@ -2,6 +2,7 @@
 ghost use Rattle.std.specs.Prelude.{◌≡◌};
 ghost use Rattle.trace_program.specs.declared.fault.Fault.TheVariants.{Memory, Device};
 
+use command_line::Reason;
 use std::alloc::AllocError;
 use thiserror::Error;
 use told_device::DeviceFailed;
@@ -17,17 +18,22 @@ pub enum Fault {
     Device,
 }
 
-impl Fault {
+impl Reason for Fault {
     ghost use Rattle.trace_program.specs.Stop.{status_of};
 
-    /// The exit status of the program.
-    pub fn status(&self) -> u8
-        ensures { result ≡ status_of self.now }
-    {
+    ghost status_of = { status_of };
+
+    ghost memory = { Memory };
+
+    fn status(&self) -> u8 {
         match self {
             Fault::Memory => 3,
             Fault::Device => 5,
         }
+    }
+
+    fn of_memory() -> Fault {
+        Fault::Memory
     }
 }
 

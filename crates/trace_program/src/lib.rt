@@ -12,8 +12,8 @@ mod command;
 mod fault;
 mod line;
 mod reading;
+mod running;
 mod session;
-mod stop;
 
 pub use answering::answer;
 pub use checking::{Verdict, check};
@@ -21,5 +21,5 @@ pub use command::perform;
 pub use fault::Fault;
 pub use line::Asked;
 pub use reading::read;
+pub use running::run;
 pub use session::Session;
-pub use stop::{Stop, run};

@@ -40,16 +40,16 @@ fn command<'a>(alloc: Global) -> Result<Command<'a>, AllocError>
 }
 
 impl Asked {
-    ghost use Rattle.std.specs.Prelude.{map};
+    ghost use Rattle.std.specs.Prelude.{map, string_bytes};
     ghost use Rattle.clap.specs.Words.{FailsBy, fault_of, subcommand_of};
     ghost use Rattle.trace_program.specs.Program.{IsAsked};
 
     /// What the words ask for. The first word is the program's name.
-    pub fn of<'a>(alloc: Global, words: &'a [&'a str]) -> Result<Asked, Error>
+    pub fn of(alloc: Global, words: &[String]) -> Result<Asked, Error>
         // What clap's definition of a simple command gives for the words.
-        ensures ok { IfOk result (IsAsked (subcommand_of rmitrace (map (λ w. w.now) words.entry.now))) }
+        ensures ok { IfOk result (IsAsked (subcommand_of rmitrace (map string_bytes words.now))) }
         // Which kind an error has: one that the definition names, or want of memory.
-        ensures kinds { FailsBy (fault_of rmitrace (map (λ w. w.now) words.entry.now)) result }
+        ensures kinds { FailsBy (fault_of rmitrace (map string_bytes words.now)) result }
     {
         let mut program = command(alloc)?;
         let matches = program.try_get_matches_from_mut(words)?;

@@ -1,5 +1,5 @@
 //! Aborts: what a build in abort is refused, and what others see of it.
-use crate::built::Built;
+use realm_program::Built;
 use crate::calls;
 use crate::calls::{booted, build};
 use buddy::BuddyArena;

@@ -3,7 +3,7 @@ ghost use Rattle.std.specs.Prelude.{◌≡◌, IfOk};
 ghost use Rattle.build_books.specs.Booted.{booted};
 ghost use Rattle.realm_host.specs.Recorded.{fresh_like};
 
-use crate::built::Built;
+use realm_program::Built;
 use crate::wanted::{equal, holds};
 use arrayvec::ArrayVec;
 use granule_addr::{BuildId, Vmid};

@@ -1,5 +1,5 @@
 //! The measurement of a realm, which no plan prints.
-use crate::built::Built;
+use realm_program::Built;
 use crate::calls;
 use crate::calls::build;
 use crate::measurement::{AFTER_REC_0, AFTER_REC_1};

@@ -8,8 +8,6 @@
 #[cfg(test)]
 mod aborts;
 #[cfg(test)]
-mod built;
-#[cfg(test)]
 mod calls;
 #[cfg(test)]
 mod devices;

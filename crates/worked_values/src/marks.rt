@@ -1,5 +1,5 @@
 //! Marks: how far back a build can go, and what it is refused.
-use crate::built::Built;
+use realm_program::Built;
 use crate::calls;
 use crate::calls::{booted, build};
 use buddy::BuddyArena;

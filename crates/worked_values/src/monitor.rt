@@ -8,7 +8,7 @@ mod realms;
 mod recs;
 mod tables;
 
-use crate::built::Built;
+use realm_program::Built;
 use buddy::BuddyArena;
 use page_arena::PlainStore;
 use std::alloc::Global;

@@ -1,5 +1,5 @@
 //! Recorded events, applied to another host.
-use crate::built::Built;
+use realm_program::Built;
 use crate::calls;
 use crate::calls::{booted, build};
 use crate::wanted::{equal, holds};

@@ -1,4 +1,4 @@
-use crate::built::Built;
+use realm_program::Built;
 use buddy::BuddyArena;
 use build_commands::Step;
 use granule_addr::{BuildId, Order};

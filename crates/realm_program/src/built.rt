@@ -1,15 +1,17 @@
-//! The stores that the rows run over.
-ghost use Rattle.std.specs.Prelude.{◌≡◌, true, replicate, IfOk};
+//! The stores of pages that hosts are booted over.
+ghost use Rattle.std.specs.Prelude.{◌≡◌, ◌⊎◌, ◌<◌, ◌↔◌, true, replicate, IfOk, IsErrOf};
 ghost use Rattle.granule_addr.specs.Page.{zero_page};
 
 use buddy::BuddyArena;
 use page_arena::{BuildError, PageStore, PlainStore};
 use std::alloc::Global;
 
-/// A store that the rows run over.
+/// A store that can be built of so many pages.
 pub trait Built: PageStore + Drop {
-    /// All pages are free and zero.
+    /// All pages are free and zero. `BadSize` comes exactly where the number is not 1 to 4,096, and else the one error is
+    /// `Memory`.
     fn built(alloc: Global, pages: u16) -> Result<Self, BuildError>
+        ensures bad_size { IsErrOf result BuildError.BadSize ↔ ((pages < 1) ⊎ (4096 < pages)) }
         ensures zero { IfOk result (λ store. Self.page_bytes store ≡ replicate pages zero_page) }
         ensures free { IfOk result (λ store. Self.free_flags store ≡ replicate pages true) };
 }

@@ -1,0 +1,23 @@
+-- Why a program stops, and its exit status then. Each program says which status its own faults have, and which of them is
+-- the want of memory.
+use Rattle.std.specs.Prelude.{ℕ}
+use Rattle.clap.specs.Values.{kind_of}
+use Rattle.clap.specs.declared.error.Error.{Error}
+use Rattle.clap.specs.declared.error.kind.ErrorKind.{ErrorKind}
+use Rattle.clap.specs.declared.error.kind.ErrorKind.TheVariants.{OutOfMemory}
+use Rattle.command_line.specs.declared.stop.Stop.{Stop}
+use Rattle.command_line.specs.declared.stop.Stop.TheVariants.{Usage, NotUtf8, Run}
+
+-- a command line that is not taken has status 2
+abbrev pub status_of_stop : {F : Type 0} → (F → ℕ) → Stop F → ℕ
+status_of_stop status_of (Usage error) = 2
+status_of_stop status_of NotUtf8 = 2
+status_of_stop status_of (Run fault) = status_of fault
+
+-- a command line that is not taken is a matter of usage, unless what was wanting is memory
+abbrev pub stop_of_kind : {F : Type 0} → F → ErrorKind → Error → Stop F
+stop_of_kind memory OutOfMemory error = Run memory
+stop_of_kind memory _ error = Usage error
+
+abbrev pub stop_of_error : {F : Type 0} → F → Error → Stop F
+stop_of_error memory error = stop_of_kind memory (kind_of error) error

@@ -1,0 +1,11 @@
+//! What programs with a command line have in common: the words that they are called with, why they stop, and how they end.
+//!
+//! A program has its own faults, each a `Reason` with its exit status and its line; `Stop` adds that the words are not
+//! taken. What `clap`'s definition says of a program with subcommands, whatever the words, stands in `proofs`.
+#![tactic(auto)]
+
+mod process;
+mod stop;
+
+pub use process::arguments;
+pub use stop::{Reason, Stop};

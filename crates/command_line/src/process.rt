@@ -1,0 +1,41 @@
+//! What a program takes from its process, and leaves to it: the words that it is called with, and how it ends.
+ghost use Rattle.std.specs.Prelude.{◌≡◌, ◌⊎◌, IfErr};
+ghost use Rattle.std.specs.Process.{exit_status};
+ghost use Rattle.command_line.specs.Stop.{status_of_stop};
+ghost use Rattle.command_line.specs.declared.stop.Stop.TheVariants.{NotUtf8, Run};
+
+use crate::stop::{Reason, Stop};
+use std::process::ExitCode;
+use std::rt::Env;
+use std::{env, io};
+
+/// The words of the command line, the program's name first.
+///
+/// NotUtf8, where one of them is not UTF-8; Run, with the program's fault for it, where a growth was refused.
+pub fn arguments<R: Env + AllocGlobal, F: Reason>(rt: &R) -> Result<Vec<String>, Stop<F>>
+    ensures { IfErr result (λ stop. (stop ≡ NotUtf8) ⊎ (stop ≡ Run F.memory)) }
+{
+    match env::args(rt) {
+        Ok(arguments) => match arguments.collect(rt.alloc()) {
+            Ok(words) => Ok(words),
+            Err(_) => Err(Stop::Run(F::of_memory())),
+        },
+        Err(error) if error.kind() == io::ErrorKind::OutOfMemory => Err(Stop::Run(F::of_memory())),
+        Err(_) => Err(Stop::NotUtf8),
+    }
+}
+
+impl<F: Reason> Stop<F> {
+    /// Tells standard error why the program stops, and gives its exit status.
+    pub fn end<R: Eprint>(&self, rt: &R) -> ExitCode
+        ensures { exit_status result ≡ status_of_stop F.status_of self.now }
+    {
+        // Where this write fails too, the status is what remains.
+        let _told = match self {
+            Stop::Usage(error) => eprint!(rt; "{error}"),
+            Stop::NotUtf8 => eprintln!(rt; "an argument is not UTF-8"),
+            Stop::Run(fault) => eprintln!(rt; "{fault}"),
+        };
+        ExitCode::from(self.status())
+    }
+}

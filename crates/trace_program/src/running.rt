@@ -1,0 +1,37 @@
+//! What the command line asks for is done.
+ghost use Rattle.std.specs.Prelude.{◌≡◌, ◌⊎◌, ◌+◌, ◌^◌, ◌≤◌, false, true, Err, IfOk};
+ghost use Rattle.trace_program.specs.Input.{AreAnswered};
+ghost use Rattle.trace_program.specs.Verdict.{IsChecked};
+ghost use Rattle.trace_program.specs.declared.checking.Verdict.TheVariants.{Agree};
+ghost use Rattle.trace_program.specs.declared.fault.Fault.TheVariants.{Device};
+ghost use Rattle.trace_program.specs.declared.line.Asked.TheVariants.{Answer, Check};
+
+use crate::{Asked, Fault, Verdict, answer, check};
+use std::alloc::Global;
+use std::io::{Read, Write};
+use told_device::Told;
+
+/// Does what is asked, over any reader and any writer. Lines that are answered agree with what they are answered.
+pub fn run<R: Read, W: Write>(
+    alloc: Global,
+    asked: Asked,
+    input: &mut Told<R>,
+    output: &mut Told<W>,
+) -> Result<Verdict, Fault>
+    requires readable { input.old.failed ≡ false }
+    requires writable { output.old.failed ≡ false }
+    ensures answered { asked ≡ Answer → IfOk result (λ verdict. (verdict ≡ Agree) × AreAnswered (R.remaining input.old.device) (R.remaining input.new.device)
+        (W.contents output.old.device) (W.contents output.new.device)) }
+    ensures checked { asked ≡ Check → IfOk result (IsChecked (R.remaining input.old.device) (R.remaining input.new.device)
+        (W.contents output.old.device) (W.contents output.new.device)) }
+    ensures failed { ((input.new.failed ≡ true) ⊎ (output.new.failed ≡ true)) → result ≡ Err Device }
+    ensures device { result ≡ Err Device → (input.new.failed ≡ true) ⊎ (output.new.failed ≡ true) ⊎ (2 ^ 64 ≤ input.new.reads + 1) }
+{
+    match asked {
+        Asked::Answer => {
+            answer(alloc, input, output)?;
+            Ok(Verdict::Agree)
+        }
+        Asked::Check => check(alloc, input, output),
+    }
+}
