@@ -123,7 +123,7 @@ class Trial:
         ran = self.rt.checked(self.crate, {}, FLAGS, kept)
         if ran.returncode:
             return "the crate is not proved as it stands: see rt check"
-        self.printed.update(re.findall(r"^fn (\S+): proved$", ran.stdout, re.M))
+        self.printed.update(re.findall(r"^fn (\S+): proved(?:, may wait)?$", ran.stdout, re.M))
         shutil.copytree(kept, self.kept)
         return ""
 

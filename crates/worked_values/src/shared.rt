@@ -4,6 +4,7 @@ ghost use Rattle.std.specs.Prelude.{◌≡◌, []};
 use crate::calls::{booted, build};
 use crate::wanted::{equal, holds};
 use builders::{Blanks, CloseFault, Lane, Seat, Shared};
+use granule_addr::PageOff;
 use page_arena::{PageStore, PlainStore};
 use realm_host::{Cmd, Host, Kind, Refusal, Reply, Undone};
 use std::alloc::Global;
@@ -71,7 +72,7 @@ fn works<
 // Two builds work on a shared host. It is closed with the seats of both, or with that of build 0 alone.
 fn is_closed<
     R: Wait + Abort,
-    S: PageStore,
+    S: PageStore + Drop,
     L0: Lane,
     L1: Lane,
     L2: Lane,
