@@ -54,15 +54,39 @@ fn works<
     seat: &mut Seat<L0, L1, L2, L3, L4, L5, L6, L7>,
     value: u8,
 ) -> Result<(), Fail> {
-    asks(rt, shared, seat, Cmd::Take { order: 0 }, Ok(Reply::FirstPage(0)));
-    asks(rt, shared, seat, Cmd::Fill { page: 0, value }, Ok(Reply::Done));
+    asks(
+        rt,
+        shared,
+        seat,
+        Cmd::Take { order: 0 },
+        Ok(Reply::FirstPage(0)),
+    );
+    asks(
+        rt,
+        shared,
+        seat,
+        Cmd::Fill { page: 0, value },
+        Ok(Reply::Done),
+    );
     let offset = PageOff::new(7).ok_or("an offset")?;
-    asks(rt, shared, seat, Cmd::Peek { page: 0, offset }, Ok(Reply::Byte(value)));
+    asks(
+        rt,
+        shared,
+        seat,
+        Cmd::Peek { page: 0, offset },
+        Ok(Reply::Byte(value)),
+    );
     let mark = shared.mark(rt, seat).ok().ok_or("a mark")?;
     asks(rt, shared, seat, Cmd::Delegate { page: 0 }, Ok(Reply::Done));
     assert_eq!(rt; shared.check_back(rt, seat, mark), Ok(1));
     let back = shared.undo(rt, seat);
-    assert_eq!(rt; back, Ok(Undone { kind: Kind::Delegate, left: 1 }));
+    assert_eq!(rt;
+        back,
+        Ok(Undone {
+            kind: Kind::Delegate,
+            left: 1
+        })
+    );
     let fill = Cmd::Fill { page: 1, value };
     asks(rt, shared, seat, fill, Err(Refusal::NotLeased(1)));
     equal(rt, "events", seat.count() as u64, 5);
@@ -81,13 +105,7 @@ fn is_closed<
     L5: Lane,
     L6: Lane,
     L7: Lane,
->(
-    rt: &R,
-    alloc: Global,
-    blanks: Blanks,
-    host: Host<S>,
-    with_both: bool,
-) -> Result<(), Fail>
+>(rt: &R, alloc: Global, blanks: Blanks, host: Host<S>, with_both: bool) -> Result<(), Fail>
     requires empty { host.history ≡ [] }
     requires room { host.capacity ≡ L0.room }
     requires name0 { blanks.blank0.name ≡ L0.name }
@@ -99,7 +117,9 @@ fn is_closed<
     requires name6 { blanks.blank6.name ≡ L6.name }
     requires name7 { blanks.blank7.name ≡ L7.name }
 {
-    let (shared, mut seats) = match Shared::<S, L0, L1, L2, L3, L4, L5, L6, L7>::start(alloc, blanks, host) {
+    let (shared, mut seats) = match Shared::<S, L0, L1, L2, L3, L4, L5, L6, L7>::start(
+        alloc, blanks, host,
+    ) {
         Ok(started) => started,
         Err((error, _, _)) => return Err(error.into()),
     };
@@ -128,11 +148,23 @@ fn is_closed<
 #[test]
 fn closes_with_each_seat(rt: HostRuntime) -> Result<(), Fail> {
     let host = booted::<PlainStore>(rt.alloc(), 4, 2)?;
-    is_closed::<HostRuntime, PlainStore, Brand, Brand, Brand, Brand, Brand, Brand, Brand, Brand>(&rt, rt.alloc(), Blanks::new(), host, true)
+    is_closed::<HostRuntime, PlainStore, Brand, Brand, Brand, Brand, Brand, Brand, Brand, Brand>(
+        &rt,
+        rt.alloc(),
+        Blanks::new(),
+        host,
+        true,
+    )
 }
 
 #[test]
 fn misses_a_seat(rt: HostRuntime) -> Result<(), Fail> {
     let host = booted::<PlainStore>(rt.alloc(), 4, 2)?;
-    is_closed::<HostRuntime, PlainStore, Brand, Brand, Brand, Brand, Brand, Brand, Brand, Brand>(&rt, rt.alloc(), Blanks::new(), host, false)
+    is_closed::<HostRuntime, PlainStore, Brand, Brand, Brand, Brand, Brand, Brand, Brand, Brand>(
+        &rt,
+        rt.alloc(),
+        Blanks::new(),
+        host,
+        false,
+    )
 }
