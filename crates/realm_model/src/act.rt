@@ -8,7 +8,7 @@ use granule_addr::{BuildId, Gran, IpaGran, Level, Order, PageOff, RecNo, Root, V
 ///
 /// `UnTake`, `Undelegate`, `UnRealm`, `UnRtt`, `UnData` and `UnRec` are reverses; `UnData` is that of `Data` and of
 /// `Unknown`.
-#[derive(PartialEq, Eq, Drop)]
+#[derive(Drop)]
 pub enum Act {
     /// A block of free pages is leased.
     Take {
@@ -116,7 +116,7 @@ pub enum Act {
 }
 
 /// An act of a build.
-#[derive(PartialEq, Eq, Drop)]
+#[derive(Drop)]
 pub struct Event {
     pub build: BuildId,
     pub act: Act,
