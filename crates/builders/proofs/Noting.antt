@@ -8,7 +8,7 @@ use Rattle.realm_model.specs.declared.act.Event.{Event}
 use Rattle.realm_model.specs.History.{open_entries}
 use Rattle.realm_model.specs.Undoing.{by}
 use Rattle.realm_model.specs.StepLaw.{set_each}
-use Rattle.realm_model.proofs.Lists.{is_in}
+use Rattle.realm_model.specs.Command.Check.{is_in}
 use Rattle.realm_model.proofs.SetEach.{get_or-set_each}
 use Rattle.build_books.specs.View.{HostView, is_aborting, with_event}
 use Rattle.builders.specs.Kept.{KeptView, IsSound, IsShared, IsCounted, IsKept}

@@ -6,12 +6,14 @@
 //! history, once and in its order. `Shared::close` gives the host back, and compares the lists with the history.
 #![tactic(auto)]
 
+mod acts;
 mod close;
 mod kept;
 mod lanes;
 mod seat;
 mod shared;
 
+pub use acts::is_same_act;
 pub use close::CloseFault;
 pub use kept::Kept;
 pub use lanes::{Blanks, Lane};
