@@ -1,11 +1,11 @@
 //! Aborts: what a build in abort is refused, and what others see of it.
-use realm_program::Built;
 use crate::calls;
 use crate::calls::{booted, build};
 use buddy::BuddyArena;
 use granule_addr::PageOff;
 use page_arena::{PageStore, PlainStore};
 use realm_host::{Cmd, Host, Kind, Refusal, Reply};
+use realm_program::Built;
 use std::alloc::Global;
 use std::process::Abort;
 use std::test::Fail;

@@ -3,13 +3,13 @@ ghost use Rattle.std.specs.Prelude.{◌≡◌, IfOk};
 ghost use Rattle.build_books.specs.Booted.{booted};
 ghost use Rattle.realm_host.specs.Recorded.{fresh_like};
 
-use realm_program::Built;
 use crate::wanted::{equal, holds};
 use arrayvec::ArrayVec;
 use granule_addr::{BuildId, Vmid};
 use page_arena::PageStore;
 use realm_host::{Cmd, Host, Kind, Refusal, Reply, Settings, Undone};
 use realm_model::{GranuleState, RealmState};
+use realm_program::Built;
 use std::alloc::Global;
 use std::process::Abort;
 use std::test::Fail;

@@ -1,5 +1,4 @@
 //! The measurement of a realm, which no plan prints.
-use realm_program::Built;
 use crate::calls;
 use crate::calls::build;
 use crate::measurement::{AFTER_REC_0, AFTER_REC_1};
@@ -9,6 +8,7 @@ use granule_addr::RecNo;
 use page_arena::{PageStore, PlainStore};
 use realm_host::{Host, Kind, Reply};
 use realm_model::RealmState;
+use realm_program::Built;
 use std::alloc::Global;
 use std::process::Abort;
 use std::test::Fail;

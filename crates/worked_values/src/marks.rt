@@ -1,5 +1,4 @@
 //! Marks: how far back a build can go, and what it is refused.
-use realm_program::Built;
 use crate::calls;
 use crate::calls::{booted, build};
 use buddy::BuddyArena;
@@ -7,6 +6,7 @@ use granule_addr::RecNo;
 use page_arena::{PageStore, PlainStore};
 use realm_host::{Cmd, Host, Kind, Mark, Refusal, Reply};
 use realm_model::{GranuleState, RealmState, Rmi};
+use realm_program::Built;
 use std::alloc::Global;
 use std::process::Abort;
 use std::test::Fail;

@@ -8,9 +8,9 @@ mod realms;
 mod recs;
 mod tables;
 
-use realm_program::Built;
 use buddy::BuddyArena;
 use page_arena::PlainStore;
+use realm_program::Built;
 use std::alloc::Global;
 use std::process::Abort;
 use std::test::Fail;

@@ -1,5 +1,4 @@
 //! Recorded events, applied to another host.
-use realm_program::Built;
 use crate::calls;
 use crate::calls::{booted, build};
 use crate::wanted::{equal, holds};
@@ -8,6 +7,7 @@ use granule_addr::{Gran, Order};
 use page_arena::{PageStore, PlainStore};
 use realm_host::{Host, apply_without};
 use realm_model::{Act, Event};
+use realm_program::Built;
 use std::alloc::Global;
 use std::process::Abort;
 use std::test::Fail;

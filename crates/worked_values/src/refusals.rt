@@ -1,4 +1,3 @@
-use realm_program::Built;
 use buddy::BuddyArena;
 use build_commands::Step;
 use granule_addr::{BuildId, Order};
@@ -7,6 +6,7 @@ use plan_runs::{TurnAnswer, push_turn};
 use plan_steps::PlanStep;
 use realm_host::{Cmd, Host, Refusal, Settings};
 use realm_model::{Rmi, Status};
+use realm_program::Built;
 use std::alloc::Global;
 use std::process::Abort;
 use std::test::Fail;
