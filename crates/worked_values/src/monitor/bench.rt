@@ -6,12 +6,12 @@ ghost use Rattle.std.specs.List.{All};
 ghost use Rattle.realm_model.specs.Machine.{RealmRow, cell_at};
 ghost use Rattle.rmi_monitor.specs.View.{AreAllTaken, IsRec};
 
-use crate::built::Built;
 use crate::wanted::equal;
 use arrayvec::ArrayVec;
 use granule_addr::{Gran, Order, PageOff, RecNo, Vmid};
 use page_arena::PageStore;
 use realm_model::{GranuleState, Rmi};
+use realm_program::Built;
 use rmi_monitor::Monitor;
 use std::alloc::Global;
 use std::marker::Model;

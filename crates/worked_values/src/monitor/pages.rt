@@ -1,7 +1,7 @@
 use super::bench::Bench;
-use crate::built::Built;
 use crate::wanted::{equal, holds};
 use realm_model::GranuleState::{Delegated, Undelegated};
+use realm_program::Built;
 use std::alloc::Global;
 use std::process::Abort;
 use std::test::Fail;

@@ -1,8 +1,8 @@
 use super::bench::Bench;
-use crate::built::Built;
 use crate::measurement::{AFTER_REC_0, AFTER_REC_1};
 use crate::wanted::{equal, holds};
 use realm_model::GranuleState::{Data, Delegated, Rec, RecAux};
+use realm_program::Built;
 use std::alloc::Global;
 use std::process::Abort;
 use std::test::Fail;
