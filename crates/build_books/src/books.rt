@@ -154,6 +154,14 @@ impl Books {
         self.capacity
     }
 
+    /// How many builds there are.
+    pub fn build_count(&self) -> u8
+        ensures value { result ≡ self.now.limits.builds }
+        ensures few { result ≤ 8 }
+    {
+        self.builds.len() as u8
+    }
+
     /// Whether there is such a build.
     pub fn has_build(&self, build: BuildId) -> bool
         ensures there { result ≡ nat_lt build self.now.limits.builds }

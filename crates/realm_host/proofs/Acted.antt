@@ -34,7 +34,7 @@ module _ (books : HostView) (monitor : MonitorView) (whole : IsWhole books monit
   few (Rec granule aux number) room =
       let two = rec_room granule aux number in
       let fits = room.room (omega (arith, two)) in
-      let small = whole.few_events in
+      let small = whole.in_range.settings.short_history in
       omega (arith, two, fits, small)
   few _ room = tt
 

@@ -13,21 +13,21 @@ use Rattle.realm_acts.proofs.Fresh.{fresh_is_mirror}
 use Rattle.build_books.specs.View.{HostView}
 use Rattle.build_books.specs.Booted.{booted}
 use Rattle.build_books.proofs.Worlds.{world_of-replay}
-use Rattle.realm_host.specs.Host.{IsWhole}
+use Rattle.realm_host.specs.Host.{IsInRange, IsWhole}
 
 replay-nil : (limits : Limits) → replay limits [] ≡ Some (opening limits)
 unfolding after
 replay-nil limits = refl
 
 pub whole_booted : (books : HostView) (monitor : MonitorView) (pages count vmids aux builds capacity : ℕ) → pages ≡ count → books ≡ booted pages vmids aux builds capacity
-    → monitor ≡ fresh vmids aux count → capacity ≤ 16384 → IsWhole books monitor
-whole_booted books monitor pages count vmids aux builds capacity same books_are monitor_is few =
+    → monitor ≡ fresh vmids aux count → IsInRange (record { pages = pages; vmids = vmids; aux = aux; builds = builds }) capacity → IsWhole books monitor
+whole_booted books monitor pages count vmids aux builds capacity same books_are monitor_is in_range =
     let start : HostView = booted pages vmids aux builds capacity in
     let made : monitor ≡ fresh vmids aux pages = monitor_is ∙ ap (fresh vmids aux) (sym same) in
     subst (λ (h : HostView). IsWhole h monitor) (sym books_are) (subst (IsWhole start) (sym made) (record {
       mirror = subst (λ (w : World). IsMirror start.limits [] w (fresh vmids aux pages)) (sym (world_of-replay start (opening start.limits) (replay-nil start.limits)))
           (fresh_is_mirror start.limits);
-      few_events = few;
+      in_range = in_range;
     }))
 
 -- ---- the free set

@@ -32,11 +32,11 @@ use Rattle.realm_host.proofs.Aborts.{leaves_nothing}
 
 pub whole_begun : (books : HostView) (monitor : MonitorView) → IsWhole books monitor → (build : ℕ) → IsWhole (begun books build) monitor
 unfolding world_of
-whole_begun books monitor whole build = record { mirror = whole.mirror; few_events = whole.few_events }
+whole_begun books monitor whole build = record { mirror = whole.mirror; in_range = whole.in_range }
 
 pub whole_marked : (books : HostView) (monitor : MonitorView) → IsWhole books monitor → (build : ℕ) (mark : Mark) → IsWhole (with_mark books build mark) monitor
 unfolding world_of
-whole_marked books monitor whole build mark = record { mirror = whole.mirror; few_events = whole.few_events }
+whole_marked books monitor whole build mark = record { mirror = whole.mirror; in_range = whole.in_range }
 
 -- ---- checks
 

@@ -24,7 +24,7 @@ module _ (books : HostView) (monitor : MonitorView) (whole : IsWhole books monit
     pub whole_after : IsWhole new_books new
     whole_after = subst (λ (h : HostView). IsWhole h new) (sym recorded) (record {
       mirror = subst (λ (w : World). IsMirror books.limits (books.history ++ by build act ∷ []) w new) (sym world_after) performed.mirror;
-      few_events = whole.few_events;
+      in_range = whole.in_range;
     })
 
     pub is_recorded : IsRecorded now build act new_books

@@ -1,17 +1,26 @@
 -- A host, at the start and always.
 use Rattle.std.specs.Prelude.{ℕ, ◌≤◌}
+use Rattle.realm_model.specs.Machine.{Limits}
 use Rattle.rmi_monitor.specs.View.{MonitorView}
 use Rattle.realm_acts.specs.Mirror.{IsMirror}
 use Rattle.build_books.specs.View.{HostView, world_of}
 use Rattle.build_books.specs.Booted.{booted}
+use Rattle.realm_host.specs.Settings.{AreSettings}
 use Rattle.realm_host.specs.declared.settings.Settings.{Settings}
 
 -- a host that has just been booted over so many pages
 abbrev pub booted_by : Settings → ℕ → HostView
 booted_by settings pages = booted pages settings.vmids settings.aux settings.builds settings.history
 
+-- The numbers of a host are in their ranges: those of its settings, and that of its pages.
+pub record IsInRange (limits : Limits) (capacity : ℕ) : Type 0 where
+  pub settings : AreSettings limits.vmids limits.aux capacity limits.builds
+  pub few_vmids : limits.vmids ≤ 255
+  pub some_page : 1 ≤ limits.pages
+  pub few_pages : limits.pages ≤ 4096
+
 -- What always holds of a host: its monitor has the machine that its history leads to, and a page is free exactly where
--- nobody leases it. The room of a build is small.
+-- nobody leases it. Its numbers are in their ranges.
 pub record IsWhole (host : HostView) (monitor : MonitorView) : Type 0 where
   pub mirror : IsMirror host.limits host.history (world_of host) monitor
-  pub few_events : host.capacity ≤ 16384
+  pub in_range : IsInRange host.limits host.capacity

@@ -1,5 +1,5 @@
 //! The host, its memory, and what can be read of it.
-ghost use Rattle.std.specs.Prelude.{◌≡◌, ◌<◌, ℕ, length, replicate, true, IfOk, IfErr, IfSome, option_map, sum};
+ghost use Rattle.std.specs.Prelude.{◌≡◌, ◌<◌, ◌≤◌, ℕ, length, replicate, true, IfOk, IfErr, IfSome, option_map, sum};
 ghost use Rattle.granule_addr.specs.Page.{zero_page};
 ghost use Rattle.realm_model.specs.Machine.{cell_at};
 ghost use Rattle.realm_model.specs.World.{free_set};
@@ -8,7 +8,7 @@ ghost use Rattle.build_books.specs.View.{world_of, pages_of_build, granule_of_pa
 ghost use Rattle.build_books.specs.Kept.{HasRoom, AreOfEach, PointsHold};
 ghost use Rattle.std.specs.Option.{option_copied};
 ghost use Rattle.rmi_monitor.specs.View.{attributes_of};
-ghost use Rattle.realm_host.specs.Host.{booted_by};
+ghost use Rattle.realm_host.specs.Host.{booted_by, IsInRange};
 ghost use Rattle.realm_host.specs.Readings.{row_of, realm_at, measurement_at};
 
 use crate::Settings;
@@ -70,9 +70,10 @@ impl<S: PageStore> Host<S> {
     /// The accepted commands of all builds, in their order: a legal history, in which no build has used more than its room
     /// or had more than 512 acts open at any time. A build in abort has something open, and its mark stands, where it has
     /// one. Each build can be left out of the history: what is left is a legal history too, and leads to the world without
-    /// that build.
+    /// that build. The numbers of a host are in their ranges.
     pub fn history(&self) -> &[Event]
         ensures events { result.now ≡ self.now.history }
+        ensures in_range { IsInRange self.now.limits self.now.capacity }
         ensures legal { IsLegal self.now.limits self.now.history }
         ensures room { (build : ℕ) → HasRoom self.now build }
         ensures each { AreOfEach self.now }
@@ -80,6 +81,21 @@ impl<S: PageStore> Host<S> {
         ensures no_trace { (build : ℕ) → LeavesNoTrace self.now.limits self.now.history build }
     {
         self.books.history()
+    }
+
+    /// How much room each build has in the history.
+    pub fn capacity(&self) -> u16
+        ensures { result ≡ self.now.capacity }
+    {
+        self.books.capacity()
+    }
+
+    /// How many builds there are.
+    pub fn build_count(&self) -> u8
+        ensures value { result ≡ self.now.limits.builds }
+        ensures few { result ≤ 8 }
+    {
+        self.books.build_count()
     }
 
     /// How many pages a build has; 0 where there is no such build.

@@ -1,0 +1,4 @@
+pub mod Seating
+pub mod Comparing
+pub mod Noting
+pub mod Starting

@@ -1,0 +1,50 @@
+-- What closing looks at: that each build's seat is there once, and that its trail is what the history has of the build.
+use Rattle.std.specs.Prelude.{◌≡◌, ◌≢◌, ℕ, ◌<◌, ◌==◌, List, length, filter}
+use Rattle.std.specs.List.{All}
+use Rattle.realm_model.specs.declared.act.Event.{Event}
+use Rattle.build_books.specs.View.{HostView}
+use Rattle.builders.specs.Kept.{IsShared}
+use Rattle.builders.specs.Seats.{SeatView, events_of}
+
+-- ---- seats
+
+-- how many seats are of a build
+abbrev pub seats_of : ℕ → List SeatView → ℕ
+seats_of build seats = length (filter (λ seat. seat.build == build) seats)
+
+-- of each build of a host there is one seat
+unfoldable pub IsWhole : ℕ → List SeatView → Type 0
+IsWhole builds seats = (build : ℕ) → build < builds → seats_of build seats ≡ 1
+
+-- the lowest build of a host of which there is not one seat
+pub record IsMissing (builds build : ℕ) (seats : List SeatView) : Type 0 where
+  pub there : build < builds
+  pub not_one : seats_of build seats ≢ 1
+  pub lowest : (lower : ℕ) → lower < build → seats_of lower seats ≡ 1
+
+-- ---- trails
+
+-- a build's seats have for their trail what the history has of the build
+abbrev pub Fits : ℕ → List Event → List SeatView → Type 0
+Fits build history seats = All (λ seat. seat.build ≡ build → seat.trail ≡ events_of build history) seats
+
+unfoldable pub FitsAll : List Event → List SeatView → Type 0
+FitsAll history seats = (build : ℕ) → build < 8 → Fits build history seats
+
+-- the lowest build with a seat of another trail
+pub record Differs (build : ℕ) (history : List Event) (seats : List SeatView) : Type 0 where
+  pub number : build < 8
+  pub differs : ¬ (Fits build history seats)
+  pub lowest : (lower : ℕ) → lower < build → Fits lower history seats
+
+-- ---- the host that comes back
+
+-- It lay behind the lock, and each seat counts as many events as it has of the seat's build.
+pub record IsGivenBack (host : HostView) (seats : List SeatView) : Type 0 where
+  pub shared : IsShared host
+  pub counted : All (λ seat. length (events_of seat.build host.history) ≡ seat.count) seats
+
+-- Each build's seat is there, and each trail is what the history has of its build.
+pub record IsClosed (host : HostView) (seats : List SeatView) : Type 0 where
+  pub whole : IsWhole host.limits.builds seats
+  pub trails : FitsAll host.history seats

@@ -1,0 +1,47 @@
+-- What lies behind the lock: a host, and for each build a book that counts its events.
+use Rattle.std.specs.Prelude.{◌≡◌, ℕ, ◌+◌, ◌<◌, ◌≤◌, List, length, false, slice_index, slice_set}
+use Rattle.realm_model.specs.declared.act.Act.{Act}
+use Rattle.realm_model.specs.declared.act.Event.{Event}
+use Rattle.realm_model.specs.History.{IsLegal}
+use Rattle.realm_model.specs.Undoing.{by}
+use Rattle.build_books.specs.Kept.{HasRoom, AreOfEach, PointsHold}
+use Rattle.build_books.specs.View.{HostView, is_aborting, with_event}
+use Rattle.realm_host.specs.Host.{IsInRange}
+use Rattle.builders.specs.Seats.{SeatView, events_of, with_noted}
+
+pub record KeptView : Type 0 where
+  pub host : HostView
+  pub books : List ℕ
+
+-- What any host keeps: its history is legal, its numbers are in their ranges, no build has used more than its room, and there
+-- is a flag and a place for a mark of each build, which are true.
+pub record IsSound (host : HostView) : Type 0 where
+  pub legal : IsLegal host.limits host.history
+  pub in_range : IsInRange host.limits host.capacity
+  pub room : (build : ℕ) → HasRoom host build
+  pub each : AreOfEach host
+  pub points : (build : ℕ) → PointsHold host build
+
+-- A host behind the lock: besides, no build is in abort.
+pub record IsShared (host : HostView) : Type 0 where
+  pub sound : IsSound host
+  pub no_abort : (build : ℕ) → is_aborting host build ≡ false
+
+-- each book is the number of its build's events in the history
+pub record IsCounted (history : List Event) (books : List ℕ) : Type 0 where
+  pub whole : length books ≡ 8
+  pub each : (build : ℕ) → build < 8 → slice_index books build ≡ length (events_of build history)
+
+-- What always holds behind the lock. No trail has less room than the history has for its build.
+pub record IsKept (kept : KeptView) (room : ℕ) : Type 0 where
+  pub shared : IsShared kept.host
+  pub counted : IsCounted kept.host.history kept.books
+  pub fits : kept.host.capacity ≤ room
+
+-- One event of the seat's build ends the history, and the same one ends the trail. The build's book and the seat's count rise
+-- by one.
+pub record IsNoted (kept : KeptView) (seat : SeatView) (new : KeptView) (new_seat : SeatView) : Type 0 where
+  pub act : Act
+  pub host_is : new.host ≡ with_event kept.host seat.build act
+  pub books_are : new.books ≡ slice_set kept.books seat.build (slice_index kept.books seat.build + 1)
+  pub seat_is : new_seat ≡ with_noted seat (by seat.build act)

@@ -1,0 +1,10 @@
+-- What a pass shows: its build, and how many events of it were counted.
+use Rattle.std.specs.Prelude.{ℕ}
+
+pub record PassView : Type 0 where
+  pub build : ℕ
+  pub count : ℕ
+
+-- the pass of a build that has counted nothing
+abbrev pub unused : ℕ → PassView
+unused build = record { build = build; count = 0 }

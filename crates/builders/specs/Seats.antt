@@ -1,0 +1,20 @@
+-- What a seat shows: its build, how many events of it were counted, and the list of them.
+use Rattle.std.specs.Prelude.{ℕ, ◌+◌, ◌==◌, List, [], ◌∷◌, ◌++◌, filter}
+use Rattle.realm_model.specs.declared.act.Event.{Event}
+
+-- the events of a build in a history, in their order
+abbrev pub events_of : ℕ → List Event → List Event
+events_of build history = filter (λ event. event.build == build) history
+
+pub record SeatView : Type 0 where
+  pub build : ℕ
+  pub count : ℕ
+  pub trail : List Event
+
+-- a seat of a build that has asked nothing
+abbrev pub new_seat : ℕ → SeatView
+new_seat build = record { build = build; count = 0; trail = [] }
+
+-- the seat with one event more
+abbrev pub with_noted : SeatView → Event → SeatView
+with_noted seat event = record { build = seat.build; count = seat.count + 1; trail = seat.trail ++ event ∷ [] }

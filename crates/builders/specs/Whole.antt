@@ -1,0 +1,34 @@
+-- What the whole share of a build's ledger shows.
+use Rattle.std.specs.Prelude.{ℕ}
+use Rattle.builders.specs.declared.lanes.Whole.{Whole}
+use Rattle.builders.specs.declared.lanes.Whole.TheVariants.{Build0, Build1, Build2, Build3, Build4, Build5, Build6, Build7}
+
+abbrev pub build_of : {L0 L1 L2 L3 L4 L5 L6 L7 : Type 0} → Whole L0 L1 L2 L3 L4 L5 L6 L7 → ℕ
+build_of (Build0 share) = 0
+build_of (Build1 share) = 1
+build_of (Build2 share) = 2
+build_of (Build3 share) = 3
+build_of (Build4 share) = 4
+build_of (Build5 share) = 5
+build_of (Build6 share) = 6
+build_of (Build7 share) = 7
+
+abbrev pub parts_of : {L0 L1 L2 L3 L4 L5 L6 L7 : Type 0} → Whole L0 L1 L2 L3 L4 L5 L6 L7 → ℕ
+parts_of (Build0 share) = share.parts
+parts_of (Build1 share) = share.parts
+parts_of (Build2 share) = share.parts
+parts_of (Build3 share) = share.parts
+parts_of (Build4 share) = share.parts
+parts_of (Build5 share) = share.parts
+parts_of (Build6 share) = share.parts
+parts_of (Build7 share) = share.parts
+
+abbrev pub amount_of : {L0 L1 L2 L3 L4 L5 L6 L7 : Type 0} → Whole L0 L1 L2 L3 L4 L5 L6 L7 → ℕ
+amount_of (Build0 share) = share.amount
+amount_of (Build1 share) = share.amount
+amount_of (Build2 share) = share.amount
+amount_of (Build3 share) = share.amount
+amount_of (Build4 share) = share.amount
+amount_of (Build5 share) = share.amount
+amount_of (Build6 share) = share.amount
+amount_of (Build7 share) = share.amount

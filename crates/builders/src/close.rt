@@ -1,0 +1,108 @@
+//! Closing: is each build's seat there once, and is its trail what the history has of the build?
+ghost use Rattle.std.specs.Prelude.{◌≡◌, ◌+◌, ◌<◌, ◌≤◌, ◌↔◌, ℕ, [], ◌∷◌, ◌++◌, length, filter, slice_index, true, IsTrue, IfSome, IfNone};
+ghost use Rattle.std.specs.List.{All};
+ghost use Rattle.builders.specs.Close.{seats_of, Fits, IsMissing, IsWhole, Differs, FitsAll};
+ghost use Rattle.builders.specs.Seats.{events_of};
+
+use crate::acts::is_same_act;
+use crate::lanes::{Books, Lane};
+use crate::seat::Seat;
+use granule_addr::BuildId;
+use realm_model::Event;
+
+/// Why a shared host is not closed.
+#[derive(Clone, Copy, Debug, PartialEq, Eq)]
+pub enum CloseFault {
+    /// There is not one seat of this build.
+    SeatMissing(BuildId),
+    /// The trail of this build's seat is not what the history has of the build.
+    RecordMismatch(BuildId),
+}
+
+/// Shows that each seat counts what its build's book does. Nothing changes.
+pub fn audit<L0: Lane, L1: Lane, L2: Lane, L3: Lane, L4: Lane, L5: Lane, L6: Lane, L7: Lane>(books: &mut Books<L0, L1, L2, L3, L4, L5, L6, L7>, seats: &mut [Seat<L0, L1, L2, L3, L4, L5, L6, L7>])
+    ensures books { books.new ≡ books.old }
+    ensures seats { seats.new ≡ seats.old }
+    ensures counted { All (λ seat. (seat.build < 8) × (slice_index books.old seat.build ≡ seat.count)) seats.old }
+{
+    for seat in seats.iter_mut() {
+        books.audit(&mut seat.pass);
+    }
+}
+
+/// The lowest build of which there is not one seat.
+#[tactic(auto, unfolding(crate::specs::Close::IsWhole))]
+pub fn missing<L0: Lane, L1: Lane, L2: Lane, L3: Lane, L4: Lane, L5: Lane, L6: Lane, L7: Lane>(seats: &[Seat<L0, L1, L2, L3, L4, L5, L6, L7>], builds: u8) -> Option<BuildId>
+    requires { builds ≤ 8 }
+    ensures some { IfSome result (λ build. IsMissing builds build seats.now) }
+    ensures none { IfNone result (IsWhole builds seats.now) }
+{
+    for number in 0..builds {
+        let build = BuildId::new(number).unwrap();
+        if seat_count(seats, build) != 1 {
+            return Some(build);
+        }
+    }
+    None
+}
+
+// How many seats are of a build.
+fn seat_count<L0: Lane, L1: Lane, L2: Lane, L3: Lane, L4: Lane, L5: Lane, L6: Lane, L7: Lane>(seats: &[Seat<L0, L1, L2, L3, L4, L5, L6, L7>], build: BuildId) -> usize
+    ensures { result ≡ seats_of build seats.now }
+{
+    seats.iter().filter(|seat| seat.build() == build).count()
+}
+
+/// The lowest build with a seat whose trail is not what the history has of the build.
+#[tactic(auto, unfolding(crate::specs::Close::FitsAll))]
+pub fn mismatch<L0: Lane, L1: Lane, L2: Lane, L3: Lane, L4: Lane, L5: Lane, L6: Lane, L7: Lane>(seats: &[Seat<L0, L1, L2, L3, L4, L5, L6, L7>], history: &[Event]) -> Option<BuildId>
+    ensures some { IfSome result (λ build. Differs build history.now seats.now) }
+    ensures none { IfNone result (FitsAll history.now seats.now) }
+{
+    for number in 0..8 {
+        let build = BuildId::new(number).unwrap();
+        if !fits(seats, history, build) {
+            return Some(build);
+        }
+    }
+    None
+}
+
+// Whether a build's seats have for their trail what a history has of the build.
+fn fits<L0: Lane, L1: Lane, L2: Lane, L3: Lane, L4: Lane, L5: Lane, L6: Lane, L7: Lane>(seats: &[Seat<L0, L1, L2, L3, L4, L5, L6, L7>], history: &[Event], build: BuildId) -> bool
+    ensures { IsTrue result ↔ Fits build history.now seats.now }
+{
+    seats.iter().all(|seat| seat_fits(seat, history, build))
+}
+
+fn seat_fits<L0: Lane, L1: Lane, L2: Lane, L3: Lane, L4: Lane, L5: Lane, L6: Lane, L7: Lane>(seat: &Seat<L0, L1, L2, L3, L4, L5, L6, L7>, history: &[Event], build: BuildId) -> bool
+    ensures { IsTrue result ↔ (seat.now.build ≡ build → seat.now.trail ≡ events_of build history.now) }
+{
+    if seat.build() == build {
+        is_trail(history, build, seat.trail())
+    } else {
+        true
+    }
+}
+
+// Whether a trail is what a history has of a build.
+fn is_trail(history: &[Event], build: BuildId, trail: &[Event]) -> bool
+    ensures { IsTrue result ↔ (trail.now ≡ events_of build history.now) }
+{
+    let mut at = 0;
+    for event in history {
+        if event.build == build {
+            if at >= trail.len() || !is_same_event(&trail[at], event) {
+                return false;
+            }
+            at += 1;
+        }
+    }
+    at == trail.len()
+}
+
+fn is_same_event(event: &Event, other: &Event) -> bool
+    ensures { (result ≡ true) ↔ (event.now ≡ other.now) }
+{
+    event.build == other.build && is_same_act(&event.act, &other.act)
+}

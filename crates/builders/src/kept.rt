@@ -1,0 +1,119 @@
+//! What lies behind the lock: the host, and a book for each build.
+ghost use Rattle.std.specs.Prelude.{◌≡◌, ◌+◌, ◌<◌, ◌≤◌, ℕ, List, [], ◌∷◌, ◌++◌, length, slice_index, slice_set, IfOk, IfErr};
+ghost use Rattle.std.specs.Result.{OnOk};
+ghost use Rattle.realm_model.specs.declared.act.Event.{Event};
+ghost use Rattle.build_books.specs.Kept.{IsMarkOf};
+ghost use Rattle.build_books.specs.View.{HostView, open_of};
+ghost use Rattle.realm_host.specs.Answer.{IsAnswer, replied, undone};
+ghost use Rattle.realm_host.specs.Call.{Ask, Undo};
+ghost use Rattle.realm_host.specs.Marked.{IsMarked, way_back};
+ghost use Rattle.builders.specs.Kept.{IsNoted, IsSound};
+ghost use Rattle.builders.specs.Seats.{events_of, with_noted};
+ghost use Rattle.builders.specs.Told.{IsBehind};
+
+use crate::lanes::{Books, Lane};
+use crate::seat::Seat;
+use page_arena::PageStore;
+use realm_host::{Cmd, Host, Mark, Refusal, Reply, Undone};
+use realm_model::Event;
+use std::marker::Model;
+
+/// A host and the books of its builds. Each book is the number of its build's events in the history, and no build is in abort.
+#[derive(Drop)]
+pub struct Kept<S: PageStore, L0: Lane, L1: Lane, L2: Lane, L3: Lane, L4: Lane, L5: Lane, L6: Lane, L7: Lane> {
+    pub(crate) host: Host<S>,
+    pub(crate) books: Books<L0, L1, L2, L3, L4, L5, L6, L7>,
+}
+
+impl<S: PageStore, L0: Lane, L1: Lane, L2: Lane, L3: Lane, L4: Lane, L5: Lane, L6: Lane, L7: Lane> Model for Kept<S, L0, L1, L2, L3, L4, L5, L6, L7> {
+    ghost use Rattle.builders.specs.Codes.{kept_code};
+    ghost use Rattle.builders.specs.Kept.{KeptView, IsKept};
+
+    ghost Value = { KeptView };
+
+    ghost coded = { kept_code };
+
+    ghost view = { λ k. record { host = k.host; books = k.books } };
+
+    ghost invariant = { λ k. IsKept (record { host = k.host; books = k.books }) L0.room };
+}
+
+impl<S: PageStore, L0: Lane, L1: Lane, L2: Lane, L3: Lane, L4: Lane, L5: Lane, L6: Lane, L7: Lane> Kept<S, L0, L1, L2, L3, L4, L5, L6, L7> {
+    /// Asks a command of the seat's build. The answer is the host's, and an accepted command is one event of the build, which
+    /// ends the history and the trail. A refusal leaves both as they are. No memory is taken.
+    pub fn call(&mut self, seat: &mut Seat<L0, L1, L2, L3, L4, L5, L6, L7>, cmd: Cmd) -> Result<Reply, Refusal>
+        ensures answer { IsAnswer self.old.host seat.old.build (Ask cmd) (replied result) self.new.host }
+        ensures noted { IfOk result (λ _. IsNoted self.old seat.old self.new seat.new) }
+        ensures refused { IfErr result (λ _. (self.new ≡ self.old) × (seat.new ≡ seat.old)) }
+        ensures before { IsBehind self.old.host seat.old }
+        ensures after { IsBehind self.new.host seat.new }
+    {
+        let build = seat.pass.build();
+        self.books.audit(&mut seat.pass);
+        let reply = self.host.command(build, cmd)?;
+        note(&self.host, &mut self.books, seat);
+        Ok(reply)
+    }
+
+    /// Undoes the newest act that the seat's build has open. The answer is the host's, and an accepted undo is one event of the
+    /// build, which ends the history and the trail. A refusal leaves both as they are. No memory is taken.
+    pub fn undo(&mut self, seat: &mut Seat<L0, L1, L2, L3, L4, L5, L6, L7>) -> Result<Undone, Refusal>
+        ensures answer { IsAnswer self.old.host seat.old.build Undo (undone result) self.new.host }
+        ensures noted { IfOk result (λ _. IsNoted self.old seat.old self.new seat.new) }
+        ensures refused { IfErr result (λ _. (self.new ≡ self.old) × (seat.new ≡ seat.old)) }
+        ensures before { IsBehind self.old.host seat.old }
+        ensures after { IsBehind self.new.host seat.new }
+    {
+        let build = seat.pass.build();
+        self.books.audit(&mut seat.pass);
+        let undone = self.host.undo(build)?;
+        note(&self.host, &mut self.books, seat);
+        Ok(undone)
+    }
+
+    /// Keeps the point of the seat's build, with the host's answer. This is no event.
+    pub fn mark(&mut self, seat: &mut Seat<L0, L1, L2, L3, L4, L5, L6, L7>) -> Result<Mark, Refusal>
+        ensures answer { IsMarked self.old.host seat.old.build result self.new.host }
+        ensures books { self.new.books ≡ self.old.books }
+        ensures seat { seat.new ≡ seat.old }
+        ensures before { IsBehind self.old.host seat.old }
+        ensures after { IsBehind self.new.host seat.new }
+    {
+        let build = seat.pass.build();
+        self.books.audit(&mut seat.pass);
+        let mark = self.host.mark(build)?;
+        // What a host keeps is told with its history.
+        let _ = self.host.history();
+        Ok(mark)
+    }
+
+    /// How many acts the seat's build has open above a mark, with the host's answer. Nothing changes.
+    pub fn check_back(&mut self, seat: &mut Seat<L0, L1, L2, L3, L4, L5, L6, L7>, mark: Mark) -> Result<u16, Refusal>
+        ensures answer { result ≡ way_back self.old.host seat.old.build mark }
+        ensures stands { OnOk result (IsMarkOf self.old.host seat.old.build mark) }
+        ensures same { (self.new ≡ self.old) × (seat.new ≡ seat.old) }
+        ensures behind { IsBehind self.old.host seat.old }
+    {
+        let build = seat.pass.build();
+        self.books.audit(&mut seat.pass);
+        self.host.check_back(build, mark)
+    }
+}
+
+// The event that ends the history of a host is noted: it ends the trail, and the book and the count of its build rise by one.
+fn note<S: PageStore, L0: Lane, L1: Lane, L2: Lane, L3: Lane, L4: Lane, L5: Lane, L6: Lane, L7: Lane>(host: &Host<S>, books: &mut Books<L0, L1, L2, L3, L4, L5, L6, L7>, seat: &mut Seat<L0, L1, L2, L3, L4, L5, L6, L7>)
+    requires some { 0 < length host.now.history }
+    requires counted { length (events_of seat.old.build host.now.history) ≡ seat.old.count + 1 }
+    requires fits { host.now.capacity ≤ L0.room }
+    ensures sound { IsSound host.now }
+    ensures books { books.new ≡ slice_set books.old seat.old.build (seat.old.count + 1) }
+    ensures seat { (before : List Event) (event : Event) → host.now.history ≡ before ++ event ∷ [] → seat.new ≡ with_noted seat.old event }
+{
+    let history = host.history();
+    let last = &history[history.len() - 1];
+    books.raise(&mut seat.pass);
+    seat.trail.add(Event {
+        build: last.build,
+        act: last.act.again(),
+    });
+}

@@ -1,0 +1,24 @@
+//! A host of builds behind a lock, with a seat for each build: calls from threads of their own.
+//!
+//! `Kept` is what the lock keeps: the host, and a book for each build that counts its events in the history. A `Seat` is held by
+//! one thread: it counts the same, and has a list of these events. A call through `Shared` takes the lock, asks the host, and
+//! notes the one event that ends the history in the seat, so that a caller knows that each of its calls stands in one legal
+//! history, once and in its order. `Shared::close` gives the host back, and compares the lists with the history.
+#![tactic(auto)]
+
+mod acts;
+mod close;
+mod kept;
+mod lanes;
+mod seat;
+mod shared;
+
+pub use acts::is_same_act;
+pub use close::CloseFault;
+pub use kept::Kept;
+pub use lanes::{Blanks, Books, Lane, Opened, Pass};
+pub use seat::{Seat, Trail};
+pub use shared::Shared;
+
+#[cfg(test)]
+mod tests;

@@ -1,0 +1,111 @@
+//! Seats: one build's pass, and the list of its accepted events.
+ghost use Rattle.std.specs.Prelude.{◌≡◌, ◌+◌, ◌<◌, ◌≤◌, [], ◌∷◌, ◌++◌, length, vec_capacity, replicate, IfOk};
+
+use crate::lanes::{Lane, Pass};
+use granule_addr::BuildId;
+use realm_model::Event;
+use std::alloc::{AllocError, Global};
+use std::marker::{Model, PhantomData};
+
+/// The accepted events of one build, in their order. There is room for as many as the history has room for.
+#[derive(Drop)]
+pub struct Trail<L0: Lane> {
+    events: Vec<Event>,
+    room: PhantomData<L0>,
+}
+
+impl<L0: Lane> Model for Trail<L0> {
+    ghost use Rattle.std.specs.Prelude.{List, ◌≤◌, vec_capacity};
+    ghost use Rattle.realm_model.specs.declared.act.Event.{Event};
+
+    ghost Value = { List Event };
+
+    ghost view = { λ t. t.events.items };
+
+    ghost invariant = { λ t. L0.room ≤ vec_capacity t.events };
+}
+
+impl<L0: Lane> Trail<L0> {
+    /// A trail without an event.
+    pub fn build(alloc: Global, room: u16) -> Result<Trail<L0>, AllocError>
+        requires { room ≡ L0.room }
+        ensures { IfOk result (λ trail. trail ≡ []) }
+    {
+        let events = Vec::with_capacity(alloc, room as usize)?;
+        Ok(Trail {
+            events,
+            room: PhantomData,
+        })
+    }
+
+    /// Adds an event. No memory is taken.
+    pub fn add(&mut self, event: Event)
+        requires { length self.old < L0.room }
+        ensures { self.new ≡ self.old ++ event ∷ [] }
+    {
+        self.events.push_reserved(event);
+    }
+
+    /// The events so far.
+    pub fn events(&self) -> &[Event]
+        ensures { result.now ≡ self.now }
+    {
+        self.events.as_slice()
+    }
+}
+
+/// So many trails without an event.
+pub fn new_trails<L0: Lane>(alloc: Global, count: u8, room: u16) -> Result<Vec<Trail<L0>>, AllocError>
+    requires { room ≡ L0.room }
+    ensures { IfOk result (λ trails. trails.items ≡ replicate count []) }
+{
+    let mut trails = Vec::with_capacity(alloc, count as usize)?;
+    for _i in 0..count {
+        trails.push(Trail::build(alloc, room)?)?;
+    }
+    Ok(trails)
+}
+
+/// What one thread holds of a shared host: its build's pass, which counts the build's events in the history, and the list of
+/// these events.
+#[derive(Drop)]
+pub struct Seat<L0: Lane, L1: Lane, L2: Lane, L3: Lane, L4: Lane, L5: Lane, L6: Lane, L7: Lane> {
+    pub(crate) pass: Pass<L0, L1, L2, L3, L4, L5, L6, L7>,
+    pub(crate) trail: Trail<L0>,
+}
+
+impl<L0: Lane, L1: Lane, L2: Lane, L3: Lane, L4: Lane, L5: Lane, L6: Lane, L7: Lane> Model for Seat<L0, L1, L2, L3, L4, L5, L6, L7> {
+    ghost use Rattle.std.specs.Prelude.{◌≡◌, length};
+    ghost use Rattle.builders.specs.Seats.{SeatView};
+
+    ghost Value = { SeatView };
+
+    ghost view = { λ s. record { build = s.pass.build; count = s.pass.count; trail = s.trail } };
+
+    ghost invariant = { λ s. s.pass.count ≡ length s.trail };
+}
+
+impl<L0: Lane, L1: Lane, L2: Lane, L3: Lane, L4: Lane, L5: Lane, L6: Lane, L7: Lane> Seat<L0, L1, L2, L3, L4, L5, L6, L7> {
+    /// The build whose seat it is.
+    pub fn build(&self) -> BuildId
+        ensures build { result ≡ self.now.build }
+        ensures range { self.now.build < 8 }
+    {
+        self.pass.build()
+    }
+
+    /// How many events of its build it counts: as many as its trail has.
+    pub fn count(&self) -> usize
+        ensures count { result ≡ self.now.count }
+        ensures trail { result ≡ length self.now.trail }
+    {
+        self.trail.events().len()
+    }
+
+    /// The accepted events of its build, in their order.
+    pub fn trail(&self) -> &[Event]
+        ensures { result.now ≡ self.now.trail }
+    {
+        self.trail.events()
+    }
+}
