@@ -6,3 +6,4 @@ pub mod Codes
 pub mod Told
 pub mod Close
 pub mod Fault
+pub mod Trails

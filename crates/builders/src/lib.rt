@@ -12,6 +12,7 @@ mod kept;
 mod lanes;
 mod seat;
 mod shared;
+mod teller;
 
 pub use acts::is_same_act;
 pub use close::CloseFault;
@@ -19,6 +20,7 @@ pub use kept::Kept;
 pub use lanes::{Blanks, Books, Lane, Opened, Pass};
 pub use seat::{Seat, Trail};
 pub use shared::Shared;
+pub use teller::{OpenGate, SeatTeller};
 
 #[cfg(test)]
 mod tests;
