@@ -3,3 +3,4 @@ pub mod Comparing
 pub mod Noting
 pub mod Starting
 pub mod Telling
+pub mod Working

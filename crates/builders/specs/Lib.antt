@@ -7,3 +7,4 @@ pub mod Told
 pub mod Close
 pub mod Fault
 pub mod Trails
+pub mod Workers

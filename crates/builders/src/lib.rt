@@ -13,6 +13,7 @@ mod lanes;
 mod seat;
 mod shared;
 mod teller;
+mod worker;
 
 pub use acts::is_same_act;
 pub use close::CloseFault;
@@ -21,6 +22,7 @@ pub use lanes::{Blanks, Books, Lane, Opened, Pass};
 pub use seat::{Seat, Trail};
 pub use shared::Shared;
 pub use teller::{OpenGate, SeatTeller};
+pub use worker::Worker;
 
 #[cfg(test)]
 mod tests;
