@@ -2,3 +2,5 @@ pub mod Seating
 pub mod Comparing
 pub mod Noting
 pub mod Starting
+pub mod Telling
+pub mod Working

@@ -6,3 +6,5 @@ pub mod Codes
 pub mod Told
 pub mod Close
 pub mod Fault
+pub mod Trails
+pub mod Workers

@@ -1,5 +1,5 @@
 //! What lies behind the lock: the host, and a book for each build.
-ghost use Rattle.std.specs.Prelude.{◌≡◌, ◌+◌, ◌<◌, ◌≤◌, ℕ, List, [], ◌∷◌, ◌++◌, length, slice_index, slice_set, IfOk, IfErr};
+ghost use Rattle.std.specs.Prelude.{◌≡◌, ◌+◌, ◌<◌, ◌≤◌, ℕ, List, [], ◌∷◌, ◌++◌, length, slice_index, slice_set, IfOk, IfErr, MatchResult};
 ghost use Rattle.std.specs.Result.{OnOk};
 ghost use Rattle.realm_model.specs.declared.act.Event.{Event};
 ghost use Rattle.build_books.specs.Kept.{IsMarkOf};
@@ -7,10 +7,14 @@ ghost use Rattle.build_books.specs.View.{HostView, open_of};
 ghost use Rattle.realm_host.specs.Answer.{IsAnswer, replied, undone};
 ghost use Rattle.realm_host.specs.Call.{Ask, Undo};
 ghost use Rattle.realm_host.specs.Marked.{IsMarked, way_back};
+ghost use Rattle.builders.specs.Close.{IsClosed, IsGivenBack};
+ghost use Rattle.builders.specs.Fault.{IsFault};
 ghost use Rattle.builders.specs.Kept.{IsNoted, IsSound};
 ghost use Rattle.builders.specs.Seats.{events_of, with_noted};
 ghost use Rattle.builders.specs.Told.{IsBehind};
 
+use crate::close;
+use crate::close::CloseFault;
 use crate::lanes::{Books, Lane};
 use crate::seat::Seat;
 use page_arena::PageStore;
@@ -138,6 +142,28 @@ impl<
         let build = seat.pass.build();
         self.books.audit(&mut seat.pass);
         self.host.check_back(build, mark)
+    }
+
+    /// Gives the host back as it is, for its builds' seats: each has to be there once, with the events that the history has of
+    /// its build. At `Err` the host comes back too.
+    pub fn close(
+        self,
+        mut seats: Vec<Seat<L0, L1, L2, L3, L4, L5, L6, L7>>,
+    ) -> Result<Host<S>, (CloseFault, Host<S>)>
+        ensures closed { IfOk result (λ host. IsClosed host seats.items) }
+        ensures fault { IfErr result (λ e. IsFault e.0 e.1 seats.items) }
+        ensures host { MatchResult result (λ host. host ≡ self.host) (λ e. e.1 ≡ self.host) }
+        ensures given_back { MatchResult result (λ host. IsGivenBack host seats.items) (λ e. IsGivenBack e.1 seats.items) }
+    {
+        let Kept { host, mut books } = self;
+        close::audit(&mut books, seats.as_mut_slice());
+        if let Some(build) = close::missing(seats.as_slice(), host.build_count()) {
+            return Err((CloseFault::SeatMissing(build), host));
+        }
+        if let Some(build) = close::mismatch(seats.as_slice(), host.history()) {
+            return Err((CloseFault::RecordMismatch(build), host));
+        }
+        Ok(host)
     }
 }
 

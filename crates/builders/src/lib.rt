@@ -12,6 +12,8 @@ mod kept;
 mod lanes;
 mod seat;
 mod shared;
+mod teller;
+mod worker;
 
 pub use acts::is_same_act;
 pub use close::CloseFault;
@@ -19,3 +21,5 @@ pub use kept::Kept;
 pub use lanes::{Blanks, Lane};
 pub use seat::Seat;
 pub use shared::Shared;
+pub use teller::{OpenGate, SeatTeller};
+pub use worker::Worker;

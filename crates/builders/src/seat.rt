@@ -15,14 +15,14 @@ pub struct Trail<L0: Lane> {
 }
 
 impl<L0: Lane> Model for Trail<L0> {
-    ghost use Rattle.std.specs.Prelude.{List, ◌≤◌, vec_capacity};
+    ghost use Rattle.std.specs.Prelude.{◌≡◌, List, vec_capacity};
     ghost use Rattle.realm_model.specs.declared.act.Event.{Event};
 
     ghost Value = { List Event };
 
     ghost view = { λ t. t.events.items };
 
-    ghost invariant = { λ t. L0.room ≤ vec_capacity t.events };
+    ghost invariant = { λ t. vec_capacity t.events ≡ L0.room };
 }
 
 impl<L0: Lane> Trail<L0> {

@@ -9,7 +9,6 @@ ghost use Rattle.builders.specs.Lanes.{unused};
 ghost use Rattle.builders.specs.Seats.{new_seat};
 ghost use Rattle.builders.specs.Told.{IsTold, IsRefused, IsMarkTold, IsBackTold};
 
-use crate::close;
 use crate::close::CloseFault;
 use crate::kept::Kept;
 use crate::lanes::{Blanks, Lane, Opened, Pass};
@@ -141,22 +140,13 @@ impl<
     /// build. At `Err` the host comes back too.
     pub fn close(
         self,
-        mut seats: Vec<Seat<L0, L1, L2, L3, L4, L5, L6, L7>>,
+        seats: Vec<Seat<L0, L1, L2, L3, L4, L5, L6, L7>>,
     ) -> Result<Host<S>, (CloseFault, Host<S>)>
         ensures closed { IfOk result (λ host. IsClosed host seats.items) }
         ensures fault { IfErr result (λ e. IsFault e.0 e.1 seats.items) }
         ensures host { MatchResult result (λ host. IsGivenBack host seats.items) (λ e. IsGivenBack e.1 seats.items) }
     {
-        let Shared { kept } = self;
-        let Kept { host, mut books } = kept.into_inner();
-        close::audit(&mut books, seats.as_mut_slice());
-        if let Some(build) = close::missing(seats.as_slice(), host.build_count()) {
-            return Err((CloseFault::SeatMissing(build), host));
-        }
-        if let Some(build) = close::mismatch(seats.as_slice(), host.history()) {
-            return Err((CloseFault::RecordMismatch(build), host));
-        }
-        Ok(host)
+        self.kept.into_inner().close(seats)
     }
 }
 

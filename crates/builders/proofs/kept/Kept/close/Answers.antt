@@ -5,14 +5,14 @@ use Rattle.realm_model.specs.declared.act.Event.{Event}
 use Rattle.builders.specs.Close.{IsMissing, IsWhole, Differs, FitsAll}
 use Rattle.builders.specs.Seats.{SeatView}
 use Rattle.builders.proofs.Comparing.{each_fits}
-use Rattle.builders.proofs.shared.Shared.close.Goals as goal
+use Rattle.builders.proofs.kept.Kept.close.Goals as goal
 
 pub returns-in-Some-clause-fault : goal.returns-in-Some-clause-fault
 returns-in-Some-clause-fault g c =
     let same = c.audit.ensures.seats ∙ c.as_mut_slice.ensures.value in
     let back = take_at c.audit.new.seats _ c.args.seats.len (ap length same ∙ omega (arith, c.args.seats.ok.0)) ∙ same in
     let seats : c.as_slice.result.now ≡ c.args.seats.items = c.as_slice.ensures.value ∙ back in
-    subst (λ (xs : List SeatView). IsMissing c.host.inside.host.limits.builds c.in-Some.build xs) seats
+    subst (λ (xs : List SeatView). IsMissing c.self.inside.host.limits.builds c.in-Some.build xs) seats
     (subst (λ (n : ℕ). IsMissing n c.in-Some.build c.as_slice.result.now) c.build_count.ensures.value c.in-Some.ensures.some)
 
 pub returns-in-Some-mismatch-clause-fault : goal.returns-in-Some-mismatch-clause-fault
@@ -21,9 +21,9 @@ returns-in-Some-mismatch-clause-fault g c =
     let back = take_at c.audit.new.seats _ c.args.seats.len (ap length same ∙ omega (arith, c.args.seats.ok.0)) ∙ same in
     let seats : c.as_slice.result.now ≡ c.args.seats.items = c.as_slice.ensures.value ∙ back in
     let again : c.as_slice-2.result.now ≡ c.args.seats.items = c.as_slice-2.ensures.value ∙ back in (
-      subst (λ (xs : List SeatView). IsWhole c.host.inside.host.limits.builds xs) seats
+      subst (λ (xs : List SeatView). IsWhole c.self.inside.host.limits.builds xs) seats
           (subst (λ (n : ℕ). IsWhole n c.as_slice.result.now) c.build_count.ensures.value c.in_default.ensures.none),
-      subst (λ (xs : List SeatView). Differs c.in-Some-mismatch.build c.host.inside.host.history xs) again
+      subst (λ (xs : List SeatView). Differs c.in-Some-mismatch.build c.self.inside.host.history xs) again
           (subst (λ (h : List Event). Differs c.in-Some-mismatch.build h c.as_slice-2.result.now) c.history.ensures.events c.in-Some-mismatch.ensures.some),
     )
 
@@ -34,10 +34,10 @@ returns-clause-closed g c =
     let seats : c.as_slice.result.now ≡ c.args.seats.items = c.as_slice.ensures.value ∙ back in
     let again : c.as_slice-2.result.now ≡ c.args.seats.items = c.as_slice-2.ensures.value ∙ back in
     record {
-      whole = subst (λ (xs : List SeatView). IsWhole c.host.inside.host.limits.builds xs) seats
+      whole = subst (λ (xs : List SeatView). IsWhole c.self.inside.host.limits.builds xs) seats
           (subst (λ (n : ℕ). IsWhole n c.as_slice.result.now) c.build_count.ensures.value c.in_default.ensures.none);
-      trails = each_fits c.host.inside.host.history c.host.inside.books c.args.seats.items
-          (subst (λ (xs : List SeatView). FitsAll c.host.inside.host.history xs) again
+      trails = each_fits c.self.inside.host.history c.self.inside.books c.args.seats.items
+          (subst (λ (xs : List SeatView). FitsAll c.self.inside.host.history xs) again
           (subst (λ (h : List Event). FitsAll h c.as_slice-2.result.now) c.history.ensures.events c.in_default-mismatch.ensures.none))
-          (subst (All (λ (seat : SeatView). (seat.build < 8) × (get_or c.host.inside.books seat.build 0 ≡ seat.count))) c.as_mut_slice.ensures.value c.audit.ensures.counted);
+          (subst (All (λ (seat : SeatView). (seat.build < 8) × (get_or c.self.inside.books seat.build 0 ≡ seat.count))) c.as_mut_slice.ensures.value c.audit.ensures.counted);
     }

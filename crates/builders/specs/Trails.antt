@@ -1,0 +1,36 @@
+-- What a seat's trail is beside the questions of a worker: one event for each that was accepted, in their order.
+use Rattle.std.specs.Prelude.{◌≡◌, ℕ, List, filter, Some, Ok}
+use Rattle.std.specs.List.{AllZip}
+use Rattle.build_commands.specs.Acts.{act_of}
+use Rattle.build_commands.specs.Replies.{reply_of}
+use Rattle.build_commands.specs.declared.cmd.Cmd.{Cmd}
+use Rattle.build_commands.specs.declared.cmd.Cmd.TheVariants.{Take}
+use Rattle.build_commands.specs.declared.picked.Picked.{Picked}
+use Rattle.build_journal.specs.Kind.{act_kind}
+use Rattle.build_journal.specs.declared.kind.Kind.{Kind}
+use Rattle.realm_model.specs.Act.{reverse_of}
+use Rattle.realm_model.specs.declared.act.Act.{Act}
+use Rattle.realm_model.specs.declared.act.Act.TheVariants as acts
+use Rattle.realm_model.specs.declared.act.Event.{Event}
+use Rattle.workers.specs.Exchange.{Exchange, Did, Undid, is_event}
+
+-- The act is that of the command, with the command's own numbers. The granules of its pages are any, as is what was picked.
+abbrev pub IsActFor : Cmd → Act → Type 0
+IsActFor (Take order) act = (first : ℕ) × (act ≡ acts.Take order first)
+IsActFor cmd act = (granules : List ℕ) × (picked : Picked) × (act_of cmd granules picked ≡ Some act)
+
+-- the act is the reverse of one of that kind
+abbrev pub IsReverseOf : Kind → Act → Type 0
+IsReverseOf kind act = (opened : Act) × (act_kind opened ≡ Some kind) × (reverse_of opened ≡ Some act)
+
+-- The event of an accepted question of a build: the command's act, to which the reply is, or the reverse of an act of the kind
+-- that the undo told.
+abbrev pub IsEventOf : ℕ → Exchange → Event → Type 0
+IsEventOf build (Did cmd (Ok reply)) event =
+    (event.build ≡ build) × IsActFor cmd event.act × ((pages : ℕ) × (reply ≡ reply_of pages event.act))
+IsEventOf build (Undid (Ok undone)) event = (event.build ≡ build) × IsReverseOf undone.kind event.act
+IsEventOf build _ event = ⊥
+
+-- One event for each accepted question, in their order.
+unfoldable pub IsTrailOf : ℕ → List Exchange → List Event → Type 0
+IsTrailOf build exchanges trail = AllZip (IsEventOf build) (filter is_event exchanges) trail

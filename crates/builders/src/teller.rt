@@ -1,0 +1,81 @@
+//! A seat of a shared host, as a worker sees it.
+ghost use Rattle.std.specs.Prelude.{◌+◌, ◌*◌};
+ghost use Rattle.builders.specs.Trails.{IsTrailOf};
+
+use crate::lanes::Lane;
+use crate::seat::Seat;
+use crate::shared::Shared;
+use granule_addr::BuildId;
+use page_arena::PageStore;
+use realm_host::{Cmd, Mark, Refusal, Reply, Undone};
+use std::sync::Wait;
+use workers::{Gate, Stuck, Teller};
+
+/// A seat, and the host that its build's worker asks. The accepted questions are the events of its trail.
+#[derive(Drop)]
+pub struct SeatTeller<
+    'a,
+    R: Wait,
+    S: PageStore,
+    L0: Lane,
+    L1: Lane,
+    L2: Lane,
+    L3: Lane,
+    L4: Lane,
+    L5: Lane,
+    L6: Lane,
+    L7: Lane,
+> {
+    pub rt: &'a R,
+    pub shared: &'a Shared<S, L0, L1, L2, L3, L4, L5, L6, L7>,
+    pub seat: &'a mut Seat<L0, L1, L2, L3, L4, L5, L6, L7>,
+}
+
+impl<
+    'a,
+    R: Wait,
+    S: PageStore,
+    L0: Lane,
+    L1: Lane,
+    L2: Lane,
+    L3: Lane,
+    L4: Lane,
+    L5: Lane,
+    L6: Lane,
+    L7: Lane,
+> Teller for SeatTeller<'a, R, S, L0, L1, L2, L3, L4, L5, L6, L7> {
+    ghost tells = { λ teller exchanges. IsTrailOf teller.seat.now.build exchanges teller.seat.now.trail };
+
+    // the seat's, and its build, so that both stay
+    ghost loan = { λ teller. 8 * teller.seat.ghost_name + teller.seat.now.build };
+
+    fn ask(&mut self, cmd: Cmd) -> Result<Reply, Refusal> {
+        self.shared.call(self.rt, self.seat, cmd)
+    }
+
+    fn undo(&mut self) -> Result<Undone, Refusal> {
+        self.shared.undo(self.rt, self.seat)
+    }
+
+    fn mark(&mut self) -> Result<Mark, Refusal> {
+        self.shared.mark(self.rt, self.seat)
+    }
+
+    fn check_back(&mut self, mark: Mark) -> Result<u16, Refusal> {
+        self.shared.check_back(self.rt, self.seat, mark)
+    }
+}
+
+/// A gate that lets every turn pass.
+#[derive(Clone, Copy, Debug, PartialEq, Eq)]
+pub struct OpenGate;
+
+impl Gate for OpenGate {
+    ghost passes = { λ gate build turn. Unit {0} };
+
+    ghost stops = { λ gate build turn. ⊥ };
+
+    fn pass(&self, _build: BuildId, _turn: usize) -> Result<(), Stuck> {
+        Ok(())
+    }
+}

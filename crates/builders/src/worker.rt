@@ -1,0 +1,164 @@
+//! A worker for each build: its seat, its steps and its report.
+ghost use Rattle.std.specs.Prelude.{◌≡◌, ◌+◌, ◌*◌, ◌<◌, ◌≤◌, ℕ, [], false, length, vec_len, vec_capacity, IfOk, IfErr};
+ghost use Rattle.builders.specs.Workers.{HasWorked, IsFaithful, IsRun};
+
+use crate::lanes::Lane;
+use crate::seat::Seat;
+use crate::shared::Shared;
+use crate::teller::SeatTeller;
+use build_commands::Step;
+use granule_addr::BuildId;
+use page_arena::PageStore;
+use std::alloc::{AllocError, Global};
+use std::marker::Model;
+use std::sync::Wait;
+use workers::{Gate, Report, work};
+
+/// The worker of a build: its seat, its steps, and what it was answered.
+#[derive(Drop)]
+pub struct Worker<L0: Lane, L1: Lane, L2: Lane, L3: Lane, L4: Lane, L5: Lane, L6: Lane, L7: Lane> {
+    seat: Seat<L0, L1, L2, L3, L4, L5, L6, L7>,
+    steps: Vec<Step>,
+    report: Report,
+    ended: bool,
+}
+
+impl<L0: Lane, L1: Lane, L2: Lane, L3: Lane, L4: Lane, L5: Lane, L6: Lane, L7: Lane> Model
+    for Worker<L0, L1, L2, L3, L4, L5, L6, L7> {
+    ghost use Rattle.std.specs.Prelude.{◌≡◌, ◌≤◌, ◌+◌, ◌*◌, vec_len, vec_capacity};
+    ghost use Rattle.builders.specs.Workers.{WorkerView, IsFaithful};
+
+    ghost Value = { WorkerView };
+
+    ghost view = { λ w. record { seat = w.seat; steps = w.steps.items; lines = w.report.lines.items; ended = w.ended } };
+
+    ghost invariant = { λ w. IsFaithful (record { seat = w.seat; steps = w.steps.items; lines = w.report.lines.items; ended = w.ended }) × (w.report.build ≡ w.seat.build) × (vec_len w.steps ≤ 1024) × (2 * vec_len w.steps + 1 ≤ vec_capacity w.report.lines) };
+}
+
+impl<L0: Lane, L1: Lane, L2: Lane, L3: Lane, L4: Lane, L5: Lane, L6: Lane, L7: Lane> Worker<
+    L0,
+    L1,
+    L2,
+    L3,
+    L4,
+    L5,
+    L6,
+    L7,
+> {
+    /// The worker of a seat's build, which has asked nothing. Where there is no memory for its report, seat and steps come
+    /// back.
+    pub fn build(
+        alloc: Global,
+        seat: Seat<L0, L1, L2, L3, L4, L5, L6, L7>,
+        steps: Vec<Step>,
+    ) -> Result<
+        Worker<L0, L1, L2, L3, L4, L5, L6, L7>,
+        (AllocError, Seat<L0, L1, L2, L3, L4, L5, L6, L7>, Vec<Step>),
+    >
+        requires trail { seat.trail ≡ [] }
+        requires few { vec_len steps ≤ 1024 }
+        ensures ok { IfOk result (λ worker. worker ≡ record { seat = seat; steps = steps.items; lines = []; ended = false }) }
+        ensures back { IfErr result (λ e. (e.1 ≡ seat) × (e.2.items ≡ steps.items)) }
+    {
+        let Ok(lines) = Vec::with_capacity(alloc, 2 * steps.len() + 1) else {
+            return Err((AllocError, seat, steps));
+        };
+        let report = Report {
+            build: seat.build(),
+            lines,
+        };
+        Ok(Worker {
+            seat,
+            steps,
+            report,
+            ended: false,
+        })
+    }
+
+    /// The build whose worker it is.
+    pub fn number(&self) -> BuildId
+        ensures { result ≡ self.now.seat.build }
+    {
+        self.seat.build()
+    }
+
+    /// Whether it has ended: it has worked, and waits for no turn.
+    pub fn has_ended(&self) -> bool
+        ensures { result ≡ self.now.ended }
+    {
+        self.ended
+    }
+
+    /// Takes its steps, with its turns from the gate.
+    pub fn run<R: Wait, S: PageStore, G: Gate>(
+        &mut self,
+        rt: &R,
+        shared: &Shared<S, L0, L1, L2, L3, L4, L5, L6, L7>,
+        gate: &G,
+    )
+        requires { self.old.lines ≡ [] }
+        ensures { IsRun (G.stops gate.now self.old.seat.build) self.old self.new }
+    {
+        let Worker {
+            seat,
+            steps,
+            report,
+            ended,
+        } = self;
+        *ended = work_at(rt, shared, seat, steps.as_slice(), report, gate);
+    }
+
+    /// Its seat, its steps and its report.
+    pub fn end(self) -> (Seat<L0, L1, L2, L3, L4, L5, L6, L7>, Vec<Step>, Report)
+        ensures parts { (result.0 ≡ self.seat) × (result.1.items ≡ self.steps) × (result.2.lines.items ≡ self.lines) }
+        ensures build { result.2.build ≡ self.seat.build }
+        ensures faithful { IsFaithful self }
+    {
+        let Worker {
+            seat,
+            steps,
+            report,
+            ended: _,
+        } = self;
+        (seat, steps, report)
+    }
+}
+
+// Takes steps for a seat, and says whether that came to its end.
+fn work_at<
+    R: Wait,
+    S: PageStore,
+    G: Gate,
+    L0: Lane,
+    L1: Lane,
+    L2: Lane,
+    L3: Lane,
+    L4: Lane,
+    L5: Lane,
+    L6: Lane,
+    L7: Lane,
+>(
+    rt: &R,
+    shared: &Shared<S, L0, L1, L2, L3, L4, L5, L6, L7>,
+    seat: &mut Seat<L0, L1, L2, L3, L4, L5, L6, L7>,
+    steps: &[Step],
+    report: &mut Report,
+    gate: &G,
+) -> bool
+    requires trail { seat.old.trail ≡ [] }
+    requires empty { report.old.lines.items ≡ [] }
+    requires few { length steps.now ≤ 1024 }
+    requires room { 2 * length steps.now + 1 ≤ vec_capacity report.old.lines }
+    requires build { report.old.build ≡ seat.old.build }
+    ensures worked { HasWorked (record { seat = seat.new; steps = steps.now; lines = report.new.lines.items; ended = result }) }
+    ensures stopped { result ≡ false → (turn : ℕ) × G.stops gate.now seat.old.build turn }
+    ensures build { seat.new.build ≡ seat.old.build }
+    ensures same { (report.new.build ≡ report.old.build) × (vec_capacity report.new.lines ≡ vec_capacity report.old.lines) }
+{
+    // A seat's build is below 8, before and after.
+    let _ = seat.build();
+    let mut teller = SeatTeller { rt, shared, seat };
+    let ended = work(report, steps, &mut teller, gate).is_ok();
+    let _ = teller.seat.build();
+    ended
+}
