@@ -11,6 +11,7 @@ use Rattle.buddy.specs.Heads.{head_at, held, AreMaximal, IsIndex}
 use Rattle.buddy.proofs.Flags.{clash, first_flag}
 use Rattle.buddy.proofs.Held.{flags_are}
 use Rattle.buddy.proofs.Counts.{count_of, count_of_free, count_of_most, count_of-with_taken, count_of-with_given}
+use Rattle.granule_addr.proofs.Same.{same_each}
 
 -- the flags that the lists stand for are those that the heads tell
 pub seen : (heads : List ℕ) (flags : List Bool) → AreMaximal heads flags → AreMaximal heads (held heads)
@@ -52,11 +53,6 @@ module _ (count : ℕ) (heads now : List ℕ) (order first : ℕ) (index : IsInd
 
 -- ---- a machine is given granule by granule, from the last to the first
 
-all_same : {X : Type 0} (n i : ℕ) (x : X) → get_or (replicate n x) i x ≡ x
-all_same zero i x = refl
-all_same (suc n) zero x = refl
-all_same (suc n) (suc i) x = all_same n i x
-
 -- what is free is from a granule on
 pub record IsGivenFrom (n granule : ℕ) (heads : List ℕ) : Type 0 where
   pub lists : AreMaximal heads (held heads)
@@ -69,8 +65,8 @@ none_free : (n : ℕ) → AreMaximal (replicate n 0) (replicate n false)
 none_free n = record {
   sized = length-replicate n 0 ∙ sym (length-replicate n false);
   each = λ order first. (
-    λ (head : head_at (replicate n 0) first ≡ order + 1). let none : head_at (replicate n 0) first ≡ 0 = all_same n first 0 in absurd (omega arith),
-    λ (maximal : IsMaximalBlock (replicate n false) order first). clash (is_free (replicate n false) first) (first_flag true (replicate n false) order first maximal.free) (all_same n first false),
+    λ (head : head_at (replicate n 0) first ≡ order + 1). let none : head_at (replicate n 0) first ≡ 0 = same_each n first 0 in absurd (omega arith),
+    λ (maximal : IsMaximalBlock (replicate n false) order first). clash (is_free (replicate n false) first) (first_flag true (replicate n false) order first maximal.free) (same_each n first false),
   );
 }
 
@@ -80,7 +76,7 @@ given_none n =
     record {
       lists = seen (replicate n 0) (replicate n false) (none_free n);
       sized = ap length (sym same) ∙ length-replicate n false;
-      taken = record { each = λ x low high. ap (λ (flags : List Bool). is_free flags x) (sym same) ∙ all_same n x false };
+      taken = record { each = λ x low high. ap (λ (flags : List Bool). is_free flags x) (sym same) ∙ same_each n x false };
       free = λ x low high. absurd (omega arith);
       inside = omega arith;
     }

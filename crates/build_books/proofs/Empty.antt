@@ -28,11 +28,11 @@ legal-nil : (limits : Limits) → IsLegal limits []
 unfolding after
 legal-nil limits = record { steps = refl; in_turn = tt }
 
-replay-nil : (limits : Limits) → Rattle.realm_model.specs.History.replay limits [] ≡ Some (opening limits)
+pub replay-nil : (limits : Limits) → Rattle.realm_model.specs.History.replay limits [] ≡ Some (opening limits)
 unfolding after
 replay-nil limits = refl
 
-none_open : (build : ℕ) → open_entries build [] ≡ []
+pub none_open : (build : ℕ) → open_entries build [] ≡ []
 unfolding open_entries
 none_open build = refl
 

@@ -16,6 +16,7 @@ use Rattle.realm_model.specs.History.{open_entries, replay, IsInTurn, IsLegal}
 use Rattle.realm_model.specs.Undoing.{by}
 use Rattle.realm_model.proofs.Growth.{Grows, grows}
 use Rattle.realm_model.proofs.OpenRealm.{realm_is_open}
+use Rattle.realm_model.proofs.PartRealm.{realm_from_some}
 use Rattle.realm_acts.specs.Mirror.{rd_of}
 use Rattle.build_books.specs.Kept.{rd_after}
 use Rattle.build_books.proofs.Made.{made_open, opens, closes, stays}
@@ -55,21 +56,6 @@ abbrev head_of : List ℕ → Option ℕ
 head_of [] = None
 head_of (rd ∷ rds) = Some rd
 
--- a realm that is found has a row
-pub with_row : (build n : ℕ) (leases : List (Option ℕ)) (machine : Machine) (rd : Seen) → realm_from build n leases machine ≡ Some rd → is_some rd.cell.descriptor ≡ true
-unfolding realm_from
-with_row build n [] machine rd is = cc
-with_row build n (lease ∷ leases) [] rd is = cc
-with_row build n (lease ∷ leases) (cell ∷ cells) rd is = at (same_lease lease (Some build) && is_some cell.descriptor) refl is (with_row build (suc n) leases cells rd)
-  where
-    at : (t : Bool) → (same_lease lease (Some build) && is_some cell.descriptor) ≡ t
-        → cond t (Some (record { number = n; cell = cell })) (realm_from build (suc n) leases cells) ≡ Some rd
-        → (realm_from build (suc n) leases cells ≡ Some rd → is_some rd.cell.descriptor ≡ true) → is_some rd.cell.descriptor ≡ true
-    at true both e later =
-        let same : record { number = n; cell = cell } ≡ rd = same_Some _ _ e in
-        ap (λ (s : Seen). is_some s.cell.descriptor) (sym same) ∙ (and_parts _ _ both).1
-    at false both e later = later e
-
 rd_of_makers : (o : Option Seen) → ((rd : Seen) → o ≡ Some rd → is_some rd.cell.descriptor ≡ true)
     → option_map (λ (rd : Seen). rd.number) o ≡ head_of (flat_map rd_made (makers o))
 rd_of_makers None row = refl
@@ -97,11 +83,11 @@ module _ (limits : Limits) (history : List Event) (w : World) (legal : IsLegal l
   rds_are = among_makers (open_entries build history) ∙ ap (flat_map rd_made) (realm_is_open limits history w build legal at_w)
 
   rd_is : rd_of build w ≡ head_of (rds_open build history)
-  rd_is = rd_of_makers (realm_of build w) (with_row build 0 w.leases w.machine) ∙ ap head_of (sym rds_are)
+  rd_is = rd_of_makers (realm_of build w) (realm_from_some build 0 w.leases w.machine) ∙ ap head_of (sym rds_are)
 
   -- a build that has nothing open has no realm
   pub no_realm : open_entries build history ≡ [] → realm_of build w ≡ None
-  no_realm none = none_of (realm_of build w) (with_row build 0 w.leases w.machine) (sym rds_are ∙ ap (flat_map rd_made) none)
+  no_realm none = none_of (realm_of build w) (realm_from_some build 0 w.leases w.machine) (sym rds_are ∙ ap (flat_map rd_made) none)
     where
       of_row : (rd : ℕ) (d : Option RealmRow) → is_some d ≡ true → flat_map rd_made (elim d [ Some realm ↦ maker rd realm ∷ [] | None ↦ [] ]) ≡ [] → ⊥
       of_row rd None some e = cc

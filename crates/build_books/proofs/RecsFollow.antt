@@ -11,24 +11,10 @@ use Rattle.realm_model.specs.Act.{is_reverse, reverse_of}
 use Rattle.realm_model.specs.History.{IsInTurn}
 use Rattle.realm_model.specs.Undoing.{by}
 use Rattle.realm_acts.specs.RecsOpen.{rec_made, recs_open, number_at, IsRising}
+use Rattle.realm_acts.proofs.RecsOpen.{rec_removed, removed_as_made}
 use Rattle.build_books.specs.Recs.{IsAbove}
 use Rattle.build_books.specs.Kept.{recs_after}
 use Rattle.build_books.proofs.Made.{opens, closes, stays}
-
-abbrev rec_removed : Act → List (ℕ × ℕ)
-rec_removed (UnRec granule auxiliaries number) = (number, granule) ∷ []
-rec_removed _ = []
-
-same_rec : (newest act : Act) → reverse_of newest ≡ Some act → rec_made newest ≡ rec_removed act
-unfolding reverse_of
-same_rec (Take order first) act is = ap rec_removed (same_Some _ _ is)
-same_rec (Delegate granule) act is = ap rec_removed (same_Some _ _ is)
-same_rec (Realm rd root vmid) act is = ap rec_removed (same_Some _ _ is)
-same_rec (Rtt granule ipa level) act is = ap rec_removed (same_Some _ _ is)
-same_rec (Data granule ipa source) act is = ap rec_removed (same_Some _ _ is)
-same_rec (Unknown granule ipa) act is = ap rec_removed (same_Some _ _ is)
-same_rec (Rec granule auxiliaries number) act is = ap rec_removed (same_Some _ _ is)
-same_rec _ act is = cc
 
 all_but_last : (recs left : List (ℕ × ℕ)) (rec : ℕ × ℕ) → recs ≡ left ++ rec ∷ [] → left ≡ take (length recs - 1) recs
 all_but_last recs left rec e =
@@ -39,10 +25,10 @@ all_but_last recs left rec e =
 pub recs_follow : (history : List Event) (build : ℕ) (act : Act) → IsInTurn history (by build act)
     → recs_open build (history ++ by build act ∷ []) ≡ recs_after (recs_open build history) act
 unfolding reverse_of is_reverse
-recs_follow history build (Rec granule auxiliaries number) turn = opens rec_made rec_removed same_rec history build (Rec granule auxiliaries number) turn refl
+recs_follow history build (Rec granule auxiliaries number) turn = opens rec_made rec_removed removed_as_made history build (Rec granule auxiliaries number) turn refl
 recs_follow history build (UnRec granule auxiliaries number) turn =
-    all_but_last (recs_open build history) _ (number, granule) (closes rec_made rec_removed same_rec history build (UnRec granule auxiliaries number) turn refl refl)
-recs_follow history build act turn = stays rec_made rec_removed same_rec history build act turn refl refl
+    all_but_last (recs_open build history) _ (number, granule) (closes rec_made rec_removed removed_as_made history build (UnRec granule auxiliaries number) turn refl refl)
+recs_follow history build act turn = stays rec_made rec_removed removed_as_made history build act turn refl refl
 
 -- ---- no more RECs than open acts
 

@@ -8,23 +8,12 @@ use Rattle.std.proofs.lemmas.List.Elements.{filter-append, All-head, All-tail}
 use Rattle.realm_model.specs.declared.act.Act.{Act}
 use Rattle.realm_model.specs.declared.act.Event.{Event}
 use Rattle.realm_model.specs.History.{acts_of}
+use Rattle.realm_model.proofs.Growth.{acts_of-own, acts_of-other}
 
 -- ---- one more event
 
 abbrev acts_in : List Event → List Act
 acts_in events = map (λ (x : Event). x.act) events
-
-pub acts_of-own : (history : List Event) (event : Event) → acts_of event.build (history ++ event ∷ []) ≡ acts_of event.build history ++ event.act ∷ []
-acts_of-own history event =
-    ap acts_in (filter-append (λ x. x.build == event.build) history (event ∷ [])
-    ∙ ap (λ t. filter (λ x. x.build == event.build) history ++ cond t (event ∷ []) []) (eq-eqb event.build event.build refl))
-    ∙ map-append (λ (x : Event). x.act) (filter (λ x. x.build == event.build) history) (event ∷ [])
-
-pub acts_of-other : (build : ℕ) (history : List Event) (event : Event) → event.build ≢ build → acts_of build (history ++ event ∷ []) ≡ acts_of build history
-acts_of-other build history event apart =
-    ap acts_in (filter-append (λ x. x.build == build) history (event ∷ [])
-    ∙ ap (λ t. filter (λ x. x.build == build) history ++ cond t (event ∷ []) []) (ne_eqb event.build build apart)
-    ∙ append-nil (filter (λ x. x.build == build) history))
 
 -- ---- all builds below a number
 

@@ -1,4 +1,3 @@
-pub mod Runs
 pub mod Tables
 pub mod Refused
 pub mod FoundNext

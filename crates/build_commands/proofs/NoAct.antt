@@ -11,6 +11,7 @@ use Rattle.realm_model.specs.Machine.{RealmRow, RecRow, Seen}
 use Rattle.realm_model.specs.Rows.{is_table_place}
 use Rattle.realm_model.specs.Update.{Outcome}
 use Rattle.realm_model.specs.Command.Check.{check, error_input, is_delegated, is_protected, with_realm, with_rec}
+use Rattle.realm_model.proofs.Booleans.{true_false, false_from}
 use Rattle.build_commands.specs.declared.cmd.Cmd.{Cmd}
 use Rattle.build_commands.specs.declared.cmd.Cmd.TheVariants.{Take, Fill, Peek, Delegate, Realm, Rtt, Ripas, Data, Unknown, Rec, Activate, Enter, Exit, Poke}
 use Rattle.build_commands.specs.declared.picked.Picked.{Picked}
@@ -23,15 +24,6 @@ use Rattle.build_commands.specs.Laws.{HasWidth, IsInputError}
 no_act : (t : Bool) (act : Act) → act_if t act ≡ None → t ≡ false
 no_act true act e = cc
 no_act false act e = refl
-
--- what leads to the contrary is false
-not_so : (t : Bool) → (t ≡ true → ⊥) → t ≡ false
-not_so true bad = absurd (bad refl)
-not_so false bad = refl
-
-clash : (t : Bool) → t ≡ true → t ≡ false → ⊥
-clash true good bad = cc
-clash false good bad = cc
 
 middle_false : (a b c : Bool) → b ≡ false → (a && b && c) ≡ false
 middle_false a true c e = cc
@@ -61,17 +53,17 @@ rec_fails realm number f fails = by_rec (get realm.recs number)
     by_rec (Some rec) = fails rec
 
 unprotected : (ipa width : ℕ) → is_width width ≡ true → is_ipa ipa ≡ false → is_protected_at ipa width ≡ false
-unprotected ipa width wide bad = not_so (is_protected_at ipa width) (λ good.
+unprotected ipa width wide bad = false_from (is_protected_at ipa width) (λ good.
     let below : ipa < 2 ^ (width - 13) = ltb-true ipa (2 ^ (width - 13)) good in
     let most : width ≤ 43 = leb-true width 43 (and_parts (nat_le 39 width) (nat_le width 43) wide).1 in
     let more : 2 ^ (width - 13) ≤ 2 ^ 31 = pow_mono {i = width - 13} {j = 31} (omega arith) in
-    clash (is_ipa ipa) (lt-ltb ipa widest_space (omega arith)) bad)
+    true_false (is_ipa ipa) (lt-ltb ipa widest_space (omega arith)) bad)
 
 no_place : (ipa level : ℕ) → is_level level ≡ false → is_table_place ipa level ≡ false
 no_place ipa level bad = by_both (level == 2) refl (level == 3) refl
   where
     in_range : 1 ≤ level → level ≤ 3 → ⊥
-    in_range low high = clash (is_level level) (and_from (nat_le 1 level) (nat_le level 3) (le-leb 1 level low) (le-leb level 3 high)) bad
+    in_range low high = true_false (is_level level) (and_from (nat_le 1 level) (nat_le level 3) (le-leb 1 level low) (le-leb level 3 high)) bad
 
     by_both : (two : Bool) → (level == 2) ≡ two → (three : Bool) → (level == 3) ≡ three → is_table_place ipa level ≡ false
     by_both true is_two three is_three = let same : level ≡ 2 = eqb-true level 2 is_two in absurd (in_range (omega arith) (omega arith))

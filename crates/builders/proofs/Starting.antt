@@ -4,12 +4,9 @@ use Rattle.std.proofs.lemmas.List.{get_or-replicate}
 use Rattle.realm_model.specs.declared.act.Event.{Event}
 use Rattle.realm_model.specs.History.{open_entries}
 use Rattle.build_books.specs.View.{HostView, is_aborting}
+use Rattle.build_books.proofs.Empty.{none_open}
 use Rattle.builders.specs.Kept.{IsSound, IsKept}
 use Rattle.builders.specs.Seats.{events_of}
-
-none_open : (build : ℕ) → open_entries build [] ≡ []
-unfolding open_entries
-none_open build = refl
 
 -- nothing is open, so no build is in abort
 none_aborts : (host : HostView) → IsSound host → host.history ≡ [] → (build : ℕ) → is_aborting host build ≡ false

@@ -1,2 +1,3 @@
 pub mod Spaces
 pub mod Same
+pub mod Runs

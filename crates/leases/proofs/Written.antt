@@ -7,13 +7,7 @@ use Rattle.std.proofs.lemmas.Option.{same_Some}
 use Rattle.std.specs.Global.{Vec}
 use Rattle.std.specs.List.{range_with_len}
 use Rattle.leases.specs.Stacks.{contents, IsRoomy, IsKept}
-
--- a run of numbers with one more
-pub range_with_len_more : (a n b : ℕ) → a + n ≡ b → range_with_len a (n + 1) ≡ range_with_len a n ++ b ∷ []
-range_with_len_more a n b next =
-    sym (map-id (range_with_len a (n + 1)))
-    ∙ map-range_with_len_more (λ k. k) a n b next
-    ∙ ap (λ ks. ks ++ b ∷ []) (map-id (range_with_len a n))
+use Rattle.granule_addr.proofs.Runs.{range_with_len_more}
 
 -- the granule of a number that a machine has
 pub granule_is : (fits : Bool) (k granule : ℕ) (found : Option ℕ) → found ≡ (if fits then Some k else None) → found ≡ Some granule → granule ≡ k

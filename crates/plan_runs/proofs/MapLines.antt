@@ -9,12 +9,7 @@ use Rattle.realm_model.specs.Machine.{cell_at}
 use Rattle.realm_model.specs.declared.states.GranuleState.{GranuleState}
 use Rattle.plan_steps.specs.Lines.{page_line}
 use Rattle.plan_runs.specs.Run.{page_text}
-
-range_more : (a n k : ℕ) → a + n ≡ k → range_with_len a (n + 1) ≡ range_with_len a n ++ k ∷ []
-range_more a zero k is_last = ap (λ j. j ∷ []) (omega arith)
-range_more a (suc n) k is_last =
-    let more : suc n + 1 ≡ suc (n + 1) = omega arith in
-    ap (range_with_len a) more ∙ ap (λ ks. a ∷ ks) (range_more (a + 1) n k (omega arith))
+use Rattle.granule_addr.proofs.Runs.{range_with_len_more}
 
 -- one more line
 pub lines_more :
@@ -25,7 +20,7 @@ pub lines_more :
     → new ≡ old ++ flat_map f (range_with_len 0 (n + 1))
 lines_more f n old between line new so_far appended is_line =
     appended ∙ ap (λ t. t ++ line) so_far ∙ ap (λ l. (old ++ flat_map f (range_with_len 0 n)) ++ l) is_line
-    ∙ flat_map_more f old (range_with_len 0 n) n ∙ ap (λ ns. old ++ flat_map f ns) (sym (range_more 0 n n (omega arith)))
+    ∙ flat_map_more f old (range_with_len 0 n) n ∙ ap (λ ns. old ++ flat_map f ns) (sym (range_with_len_more 0 n n (omega arith)))
 
 -- the line of a page, from what the host tells of it
 pub page_line_is :

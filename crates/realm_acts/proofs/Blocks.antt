@@ -33,7 +33,7 @@ use Rattle.realm_acts.specs.Blocks.{TakenIsStep, IsGivenBack, GivenBackIsStep}
 use Rattle.realm_acts.proofs.Flags.{flag_free, taken_flag}
 use Rattle.realm_acts.proofs.Ranges.{all_of_range, of_all_range, set_each-block, map-set_each}
 
-take_is_forward : (history : List Event) (build order first : ℕ) → IsInTurn history (by build (Take order first))
+pub take_is_forward : (history : List Event) (build order first : ℕ) → IsInTurn history (by build (Take order first))
 unfolding is_reverse
 take_is_forward history build order first = λ h. cc
 

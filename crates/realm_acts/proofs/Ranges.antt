@@ -28,7 +28,7 @@ of_all_range P first count all k low high =
 
 -- ---- whether a number is in a range
 
-in_range_from : (first count k : ℕ) → first ≤ k → k < first + count → is_in k (range_with_len first count) ≡ true
+pub in_range_from : (first count k : ℕ) → first ≤ k → k < first + count → is_in k (range_with_len first count) ≡ true
 in_range_from first zero k low high = absurd (omega arith)
 in_range_from first (suc count) k low high = ⊎_elim
     (λ same. subst (λ n. is_in k (n ∷ range_with_len (first + 1) count) ≡ true) same (is_in_head k (range_with_len (first + 1) count)))
@@ -38,11 +38,11 @@ in_range_from first (suc count) k low high = ⊎_elim
     above : (k first : ℕ) → (k ≡ first → ⊥) → first ≤ k → first + 1 ≤ k
     above k first other low = omega arith
 
-record IsBetween (first count k : ℕ) : Type 0 where
-  low : first ≤ k
-  high : k < first + count
+pub record IsBetween (first count k : ℕ) : Type 0 where
+  pub low : first ≤ k
+  pub high : k < first + count
 
-range_in : (first count k : ℕ) → is_in k (range_with_len first count) ≡ true → IsBetween first count k
+pub range_in : (first count k : ℕ) → is_in k (range_with_len first count) ≡ true → IsBetween first count k
 range_in first zero k h = cc
 range_in first (suc count) k h = ⊎_elim
     (λ same. record { low = omega arith; high = omega arith })

@@ -42,11 +42,11 @@ other_key m n apart = false_from (eq_by_cmp nat_cmp m n) (λ same. apart (nat_pl
 -- ---- what is open
 
 -- the number and the granule of the REC that a reverse removes
-abbrev rec_removed : Act → List (ℕ × ℕ)
+abbrev pub rec_removed : Act → List (ℕ × ℕ)
 rec_removed (UnRec granule auxiliaries number) = (number, granule) ∷ []
 rec_removed _ = []
 
-removed_as_made : (newest act : Act) → reverse_of newest ≡ Some act → rec_made newest ≡ rec_removed act
+pub removed_as_made : (newest act : Act) → reverse_of newest ≡ Some act → rec_made newest ≡ rec_removed act
 unfolding reverse_of
 removed_as_made (Take order first) act is = ap rec_removed (same_Some _ _ is)
 removed_as_made (Delegate granule) act is = ap rec_removed (same_Some _ _ is)

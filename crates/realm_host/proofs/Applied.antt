@@ -23,7 +23,7 @@ use Rattle.realm_model.specs.Undoing.{by}
 use Rattle.realm_model.specs.Update.{Update, Put, Outcome}
 use Rattle.realm_model.specs.World.{World, is_leased_to, realm_of}
 use Rattle.realm_model.proofs.HistoryParts.{split}
-use Rattle.realm_model.proofs.Leases.{leased, leased_all}
+use Rattle.realm_model.proofs.Leases.{leased, leased_all, all_leased}
 use Rattle.realm_model.proofs.StepSays.{step_is}
 use Rattle.realm_acts.proofs.Forward.{holder_is}
 use Rattle.rmi_monitor.specs.View.{MonitorView}
@@ -56,13 +56,6 @@ legal_next host legal build act more = at (replay host.limits (host.history ++ b
         }
 
 -- ---- leases
-
--- what is asked of each granule by a test
-pub each_leased : (lease : Option ℕ) (leases : List (Option ℕ)) (gs : List ℕ) → list_all (is_leased_to lease leases) gs ≡ true → All (λ g. slice_get leases g ≡ Some lease) gs
-each_leased lease leases [] h = All-nil (λ g. slice_get leases g ≡ Some lease)
-each_leased lease leases (g ∷ gs) h =
-    let parts = and_parts _ _ h in
-    All-cons (λ (x : ℕ). slice_get leases x ≡ Some lease) g gs (leased lease leases g parts.0) (each_leased lease leases gs parts.1)
 
 -- ---- a block
 
@@ -167,7 +160,7 @@ can_apply_act host build act there forward command room leased_named in_range fi
   asked = record {
     command = command;
     there = there;
-    granules = each_leased (Some build) (world_of host).leases (named act) leased_named;
+    granules = all_leased (Some build) (world_of host).leases (named act) leased_named;
     in_range = in_range;
     fitting = fitting;
   };

@@ -20,7 +20,7 @@ use Rattle.realm_model.proofs.StepSays.{step_is}
 use Rattle.realm_model.specs.Running.{next_number}
 use Rattle.realm_model.specs.Undoing.{by}
 use Rattle.realm_model.proofs.Leases.{leased as leased_to}
-use Rattle.realm_model.proofs.Lists.{is_in_head, is_in_more}
+use Rattle.realm_model.proofs.Lists.{is_in_head, is_in_more, is_in_at}
 use Rattle.realm_model.proofs.Pages.{is_in-pages_of}
 use Rattle.realm_acts.specs.Mirror.{rd_of}
 use Rattle.build_commands.specs.declared.cmd.Cmd.{Cmd}
@@ -53,12 +53,6 @@ forward_turn history build act forward = λ reverse. absurd (never (is_reverse a
     never : (t : Bool) → t ≡ false → IsTrue t → ⊥
     never true e h = cc
     never false e h = cc
-
--- what stands at a place is in the list
-is_in-at : (xs : List ℕ) (place x : ℕ) → slice_get xs place ≡ Some x → is_in x xs ≡ true
-is_in-at [] place x e = cc
-is_in-at (y ∷ xs) zero x e = subst (λ n. is_in n (y ∷ xs) ≡ true) (same_Some _ _ e) (is_in_head y xs)
-is_in-at (y ∷ xs) (suc place) x e = is_in_more x y xs (is_in-at xs place x e)
 
 -- ---- commands but a Take
 
@@ -145,7 +139,7 @@ module _ (host : HostView) (legal : IsLegal host.limits host.history) (build : �
       leased : (page granule : ℕ) → slice_get (pages_of build host.history) page ≡ Some granule → slice_get world.leases granule ≡ Some (Some build)
       leased page granule at =
           leased_to (Some build) world.leases granule
-          (sym (is_in-pages_of host.limits build host.history world legal (world_is host legal) granule) ∙ is_in-at (pages_of build host.history) page granule at)
+          (sym (is_in-pages_of host.limits build host.history world legal (world_is host legal) granule) ∙ is_in_at (pages_of build host.history) page granule at)
 
   -- ---- what was picked is what is there
 

@@ -12,7 +12,7 @@ use Rattle.realm_model.specs.Undoing.{by}
 use Rattle.rmi_monitor.specs.View.{MonitorView, IsGivable, with_block, without_block}
 use Rattle.realm_acts.specs.Mirror.{IsPerformed}
 use Rattle.realm_acts.specs.Blocks.{IsGivenBack}
-use Rattle.realm_acts.proofs.Blocks.{taken_is_step, given_back_is_step}
+use Rattle.realm_acts.proofs.Blocks.{taken_is_step, given_back_is_step, take_is_forward}
 use Rattle.build_books.specs.View.{HostView, world_of, open_of, with_event}
 use Rattle.build_books.specs.Kept.{CanRecord}
 use Rattle.realm_host.specs.Host.{IsWhole}
@@ -20,17 +20,6 @@ use Rattle.realm_host.specs.Refusals.{no_block}
 use Rattle.realm_host.specs.Acting.{HasRoomFor, IsRecorded}
 use Rattle.realm_host.proofs.FreeBlocks.{some_block, none_block}
 use Rattle.realm_host.proofs.Recorded.{can_record, whole_after, is_recorded}
-
-forward : (order first : ℕ) → is_reverse (Take order first) ≡ false
-unfolding is_reverse
-forward order first = refl
-
-take_forward : (history : List Event) (build order first : ℕ) → IsInTurn history (by build (Take order first))
-take_forward history build order first = λ reverse. absurd (never (is_reverse (Take order first)) (forward order first) reverse)
-  where
-    never : (t : Bool) → t ≡ false → IsTrue t → ⊥
-    never true e h = cc
-    never false e h = cc
 
 untake_takes_none : (order first : ℕ) → room_taken (UnTake order first) ≡ 0
 unfolding room_taken is_reverse reverse_of
@@ -63,7 +52,7 @@ module _ (books : HostView) (monitor : MonitorView) (whole : IsWhole books monit
         (taken_is_step books.limits books.history (world_of books) monitor build order first whole.mirror there low free)
 
     pub can_take : CanRecord books build (Take order first)
-    can_take = can_record books monitor whole now view_is build (Take order first) new taken (take_forward books.history build order first)
+    can_take = can_record books monitor whole now view_is build (Take order first) new taken (take_is_forward books.history build order first)
         (subst (λ (h : HostView). HasRoomFor h build (Take order first)) (sym view_is) room_now)
 
     module _ (new_books : HostView) (recorded : new_books ≡ with_event books build (Take order first)) where

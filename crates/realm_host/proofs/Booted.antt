@@ -13,11 +13,8 @@ use Rattle.realm_acts.proofs.Fresh.{fresh_is_mirror}
 use Rattle.build_books.specs.View.{HostView}
 use Rattle.build_books.specs.Booted.{booted}
 use Rattle.build_books.proofs.Worlds.{world_of-replay}
+use Rattle.build_books.proofs.Empty.{replay-nil}
 use Rattle.realm_host.specs.Host.{IsInRange, IsWhole}
-
-replay-nil : (limits : Limits) → replay limits [] ≡ Some (opening limits)
-unfolding after
-replay-nil limits = refl
 
 pub whole_booted : (books : HostView) (monitor : MonitorView) (pages count vmids aux builds capacity : ℕ) → pages ≡ count → books ≡ booted pages vmids aux builds capacity
     → monitor ≡ fresh vmids aux count → IsInRange (record { pages = pages; vmids = vmids; aux = aux; builds = builds }) capacity → IsWhole books monitor

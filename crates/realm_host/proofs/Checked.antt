@@ -12,28 +12,10 @@ use Rattle.build_commands.specs.declared.refusal.Refusal.TheVariants.{RealmThere
 use Rattle.build_commands.specs.Desk.{DeskView}
 use Rattle.build_commands.specs.Needs.{operands, needs_of}
 use Rattle.build_commands.specs.Checks.{Check, build_checks, order_checks, page_checks, realm_checks, journal_checks, room_checks, vmid_checks, state_checks, checks_of, first_that_holds}
+use Rattle.build_commands.proofs.Refused.{first_passes}
+use Rattle.realm_model.proofs.Booleans.{not_false}
 
 -- ---- lists of checks
-
-pub passes : (checks more : List Check) → first_that_holds checks ≡ None → first_that_holds (checks ++ more) ≡ first_that_holds more
-passes [] more none = refl
-passes (check ∷ checks) more none = at check.0 refl none (passes checks more)
-  where
-    at : (t : Bool) → check.0 ≡ t → cond t (Some check.1) (first_that_holds checks) ≡ None
-        → (first_that_holds checks ≡ None → first_that_holds (checks ++ more) ≡ first_that_holds more)
-        → cond check.0 (Some check.1) (first_that_holds (checks ++ more)) ≡ first_that_holds more
-    at true is e rest = cc
-    at false is e rest = ap (λ t. cond t (Some check.1) (first_that_holds (checks ++ more))) is ∙ rest e
-
-pub stops : (checks more : List Check) (refusal : Refusal) → first_that_holds checks ≡ Some refusal → first_that_holds (checks ++ more) ≡ Some refusal
-stops [] more refusal some = cc
-stops (check ∷ checks) more refusal some = at check.0 refl some (stops checks more refusal)
-  where
-    at : (t : Bool) → check.0 ≡ t → cond t (Some check.1) (first_that_holds checks) ≡ Some refusal
-        → (first_that_holds checks ≡ Some refusal → first_that_holds (checks ++ more) ≡ Some refusal)
-        → cond check.0 (Some check.1) (first_that_holds (checks ++ more)) ≡ Some refusal
-    at true is e rest = ap (λ t. cond t (Some check.1) (first_that_holds (checks ++ more))) is ∙ e
-    at false is e rest = ap (λ t. cond t (Some check.1) (first_that_holds (checks ++ more))) is ∙ rest e
 
 first_none : (checks more : List Check) → first_that_holds (checks ++ more) ≡ None → first_that_holds checks ≡ None
 first_none [] more none = refl
@@ -45,7 +27,7 @@ first_none (check ∷ checks) more none = at check.0 refl none (first_none check
     at false is e rest = ap (λ t. cond t (Some check.1) (first_that_holds checks)) is ∙ rest e
 
 rest_none : (checks more : List Check) → first_that_holds (checks ++ more) ≡ None → first_that_holds more ≡ None
-rest_none checks more none = sym (passes checks more (first_none checks more none)) ∙ none
+rest_none checks more none = sym (first_passes checks more (first_none checks more none)) ∙ none
 
 pub head_false : (check : Check) (checks : List Check) → first_that_holds (check ∷ checks) ≡ None → check.0 ≡ false
 head_false check checks none = at check.0 refl none
@@ -55,10 +37,6 @@ head_false check checks none = at check.0 refl none
     at false is e = is
 
 -- ---- the checks of a command
-
-not_false : (t : Bool) → not t ≡ false → t ≡ true
-not_false true e = refl
-not_false false e = cc
 
 -- the realm that is wanted is there, or not
 abbrev pub IsWanted : Wants → Bool → Type 0

@@ -14,26 +14,15 @@ use Rattle.realm_model.proofs.Leases.{leased, leased_from}
 use Rattle.realm_model.proofs.Lists.{all_from_in, all_in}
 use Rattle.realm_host.specs.Refusals.{is_free_block}
 use Rattle.realm_host.proofs.Ranges.{in_range_from, range_in, any_from, none_from}
+use Rattle.realm_acts.proofs.Flags.{flag_free, taken_flag}
 
 -- ---- one granule
-
-pub flag_free : (leases : List (Option ℕ)) (g : ℕ) → is_free (map is_none leases) g ≡ true → slice_get leases g ≡ Some None
-flag_free [] g h = cc
-flag_free (None ∷ leases) zero h = refl
-flag_free (Some b ∷ leases) zero h = cc
-flag_free (lease ∷ leases) (suc g) h = flag_free leases g h
 
 pub free_flag : (leases : List (Option ℕ)) (g : ℕ) → slice_get leases g ≡ Some None → is_free (map is_none leases) g ≡ true
 free_flag [] g h = cc
 free_flag (None ∷ leases) zero h = refl
 free_flag (Some b ∷ leases) zero h = cc
 free_flag (lease ∷ leases) (suc g) h = free_flag leases g h
-
-pub taken_flag : (leases : List (Option ℕ)) (g b : ℕ) → slice_get leases g ≡ Some (Some b) → is_free (map is_none leases) g ≡ false
-taken_flag [] g b h = cc
-taken_flag (None ∷ leases) zero b h = cc
-taken_flag (Some c ∷ leases) zero b h = refl
-taken_flag (lease ∷ leases) (suc g) b h = taken_flag leases g b h
 
 -- ---- a block
 

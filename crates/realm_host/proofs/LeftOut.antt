@@ -18,6 +18,7 @@ use Rattle.build_books.specs.View.{HostView, world_of, with_event}
 use Rattle.build_books.specs.Kept.{HasRoom}
 use Rattle.build_books.proofs.Worlds.{world_is, world_of-replay}
 use Rattle.realm_host.specs.Recorded.{CanApply, fresh_like, IsWithout}
+use Rattle.granule_addr.proofs.Same.{same_each}
 
 -- ---- each event of a list is accepted after those before it
 
@@ -42,14 +43,8 @@ pub nothing_yet : (host : HostView) (build : ℕ) (fresh : HostView) → fresh �
 unfolding after
 nothing_yet host build fresh is = subst (IsSoFar host build 0) (sym is) (record { fresh_is = refl; legal = record { steps = refl; in_turn = tt } })
 
--- in a list of one thing, that thing stands at each place
-one_thing : {X : Type 0} (n place : ℕ) (x : X) → get_or (replicate n x) place x ≡ x
-one_thing zero place x = refl
-one_thing (suc n) zero x = refl
-one_thing (suc n) (suc place) x = one_thing n place x
-
 same_thing : {X : Type 0} (n place : ℕ) (x y : X) → y ≡ x → set (replicate n x) place y ≡ replicate n x
-same_thing n place x y same = ap (set (replicate n x) place) (same ∙ sym (one_thing n place x)) ∙ set-get_or (replicate n x) place x
+same_thing n place x y same = ap (set (replicate n x) place) (same ∙ sym (same_each n place x)) ∙ set-get_or (replicate n x) place x
 
 module _ (host : HostView) (legal : IsLegal host.limits host.history) (room : (b : ℕ) → HasRoom host b) (build : ℕ) where
   all_accepted : AllAccepted host.limits host.capacity 512 [] (erase build host.history)
@@ -95,8 +90,8 @@ module _ (host : HostView) (legal : IsLegal host.limits host.history) (room : (b
       goes_on new is = subst (IsSoFar host build (count + 1)) (sym is) (record {
         fresh_is = ap (λ (h : HostView). with_event h event.build event.act) so_far.fresh_is ∙ (λ i. record (fresh_like host) {
           history = sym erased_more i;
-          aborting = same_thing host.limits.builds event.build false _ (ap (λ t. t && nat_lt 0 opened) (one_thing host.limits.builds event.build false)) i;
-          marks = same_thing host.limits.builds event.build None _ (ap (mark_while opened) (one_thing host.limits.builds event.build no_mark)) i;
+          aborting = same_thing host.limits.builds event.build false _ (ap (λ t. t && nat_lt 0 opened) (same_each host.limits.builds event.build false)) i;
+          marks = same_thing host.limits.builds event.build None _ (ap (mark_while opened) (same_each host.limits.builds event.build no_mark)) i;
         });
         legal = can_apply.legal;
       })

@@ -1,5 +1,5 @@
 -- Tests that hold or fail, and options that have a value or none.
-use Rattle.std.proofs.Common.{◌≡◌, Bool, true, false, cond, ◌||◌, not, Option, Some, None, refl}
+use Rattle.std.proofs.Common.{◌≡◌, Bool, true, false, cond, ◌&&◌, ◌||◌, not, Option, Some, None, refl}
 use Rattle.std.specs.Prelude.{is_some, is_none, option_map}
 
 pub or_parts : (s t : Bool) → (s || t) ≡ false → (s ≡ false) × (t ≡ false)
@@ -13,6 +13,10 @@ or_true false = refl
 pub or_none : (t : Bool) → (t || false) ≡ t
 or_none true = refl
 or_none false = refl
+
+pub and_false : (t : Bool) → (t && false) ≡ false
+and_false true = refl
+and_false false = refl
 
 -- one choice after another of the same
 pub cond_or : {A : Type 0} (s t : Bool) (x y : A) → cond t x (cond s x y) ≡ cond (s || t) x y

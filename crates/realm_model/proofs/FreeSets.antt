@@ -13,13 +13,9 @@ use Rattle.realm_model.specs.Command.Check.{is_in}
 use Rattle.realm_model.proofs.Lists.{Contains-from_in, in_from_Contains}
 use Rattle.realm_model.proofs.Leases.{leased}
 use Rattle.realm_model.proofs.Pages.{is_in-pages_of}
-use Rattle.realm_model.proofs.Booleans.{or_true}
+use Rattle.realm_model.proofs.Booleans.{or_true, and_false}
 
 -- ---- the free set
-
-and_false : (t : Bool) → (t && false) ≡ false
-and_false true = refl
-and_false false = refl
 
 is_in-filter : (p : ℕ → Bool) (k : ℕ) (xs : List ℕ) → is_in k (filter p xs) ≡ (is_in k xs && p k)
 is_in-filter p k [] = refl

@@ -8,6 +8,7 @@ pub mod Roots
 pub mod Outcomes
 pub mod Walks
 pub mod Leases
+pub mod Lengths
 pub mod RealmOf
 pub mod Written
 pub mod NewRealms

@@ -46,6 +46,10 @@ pub check_true : (t : Bool) (rmi : Rmi) (o : Outcome) → t ≡ true → check t
 unfolding check
 check_true t rmi o h = ap (λ s. cond s o (Err rmi)) h
 
+pub check_false : (t : Bool) (rmi : Rmi) (o : Outcome) → t ≡ false → check t rmi o ≡ Err rmi
+unfolding check
+check_false t rmi o h = ap (λ s. cond s o (Err rmi)) h
+
 pub realm_there : (rd : Seen) (f : RealmRow → Outcome) (d : RealmRow) → rd.cell.descriptor ≡ Some d → with_realm rd f ≡ f d
 unfolding with_realm
 realm_there rd f d h = ap (λ o. elim o [ Some realm ↦ f realm | None ↦ Err error_input ]) h

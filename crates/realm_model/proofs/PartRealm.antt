@@ -19,7 +19,7 @@ use Rattle.realm_model.proofs.Reaching.{state_leased}
 use Rattle.realm_model.proofs.ZeroPages.{IsKept}
 use Rattle.realm_model.proofs.RunningRecs.{running}
 
-realm_from_some : (b n : ℕ) (leases : List (Option ℕ)) (machine : Machine) (rd : Seen) → realm_from b n leases machine ≡ Some rd → is_some rd.cell.descriptor ≡ true
+pub realm_from_some : (b n : ℕ) (leases : List (Option ℕ)) (machine : Machine) (rd : Seen) → realm_from b n leases machine ≡ Some rd → is_some rd.cell.descriptor ≡ true
 unfolding realm_from
 realm_from_some b n [] machine rd e = cc
 realm_from_some b n (l ∷ leases) [] rd e = cc

@@ -79,7 +79,7 @@ unfolding drop_rows
 get-drop_rows rows level first count q =
     get-retain_keys rows (λ k. not (is_among level first count k)) q (λ x e. ap (λ k. not (is_among level first count k)) (sym (place_cmp-IsAntisymmetric q x e)))
 
-covered_pos : (level : ℕ) → 1 ≤ covered_count level
+pub covered_pos : (level : ℕ) → 1 ≤ covered_count level
 covered_pos level =
     elim (level == 1) as (λ t. 1 ≤ cond t (2 ^ 18) (cond (level == 2) (2 ^ 9) 1)) [
       | true ↦ lit≤ tt

@@ -12,28 +12,9 @@ use Rattle.realm_model.specs.Machine.{RecRow}
 use Rattle.realm_model.specs.Running.{is_rec_running}
 use Rattle.realm_model.proofs.Booleans.{false_from}
 use Rattle.realm_model.proofs.Maps.{nat_place}
+use Rattle.granule_addr.proofs.Runs.{range_with_len_more}
 
 -- ---- numbers in a row that pass a test
-
-range_more : (a n : ℕ) → range_with_len a (n + 1) ≡ range_with_len a n ++ (a + n) ∷ []
-range_more a zero = one a
-  where
-    one : (a : ℕ) → range_with_len a (0 + 1) ≡ (a + 0) ∷ []
-    one a = (λ i. range_with_len a (one_is i)) ∙ (λ i. plus_zero a i ∷ [])
-      where
-        one_is : 0 + 1 ≡ 1
-        one_is = refl
-
-        plus_zero : (a : ℕ) → a ≡ a + 0
-        plus_zero a = omega arith
-range_more a (suc n) =
-    (λ i. range_with_len a (count n i)) ∙ ap (λ r. a ∷ r) (range_more (a + 1) n ∙ (λ i. range_with_len (a + 1) n ++ last a n i ∷ []))
-  where
-    count : (n : ℕ) → suc n + 1 ≡ suc (n + 1)
-    count n = omega arith
-
-    last : (a n : ℕ) → a + 1 + n ≡ a + suc n
-    last a n = omega arith
 
 module _ (p q : ℕ → Bool) (n : ℕ) (same : (k : ℕ) → k ≢ n → q k ≡ p k) where
   -- where they differ in one number, which is not among them
@@ -132,7 +113,7 @@ running-stop recs next n rec below on off =
 pub running-new : (recs : FinMap nat_cmp RecRow) (next : ℕ) (rec : RecRow) → is_rec_running (Some rec) ≡ false → running (insert recs next rec) (next + 1) ≡ running recs next
 running-new recs next rec off =
     ap length (
-    ap (filter (runs (insert recs next rec))) (range_more 0 next)
+    ap (filter (runs (insert recs next rec))) (range_with_len_more 0 next (0 + next) refl)
     ∙ filter-append (runs (insert recs next rec)) (range_with_len 0 next) ((0 + next) ∷ [])
     ∙ (λ i. same 0 next (omega arith) i ++ cond (last i) ((0 + next) ∷ []) [])
     ∙ append-nil (filter (runs recs) (range_with_len 0 next)))

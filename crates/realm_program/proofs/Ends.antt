@@ -8,23 +8,13 @@ use Rattle.realm_plan.specs.declared.fault.PlanError.{PlanError}
 use Rattle.realm_plan.specs.declared.fault.PlanError.TheVariants as plan_error
 use Rattle.realm_program.specs.Fault.{fault_of_plan}
 use Rattle.told_device.specs.Whole.{AppendsFront}
+use Rattle.told_device.proofs.Read.{keeps_same}
 use Rattle.realm_program.specs.Whole.{kept_of}
 use Rattle.realm_program.specs.Replay.{IsAskedText, IsWithoutText, IsTextOf, IsPrinted, IsEnd}
 use Rattle.realm_program.specs.declared.fault.Fault.{Fault}
 use Rattle.realm_program.specs.declared.fault.Fault.TheVariants.{Plan as PlanIsFaulty, EraseNamesNoBuild, Memory, Mismatch, Device}
 use Rattle.realm_program.specs.declared.input.ReadError.TheVariants.{Device as ReadDevice}
-use Rattle.realm_program.proofs.KeptPlan.{plan_of-kept_of}
-
--- nothing was written
-pub keeps_same : (known : Option (List ℕ)) → Keeps known known
-keeps_same None = tt
-keeps_same (Some bytes) = refl
-
--- what is read of the kept bytes is read of the input
-read_of : (input : Option (List ℕ)) (bytes : List ℕ) (outcome : Result Plan PlanFault)
-    → IfSome input (λ xs. bytes ≡ kept_of xs) → plan_of bytes ≡ outcome → IfSome input (λ xs. plan_of xs ≡ outcome)
-read_of None bytes outcome kept read = tt
-read_of (Some xs) bytes outcome kept read = sym (plan_of-kept_of xs) ∙ ap plan_of (sym kept) ∙ read
+use Rattle.realm_program.proofs.KeptPlan.{plan_from_kept}
 
 -- no plan, or no memory for it
 pub no_plan :
@@ -33,7 +23,7 @@ pub no_plan :
     → Fails error (plan_of bytes)
     → IsEnd unread erase input output output (Err (fault_of_plan error))
 no_plan unread erase input output bytes plan_error.Memory kept fails = keeps_same output
-no_plan unread erase input output bytes (plan_error.Fault fault) kept fails = (read_of input bytes (Err fault) kept fails, keeps_same output)
+no_plan unread erase input output bytes (plan_error.Fault fault) kept fails = (plan_from_kept input bytes (Err fault) kept fails, keeps_same output)
 
 -- a plan, and no text of it
 pub no_text :
@@ -44,7 +34,7 @@ pub no_text :
     → IsEnd unread erase input output output (Err fault)
 no_text unread erase input output bytes plan Memory kept is_plan none = keeps_same output
 no_text unread (Some build) input output bytes plan EraseNamesNoBuild kept is_plan none =
-    (record { plan = plan; of_input = read_of input bytes (Ok plan) kept is_plan; no_text = none }, keeps_same output)
+    (record { plan = plan; of_input = plan_from_kept input bytes (Ok plan) kept is_plan; no_text = none }, keeps_same output)
 no_text unread None input output bytes plan EraseNamesNoBuild kept is_plan none = absurd none
 no_text unread erase input output bytes plan (PlanIsFaulty fault) kept is_plan none = absurd none
 no_text unread erase input output bytes plan Mismatch kept is_plan none = absurd none
@@ -64,7 +54,7 @@ pub text_of_input :
     → IsTextOf erase input text
 text_of_input erase input bytes plan text kept is_plan is_text = record {
   plan = plan;
-  of_input = read_of input bytes (Ok plan) kept is_plan;
+  of_input = plan_from_kept input bytes (Ok plan) kept is_plan;
   is_text = is_text;
 }
 

@@ -7,16 +7,6 @@ use Rattle.std.proofs.Math.Seq.{take-append_seam}
 use Rattle.std.proofs.lemmas.List.{take_all}
 use Rattle.realm_program.specs.Whole.{kept_of}
 
-pub consumes_none : (old : Option (List ℕ)) → Consumes old old []
-consumes_none None = tt
-consumes_none (Some xs) = refl
-
-pub consumes_more : (a b c : Option (List ℕ)) (front more : List ℕ) → Consumes a b front → Consumes b c more → Consumes a c (front ++ more)
-consumes_more None b c front more h k = tt
-consumes_more (Some xs) None c front more h k = absurd h
-consumes_more (Some xs) (Some ys) None front more h k = absurd k
-consumes_more (Some xs) (Some ys) (Some zs) front more h k = h ∙ ap (λ t. front ++ t) k ∙ sym (append_assoc front more zs)
-
 -- so many bytes were read
 taken_at_limit : (kept : ℕ) (xs ys front : List ℕ) → xs ≡ front ++ ys → length front ≡ kept → front ≡ take kept xs
 taken_at_limit kept xs ys front joined full = rw (joined, ← full) (sym (take-append_seam front ys))

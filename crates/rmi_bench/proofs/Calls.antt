@@ -8,19 +8,15 @@ use Rattle.realm_model.specs.Update.{Outcome}
 use Rattle.realm_model.specs.Command.Check.{check, error_input}
 use Rattle.std.proofs.lemmas.Option.{same_Some, none-some}
 use Rattle.granule_addr.specs.declared.root.Root.{Root}
-use Rattle.realm_model.proofs.Booleans.{guarded}
-use Rattle.realm_model.proofs.Outcomes.{check_true}
+use Rattle.realm_model.proofs.Booleans.{guarded, and_false}
+use Rattle.realm_model.proofs.Outcomes.{check_true, check_false}
 use Rattle.rmi_monitor.specs.View.{MonitorView, IsOnRec, Answers, after_command, seen_in, make_realm}
 use Rattle.rmi_monitor.specs.Named.{rec_named}
-use Rattle.rmi_monitor.proofs.Outcomes.{answers_err, after_err, check_false}
+use Rattle.rmi_monitor.proofs.Outcomes.{answers_err, after_err}
 use Rattle.rmi_monitor.proofs.RecNamed.{named_some, named_none}
 use Rattle.rmi_bench.specs.Calls.{is_inside, naming, on_rec, Does}
 
 -- ---- which granules are inside
-
-pub no : (t : Bool) → (t && false) ≡ false
-no true = refl
-no false = refl
 
 module _ (monitor : MonitorView) where
   abbrev AreInside : List ℕ → Bool → Type 0
@@ -30,10 +26,10 @@ module _ (monitor : MonitorView) where
   out_first a gs h = ap (λ t. t && list_all (is_inside monitor) gs) h
 
   pub out_second : (a b : ℕ) (gs : List ℕ) → is_inside monitor b ≡ false → AreInside (a ∷ b ∷ gs) false
-  out_second a b gs h = ap (λ t. is_inside monitor a && t) (out_first b gs h) ∙ no (is_inside monitor a)
+  out_second a b gs h = ap (λ t. is_inside monitor a && t) (out_first b gs h) ∙ and_false (is_inside monitor a)
 
   pub out_third : (a b c : ℕ) (gs : List ℕ) → is_inside monitor c ≡ false → AreInside (a ∷ b ∷ c ∷ gs) false
-  out_third a b c gs h = ap (λ t. is_inside monitor a && t) (out_second b c gs h) ∙ no (is_inside monitor a)
+  out_third a b c gs h = ap (λ t. is_inside monitor a && t) (out_second b c gs h) ∙ and_false (is_inside monitor a)
 
   pub in_one : (a : ℕ) → is_inside monitor a ≡ true → AreInside (a ∷ []) true
   in_one a h = ap (λ t. t && true) h
@@ -103,10 +99,6 @@ does_inside inner monitor comes outcome result new view_is same answer machine =
 pub given : (t : Bool) (n x : ℕ) (read : Option ℕ) → read ≡ cond t (Some n) None → read ≡ Some x → (t ≡ true) × (n ≡ x)
 given t n x read is some = let parts = guarded t (Some n) x (sym is ∙ some) in (parts.0, same_Some n x parts.1)
 
-pub not_given : (t : Bool) (n : ℕ) (read : Option ℕ) → read ≡ cond t (Some n) None → read ≡ None → t ≡ false
-not_given true n read is none = absurd (none-some n (sym none ∙ is))
-not_given false n read is none = refl
-
 -- the answer behind a check that holds, and where one fails
 pub answers_checked : {A : Type 0} (t : Bool) → t ≡ true → (result : Result A Rmi) (outcome : Outcome) → Answers result outcome → Answers result (check t error_input outcome)
 answers_checked t holds result outcome answer = subst (Answers result) (sym (check_true t error_input outcome holds)) answer
@@ -118,7 +110,7 @@ answers_unchecked {A} t fails result outcome refused =
 -- ---- a VMID that no realm has
 
 third_last_false : (before t u v : Bool) → t ≡ false → (before && t && u && v) ≡ false
-third_last_false before t u v h = ap (λ s. before && s && u && v) h ∙ ap (λ s. s && u && v) (no before)
+third_last_false before t u v h = ap (λ s. before && s && u && v) h ∙ ap (λ s. s && u && v) (and_false before)
 
 pub no_vmid : (monitor : MonitorView) (rd : ℕ) (root : Root) (vmid : ℕ) → nat_le 1 vmid ≡ false → make_realm monitor rd root vmid ≡ Err error_input
 no_vmid monitor rd root vmid h = check_false _ error_input _ (third_last_false _ (nat_le 1 vmid) _ _ h)

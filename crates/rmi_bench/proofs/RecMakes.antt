@@ -9,8 +9,8 @@ use Rattle.realm_model.specs.Machine.{RealmRow, Seen}
 use Rattle.realm_model.specs.Update.{Outcome}
 use Rattle.realm_model.specs.Command.Check.{check, error_input, with_realm}
 use Rattle.realm_model.specs.Command.Rec.{rec_create}
+use Rattle.realm_model.proofs.Outcomes.{check_false}
 use Rattle.rmi_monitor.specs.View.{MonitorView, Answers, seen_in}
-use Rattle.rmi_monitor.proofs.Outcomes.{check_false}
 use Rattle.rmi_bench.specs.Calls.{is_inside, has_number, naming, numbered, Does}
 use Rattle.rmi_bench.proofs.Calls.{no, does_refused}
 

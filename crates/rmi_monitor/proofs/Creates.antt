@@ -22,6 +22,7 @@ use Rattle.realm_model.specs.Command.Check.{check, error_input, is_delegated, is
 use Rattle.realm_model.specs.Command.Realm.{is_start, new_realm}
 use Rattle.realm_model.proofs.Booleans.{not_true}
 use Rattle.realm_model.proofs.Lists.{all_in}
+use Rattle.realm_model.proofs.Outcomes.{check_false}
 use Rattle.realm_objects.specs.Attributes.{RealmAttributes, realm_row}
 use Rattle.rtt.specs.Tables.{rows}
 use Rattle.rtt.specs.Calls.{with_state, with_states, Keeps}
@@ -32,7 +33,6 @@ use Rattle.granule_addr.specs.Vmids.{is_used, IsMarked}
 use Rattle.rmi_monitor.proofs.Granules.{machine_is, as_many_granules, cell_is, in_granules, after_done}
 use Rattle.rmi_monitor.proofs.Checks.{delegated_state, delegated_test}
 use Rattle.rmi_monitor.proofs.Comparisons.{test_held, test_failed}
-use Rattle.rmi_monitor.proofs.Outcomes.{check_false}
 use Rattle.rmi_monitor.proofs.UsedVmids.{any_used}
 use Rattle.rmi_monitor.proofs.RealmCreates.{CanStart, tables_delegated, whole_created, machine_created}
 

@@ -15,7 +15,7 @@ use Rattle.realm_model.specs.Machine.{Cell, RealmRow, held}
 use Rattle.realm_model.specs.Update.{Put, Outcome}
 use Rattle.realm_model.specs.Command.Check.{check, error_input, error_realm, error_rtt, is_delegated, is_undelegated, is_new, put_realm}
 use Rattle.realm_model.specs.Command.Data.{data_create}
-use Rattle.realm_model.proofs.Outcomes.{check_true}
+use Rattle.realm_model.proofs.Outcomes.{check_true, check_false}
 use Rattle.realm_objects.specs.Attributes.{RealmAttributes, realm_row}
 use Rattle.rtt.specs.declared.tables.Tables.{Tables}
 use Rattle.rtt.specs.Tables.{rows}
@@ -25,7 +25,7 @@ use Rattle.rmi_monitor.specs.Inside.{Fields, realm_at, bytes_of, seen_as, IsWhol
 use Rattle.rmi_monitor.specs.Places.{is_delegated_at, is_undelegated_at}
 use Rattle.rmi_monitor.proofs.Checks.{delegated_state, undelegated_state}
 use Rattle.rmi_monitor.proofs.Granules.{in_granules, cell_is, seen_delegated, seen_undelegated}
-use Rattle.rmi_monitor.proofs.Outcomes.{check_false, answers_ok}
+use Rattle.rmi_monitor.proofs.Outcomes.{answers_ok}
 use Rattle.rmi_monitor.proofs.DataMaps.{MapCall, Mapped, map_call_at, mapped_by, rows_kept, page_written, mapped_written, mapped_whole, mapped_seen}
 use Rattle.rmi_monitor.proofs.Located.{IsLocated}
 use Rattle.rmi_monitor.proofs.Refusals.{Passes, passed_row, row_passes}

@@ -12,7 +12,7 @@ use Rattle.realm_model.specs.Machine.{RealmRow, left}
 use Rattle.realm_model.specs.Update.{Put, Outcome}
 use Rattle.realm_model.specs.Command.Check.{error_input, error_rtt, with_granule, put_realm}
 use Rattle.realm_model.specs.Command.Data.{data_destroy}
-use Rattle.realm_model.proofs.Outcomes.{check_true, granule_there}
+use Rattle.realm_model.proofs.Outcomes.{check_true, granule_there, check_false}
 use Rattle.realm_objects.specs.Attributes.{RealmAttributes}
 use Rattle.rtt.specs.declared.tables.Tables.{Tables}
 use Rattle.rtt.specs.Tables.{rows}
@@ -20,7 +20,7 @@ use Rattle.realm_model.specs.Command.Found.{with_mapped_page}
 use Rattle.rtt.specs.Calls.{with_state, LeadsTo, ChangesTablesAnd, LosesPage, Keeps, KeepsRest}
 use Rattle.rmi_monitor.specs.View.{MonitorView, IsTaken, seen_in}
 use Rattle.rmi_monitor.specs.Inside.{Fields, realm_at, seen_as, IsWhole}
-use Rattle.rmi_monitor.proofs.Outcomes.{check_false, answers_ok}
+use Rattle.rmi_monitor.proofs.Outcomes.{answers_ok}
 use Rattle.rmi_monitor.proofs.LedTo.{page_led}
 use Rattle.rmi_monitor.proofs.Located.{IsLocated}
 use Rattle.rmi_monitor.proofs.Protected.{protected_inside}

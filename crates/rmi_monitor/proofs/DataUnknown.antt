@@ -12,7 +12,7 @@ use Rattle.realm_model.specs.Machine.{RealmRow, held}
 use Rattle.realm_model.specs.Update.{Put, Outcome}
 use Rattle.realm_model.specs.Command.Check.{error_input, error_rtt, is_delegated, put_realm}
 use Rattle.realm_model.specs.Command.Data.{data_create_unknown}
-use Rattle.realm_model.proofs.Outcomes.{check_true}
+use Rattle.realm_model.proofs.Outcomes.{check_true, check_false}
 use Rattle.realm_objects.specs.Attributes.{RealmAttributes}
 use Rattle.rtt.specs.declared.tables.Tables.{Tables}
 use Rattle.rtt.specs.Tables.{rows}
@@ -22,7 +22,7 @@ use Rattle.rmi_monitor.specs.Inside.{Fields, realm_at, seen_as, IsWhole}
 use Rattle.rmi_monitor.specs.Places.{is_delegated_at}
 use Rattle.rmi_monitor.proofs.Checks.{delegated_state}
 use Rattle.rmi_monitor.proofs.Granules.{in_granules, seen_delegated}
-use Rattle.rmi_monitor.proofs.Outcomes.{check_false, answers_ok}
+use Rattle.rmi_monitor.proofs.Outcomes.{answers_ok}
 use Rattle.rmi_monitor.proofs.DataMaps.{MapCall, Mapped, map_call_at, mapped_by, mapped_whole, mapped_seen}
 use Rattle.rmi_monitor.proofs.Located.{IsLocated}
 use Rattle.rmi_monitor.proofs.Refusals.{Passes, passed_row, row_passes}

@@ -11,7 +11,7 @@ use Rattle.realm_model.specs.Machine.{RealmRow, RecRow, Seen}
 use Rattle.realm_model.specs.Update.{Outcome, PutByte}
 use Rattle.realm_model.specs.Command.Check.{check, error_input, error_rec, error_rtt, is_ready, with_end, with_granule}
 use Rattle.realm_model.specs.Command.Rec.{guest_write}
-use Rattle.realm_model.proofs.Outcomes.{check_true, end_there, granule_there}
+use Rattle.realm_model.proofs.Outcomes.{check_true, end_there, granule_there, check_false}
 use Rattle.realm_model.proofs.Walks.{walk_end}
 use Rattle.realm_objects.specs.Attributes.{RealmAttributes, RecAttributes, rec_row}
 use Rattle.rtt.specs.declared.tables.Tables.{Tables}
@@ -24,7 +24,6 @@ use Rattle.rmi_monitor.specs.Inside.{Fields, seen_as, IsWhole}
 use Rattle.rmi_monitor.proofs.DataBytes.{byte_put}
 use Rattle.rmi_monitor.proofs.Located.{IsLocated}
 use Rattle.rmi_monitor.proofs.RecFound.{IsKept, outcome_there, on_rec}
-use Rattle.rmi_monitor.proofs.Outcomes.{check_false}
 use Rattle.rmi_monitor.proofs.RealmFound.{row_of}
 
 module _ (monitor : MonitorView) (fields : Fields) (view_is : seen_as fields ≡ monitor) (whole : IsWhole fields) (granule : ℕ)

@@ -11,6 +11,7 @@ use Rattle.realm_model.specs.declared.states.GranuleState.{GranuleState}
 use Rattle.realm_model.specs.declared.states.GranuleState.TheVariants.{Undelegated, Delegated, Data as InData, Rec as InRec, RecAux as InRecAux, Rtt as InRtt}
 use Rattle.realm_model.specs.Machine.{Cell}
 use Rattle.realm_model.specs.Sound.{is_host_state, is_rd_state}
+use Rattle.realm_model.proofs.Roles.{host_no_rd}
 use Rattle.rtt.specs.Realm.{LeavesAlone}
 use Rattle.rtt.proofs.FrameLaws.{HasTables-alone}
 use Rattle.rmi_monitor.specs.Inside.{Fields, bytes_of, cell_of, machine_of, is_rec_state, IsSoundAt, IsWhole}
@@ -36,12 +37,6 @@ not_in state wanted held own is = absurd (true_is_not_false (sym own ∙ ap is_h
     true_is_not_false : true ≡ false → ⊥
     true_is_not_false e = cc
 
--- no realm and no REC stands at a granule of the host's
-pub not_rd : (s : GranuleState) → is_host_state s ≡ true → is_rd_state s ≡ false
-not_rd Undelegated h = refl
-not_rd Delegated h = refl
-not_rd _ h = cc
-
 pub not_rec : (s : GranuleState) → is_host_state s ≡ true → is_rec_state s ≡ false
 not_rec Undelegated h = refl
 not_rec Delegated h = refl
@@ -53,7 +48,7 @@ pub cell_of-host : (fields : Fields) (g : ℕ) → IsSoundAt fields g → {state
 cell_of-host fields g sound {state} at is {page} page_is =
     let host : is_host_state (granule_at fields.granules g).state ≡ true = ap is_host_state at ∙ is in
     cell_plain fields g (record { state = state; realm = None }) page (λ i. record { state = at i; realm = sound.host host i }) page_is
-    (no_realm_there fields g sound (not_rd (granule_at fields.granules g).state host))
+    (no_realm_there fields g sound (host_no_rd (granule_at fields.granules g).state host))
     ∙ ap (λ b. record { state = state; realm = None; bytes = b; descriptor = None }) (plain state is)
   where
     plain : (s : GranuleState) → is_host_state s ≡ true → bytes_of s page ≡ page
@@ -96,7 +91,7 @@ module _ (old : Fields) (whole : IsWhole old) (g : ℕ) (inside : g < length old
   sound = record {
     host = λ h. ap (λ (x : Granule). x.realm) granule_is;
     zero = λ h. page_is ∙ zero (sym state_is ∙ h);
-    rd = (whole.each g).rd ∙ not_rd (granule_at old.granules g).state was ∙ sym (ap is_rd_state state_is ∙ not_rd state is);
+    rd = (whole.each g).rd ∙ host_no_rd (granule_at old.granules g).state was ∙ sym (ap is_rd_state state_is ∙ host_no_rd state is);
     rec = (whole.each g).rec ∙ not_rec (granule_at old.granules g).state was ∙ sym (ap is_rec_state state_is ∙ not_rec state is);
   }
 

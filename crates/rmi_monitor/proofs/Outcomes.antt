@@ -24,10 +24,6 @@ after_err monitor rmi outcome e = ap (λ (o : Outcome). after_command o monitor)
 
 -- ---- what is refused
 
-pub check_false : (t : Bool) (rmi : Rmi) (rest : Outcome) → t ≡ false → check t rmi rest ≡ Err rmi
-unfolding check
-check_false t rmi rest h = ap (λ b. cond b rest (Err rmi)) h
-
 -- a granule that is no RD
 pub realm_absent : (rd : Seen) (f : RealmRow → Outcome) → rd.cell.descriptor ≡ None → with_realm rd f ≡ Err error_input
 unfolding with_realm

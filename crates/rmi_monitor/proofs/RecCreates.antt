@@ -21,7 +21,7 @@ use Rattle.realm_model.specs.Command.Check.{check, error_input, error_realm, is_
 use Rattle.realm_model.specs.Command.Rec.{rec_create}
 use Rattle.realm_model.proofs.Booleans.{not_true, true_false}
 use Rattle.realm_model.proofs.Lists.{all_in, is_in_at, is_in_head, is_in_more}
-use Rattle.realm_model.proofs.Outcomes.{check_true}
+use Rattle.realm_model.proofs.Outcomes.{check_true, check_false}
 use Rattle.realm_objects.specs.Attributes.{RealmAttributes, RecAttributes, realm_row, rec_row}
 use Rattle.rtt.specs.Tables.{rows}
 use Rattle.rmi_monitor.specs.View.{MonitorView, IsTaken, seen_in, after_command}
@@ -32,7 +32,7 @@ use Rattle.rmi_monitor.proofs.Granules.{machine_is, cell_is, in_granules, seen_d
 use Rattle.rmi_monitor.proofs.Listed.{once_from_distinct, holds_in, put_back}
 use Rattle.rmi_monitor.proofs.RecMade.{CanMake, made, new_rec, with_rec_more}
 use Rattle.rmi_monitor.proofs.RecMadeAfter.{whole_made, machine_made}
-use Rattle.rmi_monitor.proofs.Outcomes.{after_err, check_false}
+use Rattle.rmi_monitor.proofs.Outcomes.{after_err}
 use Rattle.rmi_monitor.proofs.RealmFound.{row_of, descriptor_there, nowhere, somewhere}
 use Rattle.rmi_monitor.proofs.Comparisons.{either}
 

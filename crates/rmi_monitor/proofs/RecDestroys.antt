@@ -13,7 +13,7 @@ use Rattle.realm_model.specs.Update.{Update, Put, machine_after_all}
 use Rattle.realm_model.specs.Command.Check.{check, error_rec, is_ready, put_realm, are_distinct, is_in}
 use Rattle.realm_model.specs.Command.Rec.{rec_destroy}
 use Rattle.realm_model.proofs.Lists.{is_in_head, is_in_at, is_in_more}
-use Rattle.realm_model.proofs.Outcomes.{check_true}
+use Rattle.realm_model.proofs.Outcomes.{check_true, check_false}
 use Rattle.realm_objects.specs.Attributes.{RealmAttributes, RecAttributes}
 use Rattle.rmi_monitor.specs.View.{MonitorView, IsOnRec, seen_in, after_command}
 use Rattle.rmi_monitor.specs.Inside.{Fields, rec_count_at, rec_at, recs_of, seen_as, IsWhole}
@@ -22,7 +22,6 @@ use Rattle.rmi_monitor.proofs.Granules.{machine_is, cell_is, after_done, in_mach
 use Rattle.rmi_monitor.proofs.Listed.{distinct_from_once}
 use Rattle.rmi_monitor.proofs.RecGone.{gone, left_granule, not_own, aux_is, aux_state, taken_moved}
 use Rattle.rmi_monitor.proofs.RecGoneAfter.{machine_gone}
-use Rattle.rmi_monitor.proofs.Outcomes.{check_false}
 use Rattle.rmi_monitor.proofs.RecFound.{IsKept, rec_inside, kept_at, outcome_there, on_rec}
 use Rattle.rmi_monitor.proofs.RealmPlaces.{realm_inside}
 use Rattle.rmi_monitor.proofs.RealmFound.{row_of}

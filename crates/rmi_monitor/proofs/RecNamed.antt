@@ -10,6 +10,7 @@ use Rattle.std.proofs.lemmas.Bool.{eqb-true, eq-eqb, cases_lt}
 use Rattle.std.proofs.lemmas.List.{get_or_past}
 use Rattle.std.proofs.lemmas.Option.{same_Some, none-some}
 use Rattle.realm_model.specs.Machine.{Cell, Machine, RealmRow, RecRow, cell_at, blank}
+use Rattle.realm_model.proofs.Maps.{nat_place}
 use Rattle.rmi_monitor.specs.View.{IsRec, rec_in}
 use Rattle.rmi_monitor.specs.Named.{is_rec_at, numbers_in, number_in, rec_named}
 use Rattle.rmi_monitor.proofs.Comparisons.{some_map}
@@ -26,21 +27,13 @@ find_some test (y ∷ ys) x e = elim (test y) as (λ b. test y ≡ b → cond b 
   | false ↦ λ h is. find_some test ys x is
 ] refl e
 
-tied : (k q : ℕ) → eq_by_cmp nat_cmp k q ≡ true → k ≡ q
-tied k q e = by (nat_cmp k q) refl e
-  where
-    by : (r : Ordering) → nat_cmp k q ≡ r → is_eq r ≡ true → k ≡ q
-    by Less h is = cc
-    by Equal h is = nat_cmp-IsAntisymmetric k q h
-    by Greater h is = cc
-
 -- a test that one of the numbers passes
 find_has : (test : ℕ → Bool) (ks : List ℕ) (k : ℕ) → list_any (eq_by_cmp nat_cmp k) ks ≡ true → test k ≡ true → is_some (find test ks) ≡ true
 find_has test [] k any passes = cc
 find_has test (q ∷ ks) k any passes = elim (test q) as (λ b. test q ≡ b → is_some (cond b (Some q) (find test ks)) ≡ true) [
   | true ↦ λ h. refl
   | false ↦ λ h. elim (eq_by_cmp nat_cmp k q) as (λ b. eq_by_cmp nat_cmp k q ≡ b → (b || list_any (eq_by_cmp nat_cmp k) ks) ≡ true → is_some (find test ks) ≡ true) [
-    | true ↦ λ same some. absurd (true-false (sym passes ∙ ap test (tied k q same) ∙ h))
+    | true ↦ λ same some. absurd (true-false (sym passes ∙ ap test (nat_place k q same) ∙ h))
     | false ↦ λ other some. find_has test ks k some passes
   ] refl any
 ] refl

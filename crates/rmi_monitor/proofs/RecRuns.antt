@@ -7,13 +7,12 @@ use Rattle.realm_model.specs.Machine.{RealmRow, RecRow, Seen}
 use Rattle.realm_model.specs.Update.{Outcome}
 use Rattle.realm_model.specs.Command.Check.{check, error_input, error_realm, error_rec, is_new, is_ready, put_rec}
 use Rattle.realm_model.specs.Command.Rec.{rec_enter, rec_exit}
-use Rattle.realm_model.proofs.Outcomes.{check_true}
+use Rattle.realm_model.proofs.Outcomes.{check_true, check_false}
 use Rattle.realm_objects.specs.Attributes.{RealmAttributes, RecAttributes, rec_row}
 use Rattle.rmi_monitor.specs.View.{MonitorView, IsOnRec, seen_in}
 use Rattle.rmi_monitor.specs.Inside.{Fields, rec_at, seen_as, IsWhole}
 use Rattle.rmi_monitor.proofs.RecFound.{IsKept, outcome_there, on_none, on_rec}
 use Rattle.rmi_monitor.proofs.RecChanges.{with_recs, rec_put}
-use Rattle.rmi_monitor.proofs.Outcomes.{check_false}
 use Rattle.rmi_monitor.proofs.RealmFound.{row_of}
 use Rattle.rmi_monitor.proofs.Listed.{put_back}
 

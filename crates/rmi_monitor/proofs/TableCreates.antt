@@ -11,7 +11,7 @@ use Rattle.realm_model.specs.Machine.{held}
 use Rattle.realm_model.specs.Update.{Outcome, Put}
 use Rattle.realm_model.specs.Command.Check.{check, error_input, error_rtt, is_delegated, put_realm}
 use Rattle.realm_model.specs.Command.Table.{rtt_create}
-use Rattle.realm_model.proofs.Outcomes.{check_true}
+use Rattle.realm_model.proofs.Outcomes.{check_true, check_false}
 use Rattle.realm_objects.specs.Attributes.{RealmAttributes}
 use Rattle.rtt.specs.declared.tables.Tables.{Tables}
 use Rattle.rtt.specs.Tables.{rows}
@@ -25,7 +25,7 @@ use Rattle.rmi_monitor.proofs.Granules.{in_granules, seen_delegated}
 use Rattle.rmi_monitor.proofs.TableMoves.{is_moved_state}
 use Rattle.rmi_monitor.proofs.Located.{IsLocated}
 use Rattle.rmi_monitor.proofs.Refusals.{Passes, passed_row, row_passes}
-use Rattle.rmi_monitor.proofs.Outcomes.{check_false, answers_ok}
+use Rattle.rmi_monitor.proofs.Outcomes.{answers_ok}
 use Rattle.rmi_monitor.proofs.RealmAfter.{keeps_all}
 use Rattle.rmi_monitor.proofs.RealmFound.{row_of, nowhere, somewhere}
 use Rattle.rmi_monitor.proofs.RealmCommands.{with_call, Done, whole_after_move, seen_after_move}

@@ -13,7 +13,7 @@ use Rattle.realm_model.specs.Machine.{left}
 use Rattle.realm_model.specs.Update.{Outcome, Put}
 use Rattle.realm_model.specs.Command.Check.{check, error_input, error_rtt, with_granule, put_realm}
 use Rattle.realm_model.specs.Command.Table.{rtt_destroy}
-use Rattle.realm_model.proofs.Outcomes.{check_true, granule_there}
+use Rattle.realm_model.proofs.Outcomes.{check_true, granule_there, check_false}
 use Rattle.realm_model.proofs.TablePlaces.{table_place}
 use Rattle.realm_objects.specs.Attributes.{RealmAttributes}
 use Rattle.rtt.specs.declared.tables.Tables.{Tables}
@@ -28,7 +28,7 @@ use Rattle.rmi_monitor.proofs.LedTo.{table_led}
 use Rattle.rmi_monitor.proofs.Located.{IsLocated}
 use Rattle.rmi_monitor.proofs.Protected.{protected_inside}
 use Rattle.rmi_monitor.proofs.Refusals.{Passes, check_done, passed_row, row_passes}
-use Rattle.rmi_monitor.proofs.Outcomes.{check_false, answers_ok}
+use Rattle.rmi_monitor.proofs.Outcomes.{answers_ok}
 use Rattle.rmi_monitor.proofs.RealmAfter.{keeps_all}
 use Rattle.rmi_monitor.proofs.RealmFound.{row_of, nowhere, somewhere}
 use Rattle.rmi_monitor.proofs.RealmCommands.{with_call, Done, whole_after_move, seen_after_move}

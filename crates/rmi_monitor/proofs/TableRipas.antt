@@ -10,7 +10,7 @@ use Rattle.realm_model.specs.Measurement.{measurement_after, ripas_event}
 use Rattle.realm_model.specs.Update.{Outcome}
 use Rattle.realm_model.specs.Command.Check.{check, error_input, error_realm, error_rtt, is_new, put_realm}
 use Rattle.realm_model.specs.Command.Table.{rtt_init_ripas}
-use Rattle.realm_model.proofs.Outcomes.{check_true}
+use Rattle.realm_model.proofs.Outcomes.{check_true, check_false}
 use Rattle.realm_objects.specs.Attributes.{RealmAttributes, realm_row}
 use Rattle.rtt.specs.declared.tables.Tables.{Tables}
 use Rattle.rtt.specs.Tables.{rows}
@@ -21,7 +21,7 @@ use Rattle.rmi_monitor.specs.Inside.{Fields, realm_at, seen_as, IsWhole, recs_of
 use Rattle.rmi_monitor.proofs.TableMoves.{whole_still, machine_still}
 use Rattle.rmi_monitor.proofs.Comparisons.{test_held, test_failed}
 use Rattle.rmi_monitor.proofs.Located.{IsLocated}
-use Rattle.rmi_monitor.proofs.Outcomes.{check_false, answers_ok}
+use Rattle.rmi_monitor.proofs.Outcomes.{answers_ok}
 use Rattle.rmi_monitor.proofs.RealmAfter.{Keeps as KeepsRealm}
 use Rattle.rmi_monitor.proofs.RealmFound.{row_of, nowhere, somewhere}
 use Rattle.rmi_monitor.proofs.RealmCommands.{with_call, Done, after_put}

@@ -12,13 +12,13 @@ use Rattle.realm_model.specs.declared.states.GranuleState.{GranuleState}
 use Rattle.realm_model.specs.declared.states.GranuleState.TheVariants.{Delegated, Data as InData, Rtt as InRtt}
 use Rattle.realm_model.specs.declared.states.Ripas.{Ripas}
 use Rattle.realm_model.specs.Rows.{Row, Rows, put_row, put_rows, unassigned, table as table_row, with_table, is_table_place, table_of}
-use Rattle.realm_model.proofs.Rows.{is_place as is_at}
+use Rattle.realm_model.proofs.Rows.{is_place as is_at, get-put_rows}
 use Rattle.rtt.proofs.FiniteRowsLaws.{place_tells}
 use Rattle.rtt.specs.Tables.{Entries, table_at, is_place, row_in, rows_in}
 use Rattle.rtt.specs.Realm.{IsInside, HasGranules}
 use Rattle.rtt.proofs.PlaceLaws.{index_below, place_facts, below_is_place, place_is_below, is_under, under_cases}
 use Rattle.rtt.proofs.RowsIn.{get-rows_in, rows_in-from, row_in-none}
-use Rattle.rtt.proofs.RowRuns.{get-insert_row, get-put_rows_at, get-put_rows_beside}
+use Rattle.rtt.proofs.RowRuns.{get-insert_row, get-put_rows_beside}
 use Rattle.rtt.proofs.Writes.{Writes, each_written}
 use Rattle.rtt.proofs.RowsAfter.{row_in-written}
 use Rattle.rtt.proofs.Owned.{Moves, apart_states, HasGranules-written}
@@ -60,7 +60,7 @@ module _ (entries new : Entries) (granules : List Granule) (rd : ℕ) (root : Ro
                   let level_is : l ≡ suc above = u.1 in
                   ap (option_and_then (λ t. Some (new t index))) leads
                   ∙ ap (λ x. Some x) (fresh index (index_below l i))
-                  ∙ sym (ap (get made) (λ j. (level_is j, at j)) ∙ get-put_rows_at (λ _. row) base (suc above) first 512 (entry_index (suc above) i) (index_below (suc above) i))
+                  ∙ sym (ap (get made) (λ j. (level_is j, at j)) ∙ get-put_rows (λ _. row) base (suc above) first 512 (entry_index (suc above) i) (index_below (suc above) i))
               | false ↦ λ place.
                   let outside : (k : ℕ) → k < 512 → (l, i) ≡ (suc above, first + k * covered_count (suc above)) → ⊥ = λ k few q.
                   let clash : false ≡ true = sym place ∙ ap (λ (p : ℕ × ℕ). is_place root.width p.0 p.1) q ∙ (below_is_place root.width above ipa k w.inside high few).1 in cc in

@@ -7,14 +7,7 @@ use Rattle.realm_model.specs.Rows.{Row, Rows, walk, is_table, is_table_unused}
 use Rattle.realm_model.specs.Update.{Outcome}
 use Rattle.realm_model.specs.Command.Check.{check, error_rtt, with_row, with_end}
 use Rattle.realm_model.specs.Command.Found.{with_unused_table}
-
-check_true : (t : Bool) (rmi : Rmi) (rest : Outcome) → t ≡ true → check t rmi rest ≡ rest
-unfolding check
-check_true t rmi rest holds = ap (λ b. cond b rest (Err rmi)) holds
-
-check_false : (t : Bool) (rmi : Rmi) (rest : Outcome) → t ≡ false → check t rmi rest ≡ Err rmi
-unfolding check
-check_false t rmi rest fails = ap (λ b. cond b rest (Err rmi)) fails
+use Rattle.realm_model.proofs.Outcomes.{check_true, check_false}
 
 module _ (rows : Rows) (ipa level wanted ended : ℕ) (row : Row) (at : wanted ≡ level) (ends : walk rows ipa wanted ≡ Some (record { level = ended; row = row })) where
   -- the walk towards the level wanted

@@ -8,6 +8,7 @@ use Rattle.std.proofs.lemmas.Bool.Decides.{eqb_tells}
 use Rattle.granule_addr.specs.Ipa.{covered_count, first_covered, entry_index, served_count}
 use Rattle.granule_addr.specs.Root.{served_space}
 use Rattle.realm_model.specs.Sound.{IsPlace}
+use Rattle.realm_model.proofs.Rows.{covered_pos}
 use Rattle.rtt.specs.Tables.{is_place}
 use Rattle.rtt.specs.Realm.{IsInside}
 
@@ -16,13 +17,6 @@ option_cases None = inl refl
 option_cases (Some x) = inr (x, refl)
 
 -- ---- the entry that covers an IPA granule
-
-pub covered_pos : (level : ℕ) → 1 ≤ covered_count level
-covered_pos level =
-    elim (level == 1) as (λ t. 1 ≤ cond t (2 ^ 18) (cond (level == 2) (2 ^ 9) 1)) [
-      | true ↦ lit≤ tt
-      | false ↦ elim (level == 2) as (λ t. 1 ≤ cond t (2 ^ 9) 1) [ true ↦ lit≤ tt | false ↦ lit≤ tt ]
-    ]
 
 pub index_below : (level ipa : ℕ) → entry_index level ipa < 512
 index_below level ipa = let q = ipa / covered_count level in let h : q % 512 < 512 = omega arith in h

@@ -12,13 +12,14 @@ use Rattle.granule_table.specs.declared.granule.Granule.{Granule}
 use Rattle.realm_model.specs.declared.states.GranuleState.TheVariants.{Rtt as InRtt}
 use Rattle.realm_model.specs.declared.states.EntryState.TheVariants.{Unassigned}
 use Rattle.realm_model.specs.Rows.{Row, Rows, is_unassigned, all_rows, put_rows, as_ram, with_ram, table_of, data_of}
+use Rattle.realm_model.proofs.Rows.{get-put_rows}
 use Rattle.rtt.specs.Tables.{Entries, table_at, is_place, row_in, rows_in}
 use Rattle.rtt.specs.Realm.{IsInside, HasGranules}
 use Rattle.rtt.proofs.EntryKinds.{unassigned_kind, table_of-unassigned, data_of-unassigned}
 use Rattle.rtt.proofs.PlaceLaws.{option_cases, index_below, place_facts, inside_place, is_place_from}
 use Rattle.rtt.proofs.TableAt.{table_at-same, entry_at-some}
 use Rattle.rtt.proofs.RowsIn.{get-rows_in, rows_in-from, row_in-place, row_in-none}
-use Rattle.rtt.proofs.RowRuns.{get-put_rows_at, get-put_rows_beside, all_rows_each, all_rows_true}
+use Rattle.rtt.proofs.RowRuns.{get-put_rows_beside, all_rows_each, all_rows_true}
 use Rattle.rtt.proofs.FrameLaws.{same_table_at, HasGranules-same}
 
 module _ (entries : Entries) (root : Root) (ipa table count : ℕ) (below : ipa < served_space root.width) (at : table_at entries root 3 ipa ≡ Some table) (fits : entry_index 3 ipa + count ≤ 512) where
@@ -121,7 +122,7 @@ module _ (entries : Entries) (root : Root) (ipa table count : ℕ) (below : ipa 
             ∙ ap (λ (j : ℕ). Some (new table j)) place.1
             ∙ ap (λ x. Some x) (wrote k few)
             ∙ ap (λ o. Some (as_ram o)) (sym (page_row k few))
-            ∙ sym (ap (get (put_rows as_ram rows 3 ipa count)) q ∙ get-put_rows_at as_ram rows 3 ipa count k few)
+            ∙ sym (ap (get (put_rows as_ram rows 3 ipa count)) q ∙ get-put_rows as_ram rows 3 ipa count k few)
 
         beside : (l i : ℕ) → ((k : ℕ) → k < count → ◌≡◌ {A = ℕ × ℕ} (l, i) (3, ipa + k * covered_count 3) → ⊥) → row_in new root l i ≡ row_in entries root l i → row_in new root l i ≡ get (put_rows as_ram rows 3 ipa count) (l, i)
         beside l i out same = same ∙ sym (get-put_rows_beside as_ram rows 3 ipa count (l, i) out ∙ get-rows_in entries root l i)

@@ -13,13 +13,14 @@ use Rattle.realm_model.specs.declared.states.GranuleState.TheVariants.{Rtt as In
 use Rattle.realm_model.specs.declared.states.Ripas.TheVariants.{Empty}
 use Rattle.realm_model.specs.Rows.{Row, place_cmp, put_rows, unassigned, is_table, root_rows, has_root_table, table_of, data_of}
 use Rattle.realm_model.proofs.Booleans.{not_true, not_false}
+use Rattle.realm_model.proofs.Rows.{get-put_rows}
 use Rattle.rtt.specs.Tables.{Entries, table_at, entry_at, data_at, is_place, row_in, rows_in}
 use Rattle.rtt.specs.Realm.{IsInside, HasGranules}
 use Rattle.rtt.proofs.PlaceLaws.{index_below, place_facts, is_place_from}
 use Rattle.rtt.proofs.StartTables.{start_index_below}
 use Rattle.rtt.proofs.TableAt.{table_at-root, entry_at-some}
 use Rattle.rtt.proofs.RowsIn.{get-rows_in, rows_in-from, row_in-place, row_in-none}
-use Rattle.rtt.proofs.RowRuns.{get-put_rows_at, get-put_rows_beside, all_rows_each, all_rows_fails}
+use Rattle.rtt.proofs.RowRuns.{get-put_rows_beside, all_rows_each, all_rows_fails}
 
 -- the places of level 1
 root_place : (width k : ℕ) → k < 512 * start_count width → is_place width 1 (0 + k * 262144) ≡ true
@@ -103,7 +104,7 @@ module _ (entries : Entries) (root : Root) (blank : (number index : ℕ) → num
                   ∙ entry_at-some entries root 1 i (start_table root i) (table_at-root entries root i)
                   ∙ ap (λ x. Some x) (blank_at i facts.inside)
                   ∙ sym (ap (get (put_rows (λ _. unassigned Empty) empty 1 0 count)) (λ j. (one j, at.1 j))
-                  ∙ get-put_rows_at (λ _. unassigned Empty) empty 1 0 count (i / 262144) at.0)
+                  ∙ get-put_rows (λ _. unassigned Empty) empty 1 0 count (i / 262144) at.0)
               | inr ne ↦ no_entry l i facts.inside facts.least ne ∙ beside l i (λ k few q. ne (ap (λ (p : ℕ × ℕ). p.0) q))
             ]
         | false ↦ λ place.

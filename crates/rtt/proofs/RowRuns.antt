@@ -12,22 +12,6 @@ use Rattle.rtt.proofs.FiniteRowsLaws.{place_tells}
 pub get-insert_row : (rows : Rows) (place q : ℕ × ℕ) (row : Row) → get (insert rows place row) q ≡ cond (is_at q place) (Some row) (get rows q)
 get-insert_row rows place q row = get-insert place_total rows place row q
 
--- a place of those put
-pub get-put_rows_at : (change : Option Row → Row) (rows : Rows) (level first n k : ℕ) → k < n
-    → get (put_rows change rows level first n) (level, first + k * covered_count level) ≡ Some (change (get rows (level, first + k * covered_count level)))
-unfolding put_rows
-get-put_rows_at change rows level first zero k lt = absurd (omega arith)
-get-put_rows_at change rows level first (suc n) k lt =
-    let here : ℕ × ℕ = (level, first + k * covered_count level) in
-    let last : ℕ × ℕ = (level, first + n * covered_count level) in
-    let rest = get (put_rows change rows level first n) here in
-    get-insert_row (put_rows change rows level first n) last here (change (get rows last))
-    ∙ elim (place_tells here last) [
-      | inl t ↦ ap (λ b. cond b (Some (change (get rows last))) rest) t.0 ∙ ap (λ q. Some (change (get rows q))) (sym t.1)
-      | inr t ↦ ap (λ b. cond b (Some (change (get rows last))) rest) t.0
-          ∙ get-put_rows_at change rows level first n k (⊎_elim (λ (s : k ≡ n). absurd (t.1 (ap (λ (j : ℕ). (level, first + j * covered_count level)) s))) (λ (ne : k ≢ n). omega arith) (cases_eq k n))
-    ]
-
 -- and any other place
 pub get-put_rows_beside : (change : Option Row → Row) (rows : Rows) (level first n : ℕ) (q : ℕ × ℕ)
     → ((k : ℕ) → k < n → q ≡ (level, first + k * covered_count level) → ⊥) → get (put_rows change rows level first n) q ≡ get rows q

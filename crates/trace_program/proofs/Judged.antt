@@ -11,8 +11,9 @@ use Rattle.trace_program.specs.declared.checking.Verdict.{Verdict}
 use Rattle.trace_program.specs.declared.checking.Verdict.TheVariants.{Agree, Differ}
 use Rattle.trace_program.proofs.Kept.{none_kept, some_kept}
 use Rattle.trace_program.proofs.Parts.{lines_without, lines_with}
-use Rattle.trace_program.proofs.Underway.{consumes_none, consumes_more, consumes_keeps, consumes_nothing}
+use Rattle.trace_program.proofs.Underway.{consumes_keeps, consumes_nothing}
 use Rattle.trace_program.proofs.Agreed.{agreed_none, kept_agreed, kept_answers, kept_differs}
+use Rattle.told_device.proofs.Read.{consumes_none, consumes_more}
 
 -- ---- reads
 

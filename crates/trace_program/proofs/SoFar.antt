@@ -13,10 +13,6 @@ use Rattle.trace_program.proofs.Kept.{kept_none}
 use Rattle.trace_program.proofs.Parts.{cut_feed, cut_more, lines_are}
 use Rattle.trace_program.proofs.Sessions.{kept_session_more}
 
-pub keeps_same : (old : Option (List ℕ)) → Keeps old old
-keeps_same None = tt
-keeps_same (Some xs) = refl
-
 pub so_far_none : (old : Option (List ℕ)) → IsSoFar old old [] None []
 so_far_none old = record { lines = []; rest = []; cut = refl; is_kept = sym kept_none; text = []; session = (refl, refl); written = appends_none old }
 

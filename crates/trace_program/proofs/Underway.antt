@@ -3,25 +3,16 @@ use Rattle.std.proofs.Common.{◌≡◌, ℕ, ◌<◌, List, [], ◌∷◌, ◌+
 use mathlib.Core.List.{append-nil}
 use Rattle.std.specs.Io.KnownBytes.{Keeps, Consumes, IsAtEnd}
 use Rattle.told_device.proofs.Written.{appends_more}
+use Rattle.told_device.proofs.Read.{consumes_none, consumes_more, keeps_same}
 use Rattle.trace_program.specs.Session.{Now, IsSession}
 use Rattle.trace_program.specs.Input.{kept_of, AreAnswered, IsCutShort, AreCutShort}
 use Rattle.trace_program.specs.Answering.{IsSoFar, IsUnderway, Writes, WritesFront}
 use Rattle.trace_program.proofs.Kept.{none_kept, some_kept}
 use Rattle.trace_program.proofs.Parts.{lines_without, lines_with}
 use Rattle.trace_program.proofs.Sessions.{kept_session_more}
-use Rattle.trace_program.proofs.SoFar.{keeps_same, so_far_none, stopped, front_more}
+use Rattle.trace_program.proofs.SoFar.{so_far_none, stopped, front_more}
 
 -- ---- reads
-
-pub consumes_none : (old : Option (List ℕ)) → Consumes old old []
-consumes_none None = tt
-consumes_none (Some xs) = refl
-
-pub consumes_more : (a b c : Option (List ℕ)) (front more : List ℕ) → Consumes a b front → Consumes b c more → Consumes a c (front ++ more)
-consumes_more None b c front more h k = tt
-consumes_more (Some xs) None c front more h k = absurd h
-consumes_more (Some xs) (Some ys) None front more h k = absurd k
-consumes_more (Some xs) (Some ys) (Some zs) front more h k = h ∙ ap (λ t. front ++ t) k ∙ sym (append_assoc front more zs)
 
 pub consumes_keeps : (a b c : Option (List ℕ)) (front : List ℕ) → Consumes a b front → Keeps b c → Consumes a c front
 consumes_keeps None b c front h k = tt

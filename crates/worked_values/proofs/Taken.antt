@@ -9,16 +9,8 @@ use Rattle.page_arena.specs.Runs.{get_or-with_run_inside}
 use Rattle.realm_model.specs.Machine.{Machine, RealmRow, RecRow, Seen, cell_at}
 use Rattle.realm_model.specs.Update.{Update, Outcome, granule_of, machine_after, machine_after_all, machine_after_command}
 use Rattle.realm_model.specs.declared.rmi.Rmi.{Rmi}
+use Rattle.realm_model.proofs.Lengths.{length_after}
 use Rattle.rmi_monitor.specs.View.{MonitorView, IsTaken, AreAllTaken, IsRec, IsOnRec, rec_in, after_command, with_block, seen_in}
-
-length_after_all : (updates : List Update) (machine : Machine) → length (machine_after_all updates machine) ≡ length machine
-unfolding machine_after_all
-length_after_all [] machine = refl
-length_after_all (update ∷ updates) machine = length_after_all updates (machine_after update machine) ∙ length-set machine (granule_of update) _
-
-length_after : (outcome : Outcome) (machine : Machine) → length (machine_after_command outcome machine) ≡ length machine
-length_after (Ok updates) machine = length_after_all updates machine
-length_after (Err rmi) machine = refl
 
 pub taken_after : (outcome : Outcome) (monitor after : MonitorView) (granule : ℕ) → after ≡ after_command outcome monitor → IsTaken monitor granule → IsTaken after granule
 taken_after outcome monitor after granule is taken =

@@ -2,7 +2,7 @@ use Rattle.std.proofs.Common.{◌∷◌, [], ◌++◌, sym, ap, ◌∙◌, arith
 use Rattle.std.specs.List.{range_with_len}
 use Rattle.std.proofs.lemmas.List.{take_all, take_more}
 use Rattle.build_commands.proofs.Tables.{are_tables, too_few, not_adjacent}
-use Rattle.build_commands.proofs.Runs.{range_with_len_more}
+use Rattle.granule_addr.proofs.Runs.{range_with_len_more}
 use Rattle.build_commands.proofs.act.starting_tables.Goals as goal
 
 pub returns-then-tables-start_count : goal.returns-then-tables-start_count

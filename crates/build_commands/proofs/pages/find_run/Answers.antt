@@ -3,7 +3,7 @@ use Rattle.std.specs.List.{range_with_len}
 use Rattle.std.proofs.lemmas.Result.{err_from_is_err_and}
 use Rattle.std.proofs.lemmas.List.FromFn.{length-range_with_len, get_or-range_with_len}
 use Rattle.build_commands.specs.Found.{AreFoundNext}
-use Rattle.build_commands.proofs.Runs.{range_with_len_more, take_range}
+use Rattle.granule_addr.proofs.Runs.{range_with_len_more, take_range}
 use Rattle.build_commands.proofs.FoundNext.{missing_at, next_after}
 use Rattle.build_commands.proofs.pages.find_run.Goals as goal
 

@@ -1,8 +1,8 @@
 use Rattle.std.proofs.Common.{◌≡◌, ◌<◌, [], take, length, arith}
 use Rattle.std.proofs.lemmas.Result.{err_from_is_err_and}
-use Rattle.trace_program.proofs.SoFar.{keeps_same}
 use Rattle.trace_program.proofs.Underway.{underway_none, underway_more, underway_at_end, stopped_here, stopped_in_part}
 use Rattle.trace_program.proofs.answering.answer.Goals as goal
+use Rattle.told_device.proofs.Read.{keeps_same}
 
 pub reads-init : goal.reads-init
 reads-init g c = record {

@@ -2,14 +2,15 @@ use Rattle.std.proofs.Common.{ℕ, [], ◌∷◌, Err, nat_lt, refl, sym, ap, su
 use Rattle.std.proofs.lemmas.Result.{err_from_is_err_and}
 use Rattle.realm_model.specs.Command.Rec.{guest_write}
 use Rattle.rmi_bench.specs.Calls.{naming, on_rec, Does}
-use Rattle.rmi_bench.proofs.Calls.{given, not_given, out_first, in_one, does_unchecked, does_checked, does_outside, does_named}
+use Rattle.rmi_bench.proofs.Calls.{given, out_first, in_one, does_unchecked, does_checked, does_outside, does_named}
 use Rattle.rmi_bench.proofs.RecCalls.{does_rec_inside, bench_rec_inside}
 use Rattle.rmi_bench.proofs.bench.Bench.guest_write.Goals as goal
+use Rattle.rmi_monitor.proofs.Comparisons.{test_failed}
 
 pub returns-in_default : goal.returns-in_default
 returns-in_default c =
     does_unchecked c.args.self.now (naming (c.args.rec ∷ []) c.args.self.now (on_rec (λ rd number. guest_write rd number c.args.ipa c.args.offset c.args.value) c.args.self.now c.args.rec))
-    (nat_lt c.args.offset 4096) (not_given (nat_lt c.args.offset 4096) c.args.offset c.new.result c.new.ensures c.in_default.is) _ refl
+    (nat_lt c.args.offset 4096) (test_failed (nat_lt c.args.offset 4096) c.args.offset c.new.result c.new.ensures c.in_default.is) _ refl
 
 pub returns-in_err-rec : goal.returns-in_err-rec
 returns-in_err-rec c =

@@ -2,13 +2,14 @@ use Rattle.std.proofs.Common.{ℕ, [], ◌∷◌, Err, nat_lt, refl, ap, subst, 
 use Rattle.std.proofs.lemmas.Result.{err_from_is_err_and}
 use Rattle.realm_model.specs.Command.Granule.{host_peek}
 use Rattle.rmi_monitor.specs.View.{Answers, seen_in}
+use Rattle.rmi_monitor.proofs.Comparisons.{test_failed}
 use Rattle.rmi_bench.specs.Calls.{naming}
-use Rattle.rmi_bench.proofs.Calls.{given, not_given, out_first, in_one, answers_checked, answers_unchecked}
+use Rattle.rmi_bench.proofs.Calls.{given, out_first, in_one, answers_checked, answers_unchecked}
 use Rattle.rmi_bench.proofs.bench.Bench.host_peek.Goals as goal
 
 pub returns-in_default-clause-answer : goal.returns-in_default-clause-answer
 returns-in_default-clause-answer c =
-    answers_unchecked {A = ℕ} (nat_lt c.args.offset 4096) (not_given (nat_lt c.args.offset 4096) c.args.offset c.new.result c.new.ensures c.in_default.is) _
+    answers_unchecked {A = ℕ} (nat_lt c.args.offset 4096) (test_failed (nat_lt c.args.offset 4096) c.args.offset c.new.result c.new.ensures c.in_default.is) _
     (naming (c.args.granule ∷ []) c.args.self.now (host_peek (seen_in c.args.self.now c.args.granule))) refl
 
 pub returns-in_err-granule-clause-answer : goal.returns-in_err-granule-clause-answer

@@ -3,10 +3,10 @@ use Rattle.granule_table.specs.declared.granule.Granule.{Granule}
 use Rattle.realm_model.specs.Machine.{left}
 use Rattle.realm_model.specs.Update.{Put}
 use Rattle.realm_model.specs.Command.Check.{error_input}
-use Rattle.realm_model.proofs.Outcomes.{check_true}
+use Rattle.realm_model.proofs.Outcomes.{check_true, check_false}
 use Rattle.rmi_monitor.specs.Inside.{fields_of, seen_as, IsWhole}
 use Rattle.rmi_monitor.proofs.Granules.{in_granules, in_pages, is_undelegated_there, is_not_undelegated, whole_delegated, delegated_done}
-use Rattle.rmi_monitor.proofs.Outcomes.{answers_ok, answers_err, after_err, check_false}
+use Rattle.rmi_monitor.proofs.Outcomes.{answers_ok, answers_err, after_err}
 use Rattle.rmi_monitor.proofs.monitor.Monitor.granule_delegate.Goals as goal
 
 pub shift-requires : goal.shift-requires

@@ -4,10 +4,10 @@ use Rattle.realm_model.specs.Machine.{cell_at}
 use Rattle.realm_model.specs.declared.states.GranuleState.TheVariants.{Undelegated}
 use Rattle.realm_model.specs.Update.{Put}
 use Rattle.realm_model.specs.Command.Check.{error_input}
-use Rattle.realm_model.proofs.Outcomes.{check_true}
+use Rattle.realm_model.proofs.Outcomes.{check_true, check_false}
 use Rattle.rmi_monitor.specs.Inside.{fields_of, seen_as, IsWhole}
 use Rattle.rmi_monitor.proofs.Granules.{in_granules, is_delegated_there, is_not_delegated, whole_undelegated, undelegated_done}
-use Rattle.rmi_monitor.proofs.Outcomes.{answers_ok, answers_err, after_err, check_false}
+use Rattle.rmi_monitor.proofs.Outcomes.{answers_ok, answers_err, after_err}
 use Rattle.rmi_monitor.proofs.monitor.Monitor.granule_undelegate.Goals as goal
 
 pub shift-requires : goal.shift-requires

@@ -3,9 +3,9 @@ use Rattle.granule_addr.specs.Page.{page_of}
 use Rattle.realm_model.specs.Machine.{cell_at}
 use Rattle.realm_model.specs.Update.{Put}
 use Rattle.realm_model.specs.Command.Check.{error_input}
-use Rattle.realm_model.proofs.Outcomes.{check_true}
+use Rattle.realm_model.proofs.Outcomes.{check_true, check_false}
 use Rattle.rmi_monitor.proofs.Granules.{in_granules, in_pages, is_undelegated_there, is_not_undelegated, whole_filled, filled_done}
-use Rattle.rmi_monitor.proofs.Outcomes.{answers_ok, answers_err, after_err, check_false}
+use Rattle.rmi_monitor.proofs.Outcomes.{answers_ok, answers_err, after_err}
 use Rattle.rmi_monitor.proofs.monitor.Monitor.host_fill.Goals as goal
 
 pub state-requires : goal.state-requires

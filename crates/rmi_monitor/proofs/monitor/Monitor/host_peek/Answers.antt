@@ -1,8 +1,8 @@
 use Rattle.std.proofs.Common.{ℕ, List, [], Ok, sym, ap, ◌∙◌}
 use Rattle.std.specs.Prelude.{slice_index}
 use Rattle.realm_model.specs.Command.Check.{error_input}
-use Rattle.realm_model.proofs.Outcomes.{check_true}
-use Rattle.rmi_monitor.proofs.Outcomes.{answers_ok, answers_err, check_false}
+use Rattle.realm_model.proofs.Outcomes.{check_true, check_false}
+use Rattle.rmi_monitor.proofs.Outcomes.{answers_ok, answers_err}
 use Rattle.rmi_monitor.proofs.Granules.{in_granules, in_pages, is_undelegated_there, is_not_undelegated, undelegated_bytes}
 use Rattle.rmi_monitor.proofs.monitor.Monitor.host_peek.Goals as goal
 
