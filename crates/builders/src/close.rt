@@ -4,7 +4,6 @@ ghost use Rattle.std.specs.List.{All};
 ghost use Rattle.builders.specs.Close.{seats_of, Fits, IsMissing, IsWhole, Differs, FitsAll};
 ghost use Rattle.builders.specs.Seats.{events_of};
 
-use crate::acts::is_same_act;
 use crate::lanes::{Books, Lane};
 use crate::seat::Seat;
 use granule_addr::BuildId;
@@ -112,17 +111,11 @@ fn is_trail(history: &[Event], build: BuildId, trail: &[Event]) -> bool
     let mut at = 0;
     for event in history {
         if event.build == build {
-            if at >= trail.len() || !is_same_event(&trail[at], event) {
+            if at >= trail.len() || !trail[at].is_same(event) {
                 return false;
             }
             at += 1;
         }
     }
     at == trail.len()
-}
-
-fn is_same_event(event: &Event, other: &Event) -> bool
-    ensures { (result ≡ true) ↔ (event.now ≡ other.now) }
-{
-    event.build == other.build && is_same_act(&event.act, &other.act)
 }

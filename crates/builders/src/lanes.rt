@@ -222,24 +222,14 @@ impl<L0: Lane, L1: Lane, L2: Lane, L3: Lane, L4: Lane, L5: Lane, L6: Lane, L7: L
         requires name6 { blanks.blank6.name ≡ L6.name }
         requires name7 { blanks.blank7.name ≡ L7.name }
     {
-        let Blanks {
-            blank0,
-            blank1,
-            blank2,
-            blank3,
-            blank4,
-            blank5,
-            blank6,
-            blank7,
-        } = blanks;
-        let (book0, share0) = blank0.open::<One<L0>>();
-        let (book1, share1) = blank1.open::<One<L1>>();
-        let (book2, share2) = blank2.open::<One<L2>>();
-        let (book3, share3) = blank3.open::<One<L3>>();
-        let (book4, share4) = blank4.open::<One<L4>>();
-        let (book5, share5) = blank5.open::<One<L5>>();
-        let (book6, share6) = blank6.open::<One<L6>>();
-        let (book7, share7) = blank7.open::<One<L7>>();
+        let (book0, share0) = blanks.blank0.open::<One<L0>>();
+        let (book1, share1) = blanks.blank1.open::<One<L1>>();
+        let (book2, share2) = blanks.blank2.open::<One<L2>>();
+        let (book3, share3) = blanks.blank3.open::<One<L3>>();
+        let (book4, share4) = blanks.blank4.open::<One<L4>>();
+        let (book5, share5) = blanks.blank5.open::<One<L5>>();
+        let (book6, share6) = blanks.blank6.open::<One<L6>>();
+        let (book7, share7) = blanks.blank7.open::<One<L7>>();
         Opened {
             books: Books {
                 book0,

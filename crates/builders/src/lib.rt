@@ -6,7 +6,6 @@
 //! history, once and in its order. `Shared::close` gives the host back, and compares the lists with the history.
 #![tactic(auto)]
 
-mod acts;
 mod close;
 mod kept;
 mod lanes;
@@ -15,7 +14,6 @@ mod shared;
 mod teller;
 mod worker;
 
-pub use acts::is_same_act;
 pub use close::CloseFault;
 pub use kept::Kept;
 pub use lanes::{Blanks, Lane};

@@ -4,6 +4,8 @@ pub mod Lists
 pub mod SetEach
 pub mod Maps
 pub mod Roots
+pub mod Same
+pub mod SameAct
 -- what a command yields, and its updates do
 pub mod Outcomes
 pub mod Walks

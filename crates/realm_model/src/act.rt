@@ -1,5 +1,5 @@
 //! Events: what the accepted commands of builds did.
-ghost use Rattle.std.specs.Prelude.{◌≡◌};
+ghost use Rattle.std.specs.Prelude.{◌≡◌, ◌↔◌, true};
 
 use arrayvec::ArrayVec;
 use granule_addr::{BuildId, Gran, IpaGran, Level, Order, PageOff, RecNo, Root, Vmid};
@@ -8,7 +8,7 @@ use granule_addr::{BuildId, Gran, IpaGran, Level, Order, PageOff, RecNo, Root, V
 ///
 /// `UnTake`, `Undelegate`, `UnRealm`, `UnRtt`, `UnData` and `UnRec` are reverses; `UnData` is that of `Data` and of
 /// `Unknown`.
-#[derive(Drop)]
+#[derive(PartialEq, Eq, Drop)]
 pub enum Act {
     /// A block of free pages is leased.
     Take {
@@ -116,10 +116,19 @@ pub enum Act {
 }
 
 /// An act of a build.
-#[derive(Drop)]
+#[derive(PartialEq, Eq, Drop)]
 pub struct Event {
     pub build: BuildId,
     pub act: Act,
+}
+
+impl Event {
+    /// Whether it is the same event: the same act, of the same build.
+    pub fn is_same(&self, event: &Event) -> bool
+        ensures { (result ≡ true) ↔ (self.now ≡ event.now) }
+    {
+        self == event
+    }
 }
 
 /// The same granules again. No memory is taken.
@@ -136,6 +145,13 @@ pub fn granules_again(granules: &ArrayVec<Gran, 16>) -> ArrayVec<Gran, 16>
 impl Act {
     ghost use Rattle.std.specs.Prelude.{Some, None, if◌then◌else◌};
     ghost use Rattle.realm_model.specs.Act as acts;
+
+    /// Whether it is the same act: of the same kind, with the same granules and numbers.
+    pub fn is_same(&self, act: &Act) -> bool
+        ensures { (result ≡ true) ↔ (self.now ≡ act.now) }
+    {
+        self == act
+    }
 
     /// The same act again. No memory is taken.
     #[tactic(auto, unfolding(crate::specs::Act::is_reverse, crate::specs::Act::reverse_of))]
