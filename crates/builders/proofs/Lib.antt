@@ -4,3 +4,5 @@ pub mod Noting
 pub mod Starting
 pub mod Telling
 pub mod Working
+pub mod Running
+pub mod Waiting

@@ -8,3 +8,4 @@ pub mod Close
 pub mod Fault
 pub mod Trails
 pub mod Workers
+pub mod Runs

@@ -9,6 +9,7 @@
 mod close;
 mod kept;
 mod lanes;
+mod run;
 mod seat;
 mod shared;
 mod teller;
@@ -17,6 +18,7 @@ mod worker;
 pub use close::CloseFault;
 pub use kept::Kept;
 pub use lanes::{Blanks, Lane};
+pub use run::run_builds;
 pub use seat::Seat;
 pub use shared::Shared;
 pub use teller::{OpenGate, SeatTeller};

@@ -1,5 +1,5 @@
 //! Tests alone: worked numbers, digests of another tool, commands of the monitor with their result words, calls of the host
-//! whose answers no plan prints, calls that find the memory that is there, and devices that fail.
+//! whose answers no plan prints, workers in threads, calls that find the memory that is there, and devices that fail.
 //!
 //! What a contract says needs no test. A rule that a definition and the code share is pinned here by a value that comes
 //! from neither. The tests stand in a crate of their own, since a crate with tests is proved twice.
@@ -29,5 +29,7 @@ mod recorded;
 mod refusals;
 #[cfg(test)]
 mod shared;
+#[cfg(test)]
+mod threads;
 #[cfg(test)]
 mod wanted;

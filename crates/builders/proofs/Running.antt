@@ -1,0 +1,24 @@
+-- What a run of all workers leaves, from what the run of each leaves.
+use Rattle.std.proofs.Common.{◌≡◌, ℕ, suc, ◌<◌, List, [], ◌∷◌, length, get_or, subst, arith}
+use Rattle.std.specs.List.{AllZip}
+use Rattle.builders.specs.Runs.{AreRun}
+use Rattle.builders.specs.Workers.{WorkerView, IsRun}
+
+-- R holds of what stands at a place of two lists
+abbrev pub HoldsOf : {X : Type 0} → (X → X → Type 0) → List X → List X → ℕ → X → Type 0
+HoldsOf {X} R xs ys k d = (x : X) × (y : X) × (x ≡ get_or xs k d) × (y ≡ get_or ys k d) × R x y
+
+at_place : {X : Type 0} (R : X → X → Type 0) (a b : X) → (x : X) × (y : X) × (x ≡ a) × (y ≡ b) × R x y → R a b
+at_place R a b (x, y, is, after_is, r) = subst (λ v. R v b) is (subst (R x) after_is r)
+
+zipped : {X : Type 0} (R : X → X → Type 0) (xs ys : List X) → length ys ≡ length xs → ((k : ℕ) (d : X) → k < length xs → HoldsOf R xs ys k d) → AllZip R xs ys
+zipped R [] [] same each = tt
+zipped R [] (y ∷ ys) same each = absurd (omega arith)
+zipped R (x ∷ xs) [] same each = absurd (omega arith)
+zipped R (x ∷ xs) (y ∷ ys) same each = (at_place R x y (each 0 x (omega arith)), zipped R xs ys (omega arith) (λ k d lt. each (suc k) d (omega arith)))
+
+pub are_run : (stops : ℕ → ℕ → Type 0) (old new : List WorkerView) → length new ≡ length old
+    → ((k : ℕ) (d : WorkerView) → k < length old → HoldsOf (λ before after. IsRun (stops before.seat.build) before after) old new k d)
+    → AreRun stops old new
+unfolding AreRun
+are_run stops old new same each = zipped (λ before after. IsRun (stops before.seat.build) before after) old new same each

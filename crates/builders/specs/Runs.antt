@@ -1,0 +1,13 @@
+-- What a run of all workers leaves.
+use Rattle.std.specs.Prelude.{◌≡◌, ℕ, ◌≤◌, false, List, All, Any}
+use Rattle.std.specs.List.{AllZip}
+use Rattle.builders.specs.Workers.{WorkerView, IsRun}
+
+-- Each worker, by its place, has worked on its steps. The gate stops these turns of each build.
+unfoldable pub AreRun : (ℕ → ℕ → Type 0) → List WorkerView → List WorkerView → Type 0
+AreRun stops old new = AllZip (λ before after. IsRun (stops before.seat.build) before after) old new
+
+-- the lowest build of a worker that has not ended
+pub record IsLowestWaiting (workers : List WorkerView) (build : ℕ) : Type 0 where
+  pub waits : Any (λ worker. (worker.ended ≡ false) × (worker.seat.build ≡ build)) workers
+  pub lowest : All (λ worker. worker.ended ≡ false → build ≤ worker.seat.build) workers
