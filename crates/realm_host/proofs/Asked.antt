@@ -22,6 +22,7 @@ use Rattle.realm_model.specs.Undoing.{by}
 use Rattle.realm_model.proofs.Leases.{leased as leased_to}
 use Rattle.realm_model.proofs.Lists.{is_in_head, is_in_more, is_in_at}
 use Rattle.realm_model.proofs.Pages.{is_in-pages_of}
+use Rattle.realm_model.proofs.PartRealm.{realm_from_some}
 use Rattle.realm_acts.specs.Mirror.{rd_of}
 use Rattle.build_commands.specs.declared.cmd.Cmd.{Cmd}
 use Rattle.build_commands.specs.declared.cmd.Cmd.TheVariants.{Take, Peek, Realm, Rec}
@@ -36,15 +37,15 @@ use Rattle.build_commands.proofs.Picks.{act_fits}
 use Rattle.build_books.specs.View.{HostView, world_of, granule_of_page}
 use Rattle.build_books.specs.Desk.{desk_of}
 use Rattle.build_books.proofs.Worlds.{world_is}
-use Rattle.build_books.proofs.RealmFollows.{with_row}
 use Rattle.realm_host.specs.Call.{Ask}
 use Rattle.build_commands.specs.Replies.{reply_of}
+use Rattle.build_commands.proofs.Refused.{first_passes, first_stops}
 use Rattle.build_books.specs.View.{pages_of_build}
 use Rattle.realm_host.specs.Picks.{granules_named, picked_for, act_asked, outcome_asked, IsPeekRefused}
 use Rattle.realm_host.specs.Refusals.{last_checks, refused_by, refusal_of}
 use Rattle.realm_host.specs.Answer.{IsActOf, IsReplied}
 use Rattle.realm_host.specs.Acting.{CanAct, IsRecorded}
-use Rattle.realm_host.proofs.Checked.{IsWanted, passes, stops, realm_wanted, journal_fits, room_fits, named_are, as_many, all_found}
+use Rattle.realm_host.proofs.Checked.{IsWanted, realm_wanted, journal_fits, room_fits, named_are, as_many, all_found}
 use Rattle.realm_host.proofs.Pairs.{one_step}
 
 pub forward_turn : (history : _) (build : ℕ) (act : Act) → is_reverse act ≡ false → IsInTurn history (by build act)
@@ -104,7 +105,7 @@ there_is host build (Peek page offset) (g ∷ []) long wanted =
 there_is host build (Peek page offset) (g ∷ h ∷ gs) long wanted = absurd (omega (arith, long))
 there_is host build (Realm rd root width) gs long wanted = none_of (realm_of build (world_of host)) wanted
 there_is host build (Rec page auxiliaries) gs long wanted =
-    number_fits (realm_of build (world_of host)) (with_row build 0 (world_of host).leases (world_of host).machine) wanted
+    number_fits (realm_of build (world_of host)) (realm_from_some build 0 (world_of host).leases (world_of host).machine) wanted
 there_is host build _ gs long wanted = tt
 
 -- what comes of an act whose event is legal
@@ -180,7 +181,7 @@ module _ (host : HostView) (legal : IsLegal host.limits host.history) (build : �
     refused_as : (rmi : Rmi) → outcome_asked host build cmd ≡ Err rmi → refusal_of host build (Ask cmd) ≡ Some (RmiRefusal rmi)
     unfolding refusal_of
     refused_as rmi e =
-        passes (checks_of (desk_of host) build cmd) (last_checks host build cmd) none
+        first_passes (checks_of (desk_of host) build cmd) (last_checks host build cmd) none
         ∙ ap first_that_holds (last_is host build cmd plain ∙ ap refused_by e)
 
     pub no_act : act_of cmd granules (picked_for host build cmd granules) ≡ None → refusal_of host build (Ask cmd) ≡ Some (RmiRefusal error_input)
@@ -205,7 +206,7 @@ module _ (host : HostView) (legal : IsLegal host.limits host.history) (build : �
       not_refused : (updates : List Update) → outcome_asked host build cmd ≡ Ok updates → refusal_of host build (Ask cmd) ≡ None
       unfolding refusal_of
       not_refused updates e =
-          passes (checks_of (desk_of host) build cmd) (last_checks host build cmd) none
+          first_passes (checks_of (desk_of host) build cmd) (last_checks host build cmd) none
           ∙ ap first_that_holds (last_is host build cmd plain ∙ ap refused_by e)
 
       pub replied_to : (new : HostView) → IsRecorded host build act new → IsReplied host build cmd (reply_of (length (pages_of_build host build)) act) new
@@ -227,4 +228,4 @@ module _ (host : HostView) (legal : IsLegal host.limits host.history) (build : �
 pub refused_by_needs : (host : HostView) (build : ℕ) (cmd : Cmd) (refusal : Refusal) → first_that_holds (checks_of (desk_of host) build cmd) ≡ Some refusal
     → refusal_of host build (Ask cmd) ≡ Some refusal
 unfolding refusal_of
-refused_by_needs host build cmd refusal some = stops (checks_of (desk_of host) build cmd) (last_checks host build cmd) refusal some
+refused_by_needs host build cmd refusal some = first_stops (checks_of (desk_of host) build cmd) (last_checks host build cmd) refusal some

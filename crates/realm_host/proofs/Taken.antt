@@ -11,12 +11,13 @@ use Rattle.build_commands.specs.declared.refusal.Refusal.TheVariants.{BadOrder, 
 use Rattle.build_commands.specs.declared.reply.Reply.TheVariants.{FirstPage}
 use Rattle.build_commands.specs.Needs.{needs_of}
 use Rattle.build_commands.specs.Checks.{checks_of, first_that_holds}
+use Rattle.build_commands.proofs.Refused.{first_passes}
 use Rattle.build_books.specs.View.{HostView, pages_of_build}
 use Rattle.build_books.specs.Desk.{desk_of}
 use Rattle.realm_host.specs.Refusals.{no_block, refusal_of}
 use Rattle.realm_host.specs.Answer.{IsReplied}
 use Rattle.realm_host.specs.Acting.{HasRoomFor, IsRecorded, IsBlockTaken}
-use Rattle.realm_host.proofs.Checked.{passes, head_false, order_fits, journal_fits, room_fits}
+use Rattle.realm_host.proofs.Checked.{head_false, order_fits, journal_fits, room_fits}
 
 take_paired : (order : ℕ) → (needs_of (cmd.Take order)).paired ≡ true
 unfolding needs_of
@@ -42,7 +43,7 @@ module _ (host : HostView) (build order : ℕ) (none : first_that_holds (checks_
 
   refusal_is : refusal_of host build (Ask (cmd.Take order)) ≡ first_that_holds (no_block host order ∷ [])
   unfolding refusal_of
-  refusal_is = passes (checks_of (desk_of host) build (cmd.Take order)) (no_block host order ∷ []) none
+  refusal_is = first_passes (checks_of (desk_of host) build (cmd.Take order)) (no_block host order ∷ []) none
 
   pub no_block_there : (no_block host order).0 ≡ true → refusal_of host build (Ask (cmd.Take order)) ≡ Some (NoBlock order)
   no_block_there is = refusal_is ∙ ap (λ t. cond t (Some (NoBlock order)) None) is

@@ -10,9 +10,10 @@ use Rattle.realm_model.specs.Update.{Outcome}
 use Rattle.realm_model.specs.Command.Check.{check, error_input, with_realm}
 use Rattle.realm_model.specs.Command.Rec.{rec_create}
 use Rattle.realm_model.proofs.Outcomes.{check_false}
+use Rattle.realm_model.proofs.Booleans.{and_false}
 use Rattle.rmi_monitor.specs.View.{MonitorView, Answers, seen_in}
 use Rattle.rmi_bench.specs.Calls.{is_inside, has_number, naming, numbered, Does}
-use Rattle.rmi_bench.proofs.Calls.{no, does_refused}
+use Rattle.rmi_bench.proofs.Calls.{does_refused}
 
 -- a check of an input, before what is refused so
 check_refused : (t : Bool) (outcome : Outcome) → outcome ≡ Err error_input → check t error_input outcome ≡ Err error_input
@@ -30,7 +31,7 @@ unfit_count aux rd g auxiliaries h =
     realm_refused rd _ (λ realm. check_false _ error_input _ (last_false _ (length auxiliaries == aux) h))
   where
     last_false : (before t : Bool) → t ≡ false → (before && t) ≡ false
-    last_false before t e = ap (λ s. before && s) e ∙ no before
+    last_false before t e = ap (λ s. before && s) e ∙ and_false before
 
 module _ (monitor : MonitorView) (rd rec : ℕ) (auxiliaries : List ℕ) where
   abbrev pub rec_created : Outcome
@@ -52,7 +53,7 @@ module _ (monitor : MonitorView) (rd rec : ℕ) (auxiliaries : List ℕ) where
 
   -- an auxiliary that is outside, and all inside
   pub out_rest : list_all (is_inside monitor) auxiliaries ≡ false → list_all (is_inside monitor) (rd ∷ rec ∷ auxiliaries) ≡ false
-  out_rest h = ap (λ t. is_inside monitor rd && (is_inside monitor rec && t)) h ∙ ap (λ t. is_inside monitor rd && t) (no (is_inside monitor rec)) ∙ no (is_inside monitor rd)
+  out_rest h = ap (λ t. is_inside monitor rd && (is_inside monitor rec && t)) h ∙ ap (λ t. is_inside monitor rd && t) (and_false (is_inside monitor rec)) ∙ and_false (is_inside monitor rd)
 
   pub in_rest : is_inside monitor rd ≡ true → is_inside monitor rec ≡ true → list_all (is_inside monitor) auxiliaries ≡ true → list_all (is_inside monitor) (rd ∷ rec ∷ auxiliaries) ≡ true
   in_rest h k l = λ i. h i && (k i && l i)
