@@ -1,0 +1,3 @@
+pub mod Held
+pub mod Done
+pub mod Reading
