@@ -84,8 +84,8 @@ LineFits build steps history count line =
 abbrev pub accepted_count : List Line → ℕ
 accepted_count lines = length (filter is_accepted lines)
 
--- The lines of a report fit the history: each fits after as many events of the build as accepted lines stand before it, and there
--- are as many of these events as of accepted lines.
+-- The lines of a report fit the history: each fits after as many events of the build as accepted lines stand before it, and
+-- there are as many of these events as of accepted lines.
 pub record DoesFit (build : ℕ) (steps : List Step) (lines : List Line) (history : List Event) : Type 0 where
   pub each : (place : ℕ) (line : Line) → slice_get lines place ≡ Some line → LineFits build steps history (accepted_count (take place lines)) line
   pub as_many : accepted_count lines ≡ length (events_of build history)
