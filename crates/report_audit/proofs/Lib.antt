@@ -1,0 +1,4 @@
+pub mod Held
+pub mod Done
+pub mod Reading
+pub mod Answered

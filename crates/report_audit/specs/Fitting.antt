@@ -1,0 +1,95 @@
+-- Whether the lines of a report tell the events of its build in a history, one by one.
+use Rattle.std.specs.Prelude.{◌≡◌, ℕ, ◌-◌, nat_lt, List, filter, map, length, take, Option, Some, None, slice_get, option_and_then, IsSomeAnd, if◌then◌else◌}
+use Rattle.std.specs.Global.{Vec}
+use Rattle.std.specs.List.{last_or}
+use Rattle.build_commands.specs.Acts.{act_of}
+use Rattle.build_commands.specs.Needs.{operands}
+use Rattle.build_commands.specs.Replies.{reply_of}
+use Rattle.build_commands.specs.declared.cmd.Cmd.{Cmd}
+use Rattle.build_commands.specs.declared.cmd.Cmd.TheVariants.{Take}
+use Rattle.build_commands.specs.declared.cmd.Step.{Step}
+use Rattle.build_commands.specs.declared.picked.Picked.{Picked}
+use Rattle.build_commands.specs.declared.reply.Reply.{Reply}
+use Rattle.build_journal.specs.Kind.{act_kind}
+use Rattle.builders.specs.Seats.{events_of}
+use Rattle.realm_host.specs.declared.reply.Undone.{Undone}
+use Rattle.realm_model.specs.Act.{reverse_of}
+use Rattle.realm_model.specs.History.{open_entries, pages_of}
+use Rattle.realm_model.specs.declared.act.Act.{Act}
+use Rattle.realm_model.specs.declared.act.Act.TheVariants as acts
+use Rattle.realm_model.specs.declared.act.Event.{Event}
+use Rattle.workers.specs.Events.{is_accepted, question_at}
+use Rattle.workers.specs.declared.ask.Question.{Question}
+use Rattle.workers.specs.declared.ask.Question.TheVariants as question
+use Rattle.workers.specs.declared.report.Answer.{Answer}
+use Rattle.workers.specs.declared.report.Answer.TheVariants.{Replied, Undone as WasUndone, Marked, Nothing, Refused}
+use Rattle.workers.specs.declared.report.Line.{Line}
+use Rattle.workers.specs.declared.report.Report.{Report}
+
+-- ---- commands
+
+-- The granule of a build's page. A number that the largest machine has not is no granule.
+abbrev pub granule_at : List ℕ → ℕ → Option ℕ
+granule_at pages page = option_and_then (λ number. if nat_lt number 4096 then Some number else None) (slice_get pages page)
+
+-- the granules are those of the pages with these numbers, each of them there
+abbrev pub AreGranules : List ℕ → List ℕ → List ℕ → Type 0
+AreGranules pages numbers granules = map (granule_at pages) numbers ≡ map (λ granule. Some granule) granules
+
+-- The act is the command's of the granules of its pages, whatever was picked for it.
+pub record IsMadeOf (pages : List ℕ) (cmd : Cmd) (act : Act) : Type 0 where
+  pub granules : List ℕ
+  pub picked : Picked
+  pub are_granules : AreGranules pages (operands cmd) granules
+  pub act_is : act_of cmd granules picked ≡ Some act
+
+-- The act is that of the command of a build with these pages. The block of a Take is any.
+abbrev pub IsActOf : List ℕ → Cmd → Act → Type 0
+IsActOf pages (Take order) act = (first : ℕ) × (act ≡ acts.Take order first)
+IsActOf pages cmd act = IsMadeOf pages cmd act
+
+-- and the reply is that to it
+pub record IsReplied (pages : List ℕ) (cmd : Cmd) (reply : Reply) (act : Act) : Type 0 where
+  pub act_is : IsActOf pages cmd act
+  pub reply_is : reply ≡ reply_of (length pages) act
+
+-- ---- undos
+
+-- The act is the reverse of the last of those that are open. Its kind is told, and how many are left.
+pub record IsUndone (opened : List Act) (undone : Undone) (act : Act) : Type 0 where
+  pub act_is : option_and_then reverse_of (last_or None opened) ≡ Some act
+  pub kind_is : option_and_then act_kind (last_or None opened) ≡ Some undone.kind
+  pub left_is : undone.left ≡ length opened - 1
+
+-- ---- lines
+
+-- An answer fits its question where the build has these pages and these acts open, and this is its next event. A reply and an
+-- undo have this event. A mark is told as how many acts are open. What did nothing, or was refused, fits anywhere.
+abbrev pub AnswerFits : List ℕ → List Act → Option Event → Question → Answer → Type 0
+AnswerFits pages opened next (question.Do cmd) (Replied reply) = IsSomeAnd next (λ event. IsReplied pages cmd reply event.act)
+AnswerFits pages opened next question.Undo (WasUndone undone) = IsSomeAnd next (λ event. IsUndone opened undone event.act)
+AnswerFits pages opened next question.Mark (Marked count) = count ≡ length opened
+AnswerFits pages opened next asked Nothing = Unit {0}
+AnswerFits pages opened next asked (Refused refusal) = Unit {0}
+AnswerFits pages opened next asked answer = ⊥
+
+-- A line fits after so many events of its build: it asks for something, and its answer fits there.
+abbrev pub LineFits : ℕ → List Step → List Event → ℕ → Line → Type 0
+LineFits build steps history count line =
+    let before = take count (events_of build history) in
+    let next = slice_get (events_of build history) count in
+    IsSomeAnd (question_at steps line.asked) (λ asked. AnswerFits (pages_of build before) (open_entries build before) next asked line.answer)
+
+-- how many of the lines are accepted
+abbrev pub accepted_count : List Line → ℕ
+accepted_count lines = length (filter is_accepted lines)
+
+-- The lines of a report fit the history: each fits after as many events of the build as accepted lines stand before it, and
+-- there are as many of these events as of accepted lines.
+pub record DoesFit (build : ℕ) (steps : List Step) (lines : List Line) (history : List Event) : Type 0 where
+  pub each : (place : ℕ) (line : Line) → slice_get lines place ≡ Some line → LineFits build steps history (accepted_count (take place lines)) line
+  pub as_many : accepted_count lines ≡ length (events_of build history)
+
+-- a report fits, beside the steps of its build's plan
+abbrev pub ReportFits : List Event → Report × Vec Step → Type 0
+ReportFits history (report, steps) = DoesFit report.build steps.items report.lines.items history

@@ -1,0 +1,15 @@
+-- What an act holds of what was picked for it.
+use Rattle.std.specs.Prelude.{ℕ}
+use Rattle.build_commands.specs.declared.picked.Picked.{Picked}
+use Rattle.realm_model.specs.declared.act.Act.{Act}
+use Rattle.realm_model.specs.declared.act.Act.TheVariants.{Peek, Realm, Rec}
+
+abbrev pub picks : ℕ → ℕ → ℕ → Picked
+picks vmid number byte = record { vmid = vmid; number = number; byte = byte }
+
+-- what was picked for an act; what it does not hold is any
+abbrev pub picked_for : Act → Picked
+picked_for (Realm rd root vmid) = picks vmid 0 0
+picked_for (Rec granule auxiliaries number) = picks 1 number 0
+picked_for (Peek granule offset byte) = picks 1 0 byte
+picked_for _ = picks 1 0 0

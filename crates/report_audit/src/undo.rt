@@ -1,0 +1,31 @@
+//! What an undo did, and what was told of it.
+ghost use Rattle.std.specs.Prelude.{◌≡◌, ◌↔◌, Some, IsTrue};
+ghost use Rattle.build_journal.specs.Kind.{act_kind};
+ghost use Rattle.report_audit.specs.Fitting.{IsUndone};
+
+use build_journal::{Kind, kind_of, takes_back};
+use realm_host::Undone;
+use realm_model::Act;
+
+fn is_of_kind(act: &Act, kind: Kind) -> bool
+    ensures { IsTrue result ↔ (act_kind act.now ≡ Some kind) }
+{
+    match kind_of(act) {
+        Some(its) => its == kind,
+        None => false,
+    }
+}
+
+/// Whether an undo of a build that has these acts open did this act, and was told this of it.
+pub fn is_undone(opened: &[Act], undone: &Undone, act: &Act) -> bool
+    ensures { IsTrue result ↔ IsUndone opened.now undone.now act.now }
+{
+    match opened.last() {
+        Some(newest) => {
+            takes_back(act, newest)
+                && is_of_kind(newest, undone.kind)
+                && undone.left as usize == opened.len() - 1
+        }
+        None => false,
+    }
+}
