@@ -8,7 +8,6 @@ ghost use Rattle.report_audit.specs.Picks.{picked_for};
 
 use crate::pages::{granules_of, has_pages};
 use build_commands::{Cmd, Picked, Reply, act_of, reply_of};
-use builders::is_same_act;
 use granule_addr::{RecNo, Vmid};
 use realm_model::Act;
 
@@ -38,7 +37,7 @@ fn is_made_of(opened: &[Act], cmd: &Cmd, act: &Act) -> bool
         return false;
     };
     match act_of(cmd, &granules, picked_for(act)) {
-        Some(made) => is_same_act(&made, act),
+        Some(made) => made.is_same(act),
         None => false,
     }
 }
