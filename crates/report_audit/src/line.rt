@@ -1,7 +1,8 @@
 //! Whether a line fits.
-ghost use Rattle.std.specs.Prelude.{◌≡◌, ◌↔◌, slice_get, IsTrue, IsSomeAnd};
+ghost use Rattle.std.specs.Prelude.{◌≡◌, ◌↔◌, Option, slice_get, IsTrue, IsSomeAnd};
 ghost use Rattle.std.specs.List.{flat_map};
 ghost use Rattle.realm_model.specs.History.{pages_held};
+ghost use Rattle.realm_model.specs.declared.act.Event.{Event};
 ghost use Rattle.workers.specs.Events.{is_done, question_of_step, question_at};
 ghost use Rattle.workers.specs.declared.ask.Question.TheVariants as question;
 ghost use Rattle.report_audit.specs.Fitting.{AnswerFits};
@@ -47,9 +48,9 @@ fn undo_fits(opened: &[Act], history: &[Event], next: usize, answer: &Answer) ->
     }
 }
 
-// Whether the answer to a mark fits.
-fn mark_fits(opened: &[Act], history: &[Event], next: usize, answer: &Answer) -> bool
-    ensures { IsTrue result ↔ AnswerFits (flat_map pages_held opened.now) opened.now (slice_get history.now next) question.Mark answer.now }
+// Whether the answer to a mark fits, whatever event is the next.
+fn mark_fits(opened: &[Act], answer: &Answer) -> bool
+    ensures { (next : Option Event) → IsTrue result ↔ AnswerFits (flat_map pages_held opened.now) opened.now next question.Mark answer.now }
 {
     match answer {
         Answer::Marked(count) => *count as usize == opened.len(),
@@ -64,7 +65,7 @@ fn step_fits(opened: &[Act], history: &[Event], next: usize, step: &Step, answer
 {
     match step {
         Step::Ask(cmd) => command_fits(opened, history, next, cmd, answer),
-        Step::Mark => mark_fits(opened, history, next, answer),
+        Step::Mark => mark_fits(opened, answer),
         Step::Undo | Step::Abort | Step::Back => undo_fits(opened, history, next, answer),
     }
 }
