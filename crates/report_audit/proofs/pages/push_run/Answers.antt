@@ -1,7 +1,7 @@
 use Rattle.std.proofs.Common.{◌≡◌, ◌+◌, ◌<◌, ◌++◌, length, [], ◌∷◌, refl, sym, ap, ◌∙◌, arith, lit<, length-append, append_assoc}
 use Rattle.std.specs.List.{range_with_len}
 use Rattle.std.proofs.lemmas.List.FromFn.{length-range_with_len}
-use Rattle.build_commands.proofs.Runs.{range_with_len_more}
+use Rattle.granule_addr.proofs.Runs.{range_with_len_more}
 use Rattle.report_audit.proofs.pages.push_run.Goals as goal
 
 pub push-requires : goal.push-requires
