@@ -1,16 +1,15 @@
 -- The RD of a build's realm after one more act of the build.
-use Rattle.std.proofs.Common.{◌≡◌, ℕ, suc, Bool, true, false, cond, ◌&&◌, List, [], ◌∷◌, ◌++◌, Option, Some, None, refl, sym, ap, ◌∙◌}
+use Rattle.std.proofs.Common.{◌≡◌, ℕ, true, List, [], ◌∷◌, ◌++◌, Option, Some, None, refl, sym, ap, ◌∙◌}
 use Rattle.std.specs.Prelude.{filter, option_map, is_some}
 use Rattle.std.specs.List.{flat_map}
-use Rattle.std.proofs.lemmas.Bool.{and_parts}
 use Rattle.std.proofs.lemmas.Option.{same_Some}
 use Rattle.realm_model.specs.declared.act.Act.{Act}
 use Rattle.realm_model.specs.declared.act.Act.TheVariants.{Take, Delegate, Realm, UnRealm, Rtt, Data, Unknown, Rec}
 use Rattle.realm_model.specs.declared.act.Event.{Event}
-use Rattle.realm_model.specs.Machine.{Limits, Machine, RealmRow, Seen}
+use Rattle.realm_model.specs.Machine.{Limits, RealmRow, Seen}
 use Rattle.realm_model.specs.Act.{is_reverse, reverse_of}
 use Rattle.realm_model.specs.OpenRealm.{makes_realm, maker, makers}
-use Rattle.realm_model.specs.World.{World, realm_from, realm_of, same_lease}
+use Rattle.realm_model.specs.World.{World, realm_of}
 use Rattle.realm_model.specs.Step.{step}
 use Rattle.realm_model.specs.History.{open_entries, replay, IsInTurn, IsLegal}
 use Rattle.realm_model.specs.Undoing.{by}

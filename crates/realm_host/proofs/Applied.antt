@@ -4,9 +4,8 @@ use Rattle.std.specs.Prelude.{map, slice_get, option_and_then, IsSome}
 use Rattle.std.specs.FinMap.{get, remove}
 use Rattle.std.specs.List.{All, last_or, list_all}
 use Rattle.std.specs.Result.{is_ok}
-use Rattle.std.proofs.lemmas.Bool.{and_parts, and_from}
+use Rattle.std.proofs.lemmas.Bool.{and_from}
 use Rattle.std.proofs.lemmas.Option.{same_Some}
-use Rattle.std.proofs.lemmas.List.Elements.{All-nil, All-cons}
 use Rattle.page_arena.specs.Block.{IsFreeBlock}
 use Rattle.realm_model.specs.declared.act.Act.{Act}
 use Rattle.realm_model.specs.declared.act.Act.TheVariants.{Take, UnTake, Rec, UnRec}
@@ -23,7 +22,7 @@ use Rattle.realm_model.specs.Undoing.{by}
 use Rattle.realm_model.specs.Update.{Update, Put, Outcome}
 use Rattle.realm_model.specs.World.{World, is_leased_to, realm_of}
 use Rattle.realm_model.proofs.HistoryParts.{split}
-use Rattle.realm_model.proofs.Leases.{leased, leased_all, all_leased}
+use Rattle.realm_model.proofs.Leases.{leased_all, all_leased}
 use Rattle.realm_model.proofs.StepSays.{step_is}
 use Rattle.realm_acts.proofs.Forward.{holder_is}
 use Rattle.rmi_monitor.specs.View.{MonitorView}

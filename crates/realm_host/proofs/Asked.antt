@@ -1,5 +1,5 @@
 -- The act of a command that passed its checks.
-use Rattle.std.proofs.Common.{◌≡◌, ℕ, zero, suc, ◌==◌, ◌<◌, Bool, true, false, List, [], ◌∷◌, ◌++◌, length, map, Option, Some, None, Ok, Err, refl, sym, ap, ◌∙◌, subst, arith}
+use Rattle.std.proofs.Common.{◌≡◌, ℕ, ◌==◌, ◌<◌, Bool, true, false, List, [], ◌∷◌, ◌++◌, length, map, Option, Some, None, Ok, Err, refl, sym, ap, ◌∙◌, subst, arith}
 use Rattle.std.specs.Prelude.{IsTrue, IsSome, option_map, is_some, slice_get, slice_index}
 use Rattle.std.specs.List.{All}
 use Rattle.std.proofs.lemmas.Bool.{eq-eqb}
@@ -9,7 +9,7 @@ use Rattle.realm_model.specs.declared.act.Act.{Act}
 use Rattle.realm_model.specs.declared.rmi.Rmi.{Rmi}
 use Rattle.realm_model.specs.Machine.{RealmRow, Seen, seen, cell_at}
 use Rattle.realm_model.specs.Update.{Update}
-use Rattle.realm_model.specs.Command.Check.{error_input, is_in}
+use Rattle.realm_model.specs.Command.Check.{error_input}
 use Rattle.realm_model.specs.Act.{named, is_reverse}
 use Rattle.realm_model.specs.Outcome.{outcome_of, realm_is, is_in_range, fits}
 use Rattle.realm_model.specs.World.{World, realm_of}
@@ -20,7 +20,7 @@ use Rattle.realm_model.proofs.StepSays.{step_is}
 use Rattle.realm_model.specs.Running.{next_number}
 use Rattle.realm_model.specs.Undoing.{by}
 use Rattle.realm_model.proofs.Leases.{leased as leased_to}
-use Rattle.realm_model.proofs.Lists.{is_in_head, is_in_more, is_in_at}
+use Rattle.realm_model.proofs.Lists.{is_in_at}
 use Rattle.realm_model.proofs.Pages.{is_in-pages_of}
 use Rattle.realm_model.proofs.PartRealm.{realm_from_some}
 use Rattle.realm_acts.specs.Mirror.{rd_of}

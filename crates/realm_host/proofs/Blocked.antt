@@ -1,14 +1,10 @@
 -- A block that is taken, and one that is given back.
-use Rattle.std.proofs.Common.{◌≡◌, ℕ, ◌<◌, ◌≤◌, Bool, true, false, not, List, Some, None, refl, sym, ap, subst, arith}
-use Rattle.std.specs.Prelude.{IsTrue}
+use Rattle.std.proofs.Common.{◌≡◌, ℕ, ◌<◌, ◌≤◌, true, false, not, Some, None, refl, sym, ap, subst, arith}
 use Rattle.std.specs.List.{last_or}
-use Rattle.realm_model.specs.declared.act.Event.{Event}
 use Rattle.page_arena.specs.Block.{IsFreeBlock}
 use Rattle.realm_model.specs.declared.act.Act.TheVariants.{Take, UnTake}
 use Rattle.realm_model.specs.Act.{is_paired, is_reverse, reverse_of}
-use Rattle.realm_model.specs.History.{IsInTurn}
 use Rattle.realm_model.specs.Room.{room_taken}
-use Rattle.realm_model.specs.Undoing.{by}
 use Rattle.rmi_monitor.specs.View.{MonitorView, IsGivable, with_block, without_block}
 use Rattle.realm_acts.specs.Mirror.{IsPerformed}
 use Rattle.realm_acts.specs.Blocks.{IsGivenBack}

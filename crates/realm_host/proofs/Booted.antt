@@ -1,12 +1,11 @@
 -- A host at the start, and how many pages nobody leases.
-use Rattle.std.proofs.Common.{◌≡◌, ℕ, suc, ◌+◌, ◌≤◌, Bool, true, false, cond, List, [], ◌∷◌, length, map, Option, Some, None, refl, sym, ap, ◌∙◌, subst, arith, add-zero, zero-add}
+use Rattle.std.proofs.Common.{◌≡◌, ℕ, suc, ◌+◌, Bool, true, false, cond, List, [], ◌∷◌, length, map, Option, Some, None, refl, sym, ap, ◌∙◌, subst, arith, add-zero, zero-add}
 use Rattle.std.specs.Prelude.{filter, is_none, slice_get}
 use Rattle.std.specs.List.{range_with_len, flat_map}
 use Rattle.std.specs.Option.{option_eq}
 use Rattle.realm_model.specs.declared.act.Event.{Event}
-use Rattle.realm_model.specs.Machine.{Limits}
 use Rattle.realm_model.specs.World.{World, opening, same_lease, is_leased_to, free_set}
-use Rattle.realm_model.specs.History.{after, replay, open_entries, unmatched, pages_of, pages_held, acts_of}
+use Rattle.realm_model.specs.History.{open_entries, unmatched, pages_of, pages_held, acts_of}
 use Rattle.rmi_monitor.specs.View.{MonitorView, fresh}
 use Rattle.realm_acts.specs.Mirror.{IsMirror}
 use Rattle.realm_acts.proofs.Fresh.{fresh_is_mirror}

@@ -7,7 +7,6 @@ use Rattle.std.proofs.lemmas.List.Elements.{All-nil, All-cons}
 use Rattle.build_commands.specs.declared.cmd.Cmd.{Cmd}
 use Rattle.build_commands.specs.declared.needs.Wants.{Wants}
 use Rattle.build_commands.specs.declared.needs.Wants.TheVariants.{Either, Realm as ARealm, NoRealm as NoneOf}
-use Rattle.build_commands.specs.declared.refusal.Refusal.{Refusal}
 use Rattle.build_commands.specs.declared.refusal.Refusal.TheVariants.{RealmThere, NoRealm, JournalFull, HistoryFull}
 use Rattle.build_commands.specs.Desk.{DeskView}
 use Rattle.build_commands.specs.Needs.{operands, needs_of}

@@ -1,9 +1,8 @@
 -- Ranges of numbers, and tests of some or all of them.
-use Rattle.std.proofs.Common.{◌≡◌, ℕ, zero, suc, ◌+◌, ◌<◌, ◌≤◌, Bool, true, false, ◌||◌, List, [], ◌∷◌, refl, sym, ap, ◌∙◌, subst, arith, ⊎_elim}
-use Rattle.std.specs.List.{list_any, range_with_len}
+use Rattle.std.proofs.Common.{◌≡◌, ℕ, Bool, true, false, ◌||◌, List, [], ◌∷◌, refl, sym, ap, ◌∙◌, ⊎_elim}
+use Rattle.std.specs.List.{list_any}
 use Rattle.std.proofs.lemmas.Bool.{cases_eq, ne_eqb}
 use Rattle.realm_model.specs.Command.Check.{is_in}
-use Rattle.realm_model.proofs.Lists.{is_in_head, is_in_more}
 use Rattle.realm_model.proofs.Booleans.{false_from}
 
 -- ---- tests

@@ -1,10 +1,10 @@
 -- What a command answers and leaves, by what comes of it.
-use Rattle.std.proofs.Common.{◌≡◌, Bool, false, cond, List, Some, None, Result, Ok, Err, refl, sym, ap, ◌∙◌, subst}
+use Rattle.std.proofs.Common.{◌≡◌, List, Some, None, Result, Ok, Err, refl, sym, ap, ◌∙◌, subst}
 use Rattle.std.specs.Result.{IsErrAnd}
 use Rattle.realm_model.specs.declared.rmi.Rmi.{Rmi}
 use Rattle.realm_model.specs.Machine.{RealmRow, Seen}
 use Rattle.realm_model.specs.Update.{Update, Outcome}
-use Rattle.realm_model.specs.Command.Check.{check, error_input, with_realm}
+use Rattle.realm_model.specs.Command.Check.{error_input, with_realm}
 use Rattle.rmi_monitor.specs.View.{MonitorView, Answers, after_command}
 
 pub answers_err : (A : Type 0) (rmi : Rmi) (outcome : Outcome) → outcome ≡ Err rmi → Answers {A = A} (Err rmi) outcome

@@ -1,17 +1,15 @@
 -- The REC that a granule is, as it is looked for in the machine: what is found is one, and where nothing is found there is none.
-use Rattle.std.proofs.Common.{◌≡◌, ℕ, ◌+◌, zero, suc, ◌<◌, ◌≤◌, Bool, true, false, cond, List, [], ◌∷◌, length, Option, Some, None, option_map, refl, sym, ap, ◌∙◌, subst, arith, ◌⊎◌, inl, inr, ⊎_elim}
+use Rattle.std.proofs.Common.{◌≡◌, ℕ, ◌+◌, zero, suc, ◌<◌, ◌≤◌, Bool, true, false, cond, List, [], ◌∷◌, length, Option, Some, None, option_map, refl, sym, ap, ◌∙◌, arith, ◌⊎◌, inl, inr, ⊎_elim}
 use Rattle.std.specs.Prelude.{◌==◌, ◌||◌, is_some, option_and_then}
 use Rattle.std.specs.List.{find, list_any, range_with_len}
-use Rattle.std.specs.Ordering.{nat_cmp, eq_by_cmp, is_eq}
-use Rattle.std.specs.declared.cmp.Ordering.{Ordering}
-use Rattle.std.specs.declared.cmp.Ordering.TheVariants.{Less, Equal, Greater}
-use Rattle.std.specs.FinMap.{get, keys, contains_key-keys, nat_cmp-IsAntisymmetric}
+use Rattle.std.specs.Ordering.{nat_cmp, eq_by_cmp}
+use Rattle.std.specs.FinMap.{get, keys, contains_key-keys}
 use Rattle.std.proofs.lemmas.Bool.{eqb-true, eq-eqb, cases_lt}
 use Rattle.std.proofs.lemmas.List.{get_or_past}
 use Rattle.std.proofs.lemmas.Option.{same_Some, none-some}
 use Rattle.realm_model.specs.Machine.{Cell, Machine, RealmRow, RecRow, cell_at, blank}
 use Rattle.realm_model.proofs.Maps.{nat_place}
-use Rattle.rmi_monitor.specs.View.{IsRec, rec_in}
+use Rattle.rmi_monitor.specs.View.{IsRec}
 use Rattle.rmi_monitor.specs.Named.{is_rec_at, numbers_in, number_in, rec_named}
 use Rattle.rmi_monitor.proofs.Comparisons.{some_map}
 

@@ -1,5 +1,5 @@
 -- What always holds of a realm's tables, and what keeps them.
-use Rattle.std.specs.Prelude.{◌≡◌, ◌≢◌, ℕ, ◌/◌, ◌*◌, ◌<◌, ◌≤◌, Bool, false, List, length, Some}
+use Rattle.std.specs.Prelude.{◌≡◌, ◌≢◌, ℕ, ◌/◌, ◌<◌, ◌≤◌, Bool, false, List, length, Some}
 use Rattle.granule_addr.specs.Ipa.{covered_count, served_count}
 use Rattle.granule_addr.specs.Root.{served_space}
 use Rattle.granule_addr.specs.declared.root.Root.{Root}

@@ -1,5 +1,4 @@
-use Rattle.std.proofs.Common.{◌<◌, length, get_or, None, refl, sym, subst, ◌∙◌}
-use Rattle.rmi_monitor.specs.Inside.{rec_at}
+use Rattle.std.proofs.Common.{◌<◌, refl, sym, subst, ◌∙◌}
 use Rattle.rmi_monitor.proofs.RecReadings.{rec_there, rec_place, rec_read}
 use Rattle.rmi_monitor.proofs.monitor.Monitor.rec_at.Goals as goal
 
