@@ -2,7 +2,7 @@
 use Rattle.std.proofs.Common.{◌≡◌, ℕ, List, [], ◌∷◌, ◌++◌, refl, sym, ap, subst, ◌∙◌}
 use Rattle.std.proofs.lemmas.List.{append-nil}
 use Rattle.std.proofs.lemmas.List.Elements.{filter-append}
-use Rattle.std.specs.Prelude.{Option, Some, None, Result, Ok, Err, IfOk, IfErr, filter, option_and_then, length}
+use Rattle.std.specs.Prelude.{Option, Some, None, Result, Ok, Err, IfOk, IfErr, filter, option_and_then}
 use Rattle.std.specs.List.{AllZip, last_or}
 use Rattle.realm_model.proofs.Lists.{last_push}
 use Rattle.realm_model.specs.Act.{reverse_of}
@@ -16,11 +16,9 @@ use Rattle.build_commands.specs.declared.cmd.Cmd.TheVariants.{Take, Fill, Peek, 
 use Rattle.build_commands.specs.declared.refusal.Refusal.{Refusal}
 use Rattle.build_commands.specs.declared.reply.Reply.{Reply}
 use Rattle.build_books.specs.declared.mark.Mark.{Mark}
-use Rattle.build_books.specs.View.{HostView, open_of, pages_of_build}
-use Rattle.realm_host.specs.Answer.{IsActOf, IsReplied, IsUndone}
+use Rattle.build_books.specs.View.{HostView, open_of}
+use Rattle.realm_host.specs.Answer.{IsActOf}
 use Rattle.realm_host.specs.Call.{Ask, Undo}
-use Rattle.realm_host.specs.Picks.{granules_named, picked_for}
-use Rattle.realm_host.specs.declared.reply.Answer.{Answer}
 use Rattle.realm_host.specs.declared.reply.Answer.TheVariants.{Replied, Undone as WasUndone}
 use Rattle.realm_host.specs.declared.reply.Undone.{Undone}
 use Rattle.workers.specs.Exchange.{Exchange, Did, Undid, KeptMark, LookedBack, is_event}

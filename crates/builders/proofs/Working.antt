@@ -1,12 +1,11 @@
 -- A worker's trail and report after its work, and before it.
-use Rattle.std.proofs.Common.{◌≡◌, ℕ, Bool, List, [], ◌∷◌, inl, inr, refl, sym, ap, subst, ◌∙◌}
+use Rattle.std.proofs.Common.{◌≡◌, ℕ, Bool, List, [], ◌∷◌, inl, inr, refl, sym, ap, subst}
 use Rattle.std.specs.Prelude.{filter}
 use Rattle.std.specs.List.{AllZip}
 use Rattle.build_commands.specs.declared.cmd.Step.{Step}
-use Rattle.realm_model.specs.declared.act.Event.{Event}
 use Rattle.workers.proofs.Events.{accepted_tell_events}
 use Rattle.workers.specs.Events.{IsLineOf, is_accepted}
-use Rattle.workers.specs.Exchange.{Exchange, is_event}
+use Rattle.workers.specs.Exchange.{is_event}
 use Rattle.workers.specs.Report.{IsReport, IsWork}
 use Rattle.workers.specs.Standing.{first_standing}
 use Rattle.workers.specs.declared.report.Line.{Line}

@@ -1,4 +1,4 @@
-use Rattle.std.proofs.Common.{sym, ap, subst, ◌∙◌, rules}
+use Rattle.std.proofs.Common.{ap, ◌∙◌}
 use Rattle.builders.specs.Workers.{WorkerView}
 use Rattle.builders.proofs.Working.{no_event}
 use Rattle.builders.proofs.worker.Worker.run.Goals as goal
