@@ -1,5 +1,5 @@
 -- One event more behind the lock.
-use Rattle.std.proofs.Common.{◌≡◌, ◌≢◌, ℕ, ◌+◌, ◌<◌, ◌≤◌, inl, inr, List, [], ◌∷◌, ◌++◌, Bool, true, false, ◌&&◌, ◌==◌, cond, length, get_or, set, refl, sym, ap, ◌∙◌, subst, arith, add-zero, length-set, length-append, get_or-set_same, get_or-set_other}
+use Rattle.std.proofs.Common.{◌≡◌, ◌≢◌, ℕ, ◌+◌, ◌<◌, inl, inr, List, [], ◌∷◌, ◌++◌, Bool, true, false, ◌&&◌, ◌==◌, cond, length, get_or, set, refl, sym, ap, ◌∙◌, subst, arith, add-zero, length-set, length-append, get_or-set_same, get_or-set_other}
 use Rattle.std.proofs.lemmas.Bool.{eq-eqb, ne_eqb, cases_eq}
 use Rattle.std.proofs.lemmas.List.Elements.{filter-append}
 use Rattle.std.specs.Prelude.{nat_lt}
@@ -14,6 +14,7 @@ use Rattle.build_books.specs.View.{HostView, is_aborting, with_event}
 use Rattle.builders.specs.Kept.{KeptView, IsSound, IsShared, IsCounted, IsKept}
 use Rattle.builders.specs.Lanes.{PassView}
 use Rattle.builders.specs.Seats.{SeatView, events_of, with_noted}
+use Rattle.builders.specs.Start.{IsOfStart}
 use Rattle.builders.specs.Told.{IsBehind}
 
 -- ---- counts
@@ -58,7 +59,7 @@ no_abort_after host build act none =
 
 -- ---- what lies behind the lock, after one event more
 
-module _ (room : ℕ) (kept : KeptView) (is_kept : IsKept kept room) (build count : ℕ) (below : build < 8) (had : get_or kept.books build 0 ≡ count) where
+module _ (opened : HostView) (kept : KeptView) (is_kept : IsKept opened kept) (build count : ℕ) (below : build < 8) (had : get_or kept.books build 0 ≡ count) where
   pub count_before : length (events_of build kept.host.history) ≡ count
   count_before = sym (is_kept.counted.each build below) ∙ had
 
@@ -66,8 +67,8 @@ module _ (room : ℕ) (kept : KeptView) (is_kept : IsKept kept room) (build coun
     pub count_after : length (events_of build host.history) ≡ count + 1
     count_after = ap (λ (h : HostView). length (events_of build h.history)) grows ∙ one_more build kept.host.history act ∙ ap (λ n. n + 1) count_before
 
-    pub same_room : host.capacity ≤ room
-    same_room = subst (λ (h : HostView). h.capacity ≤ room) (sym grows) is_kept.fits
+    of_start_after : IsOfStart opened host
+    of_start_after = subst (IsOfStart opened) (sym grows) (record { limits = is_kept.of_start.limits; capacity = is_kept.of_start.capacity })
 
     pub shared_after : IsSound host → IsShared host
     shared_after sound = record {
@@ -89,16 +90,16 @@ module _ (room : ℕ) (kept : KeptView) (is_kept : IsKept kept room) (build coun
         ];
       }
 
-      pub kept_after : IsSound host → IsKept (record { host = host; books = books }) room
+      pub kept_after : IsSound host → IsKept opened (record { host = host; books = books })
       kept_after sound = record {
         shared = shared_after sound;
         counted = subst (λ (h : HostView). IsCounted h.history books) (sym grows) (subst (IsCounted (kept.host.history ++ by build act ∷ [])) (sym books_is) counted_after);
-        fits = same_room;
+        of_start = of_start_after;
       }
 
 -- ---- as a call finds it, with the build's pass
 
-module _ (room : ℕ) (kept : KeptView) (is_kept : IsKept kept room) (pass : PassView) (below : pass.build < 8) (had : get_or kept.books pass.build 0 ≡ pass.count) (build : ℕ)
+module _ (opened : HostView) (kept : KeptView) (is_kept : IsKept opened kept) (pass : PassView) (below : pass.build < 8) (had : get_or kept.books pass.build 0 ≡ pass.count) (build : ℕ)
     (build_is : build ≡ pass.build) (act : Act) (host : HostView) (grew : host ≡ with_event kept.host build act) (now : PassView) (same : now ≡ pass) where
   grows : host ≡ with_event kept.host pass.build act
   grows = grew ∙ ap (λ b. with_event kept.host b act) build_is
@@ -106,12 +107,12 @@ module _ (room : ℕ) (kept : KeptView) (is_kept : IsKept kept room) (pass : Pas
   pub pass_counts : length (events_of now.build host.history) ≡ now.count + 1
   pass_counts =
       ap (λ (p : PassView). length (events_of p.build host.history)) same
-      ∙ count_after room kept is_kept pass.build pass.count below had act host grows ∙ sym (ap (λ (p : PassView). p.count + 1) same)
+      ∙ count_after opened kept is_kept pass.build pass.count below had act host grows ∙ sym (ap (λ (p : PassView). p.count + 1) same)
 
   module _ (sound : IsSound host) where
-    pub kept_noted : (was books : List ℕ) → was ≡ kept.books → books ≡ set was now.build (now.count + 1) → IsKept (record { host = host; books = books }) room
+    pub kept_noted : (was books : List ℕ) → was ≡ kept.books → books ≡ set was now.build (now.count + 1) → IsKept opened (record { host = host; books = books })
     kept_noted was books was_is books_is =
-        kept_after room kept is_kept pass.build pass.count below had act host grows books
+        kept_after opened kept is_kept pass.build pass.count below had act host grows books
         (books_is ∙ (λ i. set (was_is i) (same i).build ((same i).count + 1))) sound
 
     pub behind_noted : (trail : List Event) (seat : SeatView)
@@ -120,6 +121,6 @@ module _ (room : ℕ) (kept : KeptView) (is_kept : IsKept kept room) (pass : Pas
     behind_noted trail seat noted =
         let seat_is = noted kept.host.history (by pass.build act) (ap (λ (h : HostView). h.history) grows) in
         record {
-          shared = shared_after room kept is_kept pass.build pass.count below had act host grows sound;
+          shared = shared_after opened kept is_kept pass.build pass.count below had act host grows sound;
           counted = ap (λ (s : SeatView). length (events_of s.build host.history)) seat_is ∙ pass_counts ∙ sym (ap (λ (s : SeatView). s.count) seat_is);
         }

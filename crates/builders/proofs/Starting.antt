@@ -19,13 +19,13 @@ none_aborts host sound empty build = at (is_aborting host build) refl
         let none = ap length (ap (open_entries build) empty ∙ none_open build) in
         absurd (omega (arith, some, none))
 
-pub kept_at_start : (room : ℕ) (host : HostView) (books : List ℕ) → IsSound host → host.history ≡ [] → host.capacity ≡ room → books ≡ 0 ∷ 0 ∷ 0 ∷ 0 ∷ 0 ∷ 0 ∷ 0 ∷ 0 ∷ []
-    → IsKept (record { host = host; books = books }) room
-kept_at_start room host books sound empty same zeros = record {
+pub kept_at_start : (opened host : HostView) (books : List ℕ) → IsSound host → host.history ≡ [] → host ≡ opened → books ≡ 0 ∷ 0 ∷ 0 ∷ 0 ∷ 0 ∷ 0 ∷ 0 ∷ 0 ∷ []
+    → IsKept opened (record { host = host; books = books })
+kept_at_start opened host books sound empty same zeros = record {
   shared = record { sound = sound; no_abort = none_aborts host sound empty };
   counted = record {
     whole = ap length zeros;
     each = λ build below. ap (λ bs. get_or bs build 0) zeros ∙ get_or-replicate 8 build 0 0 below ∙ sym (ap (λ (h : List Event). length (events_of build h)) empty);
   };
-  fits = omega (arith, same);
+  of_start = record { limits = ap (λ (h : HostView). h.limits) same; capacity = ap (λ (h : HostView). h.capacity) same };
 }

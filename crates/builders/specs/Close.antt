@@ -5,6 +5,7 @@ use Rattle.realm_model.specs.declared.act.Event.{Event}
 use Rattle.build_books.specs.View.{HostView}
 use Rattle.builders.specs.Kept.{IsShared}
 use Rattle.builders.specs.Seats.{SeatView, events_of}
+use Rattle.builders.specs.Start.{IsOfStart}
 
 -- ---- seats
 
@@ -39,9 +40,10 @@ pub record Differs (build : ℕ) (history : List Event) (seats : List SeatView) 
 
 -- ---- the host that comes back
 
--- It lay behind the lock, and each seat counts as many events as it has of the seat's build.
-pub record IsGivenBack (host : HostView) (seats : List SeatView) : Type 0 where
+-- It lay behind the lock, its machine is that of the start, and each seat counts as many events as it has of the seat's build.
+pub record IsGivenBack (opened host : HostView) (seats : List SeatView) : Type 0 where
   pub shared : IsShared host
+  pub of_start : IsOfStart opened host
   pub counted : All (λ seat. length (events_of seat.build host.history) ≡ seat.count) seats
 
 -- Each build's seat is there, and each trail is what the history has of its build.

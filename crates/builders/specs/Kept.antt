@@ -1,5 +1,5 @@
 -- What lies behind the lock: a host, and for each build a book that counts its events.
-use Rattle.std.specs.Prelude.{◌≡◌, ℕ, ◌+◌, ◌<◌, ◌≤◌, List, length, false, slice_index, slice_set}
+use Rattle.std.specs.Prelude.{◌≡◌, ℕ, ◌+◌, ◌<◌, List, length, false, slice_index, slice_set}
 use Rattle.realm_model.specs.declared.act.Act.{Act}
 use Rattle.realm_model.specs.declared.act.Event.{Event}
 use Rattle.realm_model.specs.History.{IsLegal}
@@ -8,6 +8,7 @@ use Rattle.build_books.specs.Kept.{HasRoom, AreOfEach, PointsHold}
 use Rattle.build_books.specs.View.{HostView, is_aborting, with_event}
 use Rattle.realm_host.specs.Host.{IsInRange}
 use Rattle.builders.specs.Seats.{SeatView, events_of, with_noted}
+use Rattle.builders.specs.Start.{IsOfStart}
 
 pub record KeptView : Type 0 where
   pub host : HostView
@@ -32,11 +33,12 @@ pub record IsCounted (history : List Event) (books : List ℕ) : Type 0 where
   pub whole : length books ≡ 8
   pub each : (build : ℕ) → build < 8 → slice_index books build ≡ length (events_of build history)
 
--- What always holds behind the lock. No trail has less room than the history has for its build.
-pub record IsKept (kept : KeptView) (room : ℕ) : Type 0 where
+-- What always holds behind the lock. The machine is that of the start, so no trail has less room than the history has for its
+-- build.
+pub record IsKept (opened : HostView) (kept : KeptView) : Type 0 where
   pub shared : IsShared kept.host
   pub counted : IsCounted kept.host.history kept.books
-  pub fits : kept.host.capacity ≤ room
+  pub of_start : IsOfStart opened kept.host
 
 -- One event of the seat's build ends the history, and the same one ends the trail. The build's book and the seat's count rise
 -- by one.

@@ -1,6 +1,7 @@
 pub mod Whole
 pub mod Lanes
 pub mod Seats
+pub mod Start
 pub mod Kept
 pub mod Codes
 pub mod Told

@@ -1,5 +1,5 @@
 //! What lies behind the lock: the host, and a book for each build.
-ghost use Rattle.std.specs.Prelude.{◌≡◌, ◌+◌, ◌<◌, ◌≤◌, ℕ, List, [], ◌∷◌, ◌++◌, length, slice_index, slice_set, IfOk, IfErr, MatchResult};
+ghost use Rattle.std.specs.Prelude.{◌≡◌, ◌+◌, ◌<◌, ℕ, List, [], ◌∷◌, ◌++◌, length, slice_index, slice_set, IfOk, IfErr, MatchResult};
 ghost use Rattle.std.specs.Result.{OnOk};
 ghost use Rattle.realm_model.specs.declared.act.Event.{Event};
 ghost use Rattle.build_books.specs.Kept.{IsMarkOf};
@@ -59,7 +59,7 @@ impl<
 
     ghost view = { λ k. record { host = k.host; books = k.books } };
 
-    ghost invariant = { λ k. IsKept (record { host = k.host; books = k.books }) L0.room };
+    ghost invariant = { λ k. IsKept L0.opened (record { host = k.host; books = k.books }) };
 }
 
 impl<
@@ -153,7 +153,7 @@ impl<
         ensures closed { IfOk result (λ host. IsClosed host seats.items) }
         ensures fault { IfErr result (λ e. IsFault e.0 e.1 seats.items) }
         ensures host { MatchResult result (λ host. host ≡ self.host) (λ e. e.1 ≡ self.host) }
-        ensures given_back { MatchResult result (λ host. IsGivenBack host seats.items) (λ e. IsGivenBack e.1 seats.items) }
+        ensures given_back { MatchResult result (λ host. IsGivenBack L0.opened host seats.items) (λ e. IsGivenBack L0.opened e.1 seats.items) }
     {
         let Kept { host, mut books } = self;
         close::audit(&mut books, seats.as_mut_slice());
@@ -185,7 +185,7 @@ fn note<
 )
     requires some { 0 < length host.now.history }
     requires counted { length (events_of seat.old.build host.now.history) ≡ seat.old.count + 1 }
-    requires fits { host.now.capacity ≤ L0.room }
+    requires fits { host.now.capacity ≡ L0.opened.capacity }
     ensures sound { IsSound host.now }
     ensures books { books.new ≡ slice_set books.old seat.old.build (seat.old.count + 1) }
     ensures seat { (before : List Event) (event : Event) → host.now.history ≡ before ++ event ∷ [] → seat.new ≡ with_noted seat.old event }

@@ -1,19 +1,21 @@
 //! A ledger for each build: the books that lie behind the lock, and the passes that the seats carry.
-ghost use Rattle.std.specs.Prelude.{◌≡◌, ◌+◌, ◌<◌, ℕ, [], ◌∷◌, ◌++◌, length, map, slice_index, slice_set};
+ghost use Rattle.std.specs.Prelude.{◌≡◌, ◌+◌, ◌<◌, [], ◌∷◌, ◌++◌, length, map, slice_index, slice_set};
 ghost use Rattle.std.specs.List.{range_with_len};
+ghost use Rattle.build_books.specs.View.{HostView};
 ghost use Rattle.builders.specs.Lanes.{unused};
+ghost use Rattle.builders.specs.Start.{no_host};
 
 use granule_addr::BuildId;
 use std::marker::{Brand, Model, PhantomData};
 use std::sync::ledger::{Blank, Book, Ledger, Share};
 
-/// The ledger of a build, and the room that a build has in the history.
+/// The ledger of a build, and the host that the builds were started with.
 pub trait Lane: Ledger {
-    ghost room: { ℕ };
+    ghost opened: { HostView };
 }
 
 impl Lane for Brand {
-    ghost room = { 0 };
+    ghost opened = { no_host };
 }
 
 /// A ledger of one part.

@@ -22,13 +22,13 @@ impl<L0: Lane> Model for Trail<L0> {
 
     ghost view = { λ t. t.events.items };
 
-    ghost invariant = { λ t. vec_capacity t.events ≡ L0.room };
+    ghost invariant = { λ t. vec_capacity t.events ≡ L0.opened.capacity };
 }
 
 impl<L0: Lane> Trail<L0> {
     /// A trail without an event.
     pub fn build(alloc: Global, room: u16) -> Result<Trail<L0>, AllocError>
-        requires { room ≡ L0.room }
+        requires { room ≡ L0.opened.capacity }
         ensures { IfOk result (λ trail. trail ≡ []) }
     {
         let events = Vec::with_capacity(alloc, room as usize)?;
@@ -40,7 +40,7 @@ impl<L0: Lane> Trail<L0> {
 
     /// Adds an event. No memory is taken.
     pub fn add(&mut self, event: Event)
-        requires { length self.old < L0.room }
+        requires { length self.old < L0.opened.capacity }
         ensures { self.new ≡ self.old ++ event ∷ [] }
     {
         self.events.push_reserved(event);
@@ -60,7 +60,7 @@ pub fn new_trails<L0: Lane>(
     count: u8,
     room: u16,
 ) -> Result<Vec<Trail<L0>>, AllocError>
-    requires { room ≡ L0.room }
+    requires { room ≡ L0.opened.capacity }
     ensures { IfOk result (λ trails. trails.items ≡ replicate count []) }
 {
     let mut trails = Vec::with_capacity(alloc, count as usize)?;

@@ -59,7 +59,7 @@ impl<
         (AllocError, Blanks, Host<S>),
     >
         requires empty { host.history ≡ [] }
-        requires room { host.capacity ≡ L0.room }
+        requires opened { host ≡ L0.opened }
         requires name0 { blanks.blank0.name ≡ L0.name }
         requires name1 { blanks.blank1.name ≡ L1.name }
         requires name2 { blanks.blank2.name ≡ L2.name }
@@ -137,14 +137,14 @@ impl<
     }
 
     /// Gives the host back, for its builds' seats: each has to be there once, with the events that the history has of its
-    /// build. At `Err` the host comes back too.
+    /// build. At `Err` the host comes back too. Its machine is that of the start.
     pub fn close(
         self,
         seats: Vec<Seat<L0, L1, L2, L3, L4, L5, L6, L7>>,
     ) -> Result<Host<S>, (CloseFault, Host<S>)>
         ensures closed { IfOk result (λ host. IsClosed host seats.items) }
         ensures fault { IfErr result (λ e. IsFault e.0 e.1 seats.items) }
-        ensures host { MatchResult result (λ host. IsGivenBack host seats.items) (λ e. IsGivenBack e.1 seats.items) }
+        ensures host { MatchResult result (λ host. IsGivenBack L0.opened host seats.items) (λ e. IsGivenBack L0.opened e.1 seats.items) }
     {
         self.kept.into_inner().close(seats)
     }

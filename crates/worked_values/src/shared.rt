@@ -107,7 +107,7 @@ fn is_closed<
     L7: Lane,
 >(rt: &R, alloc: Global, blanks: Blanks, host: Host<S>, with_both: bool) -> Result<(), Fail>
     requires empty { host.history ≡ [] }
-    requires room { host.capacity ≡ L0.room }
+    requires opened { host ≡ L0.opened }
     requires name0 { blanks.blank0.name ≡ L0.name }
     requires name1 { blanks.blank1.name ≡ L1.name }
     requires name2 { blanks.blank2.name ≡ L2.name }

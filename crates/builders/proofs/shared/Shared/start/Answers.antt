@@ -11,4 +11,4 @@ invariant_of-new g c =
       each = c.history.ensures.each;
       points = c.history.ensures.points;
     })
-    c.requires.empty c.requires.room c.new-books.result.books_are
+    c.requires.empty c.requires.opened c.new-books.result.books_are

@@ -1,0 +1,13 @@
+-- The host that builds are started with.
+use Rattle.std.specs.Prelude.{◌≡◌}
+use Rattle.build_books.specs.Booted.{booted}
+use Rattle.build_books.specs.View.{HostView}
+
+-- The machine of a host is that of the start: its limits, and the room that each build has in the history.
+pub record IsOfStart (opened host : HostView) : Type 0 where
+  pub limits : host.limits ≡ opened.limits
+  pub capacity : host.capacity ≡ opened.capacity
+
+-- where no build is started: all numbers are 0, and all lists empty
+abbrev pub no_host : HostView
+no_host = booted 0 0 0 0 0
