@@ -2,8 +2,8 @@
 //!
 //! A turn asks the host for the next step of its build, and tells the step as it stands in the plan, with the host's own
 //! answer (`specs/Turn.antt`, `specs/Run.antt`, `specs/Text.antt`). An abort and a way back take a turn for each act that they
-//! undo. What a plan is and how a step is spelled is `realm_plan`'s and
-//! `plan_steps`'; nothing here reads or writes a device.
+//! undo. The lines of a worker's report are told alike (`specs/Report.antt`). What a plan is and how a step is spelled is
+//! `realm_plan`'s and `plan_steps`'; nothing here reads or writes a device.
 #![tactic(auto)]
 
 mod answer;
@@ -11,11 +11,15 @@ mod build_id;
 mod lines;
 mod map;
 mod place;
+mod report;
 mod run;
+#[cfg(test)]
+mod tests;
 mod turn;
 
 pub use answer::TurnAnswer;
 pub use lines::push_turn;
 pub use map::{map_text, push_map};
 pub use place::Place;
+pub use report::push_report;
 pub use run::run_turns;

@@ -1,0 +1,57 @@
+-- The text of a report: each of its lines is told as that of a turn.
+use Rattle.std.specs.Prelude.{ℕ, ◌==◌, Bool, true, false, not, ◌&&◌, if◌then◌else◌, List, [], ◌∷◌, ◌++◌, Option, Some, None, slice_get}
+use Rattle.build_commands.specs.declared.cmd.Cmd.TheVariants.{Exit}
+use Rattle.build_commands.specs.declared.cmd.Step.TheVariants.{Ask, Undo, Abort, Back}
+use Rattle.plan_steps.specs.declared.step.PlanStep.{PlanStep}
+use Rattle.plan_steps.specs.declared.step.PlanStep.TheVariants.{Whole}
+use Rattle.workers.specs.declared.report.Asked.{Asked}
+use Rattle.workers.specs.declared.report.Asked.TheVariants as asked
+use Rattle.workers.specs.declared.report.Answer.{Answer}
+use Rattle.workers.specs.declared.report.Answer.TheVariants as answer
+use Rattle.workers.specs.declared.report.Line.{Line}
+use Rattle.plan_runs.specs.Text.{turn_line}
+use Rattle.plan_runs.specs.declared.answer.TurnAnswer.{TurnAnswer}
+use Rattle.plan_runs.specs.declared.answer.TurnAnswer.TheVariants as tells
+
+-- The step that a line is of: the plan's at that place, as it stands there. What is asked after a refusal is told as the
+-- step that would ask for it.
+abbrev pub step_of_line : List PlanStep → Asked → Option PlanStep
+step_of_line steps (asked.Step place) = slice_get steps place
+step_of_line steps (asked.Exit number) = Some (Whole (Ask (Exit number)))
+step_of_line steps asked.Undo = Some (Whole Undo)
+
+-- An abort and a step back undo any number of acts, with a line for each.
+abbrev pub undoes_many : PlanStep → Bool
+undoes_many (Whole Abort) = true
+undoes_many (Whole Back) = true
+undoes_many _ = false
+
+-- both are of the plan's step at the same place
+abbrev pub is_same_step : Asked → Asked → Bool
+is_same_step (asked.Step place) (asked.Step other) = place == other
+is_same_step _ _ = false
+
+-- A line ends its step where the next line is of something else, or there is none.
+abbrev pub ends_step : Asked → Option Line → Bool
+ends_step this None = true
+ends_step this (Some next) = not (is_same_step this next.asked)
+
+-- What a line tells of its answer: of an undo, whether an abort or a step back ends with it.
+abbrev pub told_of_line : Answer → Bool → TurnAnswer
+told_of_line (answer.Replied reply) ends = tells.Replied reply
+told_of_line (answer.Undone undone) ends = if ends then tells.Ended undone.kind else tells.Undone undone.kind
+told_of_line (answer.Marked length) ends = tells.Marked length
+told_of_line answer.Nothing ends = tells.Nothing
+told_of_line (answer.Refused refusal) ends = tells.Refused refusal
+
+-- A line of this step, and the one that comes next. A line of no step has no text.
+abbrev pub line_text : ℕ → Option PlanStep → Line → Option Line → List ℕ
+line_text build None line next = []
+line_text build (Some step) line next =
+    turn_line build step (told_of_line line.answer (undoes_many step && ends_step line.asked next))
+
+-- the lines of a build's report, one after the other
+abbrev pub report_text : ℕ → List PlanStep → List Line → List ℕ
+report_text build steps [] = []
+report_text build steps (line ∷ more) =
+    line_text build (step_of_line steps line.asked) line (slice_get more 0) ++ report_text build steps more

@@ -1,0 +1,96 @@
+//! The lines of a report.
+ghost use Rattle.std.specs.Prelude.{◌≡◌, ◌++◌, OnOk, Some, string_bytes};
+ghost use Rattle.plan_runs.specs.Report.{step_of_line, undoes_many, ends_step, told_of_line, line_text, report_text};
+
+use crate::answer::TurnAnswer;
+use crate::lines::push_turn;
+use build_commands::{Cmd, Step};
+use granule_addr::BuildId;
+use plan_steps::PlanStep;
+use std::alloc::AllocError;
+use workers::{Answer, Asked, Line, Report};
+
+// Whether a step undoes any number of acts, with a line for each.
+fn undoes_many(step: &PlanStep) -> bool
+    ensures { result ≡ undoes_many step.now }
+{
+    matches!(step, PlanStep::Whole(Step::Abort | Step::Back))
+}
+
+// Whether a line is the last of its step.
+fn ends_step(asked: Asked, next: Option<Line>) -> bool
+    ensures { result ≡ ends_step asked next }
+{
+    let Some(next) = next else {
+        return true;
+    };
+    match (asked, next.asked) {
+        (Asked::Step(place), Asked::Step(other)) => place != other,
+        _ => true,
+    }
+}
+
+// What a line tells of its answer: of an undo, whether an abort or a step back ends with it.
+fn told_of_line(answer: Answer, ends: bool) -> TurnAnswer
+    ensures { result ≡ told_of_line answer ends }
+{
+    match answer {
+        Answer::Replied(reply) => TurnAnswer::Replied(reply),
+        Answer::Undone(undone) if ends => TurnAnswer::Ended(undone.kind),
+        Answer::Undone(undone) => TurnAnswer::Undone(undone.kind),
+        Answer::Marked(length) => TurnAnswer::Marked(length),
+        Answer::Nothing => TurnAnswer::Nothing,
+        Answer::Refused(refusal) => TurnAnswer::Refused(refusal),
+    }
+}
+
+// Appends a line of a step. Of the next line is asked whether it is of that step too.
+fn push_step_line(
+    text: &mut String,
+    build: BuildId,
+    step: &PlanStep,
+    line: Line,
+    next: Option<Line>,
+) -> Result<(), AllocError>
+    ensures { OnOk result (string_bytes text.new ≡ string_bytes text.old ++ line_text build (Some step.now) line next) }
+{
+    let ends = undoes_many(step) && ends_step(line.asked, next);
+    push_turn(text, build, step, told_of_line(line.answer, ends))
+}
+
+// Appends a line, if its step is in the plan. Of the next line is asked whether it is of the same step.
+fn push_line(
+    text: &mut String,
+    build: BuildId,
+    steps: &[PlanStep],
+    line: &Line,
+    next: Option<Line>,
+) -> Result<(), AllocError>
+    ensures { OnOk result (string_bytes text.new ≡ string_bytes text.old ++ line_text build (step_of_line steps.now line.now.asked) line.now next) }
+{
+    match line.asked {
+        Asked::Step(place) => match steps.get(place) {
+            Some(step) => push_step_line(text, build, step, *line, next),
+            None => Ok(()),
+        },
+        Asked::Exit(number) => {
+            let step = PlanStep::Whole(Step::Ask(Cmd::Exit { number }));
+            push_step_line(text, build, &step, *line, next)
+        }
+        Asked::Undo => push_step_line(text, build, &PlanStep::Whole(Step::Undo), *line, next),
+    }
+}
+
+/// Appends the lines of a report, each as the line of a turn: the build, the step as it stands in the plan, and the answer.
+/// An undo is told as `done` at the last line of an abort or a step back, also where the worker was cut short there. A line
+/// whose place the plan does not have is left out: no report of the plan has one. At an `Err` the text may have got a part.
+pub fn push_report(text: &mut String, steps: &[PlanStep], report: &Report) -> Result<(), AllocError>
+    ensures { OnOk result (string_bytes text.new ≡ string_bytes text.old ++ report_text report.now.build steps.now report.now.lines.items) }
+{
+    let mut rest = report.lines.as_slice();
+    while let Some((line, more)) = rest.split_first() {
+        push_line(text, report.build, steps, line, more.first().copied())?;
+        rest = more;
+    }
+    Ok(())
+}
