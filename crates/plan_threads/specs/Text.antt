@@ -1,0 +1,20 @@
+-- What is printed of reports.
+use Rattle.std.specs.Prelude.{ℕ, List, [], codes, slice_index_or}
+use Rattle.std.specs.Global.{Vec}
+use Rattle.build_commands.specs.declared.cmd.Step.{Step}
+use Rattle.plan_steps.specs.declared.step.PlanStep.{PlanStep}
+use Rattle.plan_runs.specs.Report.{report_text}
+use Rattle.realm_plan.specs.Plan.{Plan}
+use Rattle.workers.specs.declared.report.Report.{Report}
+
+-- the steps of a build
+abbrev pub steps_of : Plan → ℕ → List PlanStep
+steps_of plan build = slice_index_or plan.builds build []
+
+-- the lines of a report, which tell the steps as they stand in the plan
+abbrev pub report_lines : Plan → Report × Vec Step → List ℕ
+report_lines plan (report, asks) = report_text report.build (steps_of plan report.build) report.lines.items
+
+-- The reports tell the events of the history, one by one.
+abbrev pub audit_line : List ℕ
+audit_line = codes "audit ok\n"

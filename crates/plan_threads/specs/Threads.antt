@@ -1,0 +1,89 @@
+-- Runs of a plan in threads, and what is printed of one.
+use Rattle.std.specs.Prelude.{◌≡◌, ◌⊎◌, ℕ, true, false, List, [], ◌++◌, map, length, All}
+use Rattle.std.specs.Global.{Vec}
+use Rattle.std.specs.List.{flat_map, range_with_len}
+use Rattle.build_books.specs.View.{HostView}
+use Rattle.build_commands.specs.declared.cmd.Step.{Step}
+use Rattle.builders.specs.Close.{IsClosed, IsGivenBack}
+use Rattle.builders.specs.Fault.{IsFault}
+use Rattle.builders.specs.Runs.{AreRun, IsLowestWaiting}
+use Rattle.builders.specs.Seats.{SeatView, new_seat}
+use Rattle.builders.specs.Workers.{WorkerView}
+use Rattle.builders.specs.declared.close.CloseFault.{CloseFault}
+use Rattle.plan_runs.specs.Report.{report_text}
+use Rattle.plan_runs.specs.Run.{map_text}
+use Rattle.plan_steps.specs.Asked.{asked}
+use Rattle.realm_model.specs.declared.act.Event.{Event}
+use Rattle.realm_plan.specs.Plan.{Plan}
+use Rattle.report_audit.specs.Fitting.{DoesFit}
+use Rattle.workers.specs.declared.report.Report.{Report}
+use Rattle.plan_threads.specs.Text.{steps_of, audit_line}
+use Rattle.plan_threads.specs.declared.fault.RunFault.{RunFault}
+use Rattle.plan_threads.specs.declared.fault.RunFault.TheVariants.{Memory, Stuck, Mismatch}
+
+-- ---- workers
+
+-- the worker of a build that has asked nothing of its steps
+abbrev pub new_worker : Plan → ℕ → WorkerView
+new_worker plan build = record { seat = new_seat build; steps = map asked (steps_of plan build); lines = []; ended = false }
+
+-- one for each build of the plan
+abbrev pub new_workers : Plan → List WorkerView
+new_workers plan = map (new_worker plan) (range_with_len 0 (length plan.builds))
+
+abbrev pub seats_of : List WorkerView → List SeatView
+seats_of workers = map (λ worker. worker.seat) workers
+
+-- what a worker leaves as a report, with its steps
+abbrev pub IsReportOf : WorkerView → Report × Vec Step → Type 0
+IsReportOf worker (report, asks) = (report.build ≡ worker.seat.build) × (report.lines.items ≡ worker.lines) × (asks.items ≡ worker.steps)
+
+-- ---- runs
+
+-- The workers of the plan's builds have run, and this is the host that they leave. The gate stops these turns of each build.
+pub record IsEndedRun (plan : Plan) (stops : ℕ → ℕ → Type 0) (opened host : HostView) (workers : List WorkerView) : Type 0 where
+  pub run : AreRun stops (new_workers plan) workers
+  pub ended : All (λ worker. worker.ended ≡ true) workers
+  pub given_back : IsGivenBack opened host (seats_of workers)
+
+-- the worker's accepted lines tell its build's events in the history, one by one
+abbrev pub WorkerFits : List Event → WorkerView → Type 0
+WorkerFits history worker = DoesFit worker.seat.build worker.steps worker.lines history
+
+-- ---- what is printed
+
+-- the lines of a worker's report
+abbrev pub worker_text : Plan → WorkerView → List ℕ
+worker_text plan worker = report_text worker.seat.build (steps_of plan worker.seat.build) worker.lines
+
+-- The text of some run in which each worker has ended: its history is legal, each seat has what it has of the seat's build, and
+-- each report fits it. It is the lines of the reports by build, the map of the history, and the line of the audit.
+pub record IsText (plan : Plan) (stops : ℕ → ℕ → Type 0) (opened : HostView) (text : List ℕ) : Type 0 where
+  pub host : HostView
+  pub workers : List WorkerView
+  pub is_run : IsEndedRun plan stops opened host workers
+  pub closed : IsClosed host (seats_of workers)
+  pub fit : All (WorkerFits host.history) workers
+  pub whole : text ≡ flat_map (worker_text plan) workers ++ (map_text host ++ audit_line)
+
+-- ---- why there is no text
+
+-- Some run has waited in vain for a turn of this build, which the gate stops, and of no lower one.
+pub record IsStuck (plan : Plan) (stops : ℕ → ℕ → Type 0) (build : ℕ) : Type 0 where
+  pub workers : List WorkerView
+  pub run : AreRun stops (new_workers plan) workers
+  pub waits : IsLowestWaiting workers build
+  pub stopped : (turn : ℕ) × stops build turn
+
+-- Some run has ended with a seat whose events are not those that the history has of its build, or with a report that does not
+-- fit.
+pub record IsMismatch (plan : Plan) (stops : ℕ → ℕ → Type 0) (opened : HostView) : Type 0 where
+  pub host : HostView
+  pub workers : List WorkerView
+  pub is_run : IsEndedRun plan stops opened host workers
+  pub differs : ((fault : CloseFault) × IsFault fault host (seats_of workers)) ⊎ ¬ (All (WorkerFits host.history) workers)
+
+abbrev pub IsWithoutText : Plan → (ℕ → ℕ → Type 0) → HostView → RunFault → Type 0
+IsWithoutText plan stops opened Memory = Unit {0}
+IsWithoutText plan stops opened (Stuck build) = IsStuck plan stops build
+IsWithoutText plan stops opened Mismatch = IsMismatch plan stops opened

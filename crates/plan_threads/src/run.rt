@@ -1,0 +1,101 @@
+//! All builds of a plan at once.
+ghost use Rattle.std.specs.Prelude.{◌≡◌, [], vec_len, string_bytes, IfOk, IfErr};
+ghost use Rattle.realm_plan.specs.PlanView.{plan_view};
+ghost use Rattle.plan_threads.specs.Threads.{IsWithoutText, IsText};
+
+use crate::ends::{Ends, ends_of};
+use crate::fault::RunFault;
+use crate::new_workers::workers_of;
+use crate::text::text_of;
+use builders::{Blanks, Lane, Shared, run_builds};
+use page_arena::PageStore;
+use realm_host::Host;
+use realm_plan::Plan;
+use report_audit::fit_all;
+use std::alloc::Global;
+use std::marker::{Brand, Send, Sync};
+use std::sync::Wait;
+use std::thread::Threads;
+use workers::Gate;
+
+// As `run_text`, with ledgers of these names.
+fn run_with<
+    R: Threads + Wait + Sync,
+    S: PageStore + Drop + Send,
+    G: Gate + Sync,
+    L0: Lane + Send + Sync,
+    L1: Lane + Send + Sync,
+    L2: Lane + Send + Sync,
+    L3: Lane + Send + Sync,
+    L4: Lane + Send + Sync,
+    L5: Lane + Send + Sync,
+    L6: Lane + Send + Sync,
+    L7: Lane + Send + Sync,
+>(
+    rt: &R,
+    alloc: Global,
+    plan: &Plan,
+    blanks: Blanks,
+    host: Host<S>,
+    gate: &G,
+) -> Result<String, RunFault>
+    requires empty { host.history ≡ [] }
+    requires builds { host.limits.builds ≡ vec_len plan.now.builds }
+    requires opened { host ≡ L0.opened }
+    requires name0 { blanks.blank0.name ≡ L0.name }
+    requires name1 { blanks.blank1.name ≡ L1.name }
+    requires name2 { blanks.blank2.name ≡ L2.name }
+    requires name3 { blanks.blank3.name ≡ L3.name }
+    requires name4 { blanks.blank4.name ≡ L4.name }
+    requires name5 { blanks.blank5.name ≡ L5.name }
+    requires name6 { blanks.blank6.name ≡ L6.name }
+    requires name7 { blanks.blank7.name ≡ L7.name }
+    ensures ok { IfOk result (λ text. IsText (plan_view plan.now) (G.stops gate.now) host (string_bytes text)) }
+    ensures err { IfErr result (IsWithoutText (plan_view plan.now) (G.stops gate.now) host) }
+{
+    let (shared, seats) = match Shared::<S, L0, L1, L2, L3, L4, L5, L6, L7>::start(
+        alloc, blanks, host,
+    ) {
+        Ok(started) => started,
+        Err((error, _blanks, _host)) => return Err(error.into()),
+    };
+    let mut workers = workers_of(alloc, plan, seats)?;
+    if let Err(build) = run_builds(rt, &shared, workers.as_mut_slice(), gate) {
+        return Err(RunFault::Stuck(build));
+    }
+    let Ends { seats, reports } = ends_of(alloc, workers)?;
+    let Ok(host) = shared.close(seats) else {
+        return Err(RunFault::Mismatch);
+    };
+    if !fit_all(alloc, host.history(), reports.as_slice())? {
+        return Err(RunFault::Mismatch);
+    }
+    Ok(text_of(alloc, plan, reports.as_slice(), &host)?)
+}
+
+/// Runs each build of a plan by a worker in a thread of its own, on a host that has no history, and gives the text of the
+/// run, made whole in memory: the lines of the reports by build, the host's map, and `audit ok`.
+///
+/// Errors: Stuck, with the lowest build whose worker waited in vain for a turn of the gate; Mismatch, where the host is not
+/// closed, or a report does not fit its history; Memory, where a growth was refused.
+pub fn run_text<R: Threads + Wait + Sync, S: PageStore + Drop + Send, G: Gate + Sync>(
+    rt: &R,
+    alloc: Global,
+    plan: &Plan,
+    host: Host<S>,
+    gate: &G,
+) -> Result<String, RunFault>
+    requires empty { host.history ≡ [] }
+    requires builds { host.limits.builds ≡ vec_len plan.now.builds }
+    ensures ok { IfOk result (λ text. IsText (plan_view plan.now) (G.stops gate.now) host (string_bytes text)) }
+    ensures err { IfErr result (IsWithoutText (plan_view plan.now) (G.stops gate.now) host) }
+{
+    run_with::<R, S, G, Brand, Brand, Brand, Brand, Brand, Brand, Brand, Brand>(
+        rt,
+        alloc,
+        plan,
+        Blanks::new(),
+        host,
+        gate,
+    )
+}

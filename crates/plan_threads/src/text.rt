@@ -1,0 +1,48 @@
+//! The text of a run.
+ghost use Rattle.std.specs.Prelude.{◌≡◌, ◌++◌, OnOk, IfOk, string_bytes};
+ghost use Rattle.std.specs.List.{flat_map};
+ghost use Rattle.plan_runs.specs.Run.{map_text};
+ghost use Rattle.realm_plan.specs.PlanView.{plan_view};
+ghost use Rattle.plan_threads.specs.Text.{report_lines, audit_line};
+
+use build_commands::Step;
+use page_arena::PageStore;
+use plan_runs::{push_map, push_report};
+use realm_host::Host;
+use realm_plan::Plan;
+use std::alloc::{AllocError, Global};
+use workers::Report;
+
+// Appends the lines of the reports, one after the other.
+fn push_reports(
+    text: &mut String,
+    plan: &Plan,
+    reports: &[(Report, Vec<Step>)],
+) -> Result<(), AllocError>
+    ensures { OnOk result (string_bytes text.new ≡ string_bytes text.old ++ flat_map (report_lines (plan_view plan.now)) reports.now) }
+{
+    for (report, _) in reports {
+        let steps = match plan.builds.get(report.build.number() as usize) {
+            Some(steps) => steps.as_slice(),
+            None => &[],
+        };
+        push_report(text, steps, report)?;
+    }
+    Ok(())
+}
+
+/// The lines of the reports, the map of the host, and the line that says that they fit. The one error is want of memory.
+pub fn text_of<S: PageStore>(
+    alloc: Global,
+    plan: &Plan,
+    reports: &[(Report, Vec<Step>)],
+    host: &Host<S>,
+) -> Result<String, AllocError>
+    ensures { IfOk result (λ text. string_bytes text ≡ flat_map (report_lines (plan_view plan.now)) reports.now ++ (map_text host.now ++ audit_line)) }
+{
+    let mut text = String::new(alloc);
+    push_reports(&mut text, plan, reports)?;
+    push_map(&mut text, host)?;
+    text.push_str("audit ok\n")?;
+    Ok(text)
+}
