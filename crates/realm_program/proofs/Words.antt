@@ -1,5 +1,5 @@
 -- What clap's definition says of this program, whatever the words.
-use Rattle.std.proofs.Common.{◌≡◌, ◌<◌, ℕ, arith, subst, List, [], true, false, refl, ap, codes, inl, inr}
+use Rattle.std.proofs.Common.{◌≡◌, ◌<◌, ℕ, arith, subst, List, [], true, false, refl, ap, codes, ◌⊎◌, inl, inr}
 use Rattle.std.specs.Prelude.{Option, Some, None, option_map, option_and_then, is_some, nat_lt, pos, if◌then◌else◌, Result, Ok}
 use Rattle.std.specs.Str.Parse.{ParsesUnsigned}
 use Rattle.std.proofs.lemmas.Bool.{false≢true, lt-ltb}
@@ -13,7 +13,7 @@ use Rattle.command_line.proofs.Passed.{Each, IsPassed, accepted, text_passed}
 use Rattle.command_line.proofs.Subcommands.{NamesOne, is_entered, is_one, name_in, values_passed}
 use Rattle.realm_program.specs.Line.{IsErase, IsLine}
 use Rattle.realm_program.specs.Program.{erase, realmhost}
-use Rattle.realm_program.specs.declared.line.Line.TheVariants.{Replay}
+use Rattle.realm_program.specs.declared.line.Line.TheVariants.{Replay, Run}
 
 pub realmhost_is_simple : is_simple realmhost ≡ true
 realmhost_is_simple = refl
@@ -23,18 +23,23 @@ realmhost_is_free = refl
 
 -- ---- the subcommand
 
-replay_named : (t : Text) → NamesOne t (built realmhost).subs → t ≡ codes "replay"
-replay_named t (inl replay) = replay
-replay_named t (inr more) = absurd more
+named : (t : Text) → NamesOne t (built realmhost).subs → (t ≡ codes "replay") ⊎ (t ≡ codes "run")
+named t (inl replay) = inl replay
+named t (inr (inl run)) = inr run
+named t (inr (inr more)) = absurd more
 
-named_from : (sub : Option (Text × List Row)) → ((r : Text × List Row) → sub ≡ Some r → r.0 ≡ codes "replay") → is_some sub ≡ true → name_in sub ≡ Some (codes "replay")
-named_from None names has = absurd (false≢true has)
-named_from (Some r) names has = ap Some (names r refl)
+run_from : (sub : Option (Text × List Row)) → is_some sub ≡ true → ((r : Text × List Row) → sub ≡ Some r → (r.0 ≡ codes "replay") ⊎ (r.0 ≡ codes "run"))
+    → ¬ (name_in sub ≡ Some (codes "replay")) → IsLine sub Run
+run_from None has names other = absurd (false≢true has)
+run_from (Some r) has names other = elim (names r refl) [
+  | inl replay ↦ absurd (other (ap Some replay))
+  | inr run ↦ run
+]
 
--- words that have no fault ask for a replay
-pub replay_is_asked : (words : List Text) → fault_of realmhost words ≡ [] → name_in (subcommand_of realmhost words) ≡ Some (codes "replay")
-replay_is_asked words e =
-    named_from (subcommand_of realmhost words) (λ r is. replay_named r.0 (is_one realmhost words r is)) (is_entered realmhost words e refl)
+-- words that have no fault, and do not ask for a replay, ask for a run
+pub run_is_asked : (words : List Text) → fault_of realmhost words ≡ [] → ¬ (name_in (subcommand_of realmhost words) ≡ Some (codes "replay")) → IsLine (subcommand_of realmhost words) Run
+run_is_asked words e other =
+    run_from (subcommand_of realmhost words) (is_entered realmhost words e refl) (λ r is. named r.0 (is_one realmhost words r is)) other
 
 -- ---- the build that is left out
 
@@ -51,7 +56,7 @@ built_erase = filled erase
 
 pub erase_passed : (words : List Text) → fault_of realmhost words ≡ [] → (rows : List Row) → option_map (λ p. p.1) (subcommand_of realmhost words) ≡ Some rows
     → Each (IsPassed built_erase) rows
-erase_passed words e = values_passed realmhost words e built_erase refl ((inl refl, (inr (refl, refl), tt)), tt)
+erase_passed words e = values_passed realmhost words e built_erase refl ((inl refl, (inr (refl, refl), tt)), ((inr (refl, refl), tt), tt))
 
 -- a text of such rows is read as a number from 0 to 7
 erase_in_range : (rows : List Row) (text : Text) → Each (IsPassed built_erase) rows → one_of (codes "erase") rows ≡ Some text
@@ -71,10 +76,11 @@ erase_from {E} rows (Some t) b gives parses passed is none value =
     let number = signed_reads E gives 8 0 7 range.0 b (subst (λ (u : Text). ReadsOne gives u b) range.1 reads) parses (omega arith) range.2 in
     rw number.1 (read_below t number.0 (omega (arith, number.3)) (parses t (Ok number.0) (rw number.1 at reads)))
 
-pub line_is : (sub : Option (Text × List Row)) (rows : List Row) (b : Option ℕ)
+-- a replay is asked for, with or without a build to be left out
+pub replay_is_asked : (sub : Option (Text × List Row)) (rows : List Row) (b : Option ℕ)
     → name_in sub ≡ Some (codes "replay") → option_map (λ p. p.1) sub ≡ Some rows → IsErase (one_of (codes "erase") rows) b → IsLine sub (Replay b)
-line_is None rows b name found erase = absurd (cc)
-line_is (Some s) rows b name found erase =
+replay_is_asked None rows b name found erase = absurd (cc)
+replay_is_asked (Some s) rows b name found erase =
     let same_name : s.0 ≡ codes "replay" = cc in
     let same_rows : s.1 ≡ rows = cc in
     (same_name, rw same_rows erase)

@@ -1,9 +1,11 @@
 -- Faults, and the exit status of each.
 use Rattle.std.specs.Prelude.{ℕ}
+use Rattle.plan_threads.specs.declared.fault.RunFault.{RunFault}
+use Rattle.plan_threads.specs.declared.fault.RunFault.TheVariants as run_fault
 use Rattle.realm_plan.specs.declared.fault.PlanError.{PlanError}
 use Rattle.realm_plan.specs.declared.fault.PlanError.TheVariants as plan_error
 use Rattle.realm_program.specs.declared.fault.Fault.{Fault}
-use Rattle.realm_program.specs.declared.fault.Fault.TheVariants.{Plan, EraseNamesNoBuild, Memory, Mismatch, Device}
+use Rattle.realm_program.specs.declared.fault.Fault.TheVariants.{Plan, EraseNamesNoBuild, Memory, Stuck, Mismatch, Device}
 use Rattle.realm_program.specs.declared.input.ReadError.{ReadError}
 use Rattle.realm_program.specs.declared.input.ReadError.TheVariants as read_error
 
@@ -11,6 +13,7 @@ abbrev pub status_of : Fault → ℕ
 status_of (Plan fault) = 1
 status_of EraseNamesNoBuild = 2
 status_of Memory = 3
+status_of (Stuck build) = 3
 status_of Mismatch = 4
 status_of Device = 5
 
@@ -21,3 +24,8 @@ fault_of_plan (plan_error.Fault fault) = Plan fault
 abbrev pub fault_of_read : ReadError → Fault
 fault_of_read read_error.Memory = Memory
 fault_of_read read_error.Device = Device
+
+abbrev pub fault_of_run : RunFault → Fault
+fault_of_run run_fault.Memory = Memory
+fault_of_run (run_fault.Stuck build) = Stuck build
+fault_of_run run_fault.Mismatch = Mismatch

@@ -11,6 +11,10 @@ erase = record (new_rule (codes "erase")) { long = Some (codes "erase"); value_n
 abbrev pub replay : App
 replay = with_rule (new_app (codes "replay")) erase
 
+-- without options
+abbrev pub run : App
+run = new_app (codes "run")
+
 -- it has a version; a subcommand is required, and there is none called `help`
 abbrev pub program : App
 program =
@@ -18,4 +22,4 @@ program =
     record a { top = record a.top { has_version = true; subcommand_required = true; disable_help_subcommand = true } }
 
 abbrev pub realmhost : App
-realmhost = with_subcommand program replay.top
+realmhost = with_subcommand (with_subcommand program replay.top) run.top

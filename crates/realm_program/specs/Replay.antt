@@ -1,14 +1,12 @@
--- What a replay prints, and how it ends.
-use Rattle.std.specs.Prelude.{◌≡◌, ◌<◌, ◌≤◌, ℕ, Bool, true, false, List, [], ◌++◌, length, Option, Some, None, IfSome, Result, Ok, Err}
-use Rattle.std.specs.Io.KnownBytes.{Appends, Keeps}
+-- What a replay prints.
+use Rattle.std.specs.Prelude.{◌≡◌, ◌<◌, ◌≤◌, ℕ, List, [], ◌++◌, length, Option, Some, None}
 use Rattle.build_books.specs.View.{HostView}
 use Rattle.build_books.specs.Booted.{booted}
 use Rattle.realm_host.specs.Recorded.{IsWithout}
-use Rattle.realm_plan.specs.Plan.{Plan, plan_of}
+use Rattle.realm_plan.specs.Plan.{Plan}
 use Rattle.plan_runs.specs.Run.{IsToldRun, map_text}
-use Rattle.told_device.specs.Whole.{AppendsFront}
 use Rattle.realm_program.specs.declared.fault.Fault.{Fault}
-use Rattle.realm_program.specs.declared.fault.Fault.TheVariants.{Plan as PlanIsFaulty, EraseNamesNoBuild, Memory, Mismatch, Device}
+use Rattle.realm_program.specs.declared.fault.Fault.TheVariants.{EraseNamesNoBuild, Memory}
 
 -- the host on which a plan is run
 abbrev pub opening_host : Plan → HostView
@@ -32,51 +30,13 @@ pub record IsErasedText (plan : Plan) (build : ℕ) (text : List ℕ) : Type 0 w
   pub whole : text ≡ map_text fresh
 
 -- the text that is asked for: a build may be left out
-abbrev pub IsAskedText : Plan → Option ℕ → List ℕ → Type 0
-IsAskedText plan None text = IsText plan text
-IsAskedText plan (Some build) text = IsErasedText plan build text
+abbrev pub IsAskedText : Option ℕ → Plan → List ℕ → Type 0
+IsAskedText None plan text = IsText plan text
+IsAskedText (Some build) plan text = IsErasedText plan build text
 
--- Why there is no text of a plan: for want of memory, or since the build to be left out is none of the plan's.
-abbrev pub IsWithoutText : Plan → Option ℕ → Fault → Type 0
-IsWithoutText plan erase Memory = Unit {0}
-IsWithoutText plan (Some build) EraseNamesNoBuild = length plan.builds ≤ build
-IsWithoutText plan erase fault = ⊥
-
--- the input is the plan whose text this is
-pub record IsTextOf (erase : Option ℕ) (input : Option (List ℕ)) (text : List ℕ) : Type 0 where
-  pub plan : Plan
-  pub of_input : IfSome input (λ bytes. plan_of bytes ≡ Ok plan)
-  pub is_text : IsAskedText plan erase text
-
--- the input is a plan that has no text, for this reason
-pub record HasNoText (erase : Option ℕ) (input : Option (List ℕ)) (fault : Fault) : Type 0 where
-  pub plan : Plan
-  pub of_input : IfSome input (λ bytes. plan_of bytes ≡ Ok plan)
-  pub no_text : IsWithoutText plan erase fault
-
--- the whole text was written
-pub record IsPrinted (erase : Option ℕ) (input old new : Option (List ℕ)) : Type 0 where
-  pub text : List ℕ
-  pub text_of : IsTextOf erase input text
-  pub written : Appends old new text
-
--- a front of the text was written
-pub record IsCut (erase : Option ℕ) (input old new : Option (List ℕ)) : Type 0 where
-  pub text : List ℕ
-  pub text_of : IsTextOf erase input text
-  pub written : AppendsFront old new text
-
--- where a device failed: nothing was written where it was a read, and a front of the text where it was a write
-abbrev pub IsEndOfDevice : Bool → Option ℕ → Option (List ℕ) → Option (List ℕ) → Option (List ℕ) → Type 0
-IsEndOfDevice true erase input old new = Keeps old new
-IsEndOfDevice false erase input old new = IsCut erase input old new
-
--- A replay prints a text whole, or nothing, but that a write may fail between; no recorded event is ever refused. `unread`
--- is whether a read failed.
-abbrev pub IsEnd : Bool → Option ℕ → Option (List ℕ) → Option (List ℕ) → Option (List ℕ) → Result (Unit {0}) Fault → Type 0
-IsEnd unread erase input old new (Ok _) = IsPrinted erase input old new
-IsEnd unread erase input old new (Err (PlanIsFaulty fault)) = IfSome input (λ bytes. plan_of bytes ≡ Err fault) × Keeps old new
-IsEnd unread erase input old new (Err EraseNamesNoBuild) = HasNoText erase input EraseNamesNoBuild × Keeps old new
-IsEnd unread erase input old new (Err Memory) = Keeps old new
-IsEnd unread erase input old new (Err Mismatch) = ⊥
-IsEnd unread erase input old new (Err Device) = IsEndOfDevice unread erase input old new
+-- Why there is no text of a plan: for want of memory, or since the build to be left out is none of the plan's. No recorded
+-- event is ever refused.
+abbrev pub IsWithoutText : Option ℕ → Plan → Fault → Type 0
+IsWithoutText erase plan Memory = Unit {0}
+IsWithoutText (Some build) plan EraseNamesNoBuild = length plan.builds ≤ build
+IsWithoutText erase plan fault = ⊥

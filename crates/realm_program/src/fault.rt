@@ -4,6 +4,8 @@ ghost use Rattle.realm_program.specs.declared.fault.Fault.TheVariants.{Memory, D
 
 use crate::input::ReadError;
 use command_line::Reason;
+use granule_addr::BuildId;
+use plan_threads::RunFault;
 use realm_plan::{PlanError, PlanFault};
 use std::alloc::AllocError;
 use thiserror::Error;
@@ -21,7 +23,10 @@ pub enum Fault {
     /// A growth was refused.
     #[error("memory")]
     Memory,
-    /// A recorded event was refused when it was applied again.
+    /// A build's worker waited in vain for a turn.
+    #[error("thread")]
+    Stuck(BuildId),
+    /// A recorded event was refused when it was applied again, or what workers report does not fit the history.
     #[error("mismatch")]
     Mismatch,
     /// A read or a write failed.
@@ -41,6 +46,7 @@ impl Reason for Fault {
             Fault::Plan(_) => 1,
             Fault::EraseNamesNoBuild => 2,
             Fault::Memory => 3,
+            Fault::Stuck(_) => 3,
             Fault::Mismatch => 4,
             Fault::Device => 5,
         }
@@ -92,5 +98,20 @@ impl From<AllocError> for Fault {
 
     fn from(_error: AllocError) -> Fault {
         Fault::Memory
+    }
+}
+
+impl From<RunFault> for Fault {
+    ghost use Rattle.std.specs.Prelude.{◌≡◌};
+    ghost use Rattle.realm_program.specs.Fault.{fault_of_run};
+
+    ghost from_gives = { λ error fault. fault ≡ fault_of_run error };
+
+    fn from(error: RunFault) -> Fault {
+        match error {
+            RunFault::Memory => Fault::Memory,
+            RunFault::Stuck(build) => Fault::Stuck(build),
+            RunFault::Mismatch => Fault::Mismatch,
+        }
     }
 }

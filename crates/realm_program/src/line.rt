@@ -13,6 +13,8 @@ use std::alloc::{AllocError, Global};
 pub enum Line {
     /// Replay the plan; a build may be left out.
     Replay(Option<BuildId>),
+    /// Run the builds of the plan, each in a thread of its own.
+    Run,
 }
 
 const ABOUT: &str = "The host side of Arm's Realm Management Monitor, with a simulated monitor.
@@ -20,6 +22,9 @@ A plan of builds, which is a TOML document, is read from standard input; the tex
 
 const REPLAY: &str =
     "Takes the turns of the plan in their order, and prints each answer and the map at the end";
+
+const RUN: &str =
+    "Runs each build in a thread of its own, and prints what each was answered and the map at the end";
 
 const ERASE: &str = "Prints the map alone, of the same history without the commands of build B";
 
@@ -59,7 +64,8 @@ fn command<'a>(alloc: Global) -> Result<Command<'a>, AllocError>
     ensures { IfOk result (λ c. app_of c ≡ realmhost) }
 {
     let replay = replay(alloc)?;
-    program(alloc).subcommand(replay)
+    let run = Command::new(alloc, "run").about(RUN);
+    program(alloc).subcommand(replay)?.subcommand(run)
 }
 
 // The build of a number, if there may be one.
@@ -83,7 +89,9 @@ impl Line {
     {
         let mut program = command(alloc)?;
         let matches = program.try_get_matches_from_mut(words)?;
-        let replay = matches.subcommand_matches("replay").unwrap();
+        let Some(replay) = matches.subcommand_matches("replay") else {
+            return Ok(Line::Run);
+        };
         Ok(Line::Replay(build_of(replay.get_one("erase"))))
     }
 }

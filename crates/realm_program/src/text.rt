@@ -2,42 +2,22 @@
 ghost use Rattle.std.specs.Prelude.{◌≡◌, ◌+◌, ◌≤◌, ◌↔◌, ◌⊎◌, ◌≢◌, false, true, Err, IfOk, IfErr, string_bytes};
 ghost use Rattle.plan_runs.specs.Run.{IsToldRun};
 ghost use Rattle.realm_plan.specs.PlanView.{plan_view};
-ghost use Rattle.realm_program.specs.Replay.{opening_host, IsText, IsErasedText, IsAskedText, IsWithoutText, IsEnd};
+ghost use Rattle.realm_program.specs.Printed.{IsEnd};
+ghost use Rattle.realm_program.specs.Replay.{opening_host, IsText, IsErasedText, IsAskedText, IsWithoutText};
 ghost use Rattle.realm_program.specs.declared.fault.Fault.TheVariants.{Device, Mismatch};
 
+use crate::boot::boot;
 use crate::built::Built;
 use crate::fault::Fault;
-use crate::input::read_whole;
+use crate::source::plan_in;
 use buddy::BuddyArena;
 use granule_addr::BuildId;
-use page_arena::BuildError;
 use plan_runs::{map_text, push_map, run_turns};
-use realm_host::{Host, Settings, apply_without};
+use realm_host::{Host, apply_without};
 use realm_plan::Plan;
 use std::alloc::{AllocError, Global};
 use std::io::{Read, Write};
 use told_device::Told;
-
-// A host of the plan's size, over pages that are all free.
-fn boot<S: Built>(alloc: Global, plan: &Plan) -> Result<Host<S>, AllocError>
-    ensures { IfOk result (λ host. host ≡ opening_host (plan_view plan.now)) }
-{
-    let settings = Settings::new(
-        plan.vmids,
-        plan.aux,
-        plan.history,
-        plan.builds.len() as u8,
-    ).unwrap();
-    let store = match S::built(alloc, plan.pages) {
-        Ok(store) => store,
-        Err(BuildError::Memory(error)) => return Err(error),
-        Err(BuildError::BadSize) => unreachable!(),
-    };
-    match Host::boot(alloc, settings, store) {
-        Ok(host) => Ok(host),
-        Err((error, _store)) => Err(error),
-    }
-}
 
 // The host after a run of the plan. The lines of its turns are appended.
 fn run_plan<S: Built>(alloc: Global, plan: &Plan, lines: &mut String) -> Result<Host<S>, AllocError>
@@ -61,7 +41,7 @@ pub fn text_of<S: Built>(alloc: Global, plan: &Plan) -> Result<String, AllocErro
 // The map of a run of the plan with a build left out: its history without the build's events is applied to a fresh host.
 fn erased_text_of(alloc: Global, plan: &Plan, build: BuildId) -> Result<String, Fault>
     ensures ok { IfOk result (λ text. IsErasedText (plan_view plan.now) build (string_bytes text)) }
-    ensures err { IfErr result (IsWithoutText (plan_view plan.now) (Some build)) }
+    ensures err { IfErr result (IsWithoutText (Some build) (plan_view plan.now)) }
 {
     if build.number() as usize >= plan.builds.len() {
         return Err(Fault::EraseNamesNoBuild);
@@ -77,8 +57,8 @@ fn erased_text_of(alloc: Global, plan: &Plan, build: BuildId) -> Result<String, 
 
 // The text that is asked for: a build may be left out.
 fn asked_text_of(alloc: Global, plan: &Plan, erase: Option<BuildId>) -> Result<String, Fault>
-    ensures ok { IfOk result (λ text. IsAskedText (plan_view plan.now) erase (string_bytes text)) }
-    ensures err { IfErr result (IsWithoutText (plan_view plan.now) erase) }
+    ensures ok { IfOk result (λ text. IsAskedText erase (plan_view plan.now) (string_bytes text)) }
+    ensures err { IfErr result (IsWithoutText erase (plan_view plan.now)) }
 {
     match erase {
         Some(build) => erased_text_of(alloc, plan, build),
@@ -100,13 +80,13 @@ pub fn replay<R: Read, W: Write>(
 ) -> Result<(), Fault>
     requires readable { input.old.failed ≡ false }
     requires writable { output.old.failed ≡ false }
-    ensures end { IsEnd input.new.failed erase (R.remaining input.old.device) (W.contents output.old.device) (W.contents output.new.device) result }
+    ensures end { IsEnd (IsAskedText erase) (IsWithoutText erase) input.new.failed
+        (R.remaining input.old.device) (W.contents output.old.device) (W.contents output.new.device) result }
     ensures never_mismatch { result ≢ Err Mismatch }
     ensures device { ((input.new.failed ≡ true) ⊎ (output.new.failed ≡ true)) ↔ (result ≡ Err Device) }
     ensures asked { input.new.reads ≤ input.old.reads + 1048578 }
 {
-    let bytes = read_whole(alloc, input)?;
-    let plan = Plan::from_bytes(alloc, &bytes)?;
+    let plan = plan_in(alloc, input)?;
     let text = asked_text_of(alloc, &plan, erase)?;
     output.write_whole(text.as_bytes())?;
     Ok(())

@@ -1,23 +1,37 @@
-//! Replays plans of builds: a plan comes on standard input, and the text of its run goes to standard output.
+//! Replays plans of builds, or runs them in threads: a plan comes on standard input, and the text of its run goes to
+//! standard output.
 #![tactic(auto)]
 
-ghost use Rattle.std.specs.Prelude.{◌≡◌, IfErr};
+ghost use Rattle.std.specs.Prelude.{◌≡◌, false, IfErr};
 ghost use Rattle.std.specs.Process.{exit_status};
 ghost use Rattle.realm_program.specs.Stop.{status_of_outcome, IsStatus};
 
+use builders::OpenGate;
 use command_line::{Stop, arguments};
-use realm_program::{Fault, Line, replay};
+use realm_program::{Fault, Line, replay, run};
+use std::io::{Read, Write};
+use std::marker::Sync;
 use std::process::ExitCode;
+use std::rt::Env;
+use std::sync::Wait;
+use std::thread::Threads;
 use told_device::Told;
 
-/// Does what the command line asks for.
-fn run(rt: &HostRuntime) -> Result<(), Stop<Fault>> {
+/// Does what the command line asks for, from an input to an output.
+fn perform<H: Env + AllocGlobal + Threads + Wait + Sync, R: Read, W: Write>(
+    rt: &H,
+    input: &mut Told<R>,
+    output: &mut Told<W>,
+) -> Result<(), Stop<Fault>>
+    requires readable { input.old.failed ≡ false }
+    requires writable { output.old.failed ≡ false }
+{
     let alloc = rt.alloc();
     let words = arguments::<_, Fault>(rt)?;
-    let Line::Replay(erase) = Line::of(alloc, &words)?;
-    let mut input = Told::new(rt.stdin());
-    let mut output = Told::new(rt.stdout());
-    replay(alloc, &mut input, &mut output, erase)?;
+    match Line::of(alloc, &words)? {
+        Line::Replay(erase) => replay(alloc, input, output, erase)?,
+        Line::Run => run(rt, alloc, input, output, &OpenGate)?,
+    }
     Ok(())
 }
 
@@ -33,5 +47,7 @@ fn end(rt: &HostRuntime, outcome: Result<(), Stop<Fault>>) -> ExitCode
 }
 
 fn main(rt: HostRuntime) -> ExitCode {
-    end(&rt, run(&rt))
+    let mut input = Told::new(rt.stdin());
+    let mut output = Told::new(rt.stdout());
+    end(&rt, perform(&rt, &mut input, &mut output))
 }

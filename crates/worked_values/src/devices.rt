@@ -3,6 +3,7 @@
 ghost use Rattle.std.specs.Prelude.{◌≡◌, false};
 
 mod replay;
+mod run;
 mod told;
 
 use std::alloc::Global;

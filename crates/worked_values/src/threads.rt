@@ -23,10 +23,20 @@ use workers::{Answer, Asked, Gate, Line, Report, Stuck};
 
 // Lets a build's turn 2 pass only after the other one of two builds has asked for its turn 2.
 #[derive(Drop)]
-struct Together<'a, C: Clock> {
+pub(crate) struct Together<'a, C: Clock> {
     clock: &'a C,
     first: AtomicU64,
     second: AtomicU64,
+}
+
+impl<'a, C: Clock> Together<'a, C> {
+    pub(crate) fn new(clock: &'a C) -> Together<'a, C> {
+        Together {
+            clock,
+            first: AtomicU64::new(0),
+            second: AtomicU64::new(0),
+        }
+    }
 }
 
 impl<'a, C: Clock> Gate for Together<'a, C> {
@@ -56,7 +66,7 @@ impl<'a, C: Clock> Gate for Together<'a, C> {
 
 // Stops all builds but build 0 at their turn 1.
 #[derive(Drop)]
-struct ForBuild0;
+pub(crate) struct ForBuild0;
 
 impl Gate for ForBuild0 {
     ghost passes = { λ gate build turn. Unit {0} };
@@ -263,7 +273,7 @@ fn work_together<
     L7: Lane + Send + Sync,
 >(rt: &R, alloc: Global, blanks: Blanks, host: Host<S>, gate: &G, case: Case) -> Result<(), Fail>
     requires empty { host.history ≡ [] }
-    requires room { host.capacity ≡ L0.room }
+    requires opened { host ≡ L0.opened }
     requires name0 { blanks.blank0.name ≡ L0.name }
     requires name1 { blanks.blank1.name ≡ L1.name }
     requires name2 { blanks.blank2.name ≡ L2.name }
@@ -341,11 +351,7 @@ fn two_of_three_are_stopped(rt: HostRuntime) -> Result<(), Fail> {
 #[test]
 fn each_reads_after_both_have_filled(rt: HostRuntime) -> Result<(), Fail> {
     let host = booted::<PlainStore>(rt.alloc(), 2, 2)?;
-    let gate = Together {
-        clock: &rt,
-        first: AtomicU64::new(0),
-        second: AtomicU64::new(0),
-    };
+    let gate = Together::new(&rt);
     work_together::<
         HostRuntime,
         PlainStore,

@@ -1,0 +1,61 @@
+-- What is printed of a plan, and how that ends. Which texts a plan has, and why it may have none, is what is asked for.
+use Rattle.std.specs.Prelude.{◌≡◌, ℕ, Bool, true, false, List, Option, IfSome, Result, Ok, Err}
+use Rattle.std.specs.Io.KnownBytes.{Appends, Keeps}
+use Rattle.realm_plan.specs.Plan.{Plan, plan_of}
+use Rattle.told_device.specs.Whole.{AppendsFront}
+use Rattle.realm_program.specs.declared.fault.Fault.{Fault}
+use Rattle.realm_program.specs.declared.fault.Fault.TheVariants.{Plan as PlanIsFaulty, Memory, Device}
+
+-- ---- the input
+
+-- the input is this plan
+abbrev pub IsPlanOf : Option (List ℕ) → Plan → Type 0
+IsPlanOf input plan = IfSome input (λ bytes. plan_of bytes ≡ Ok plan)
+
+-- Why no plan is read: for want of memory, since a read failed, or for the one fault of the input.
+abbrev pub HasNoPlan : Option (List ℕ) → Fault → Type 0
+HasNoPlan input (PlanIsFaulty fault) = IfSome input (λ bytes. plan_of bytes ≡ Err fault)
+HasNoPlan input Memory = Unit {0}
+HasNoPlan input Device = Unit {0}
+HasNoPlan input fault = ⊥
+
+-- ---- the text
+
+-- the input is a plan with this text
+pub record IsTextOf (texts : Plan → List ℕ → Type 0) (input : Option (List ℕ)) (text : List ℕ) : Type 0 where
+  pub plan : Plan
+  pub of_input : IsPlanOf input plan
+  pub is_text : texts plan text
+
+-- the input is a plan that has no text, for this reason
+pub record HasNoText (without : Plan → Fault → Type 0) (input : Option (List ℕ)) (fault : Fault) : Type 0 where
+  pub plan : Plan
+  pub of_input : IsPlanOf input plan
+  pub no_text : without plan fault
+
+-- the whole text was written
+pub record IsPrinted (texts : Plan → List ℕ → Type 0) (input old new : Option (List ℕ)) : Type 0 where
+  pub text : List ℕ
+  pub text_of : IsTextOf texts input text
+  pub written : Appends old new text
+
+-- a front of the text was written
+pub record IsCut (texts : Plan → List ℕ → Type 0) (input old new : Option (List ℕ)) : Type 0 where
+  pub text : List ℕ
+  pub text_of : IsTextOf texts input text
+  pub written : AppendsFront old new text
+
+-- ---- the end
+
+-- where a device failed: nothing was written where it was a read, and a front of the text where it was a write
+abbrev pub IsEndOfDevice : (Plan → List ℕ → Type 0) → Bool → Option (List ℕ) → Option (List ℕ) → Option (List ℕ) → Type 0
+IsEndOfDevice texts true input old new = Keeps old new
+IsEndOfDevice texts false input old new = IsCut texts input old new
+
+-- The text is printed whole, or nothing, but that a write may fail between. `unread` is whether a read failed.
+abbrev pub IsEnd : (Plan → List ℕ → Type 0) → (Plan → Fault → Type 0) → Bool → Option (List ℕ) → Option (List ℕ) → Option (List ℕ) → Result (Unit {0}) Fault → Type 0
+IsEnd texts without unread input old new (Ok _) = IsPrinted texts input old new
+IsEnd texts without unread input old new (Err (PlanIsFaulty fault)) = HasNoPlan input (PlanIsFaulty fault) × Keeps old new
+IsEnd texts without unread input old new (Err Memory) = Keeps old new
+IsEnd texts without unread input old new (Err Device) = IsEndOfDevice texts unread input old new
+IsEnd texts without unread input old new (Err fault) = HasNoText without input fault × Keeps old new

@@ -1,0 +1,19 @@
+-- What a run in threads prints.
+use Rattle.std.specs.Prelude.{ℕ, List}
+use Rattle.realm_plan.specs.Plan.{Plan}
+use Rattle.plan_threads.specs.Threads as threads
+use Rattle.plan_threads.specs.declared.fault.RunFault.TheVariants as why
+use Rattle.realm_program.specs.Replay.{opening_host}
+use Rattle.realm_program.specs.declared.fault.Fault.{Fault}
+use Rattle.realm_program.specs.declared.fault.Fault.TheVariants.{Memory, Stuck, Mismatch}
+
+-- The text of some run of the plan by workers, on a machine of its size. The gate stops these turns of each build.
+abbrev pub IsThreadsText : (ℕ → ℕ → Type 0) → Plan → List ℕ → Type 0
+IsThreadsText stops plan text = threads.IsText plan stops (opening_host plan) text
+
+-- Why there is none: for want of memory, since a worker waited in vain, or since what was told does not fit the history.
+abbrev pub IsWithoutThreadsText : (ℕ → ℕ → Type 0) → Plan → Fault → Type 0
+IsWithoutThreadsText stops plan Memory = Unit {0}
+IsWithoutThreadsText stops plan (Stuck build) = threads.IsWithoutText plan stops (opening_host plan) (why.Stuck build)
+IsWithoutThreadsText stops plan Mismatch = threads.IsWithoutText plan stops (opening_host plan) why.Mismatch
+IsWithoutThreadsText stops plan fault = ⊥

@@ -1,0 +1,61 @@
+//! A plan in, the text of its run in threads out.
+ghost use Rattle.std.specs.Prelude.{◌≡◌, ◌+◌, ◌≤◌, ◌↔◌, ◌⊎◌, false, true, Err, IfOk, IfErr, string_bytes};
+ghost use Rattle.realm_plan.specs.PlanView.{plan_view};
+ghost use Rattle.realm_program.specs.Printed.{IsEnd};
+ghost use Rattle.realm_program.specs.Threads.{IsThreadsText, IsWithoutThreadsText};
+ghost use Rattle.realm_program.specs.declared.fault.Fault.TheVariants.{Device};
+
+use crate::boot::boot;
+use crate::fault::Fault;
+use crate::source::plan_in;
+use buddy::BuddyArena;
+use plan_threads::run_text;
+use realm_plan::Plan;
+use std::alloc::Global;
+use std::io::{Read, Write};
+use std::marker::Sync;
+use std::sync::Wait;
+use std::thread::Threads;
+use told_device::Told;
+use workers::Gate;
+
+// The text of a run of the plan in threads.
+fn threads_text_of<H: Threads + Wait + Sync, G: Gate + Sync>(
+    rt: &H,
+    alloc: Global,
+    plan: &Plan,
+    gate: &G,
+) -> Result<String, Fault>
+    ensures ok { IfOk result (λ text. IsThreadsText (G.stops gate.now) (plan_view plan.now) (string_bytes text)) }
+    ensures err { IfErr result (IsWithoutThreadsText (G.stops gate.now) (plan_view plan.now)) }
+{
+    let host = boot::<BuddyArena>(alloc, plan)?;
+    Ok(run_text(rt, alloc, plan, host, gate)?)
+}
+
+/// Reads a plan, runs each of its builds by a worker in a thread of its own, with its turns from the gate, and writes the text
+/// of the run. The plan's order of turns plays no part.
+///
+/// The text is made whole before any of it is written. Errors: the fault of a plan; Stuck, with the lowest build whose worker
+/// waited in vain for a turn; Mismatch, where the events of a build's seat are not what the history has of the build, or a
+/// report does not fit it; Memory, where a growth was refused; Device, where a read failed, and then nothing is written, or a
+/// write, and then a front of the text is.
+pub fn run<H: Threads + Wait + Sync, R: Read, W: Write, G: Gate + Sync>(
+    rt: &H,
+    alloc: Global,
+    input: &mut Told<R>,
+    output: &mut Told<W>,
+    gate: &G,
+) -> Result<(), Fault>
+    requires readable { input.old.failed ≡ false }
+    requires writable { output.old.failed ≡ false }
+    ensures end { IsEnd (IsThreadsText (G.stops gate.now)) (IsWithoutThreadsText (G.stops gate.now)) input.new.failed
+        (R.remaining input.old.device) (W.contents output.old.device) (W.contents output.new.device) result }
+    ensures device { ((input.new.failed ≡ true) ⊎ (output.new.failed ≡ true)) ↔ (result ≡ Err Device) }
+    ensures asked { input.new.reads ≤ input.old.reads + 1048578 }
+{
+    let plan = plan_in(alloc, input)?;
+    let text = threads_text_of(rt, alloc, &plan, gate)?;
+    output.write_whole(text.as_bytes())?;
+    Ok(())
+}

@@ -1,0 +1,24 @@
+//! The plan that an input is.
+ghost use Rattle.std.specs.Prelude.{◌≡◌, ◌+◌, ◌≤◌, ◌↔◌, false, true, IfOk, IfErr, Err};
+ghost use Rattle.realm_plan.specs.PlanView.{plan_view};
+ghost use Rattle.realm_program.specs.Printed.{IsPlanOf, HasNoPlan};
+ghost use Rattle.realm_program.specs.declared.fault.Fault.TheVariants.{Device};
+
+use crate::fault::Fault;
+use crate::input::read_whole;
+use realm_plan::Plan;
+use std::alloc::Global;
+use std::io::Read;
+use told_device::Told;
+
+/// Reads a plan. Errors: its fault; Memory, where a growth was refused; Device, where a read failed.
+pub fn plan_in<R: Read>(alloc: Global, input: &mut Told<R>) -> Result<Plan, Fault>
+    requires { input.old.failed ≡ false }
+    ensures told { (input.new.failed ≡ true) ↔ (result ≡ Err Device) }
+    ensures asked { input.new.reads ≤ input.old.reads + 1048578 }
+    ensures ok { IfOk result (λ plan. IsPlanOf (R.remaining input.old.device) (plan_view plan)) }
+    ensures err { IfErr result (HasNoPlan (R.remaining input.old.device)) }
+{
+    let bytes = read_whole(alloc, input)?;
+    Ok(Plan::from_bytes(alloc, &bytes)?)
+}
