@@ -1,0 +1,84 @@
+//! A gate at which builds wait for one another.
+use crate::steps::STEPS;
+use granule_addr::BuildId;
+use std::sync::atomic::{AtomicU64, Ordering};
+use std::thread;
+use std::time::{Clock, Duration};
+use workers::{Gate, Stuck};
+
+/// Who waits for whom.
+#[derive(Clone, Copy)]
+pub enum Waiting {
+    /// Build 1 takes a turn only behind that turn of build 2, or behind its last one.
+    ForBuild2,
+    /// Builds 0 and 2 take a turn only behind that turn of build 1, or behind the one that is refused.
+    ForBuild1,
+}
+
+/// The turns that each of three builds has passed.
+#[derive(Drop)]
+pub struct Turns<'a, C: Clock> {
+    clock: &'a C,
+    waiting: Waiting,
+    // The last turn that is waited for.
+    last: usize,
+    first: AtomicU64,
+    second: AtomicU64,
+    third: AtomicU64,
+}
+
+impl<'a, C: Clock> Turns<'a, C> {
+    pub fn new(clock: &'a C, waiting: Waiting, refused: usize) -> Turns<'a, C> {
+        let last = match waiting {
+            Waiting::ForBuild2 => STEPS - 1,
+            Waiting::ForBuild1 => refused,
+        };
+        Turns {
+            clock,
+            waiting,
+            last,
+            first: AtomicU64::new(0),
+            second: AtomicU64::new(0),
+            third: AtomicU64::new(0),
+        }
+    }
+
+    // How many turns a build has passed.
+    fn passed(&self, number: u8) -> &AtomicU64 {
+        match number {
+            0 => &self.first,
+            1 => &self.second,
+            _ => &self.third,
+        }
+    }
+
+    // Waits until a build has passed that turn.
+    fn wait(&self, number: u8, turn: u64) -> Result<(), Stuck> {
+        for _ in 0..10_000 {
+            if self.passed(number).load(Ordering::SeqCst) > turn {
+                return Ok(());
+            }
+            thread::sleep(self.clock, Duration::from_millis(1));
+        }
+        Err(Stuck)
+    }
+}
+
+impl<'a, C: Clock> Gate for Turns<'a, C> {
+    ghost passes = { λ gate build turn. Unit {0} };
+
+    ghost stops = { λ gate build turn. Unit {0} };
+
+    fn pass(&self, build: BuildId, turn: usize) -> Result<(), Stuck> {
+        let number = build.number();
+        let awaited = turn.min(self.last) as u64;
+        match self.waiting {
+            Waiting::ForBuild2 if number == 1 => self.wait(2, awaited)?,
+            Waiting::ForBuild1 if number != 1 => self.wait(1, awaited)?,
+            _ => {}
+        }
+        self.passed(number)
+            .store((turn as u64).saturating_add(1), Ordering::SeqCst);
+        Ok(())
+    }
+}

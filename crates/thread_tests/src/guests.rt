@@ -1,0 +1,78 @@
+//! Guests: builds with the same steps, each with a seat of one host.
+use crate::steps::{STEPS, steps_of};
+use crate::tellers::Refusing;
+use build_commands::Step;
+use builders::{Lane, Seat, SeatTeller, Shared};
+use page_arena::PageStore;
+use std::alloc::Global;
+use std::sync::Wait;
+use std::test::Fail;
+use workers::{Gate, Report, work};
+
+/// A build's seat and its steps, which of them is refused, and what came of them.
+#[derive(Drop)]
+pub struct Guest<L0: Lane, L1: Lane, L2: Lane, L3: Lane, L4: Lane, L5: Lane, L6: Lane, L7: Lane> {
+    pub seat: Seat<L0, L1, L2, L3, L4, L5, L6, L7>,
+    pub steps: [Step; STEPS],
+    pub refused: Option<usize>,
+    pub report: Option<Report>,
+    pub has_ended: bool,
+}
+
+impl<L0: Lane, L1: Lane, L2: Lane, L3: Lane, L4: Lane, L5: Lane, L6: Lane, L7: Lane> Guest<
+    L0,
+    L1,
+    L2,
+    L3,
+    L4,
+    L5,
+    L6,
+    L7,
+> {
+    /// Takes its steps. Where there is no memory for a report, it has none and has not ended.
+    pub fn run<R: Wait, S: PageStore, G: Gate>(
+        &mut self,
+        rt: &R,
+        alloc: Global,
+        shared: &Shared<S, L0, L1, L2, L3, L4, L5, L6, L7>,
+        gate: &G,
+    ) {
+        let Ok(lines) = Vec::with_capacity(alloc, 2 * STEPS + 1) else {
+            return;
+        };
+        let mut report = Report {
+            build: self.seat.build(),
+            lines,
+        };
+        let seat = &mut self.seat;
+        let mut teller = Refusing {
+            teller: SeatTeller { rt, shared, seat },
+            asked: 0,
+            refused: self.refused,
+        };
+        let told = work(&mut report, &self.steps, &mut teller, gate);
+        self.has_ended = told.is_ok();
+        self.report = Some(report);
+    }
+}
+
+/// A guest at each seat. Build 1 is refused that step.
+pub fn guests_of<L0: Lane, L1: Lane, L2: Lane, L3: Lane, L4: Lane, L5: Lane, L6: Lane, L7: Lane>(
+    alloc: Global,
+    seats: Vec<Seat<L0, L1, L2, L3, L4, L5, L6, L7>>,
+    refused: usize,
+) -> Result<Vec<Guest<L0, L1, L2, L3, L4, L5, L6, L7>>, Fail> {
+    let mut guests = Vec::new(alloc);
+    for seat in seats {
+        let number = seat.build().number();
+        let refused = if number == 1 { Some(refused) } else { None };
+        guests.push(Guest {
+            seat,
+            steps: steps_of(number.saturating_add(7)),
+            refused,
+            report: None,
+            has_ended: false,
+        })?;
+    }
+    Ok(guests)
+}

@@ -1,0 +1,90 @@
+//! What the reports of guests have to be.
+use crate::steps::{ENTER, STEPS};
+use granule_addr::RecNo;
+use realm_host::{Kind, Refusal, Reply, Undone};
+use realm_model::Rmi;
+use std::alloc::Global;
+use std::process::Abort;
+use std::test::Fail;
+use workers::{Answer, Asked, Line, Report};
+
+// A place of a report has that question and that answer.
+fn line(rt: &impl Abort, report: &Report, place: usize, asked: Asked, answer: Answer) {
+    let seen = report.lines.as_slice().get(place).copied();
+    assert_eq!(rt; seen, Some(Line { asked, answer }));
+}
+
+// The first steps of a report are accepted, each at its own place.
+fn accepted(rt: &impl Abort, report: &Report, steps: usize) {
+    for step in 0..steps {
+        let is_accepted = match report.lines.as_slice().get(step) {
+            Some(
+                Line {
+                    asked: Asked::Step(place),
+                    answer: Answer::Replied(_),
+                },
+            ) => *place == step,
+            _ => false,
+        };
+        assert!(rt; is_accepted, "step {step}");
+    }
+}
+
+/// Each step is accepted, and nothing else was asked.
+pub fn is_accepted(rt: &impl Abort, report: &Report) {
+    accepted(rt, report, STEPS);
+    assert_eq!(rt; report.lines.len(), STEPS);
+}
+
+// What a step opens.
+fn opened(step: usize) -> Option<Kind> {
+    match step {
+        0 => Some(Kind::Take),
+        2..=8 => Some(Kind::Delegate),
+        9 => Some(Kind::Realm),
+        10 | 11 => Some(Kind::Rtt),
+        13 => Some(Kind::Data),
+        14 => Some(Kind::Rec),
+        _ => None,
+    }
+}
+
+// The undos of the first steps, the newest first, until nothing is open.
+fn undos_of(alloc: Global, steps: usize) -> Result<Vec<Line>, Fail> {
+    let mut undos = Vec::new(alloc);
+    let mut left = 0u16;
+    for step in 0..steps {
+        if let Some(kind) = opened(step) {
+            let answer = Answer::Undone(Undone { kind, left });
+            undos.push(Line {
+                asked: Asked::Undo,
+                answer,
+            })?;
+            left = left.saturating_add(1);
+        }
+    }
+    undos.reverse();
+    Ok(undos)
+}
+
+/// The steps before one are accepted, and that one is refused. Then a REC that runs exits, and all is undone.
+pub fn is_refused(
+    rt: &impl Abort,
+    alloc: Global,
+    report: &Report,
+    refused: usize,
+) -> Result<(), Fail> {
+    accepted(rt, report, refused);
+    let refusal = Answer::Refused(Refusal::Rmi(Rmi::INPUT));
+    line(rt, report, refused, Asked::Step(refused), refusal);
+    let mut place = refused.saturating_add(1);
+    if refused > ENTER {
+        let exit = Asked::Exit(RecNo::new(0));
+        line(rt, report, place, exit, Answer::Replied(Reply::Done));
+        place = place.saturating_add(1);
+    }
+    let undos = undos_of(alloc, refused)?;
+    let rest = report.lines.as_slice().get(place..);
+    assert_eq!(rt; rest, Some(undos.as_slice()));
+    Ok(())
+}
