@@ -115,7 +115,7 @@ impl<L0: Lane, L1: Lane, L2: Lane, L3: Lane, L4: Lane, L5: Lane, L6: Lane, L7: L
     }
 
     /// Counts one event more in a pass and in its build's book.
-    pub fn raise(&mut self, pass: &mut Pass<L0, L1, L2, L3, L4, L5, L6, L7>)
+    pub(crate) fn raise(&mut self, pass: &mut Pass<L0, L1, L2, L3, L4, L5, L6, L7>)
         ensures book { self.new ≡ slice_set self.old pass.old.build (pass.old.count + 1) }
         ensures pass { pass.new ≡ record pass.old { count = pass.old.count + 1 } }
     {

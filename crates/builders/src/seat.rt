@@ -55,7 +55,7 @@ impl<L0: Lane> Trail<L0> {
 }
 
 /// So many trails without an event.
-pub fn new_trails<L0: Lane>(
+pub(crate) fn new_trails<L0: Lane>(
     alloc: Global,
     count: u8,
     room: u16,

@@ -19,7 +19,7 @@ pub fn push_run(stack: &mut Vec<Gran>, first: Gran, order: Order)
 }
 
 // Removes the granules of a block from the end of a stack. Its memory stays.
-pub fn pop_run(stack: &mut Vec<Gran>, order: Order)
+pub(crate) fn pop_run(stack: &mut Vec<Gran>, order: Order)
     requires { 2 ^ order ≤ vec_len stack.old }
     ensures popped { stack.new.items ≡ popped stack.old.items order }
     ensures memory { vec_capacity stack.new ≡ vec_capacity stack.old }

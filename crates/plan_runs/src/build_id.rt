@@ -4,7 +4,7 @@ ghost use Rattle.std.specs.Prelude.{◌≡◌, ◌<◌};
 use granule_addr::BuildId;
 
 /// The build at a place.
-pub fn id_of(place: usize) -> BuildId
+pub(crate) fn id_of(place: usize) -> BuildId
     requires { place < 8 }
     ensures { result ≡ place }
 {

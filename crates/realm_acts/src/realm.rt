@@ -11,7 +11,7 @@ use rmi_monitor::Monitor;
 
 // Performs an act on the tables, the pages or the RECs of a realm. Where it names a REC, `rec` is that one's granule.
 #[tactic(auto, unfolding(realm_model::specs::Act::named, realm_model::specs::Outcome::outcome_of))]
-pub fn in_realm<S: PageStore>(
+pub(crate) fn in_realm<S: PageStore>(
     monitor: &mut Monitor<S>,
     rd: Gran,
     rec: Option<Gran>,

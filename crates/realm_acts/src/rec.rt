@@ -10,7 +10,7 @@ use rmi_monitor::Monitor;
 
 // Performs an act on the realm's REC whose granule is `rec`.
 #[tactic(auto, unfolding(realm_model::specs::Act::named, realm_model::specs::Outcome::outcome_of))]
-pub fn on_rec<S: PageStore>(
+pub(crate) fn on_rec<S: PageStore>(
     monitor: &mut Monitor<S>,
     rd: Gran,
     rec: Option<Gran>,

@@ -81,7 +81,7 @@ fn are_short(builds: &[Vec<PlanStep>]) -> bool
 
 /// The fault of lengths that are outside their limits.
 #[tactic(auto, using(crate::proofs::Views::item_views), unfolding(crate::specs::Plan::lengths_of))]
-pub fn lengths_of(builds: &[Vec<PlanStep>], order: &[usize]) -> Result<(), PlanError>
+pub(crate) fn lengths_of(builds: &[Vec<PlanStep>], order: &[usize]) -> Result<(), PlanError>
     ensures value { Gives (λ n. n) result (lengths_of (map (λ b. b.items) builds.now) order.now) }
     ensures builds { OnOk result ((1 ≤ length builds.now) × (length builds.now ≤ 8)) }
     ensures steps { OnOk result (All (λ steps. vec_len steps ≤ 1024) builds.now) }

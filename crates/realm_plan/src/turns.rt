@@ -22,7 +22,7 @@ fn steps_of(alloc: Global, build: usize, texts: &[&str]) -> Result<Vec<PlanStep>
 }
 
 /// The steps of each build.
-pub fn builds_of(alloc: Global, texts: &[Vec<&str>]) -> Result<Vec<Vec<PlanStep>>, PlanError>
+pub(crate) fn builds_of(alloc: Global, texts: &[Vec<&str>]) -> Result<Vec<Vec<PlanStep>>, PlanError>
     ensures { Gives (λ v. map (λ b. b.items) v.items) result
         (builds_of 0 (map (λ b. map (λ t. t.now) b.items) texts.now)) }
 {

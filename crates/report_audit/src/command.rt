@@ -65,7 +65,7 @@ fn is_reply_to(opened: &[Act], reply: &Reply, act: &Act) -> bool
 }
 
 /// Whether a command of a build that has these acts open did this act, and was told this of it.
-pub fn is_replied(opened: &[Act], cmd: &Cmd, reply: &Reply, act: &Act) -> bool
+pub(crate) fn is_replied(opened: &[Act], cmd: &Cmd, reply: &Reply, act: &Act) -> bool
     ensures { IsTrue result ↔ IsReplied (flat_map pages_held opened.now) cmd.now reply.now act.now }
 {
     is_act_of(opened, cmd, act) && is_reply_to(opened, reply, act)

@@ -14,7 +14,7 @@ use realm_model::{Act, Event};
 use workers::{Answer, Asked, Line};
 
 /// Whether a line with this answer has an event.
-pub fn is_done(answer: &Answer) -> bool
+pub(crate) fn is_done(answer: &Answer) -> bool
     ensures { result ≡ is_done answer.now }
 {
     matches!(answer, Answer::Replied(_) | Answer::Undone(_))
@@ -72,7 +72,7 @@ fn step_fits(opened: &[Act], history: &[Event], next: usize, step: &Step, answer
 
 /// Whether a line of a build that has these acts open asks for something, and its answer fits. The build's next event is
 /// at that place of the history.
-pub fn line_fits(
+pub(crate) fn line_fits(
     opened: &[Act],
     history: &[Event],
     next: usize,

@@ -49,7 +49,7 @@ fn granule_at(opened: &[Act], page: usize) -> Option<Gran>
 }
 
 /// Whether a build that has these acts open has so many pages.
-pub fn has_pages(opened: &[Act], count: u16) -> bool
+pub(crate) fn has_pages(opened: &[Act], count: u16) -> bool
     ensures { IsTrue result ↔ (length (flat_map pages_held opened.now) ≡ count) }
 {
     let mut left = count;
@@ -123,7 +123,7 @@ fn operands(cmd: &Cmd) -> ArrayVec<usize, 17>
 
 /// The granules of the pages that a command names, for a build that has these acts open. None where one of the pages is
 /// not there, or is no granule of a machine.
-pub fn granules_of(opened: &[Act], cmd: &Cmd) -> Option<ArrayVec<Gran, 17>>
+pub(crate) fn granules_of(opened: &[Act], cmd: &Cmd) -> Option<ArrayVec<Gran, 17>>
     ensures some { IfSome result (λ granules. AreGranules (flat_map pages_held opened.now) (operands cmd.now) granules.items) }
     ensures none { IfNone result ((granules : List ℕ) → ¬ AreGranules (flat_map pages_held opened.now) (operands cmd.now) granules) }
 {

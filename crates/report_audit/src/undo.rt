@@ -17,7 +17,7 @@ fn is_of_kind(act: &Act, kind: Kind) -> bool
 }
 
 /// Whether an undo of a build that has these acts open did this act, and was told this of it.
-pub fn is_undone(opened: &[Act], undone: &Undone, act: &Act) -> bool
+pub(crate) fn is_undone(opened: &[Act], undone: &Undone, act: &Act) -> bool
     ensures { IsTrue result ↔ IsUndone opened.now undone.now act.now }
 {
     match opened.last() {

@@ -18,7 +18,7 @@ pub fn protected(ipa: u32, width: IpaWidth) -> Option<IpaGran>
 }
 
 // The first of `count` IPA granules, where it is protected, they are 1 to 512, and one table of level 3 serves all of them.
-pub fn protected_run(ipa: u32, count: u16, width: IpaWidth) -> Option<IpaGran>
+pub(crate) fn protected_run(ipa: u32, count: u16, width: IpaWidth) -> Option<IpaGran>
     ensures { result ≡ (if nat_le 1 count && nat_le count 512 && ipa / 512 == (ipa + count - 1) / 512 && is_protected_at ipa width
         then Some ipa else None) }
 {
@@ -30,7 +30,7 @@ pub fn protected_run(ipa: u32, count: u16, width: IpaWidth) -> Option<IpaGran>
 }
 
 // The level of a table below the root, where one can start at that IPA granule.
-pub fn table_level(ipa: u32, level: u8) -> Option<Level>
+pub(crate) fn table_level(ipa: u32, level: u8) -> Option<Level>
     ensures { result ≡ (if is_table_place ipa level then Some level else None) }
 {
     let served = match level {

@@ -15,7 +15,7 @@ use realm_objects::RealmDesc;
 use rtt::Tables;
 
 // The tables of the realm that stands at an RD granule.
-pub fn tables_of(rd: Gran, realm: &RealmDesc) -> Tables
+pub(crate) fn tables_of(rd: Gran, realm: &RealmDesc) -> Tables
     ensures { result ≡ record { rd = rd; root = realm.now.root } }
 {
     Tables {
@@ -25,7 +25,7 @@ pub fn tables_of(rd: Gran, realm: &RealmDesc) -> Tables
 }
 
 // Whether a granule is DELEGATED.
-pub fn is_delegated(granules: &GranuleTable, granule: Gran) -> bool
+pub(crate) fn is_delegated(granules: &GranuleTable, granule: Gran) -> bool
     requires { granule < length granules.now }
     ensures { result ≡ is_delegated_at granules.now granule }
 {
@@ -33,7 +33,7 @@ pub fn is_delegated(granules: &GranuleTable, granule: Gran) -> bool
 }
 
 // Whether a granule is UNDELEGATED.
-pub fn is_undelegated(granules: &GranuleTable, granule: Gran) -> bool
+pub(crate) fn is_undelegated(granules: &GranuleTable, granule: Gran) -> bool
     requires { granule < length granules.now }
     ensures { result ≡ is_undelegated_at granules.now granule }
 {
@@ -41,7 +41,7 @@ pub fn is_undelegated(granules: &GranuleTable, granule: Gran) -> bool
 }
 
 // Whether granules are all DELEGATED.
-pub fn are_delegated(granules: &GranuleTable, all: &[Gran]) -> bool
+pub(crate) fn are_delegated(granules: &GranuleTable, all: &[Gran]) -> bool
     requires { All (λ granule. granule < length granules.now) all.now }
     ensures { result ≡ list_all (is_delegated_at granules.now) all.now }
 {
@@ -54,7 +54,7 @@ pub fn are_delegated(granules: &GranuleTable, all: &[Gran]) -> bool
 }
 
 // Whether a granule is none of those.
-pub fn is_apart(granule: Gran, others: &[Gran]) -> bool
+pub(crate) fn is_apart(granule: Gran, others: &[Gran]) -> bool
     ensures { result ≡ is_apart_from granule others.now }
 {
     for other in others {
@@ -66,7 +66,7 @@ pub fn is_apart(granule: Gran, others: &[Gran]) -> bool
 }
 
 // Whether no two of a granule and others are the same.
-pub fn are_different(first: Gran, others: &[Gran]) -> bool
+pub(crate) fn are_different(first: Gran, others: &[Gran]) -> bool
     ensures { result ≡ are_distinct (first ∷ others.now) }
 {
     for i in 0..others.len() {
@@ -78,7 +78,7 @@ pub fn are_different(first: Gran, others: &[Gran]) -> bool
 }
 
 // Whether a granule and others are DELEGATED, no two of them the same, and the others so many.
-pub fn can_be_rec(granules: &GranuleTable, first: Gran, others: &[Gran], count: u8) -> bool
+pub(crate) fn can_be_rec(granules: &GranuleTable, first: Gran, others: &[Gran], count: u8) -> bool
     requires first { first < length granules.now }
     requires others { All (λ granule. granule < length granules.now) others.now }
     ensures { result ≡ are_fit_for_rec granules.now first others.now count }
@@ -90,7 +90,7 @@ pub fn can_be_rec(granules: &GranuleTable, first: Gran, others: &[Gran], count: 
 }
 
 // Moves granules, no two the same, from one state to another of a realm.
-pub fn shift_all(
+pub(crate) fn shift_all(
     granules: &mut GranuleTable,
     all: &[Gran],
     from: GranuleState,
@@ -107,7 +107,7 @@ pub fn shift_all(
 }
 
 // Clears a granule's page, and moves the granule from its state to DELEGATED, of no realm.
-pub fn release<S: PageStore>(
+pub(crate) fn release<S: PageStore>(
     store: &mut S,
     granules: &mut GranuleTable,
     granule: Gran,
@@ -125,7 +125,7 @@ pub fn release<S: PageStore>(
 }
 
 // Clears the pages of granules, no two the same, and moves the granules from their state to DELEGATED, of no realm.
-pub fn release_all<S: PageStore>(
+pub(crate) fn release_all<S: PageStore>(
     store: &mut S,
     granules: &mut GranuleTable,
     all: &[Gran],

@@ -8,7 +8,7 @@ use granule_table::GranuleTable;
 use realm_objects::Rec;
 
 // The granule of the realm's REC of that number.
-pub fn find_rec(
+pub(crate) fn find_rec(
     granules: &GranuleTable,
     recs: &[Option<Rec>],
     rd: Gran,

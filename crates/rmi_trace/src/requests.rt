@@ -94,7 +94,7 @@ fn request_from_parts(word: &str, numbers: &[u32]) -> Option<Request>
 
 /// The request that the text is: a word and its numbers, one space before each number and nothing else; the numbers in
 /// decimal, without a sign and without leading zeros, and each in its range. It takes no memory.
-pub fn request_of(text: &str) -> Option<Request>
+pub(crate) fn request_of(text: &str) -> Option<Request>
     // What is found is the request that is written so.
     ensures found { IfSome result (λ request. IsWritten text.now request) }
     // Where none is found, no request is written so.

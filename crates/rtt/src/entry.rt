@@ -67,26 +67,26 @@ impl Entry {
         }
     }
 
-    pub fn is_unassigned(self) -> bool
+    pub(crate) fn is_unassigned(self) -> bool
         ensures { result ≡ rows.is_unassigned self }
     {
         matches!(self.state, EntryState::Unassigned)
     }
 
-    pub fn is_assigned(self) -> bool
+    pub(crate) fn is_assigned(self) -> bool
         ensures { result ≡ rows.is_assigned self }
     {
         matches!(self.state, EntryState::Assigned)
     }
 
-    pub fn is_table(self) -> bool
+    pub(crate) fn is_table(self) -> bool
         ensures { result ≡ rows.is_table self }
     {
         matches!(self.state, EntryState::Table)
     }
 
     /// The granule of the table that the entry leads to.
-    pub fn child(self) -> Option<Gran>
+    pub(crate) fn child(self) -> Option<Gran>
         ensures { result ≡ rows.table_of self }
     {
         match self.state {

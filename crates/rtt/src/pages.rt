@@ -32,7 +32,7 @@ pub fn write<S: PageStore>(store: &mut S, table: Gran, index: u16, entry: Entry)
 }
 
 // Writes one entry to `count` places of a table, from `first` on.
-pub fn fill_entries<S: PageStore>(store: &mut S, table: Gran, first: u16, count: u16, entry: Entry)
+pub(crate) fn fill_entries<S: PageStore>(store: &mut S, table: Gran, first: u16, count: u16, entry: Entry)
     requires inside { table < length (S.page_bytes store.old) }
     requires taken { is_free (S.free_flags store.old) table ≡ false }
     requires fits { first + count ≤ 512 }
@@ -52,7 +52,7 @@ pub fn fill_entries<S: PageStore>(store: &mut S, table: Gran, first: u16, count:
 }
 
 // Whether the `count` entries of a table from `first` on are all UNASSIGNED.
-pub fn all_unassigned<S: PageStore>(store: &S, table: Gran, first: u16, count: u16) -> bool
+pub(crate) fn all_unassigned<S: PageStore>(store: &S, table: Gran, first: u16, count: u16) -> bool
     requires inside { table < length (S.page_bytes store.now) }
     requires fits { first + count ≤ 512 }
     ensures { IsTrue result ↔ ((index : ℕ) → first ≤ index → index < first + count
@@ -67,7 +67,7 @@ pub fn all_unassigned<S: PageStore>(store: &S, table: Gran, first: u16, count: u
 }
 
 // Whether no entry of a table leads to a table.
-pub fn leads_to_no_table<S: PageStore>(store: &S, table: Gran) -> bool
+pub(crate) fn leads_to_no_table<S: PageStore>(store: &S, table: Gran) -> bool
     requires { table < length (S.page_bytes store.now) }
     ensures { IsTrue result ↔ ((index : ℕ) → index < 512
         → rows.is_table (entries_of (S.page_bytes store.now) table index) ≡ false) }

@@ -111,7 +111,7 @@ impl Tables {
 }
 
 // The starting table of a number.
-pub fn starting_table(root: Root, number: u16) -> Gran
+pub(crate) fn starting_table(root: Root, number: u16) -> Gran
     requires { root.first + number < MOST_PAGES }
     ensures { result ≡ root.first + number }
 {

@@ -28,7 +28,7 @@ pub struct Turns<'a, C: Clock> {
 }
 
 impl<'a, C: Clock> Turns<'a, C> {
-    pub fn new(clock: &'a C, waiting: Waiting, refused: usize) -> Turns<'a, C> {
+    pub(crate) fn new(clock: &'a C, waiting: Waiting, refused: usize) -> Turns<'a, C> {
         let last = match waiting {
             Waiting::ForBuild2 => STEPS - 1,
             Waiting::ForBuild1 => refused,

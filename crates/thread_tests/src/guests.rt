@@ -30,7 +30,7 @@ impl<L0: Lane, L1: Lane, L2: Lane, L3: Lane, L4: Lane, L5: Lane, L6: Lane, L7: L
     L7,
 > {
     /// Takes its steps. Where there is no memory for a report, it has none and has not ended.
-    pub fn run<R: Wait, S: PageStore, G: Gate>(
+    pub(crate) fn run<R: Wait, S: PageStore, G: Gate>(
         &mut self,
         rt: &R,
         alloc: Global,
@@ -57,7 +57,7 @@ impl<L0: Lane, L1: Lane, L2: Lane, L3: Lane, L4: Lane, L5: Lane, L6: Lane, L7: L
 }
 
 /// A guest at each seat. Build 1 is refused that step.
-pub fn guests_of<L0: Lane, L1: Lane, L2: Lane, L3: Lane, L4: Lane, L5: Lane, L6: Lane, L7: Lane>(
+pub(crate) fn guests_of<L0: Lane, L1: Lane, L2: Lane, L3: Lane, L4: Lane, L5: Lane, L6: Lane, L7: Lane>(
     alloc: Global,
     seats: Vec<Seat<L0, L1, L2, L3, L4, L5, L6, L7>>,
     refused: usize,

@@ -10,7 +10,7 @@ use std::process::Abort;
 use std::test::Fail;
 
 /// A host of 24 pages, one auxiliary for each REC and three builds, with the numbers of a plan that names no others.
-pub fn booted(alloc: Global) -> Result<Host<PlainStore>, Fail>
+pub(crate) fn booted(alloc: Global) -> Result<Host<PlainStore>, Fail>
     ensures { IfOk result (λ host. host.history ≡ []) }
 {
     let settings = Settings::new(8, 1, 1024, 3).ok_or("settings")?;
@@ -56,7 +56,7 @@ free 8
 }
 
 /// Builds 0 and 2 have all that they have built, under VMIDs of their own, and build 1 has nothing.
-pub fn has_two_guests<S: PageStore>(
+pub(crate) fn has_two_guests<S: PageStore>(
     rt: &impl Abort,
     alloc: Global,
     host: &Host<S>,
@@ -71,7 +71,7 @@ pub fn has_two_guests<S: PageStore>(
 }
 
 /// A host is left as a fresh one is by the same history without the events of build 1.
-pub fn is_without_build_1<S: PageStore>(
+pub(crate) fn is_without_build_1<S: PageStore>(
     rt: &impl Abort,
     alloc: Global,
     host: &Host<S>,

@@ -31,7 +31,7 @@ fn accepted(rt: &impl Abort, report: &Report, steps: usize) {
 }
 
 /// Each step is accepted, and nothing else was asked.
-pub fn is_accepted(rt: &impl Abort, report: &Report) {
+pub(crate) fn is_accepted(rt: &impl Abort, report: &Report) {
     accepted(rt, report, STEPS);
     assert_eq!(rt; report.lines.len(), STEPS);
 }
@@ -68,7 +68,7 @@ fn undos_of(alloc: Global, steps: usize) -> Result<Vec<Line>, Fail> {
 }
 
 /// The steps before one are accepted, and that one is refused. Then a REC that runs exits, and all is undone.
-pub fn is_refused(
+pub(crate) fn is_refused(
     rt: &impl Abort,
     alloc: Global,
     report: &Report,

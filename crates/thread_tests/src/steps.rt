@@ -66,7 +66,7 @@ fn poke() -> Step {
 
 /// From eight pages to a realm that runs: its one page of memory has the value in each byte but the last, which its REC
 /// writes.
-pub fn steps_of(value: u8) -> [Step; STEPS] {
+pub(crate) fn steps_of(value: u8) -> [Step; STEPS] {
     [
         Step::Ask(Cmd::Take { order: 3 }),
         Step::Ask(Cmd::Fill { page: 5, value }),

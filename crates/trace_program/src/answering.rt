@@ -15,7 +15,7 @@ use told_device::Told;
 const KEPT: usize = MOST_LINE + 1;
 
 // Keeps a byte of a line, unless enough of it is kept.
-pub fn keep(line: &mut Vec<u8>, byte: u8) -> Result<(), AllocError>
+pub(crate) fn keep(line: &mut Vec<u8>, byte: u8) -> Result<(), AllocError>
     ensures { OnOk result ((rest : List ℕ) → line.old.items ≡ kept_of rest → line.new.items ≡ kept_of (rest ++ byte ∷ [])) }
 {
     if line.len() < KEPT {

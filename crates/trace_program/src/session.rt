@@ -9,7 +9,7 @@ use rmi_trace::{Answer, Line, Opening, Request, cut_answer, parse, push_answered
 use std::alloc::{AllocError, Global};
 
 /// Appends what is written for a line that is given this answer: a remark as it is, and else what it asks, and the answer.
-pub fn push_told(
+pub(crate) fn push_told(
     text: &mut Vec<u8>,
     bytes: &[u8],
     line: &Line,
@@ -90,7 +90,7 @@ impl Session {
     }
 
     /// Takes a line, and appends it with its answer to the text. An answer that it already has is set aside.
-    pub fn take_line(
+    pub(crate) fn take_line(
         &mut self,
         alloc: Global,
         bytes: &[u8],

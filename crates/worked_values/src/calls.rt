@@ -15,7 +15,7 @@ use std::process::Abort;
 use std::test::Fail;
 
 /// A host of so many pages and builds, none of which has done anything.
-pub fn booted<S: Built>(alloc: Global, pages: u16, builds: u8) -> Result<Host<S>, Fail>
+pub(crate) fn booted<S: Built>(alloc: Global, pages: u16, builds: u8) -> Result<Host<S>, Fail>
     ensures { IfOk result (λ host. host ≡ booted pages 8 0 builds 1024) }
 {
     let settings = Settings::new(8, 0, 1024, builds).ok_or("settings")?;
@@ -27,13 +27,13 @@ pub fn booted<S: Built>(alloc: Global, pages: u16, builds: u8) -> Result<Host<S>
 }
 
 /// The build of that number, modulo 8.
-pub fn build(number: u8) -> BuildId {
+pub(crate) fn build(number: u8) -> BuildId {
     BuildId::new(number % 8).unwrap()
 }
 
 /// A command is answered so.
 #[tactic(auto, using(crate::proofs::Sizes::as_large_after))]
-pub fn ask<S: PageStore>(
+pub(crate) fn ask<S: PageStore>(
     rt: &impl Abort,
     host: &mut Host<S>,
     number: u8,
@@ -47,12 +47,12 @@ pub fn ask<S: PageStore>(
 }
 
 /// A command is done.
-pub fn done<S: PageStore>(rt: &impl Abort, host: &mut Host<S>, number: u8, cmd: Cmd) {
+pub(crate) fn done<S: PageStore>(rt: &impl Abort, host: &mut Host<S>, number: u8, cmd: Cmd) {
     ask(rt, host, number, cmd, Ok(Reply::Done));
 }
 
 /// An undo reverses an act of that kind, and leaves so many open.
-pub fn undone<S: PageStore>(
+pub(crate) fn undone<S: PageStore>(
     rt: &impl Abort,
     host: &mut Host<S>,
     number: u8,
@@ -63,17 +63,17 @@ pub fn undone<S: PageStore>(
 }
 
 /// The answer is a count, or a refusal.
-pub fn counted(rt: &impl Abort, answer: Result<u16, Refusal>, want: Result<u16, Refusal>) {
+pub(crate) fn counted(rt: &impl Abort, answer: Result<u16, Refusal>, want: Result<u16, Refusal>) {
     assert_eq!(rt; answer, want);
 }
 
 /// So many pages are free.
-pub fn free<S: PageStore>(rt: &impl Abort, host: &Host<S>, count: u16) {
+pub(crate) fn free<S: PageStore>(rt: &impl Abort, host: &Host<S>, count: u16) {
     equal(rt, "free pages", host.free_count() as u64, count as u64);
 }
 
 /// A build's page is in that state, and its bytes have that sum.
-pub fn page<S: PageStore>(
+pub(crate) fn page<S: PageStore>(
     rt: &impl Abort,
     host: &Host<S>,
     number: u8,
@@ -86,7 +86,7 @@ pub fn page<S: PageStore>(
 }
 
 /// A build's realm is in that state and has that VMID.
-pub fn realm<S: PageStore>(
+pub(crate) fn realm<S: PageStore>(
     rt: &impl Abort,
     host: &Host<S>,
     number: u8,
@@ -98,12 +98,12 @@ pub fn realm<S: PageStore>(
 }
 
 /// The VMID of that number; 1 for 0.
-pub fn vmid(number: u8) -> Vmid {
+pub(crate) fn vmid(number: u8) -> Vmid {
     Vmid::new(number.max(1)).unwrap()
 }
 
 /// Build 0 takes four pages. The first two become a realm, and the third is delegated.
-pub fn make_realm<S: PageStore>(rt: &impl Abort, host: &mut Host<S>) {
+pub(crate) fn make_realm<S: PageStore>(rt: &impl Abort, host: &mut Host<S>) {
     let take = Cmd::Take { order: 2 };
     ask(rt, host, 0, take, Ok(Reply::FirstPage(0)));
     for page in 0..3 {
@@ -118,7 +118,7 @@ pub fn make_realm<S: PageStore>(rt: &impl Abort, host: &mut Host<S>) {
 }
 
 /// Build 0 asks for a REC in its third page.
-pub fn ask_for_rec<S: PageStore>(
+pub(crate) fn ask_for_rec<S: PageStore>(
     rt: &impl Abort,
     host: &mut Host<S>,
     want: Result<Reply, Refusal>,
@@ -174,7 +174,7 @@ fn guest_reply(turn: u8, vmid: Vmid) -> Reply {
 
 /// A turn of a guest. That of build 0 fills its page with 7 and gets VMID 1, that of build 1 with 9 and gets VMID 2, and so
 /// on.
-pub fn guest_turn<S: PageStore>(rt: &impl Abort, host: &mut Host<S>, number: u8, turn: u8)
+pub(crate) fn guest_turn<S: PageStore>(rt: &impl Abort, host: &mut Host<S>, number: u8, turn: u8)
     ensures { fresh_like host.new ≡ fresh_like host.old }
 {
     let number = number % 8;
@@ -189,7 +189,7 @@ pub fn guest_turn<S: PageStore>(rt: &impl Abort, host: &mut Host<S>, number: u8,
 }
 
 /// Two guests take their turns.
-pub fn two_guests<S: PageStore>(rt: &impl Abort, host: &mut Host<S>)
+pub(crate) fn two_guests<S: PageStore>(rt: &impl Abort, host: &mut Host<S>)
     ensures { fresh_like host.new ≡ fresh_like host.old }
 {
     for turn in 0..TURNS {
@@ -199,7 +199,7 @@ pub fn two_guests<S: PageStore>(rt: &impl Abort, host: &mut Host<S>)
 }
 
 /// A build has what a guest has after its turns. The bytes of its page of memory have that sum.
-pub fn is_guest<S: PageStore>(rt: &impl Abort, host: &Host<S>, number: u8, sum: u32) {
+pub(crate) fn is_guest<S: PageStore>(rt: &impl Abort, host: &Host<S>, number: u8, sum: u32) {
     page(rt, host, number, 0, GranuleState::Rd, 0);
     for table in 1..4 {
         page(rt, host, number, table, GranuleState::Rtt, 0);
@@ -213,7 +213,7 @@ pub fn is_guest<S: PageStore>(rt: &impl Abort, host: &Host<S>, number: u8, sum: 
 }
 
 /// A build has nothing.
-pub fn is_gone<S: PageStore>(rt: &impl Abort, host: &Host<S>, number: u8) {
+pub(crate) fn is_gone<S: PageStore>(rt: &impl Abort, host: &Host<S>, number: u8) {
     equal(rt, "pages", host.page_count(build(number)) as u64, 0);
     holds(rt, "no realm", host.realm_view(build(number)).is_none());
 }

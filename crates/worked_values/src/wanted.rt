@@ -5,11 +5,11 @@
 use std::process::Abort;
 
 /// What is seen is what is wanted.
-pub fn equal(rt: &impl Abort, what: &str, seen: u64, want: u64) {
+pub(crate) fn equal(rt: &impl Abort, what: &str, seen: u64, want: u64) {
     assert_eq!(rt; seen, want, "{what}");
 }
 
 /// It holds.
-pub fn holds(rt: &impl Abort, what: &str, is_so: bool) {
+pub(crate) fn holds(rt: &impl Abort, what: &str, is_so: bool) {
     assert!(rt; is_so, "{what}");
 }

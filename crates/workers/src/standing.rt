@@ -103,7 +103,7 @@ impl Standing {
     }
 
     /// A question is put.
-    pub fn take_turn(&mut self)
+    pub(crate) fn take_turn(&mut self)
         requires { self.old.turn + 1 < 2 ^ 64 }
         ensures { self.new ≡ record self.old { turn = self.old.turn + 1 } }
     {
@@ -112,7 +112,7 @@ impl Standing {
 
     /// A command is accepted.
     #[tactic(auto, unfolding(crate::specs::Standing::after_command))]
-    pub fn count_command(&mut self, cmd: &Cmd)
+    pub(crate) fn count_command(&mut self, cmd: &Cmd)
         requires { left_to_clear self.old < 1024 }
         ensures { self.new ≡ after_command cmd.now self.old }
     {
@@ -127,14 +127,14 @@ impl Standing {
     }
 
     /// An undo is accepted.
-    pub fn count_undo(&mut self)
+    pub(crate) fn count_undo(&mut self)
         ensures { self.new ≡ record self.old { journal = self.old.journal - 1 } }
     {
         self.journal = self.journal.saturating_sub(1);
     }
 
     /// A mark is accepted.
-    pub fn count_mark(&mut self, mark: Mark)
+    pub(crate) fn count_mark(&mut self, mark: Mark)
         ensures { self.new ≡ record self.old { mark = Some mark } }
     {
         self.mark = Some(mark);

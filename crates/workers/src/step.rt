@@ -14,7 +14,7 @@ use build_books::Mark;
 use build_commands::{Refusal, Step};
 
 /// Undoes so many, with a line for each.
-pub fn undo_each<T: Teller, G: Gate>(
+pub(crate) fn undo_each<T: Teller, G: Gate>(
     report: &mut Report,
     standing: &mut Standing,
     teller: &mut T,
@@ -165,7 +165,7 @@ fn back<T: Teller, G: Gate>(
 }
 
 /// Takes the step at that place of the plan.
-pub fn take_step<T: Teller, G: Gate>(
+pub(crate) fn take_step<T: Teller, G: Gate>(
     report: &mut Report,
     standing: &mut Standing,
     teller: &mut T,

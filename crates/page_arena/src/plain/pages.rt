@@ -7,7 +7,7 @@ ghost use Rattle.page_arena.specs.Block.{with_run};
 use std::alloc::{AllocError, Global};
 
 // So many pages of zeros.
-pub fn zero_pages(alloc: Global, count: usize) -> Result<Vec<[u8; 4096]>, AllocError>
+pub(crate) fn zero_pages(alloc: Global, count: usize) -> Result<Vec<[u8; 4096]>, AllocError>
     ensures { IfOk result (λ pages. pages.items ≡ replicate count zero_page) }
 {
     let mut pages = Vec::with_capacity(alloc, count)?;
@@ -18,7 +18,7 @@ pub fn zero_pages(alloc: Global, count: usize) -> Result<Vec<[u8; 4096]>, AllocE
 }
 
 // Clears the `count` pages from `first` on.
-pub fn clear_run(pages: &mut [[u8; 4096]], first: usize, count: usize)
+pub(crate) fn clear_run(pages: &mut [[u8; 4096]], first: usize, count: usize)
     requires { first + count ≤ length pages.old }
     ensures { pages.new ≡ with_run pages.old first count zero_page }
 {
@@ -28,7 +28,7 @@ pub fn clear_run(pages: &mut [[u8; 4096]], first: usize, count: usize)
 }
 
 // Writes one value to each byte of a page.
-pub fn fill_page(pages: &mut [[u8; 4096]], page: usize, value: u8)
+pub(crate) fn fill_page(pages: &mut [[u8; 4096]], page: usize, value: u8)
     requires { page < length pages.old }
     ensures { pages.new ≡ slice_set pages.old page (page_of value) }
 {
@@ -36,7 +36,7 @@ pub fn fill_page(pages: &mut [[u8; 4096]], page: usize, value: u8)
 }
 
 // Writes the bytes of one page to another.
-pub fn copy_page(pages: &mut [[u8; 4096]], target: usize, source: usize)
+pub(crate) fn copy_page(pages: &mut [[u8; 4096]], target: usize, source: usize)
     requires target { target < length pages.old }
     requires source { source < length pages.old }
     requires different { target ≢ source }

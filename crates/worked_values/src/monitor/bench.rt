@@ -71,7 +71,7 @@ fn take_all<S: PageStore>(monitor: &mut Monitor<S>, order: Order) -> bool
 }
 
 impl<S: Built> Bench<S> {
-    pub fn new(rt: &impl Abort, alloc: Global, aux: u8) -> Result<Bench<S>, Fail>
+    pub(crate) fn new(rt: &impl Abort, alloc: Global, aux: u8) -> Result<Bench<S>, Fail>
         requires { aux ≤ 16 }
     {
         let store = S::built(alloc, 8)?;
@@ -87,14 +87,14 @@ impl<S: Built> Bench<S> {
     }
 
     /// Delegates the granules below that number.
-    pub fn delegate_below(&mut self, rt: &impl Abort, end: u16) {
+    pub(crate) fn delegate_below(&mut self, rt: &impl Abort, end: u16) {
         for number in 0..end {
             equal(rt, "delegate", self.delegate(number), 0);
         }
     }
 
     /// With a realm of RD 0, no tables below its root, and DELEGATED granules 2 to 4.
-    pub fn with_realm(rt: &impl Abort, alloc: Global, aux: u8) -> Result<Bench<S>, Fail>
+    pub(crate) fn with_realm(rt: &impl Abort, alloc: Global, aux: u8) -> Result<Bench<S>, Fail>
         requires { aux ≤ 16 }
     {
         let mut bench = Bench::<S>::new(rt, alloc, aux)?;
@@ -104,42 +104,42 @@ impl<S: Built> Bench<S> {
     }
 
     /// Whether a granule is in that state, and its bytes have that sum.
-    pub fn is_in(&self, number: u16, state: GranuleState, sum: u32) -> bool {
+    pub(crate) fn is_in(&self, number: u16, state: GranuleState, sum: u32) -> bool {
         let granule = granule(number);
         self.monitor.state(granule) == state && self.monitor.byte_sum(granule) == sum
     }
 
     /// How many bytes a granule's page has.
-    pub fn len(&self, number: u16) -> u64 {
+    pub(crate) fn len(&self, number: u16) -> u64 {
         self.monitor.bytes(granule(number)).len() as u64
     }
 
     /// A word of a granule's page.
-    pub fn word(&self, number: u16, index: u16) -> u64 {
+    pub(crate) fn word(&self, number: u16, index: u16) -> u64 {
         self.monitor.store().word(granule(number), index % 512)
     }
 
-    pub fn peek(&self, number: u16, at: u16) -> Option<u8> {
+    pub(crate) fn peek(&self, number: u16, at: u16) -> Option<u8> {
         self.monitor.host_peek(granule(number), offset(at)).ok()
     }
 
     #[tactic(auto, using(crate::proofs::Taken::all_taken_after))]
-    pub fn delegate(&mut self, number: u16) -> u64 {
+    pub(crate) fn delegate(&mut self, number: u16) -> u64 {
         word(self.monitor.granule_delegate(granule(number)))
     }
 
     #[tactic(auto, using(crate::proofs::Taken::all_taken_after))]
-    pub fn undelegate(&mut self, number: u16) -> u64 {
+    pub(crate) fn undelegate(&mut self, number: u16) -> u64 {
         word(self.monitor.granule_undelegate(granule(number)))
     }
 
     #[tactic(auto, using(crate::proofs::Taken::all_taken_after))]
-    pub fn fill(&mut self, number: u16, value: u8) -> u64 {
+    pub(crate) fn fill(&mut self, number: u16, value: u8) -> u64 {
         word(self.monitor.host_fill(granule(number), value))
     }
 
     #[tactic(auto, using(crate::proofs::Taken::all_taken_after))]
-    pub fn create_wide(&mut self, rd: u16, root: u16, vmid: u8, width: u8) -> u64 {
+    pub(crate) fn create_wide(&mut self, rd: u16, root: u16, vmid: u8, width: u8) -> u64 {
         let (rd, root) = (granule(rd), granule(root));
         match Vmid::new(vmid) {
             Some(vmid) => word(self.monitor.realm_create(rd, root, vmid, width)),
@@ -148,55 +148,55 @@ impl<S: Built> Bench<S> {
     }
 
     /// With one starting table.
-    pub fn create(&mut self, rd: u16, root: u16, vmid: u8) -> u64 {
+    pub(crate) fn create(&mut self, rd: u16, root: u16, vmid: u8) -> u64 {
         self.create_wide(rd, root, vmid, 39)
     }
 
     #[tactic(auto, using(crate::proofs::Taken::all_taken_after))]
-    pub fn activate(&mut self, rd: u16) -> u64 {
+    pub(crate) fn activate(&mut self, rd: u16) -> u64 {
         word(self.monitor.realm_activate(granule(rd)))
     }
 
     #[tactic(auto, using(crate::proofs::Taken::all_taken_after))]
-    pub fn destroy(&mut self, rd: u16) -> u64 {
+    pub(crate) fn destroy(&mut self, rd: u16) -> u64 {
         word(self.monitor.realm_destroy(granule(rd)))
     }
 
     #[tactic(auto, using(crate::proofs::Taken::all_taken_after))]
-    pub fn rtt_create(&mut self, rd: u16, table: u16, ipa: u32, level: u8) -> u64 {
+    pub(crate) fn rtt_create(&mut self, rd: u16, table: u16, ipa: u32, level: u8) -> u64 {
         let (rd, table) = (granule(rd), granule(table));
         word(self.monitor.rtt_create(rd, table, ipa, level))
     }
 
     #[tactic(auto, using(crate::proofs::Taken::all_taken_after))]
-    pub fn rtt_destroy(&mut self, rd: u16, ipa: u32, level: u8) -> u64 {
+    pub(crate) fn rtt_destroy(&mut self, rd: u16, ipa: u32, level: u8) -> u64 {
         word(self.monitor.rtt_destroy(granule(rd), ipa, level))
     }
 
     #[tactic(auto, using(crate::proofs::Taken::all_taken_after))]
-    pub fn ripas(&mut self, rd: u16, ipa: u32, count: u16) -> u64 {
+    pub(crate) fn ripas(&mut self, rd: u16, ipa: u32, count: u16) -> u64 {
         word(self.monitor.rtt_init_ripas(granule(rd), ipa, count))
     }
 
     #[tactic(auto, using(crate::proofs::Taken::all_taken_after))]
-    pub fn data(&mut self, rd: u16, page: u16, ipa: u32, source: u16) -> u64 {
+    pub(crate) fn data(&mut self, rd: u16, page: u16, ipa: u32, source: u16) -> u64 {
         let (rd, page, source) = (granule(rd), granule(page), granule(source));
         word(self.monitor.data_create(rd, page, ipa, source))
     }
 
     #[tactic(auto, using(crate::proofs::Taken::all_taken_after))]
-    pub fn unknown(&mut self, rd: u16, page: u16, ipa: u32) -> u64 {
+    pub(crate) fn unknown(&mut self, rd: u16, page: u16, ipa: u32) -> u64 {
         let (rd, page) = (granule(rd), granule(page));
         word(self.monitor.data_create_unknown(rd, page, ipa))
     }
 
     #[tactic(auto, using(crate::proofs::Taken::all_taken_after))]
-    pub fn data_destroy(&mut self, rd: u16, ipa: u32) -> u64 {
+    pub(crate) fn data_destroy(&mut self, rd: u16, ipa: u32) -> u64 {
         word(self.monitor.data_destroy(granule(rd), ipa))
     }
 
     /// Whether there is a realm, and this is its measurement.
-    pub fn is_measured(&self, rd: u16, measurement: [u8; 32]) -> bool {
+    pub(crate) fn is_measured(&self, rd: u16, measurement: [u8; 32]) -> bool {
         match self.monitor.realm(granule(rd)) {
             Some(realm) => *realm.measurement() == measurement,
             None => false,
@@ -240,40 +240,40 @@ impl<S: Built> Bench<S> {
         }
     }
 
-    pub fn rec(&mut self, rd: u16, rec: u16) -> u64 {
+    pub(crate) fn rec(&mut self, rd: u16, rec: u16) -> u64 {
         self.make(rd, rec, ArrayVec::new())
     }
 
     /// With two auxiliary granules.
-    pub fn rec_with(&mut self, rd: u16, rec: u16, first: u16, second: u16) -> u64 {
+    pub(crate) fn rec_with(&mut self, rd: u16, rec: u16, first: u16, second: u16) -> u64 {
         let mut auxiliaries = ArrayVec::new();
         auxiliaries.push(granule(first));
         auxiliaries.push(granule(second));
         self.make(rd, rec, auxiliaries)
     }
 
-    pub fn enter(&mut self, rd: u16, number: u16) -> u64 {
+    pub(crate) fn enter(&mut self, rd: u16, number: u16) -> u64 {
         match self.named(granule(rd), number) {
             Some(rec) => word(self.monitor.rec_enter(rec)),
             None => Rmi::INPUT.word(),
         }
     }
 
-    pub fn exit(&mut self, rd: u16, number: u16) -> u64 {
+    pub(crate) fn exit(&mut self, rd: u16, number: u16) -> u64 {
         match self.named(granule(rd), number) {
             Some(rec) => word(self.monitor.rec_exit(rec)),
             None => Rmi::INPUT.word(),
         }
     }
 
-    pub fn rec_destroy(&mut self, rd: u16, number: u16) -> u64 {
+    pub(crate) fn rec_destroy(&mut self, rd: u16, number: u16) -> u64 {
         match self.named(granule(rd), number) {
             Some(rec) => word(self.monitor.rec_destroy(rec)),
             None => Rmi::INPUT.word(),
         }
     }
 
-    pub fn write(&mut self, rd: u16, number: u16, ipa: u32, at: u16, value: u8) -> u64 {
+    pub(crate) fn write(&mut self, rd: u16, number: u16, ipa: u32, at: u16, value: u8) -> u64 {
         let at = offset(at);
         match self.named(granule(rd), number) {
             Some(rec) => word(self.monitor.guest_write(rec, ipa, at, value)),

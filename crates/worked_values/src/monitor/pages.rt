@@ -29,6 +29,6 @@ fn a_page_is_filled_and_delegated<S: Built>(rt: &impl Abort, alloc: Global) -> R
     Ok(())
 }
 
-pub fn rows<S: Built>(rt: &impl Abort, alloc: Global) -> Result<(), Fail> {
+pub(crate) fn rows<S: Built>(rt: &impl Abort, alloc: Global) -> Result<(), Fail> {
     a_page_is_filled_and_delegated::<S>(rt, alloc)
 }

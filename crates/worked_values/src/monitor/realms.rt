@@ -67,7 +67,7 @@ fn wide_realms<S: Built>(rt: &impl Abort, alloc: Global) -> Result<(), Fail> {
     Ok(())
 }
 
-pub fn rows<S: Built>(rt: &impl Abort, alloc: Global) -> Result<(), Fail> {
+pub(crate) fn rows<S: Built>(rt: &impl Abort, alloc: Global) -> Result<(), Fail> {
     a_realm_is_made_once_and_goes::<S>(rt, alloc)?;
     wide_realms::<S>(rt, alloc)
 }

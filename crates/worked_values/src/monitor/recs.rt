@@ -78,7 +78,7 @@ fn numbers_and_the_measurement_go_on<S: Built>(rt: &impl Abort, alloc: Global) -
     Ok(())
 }
 
-pub fn rows<S: Built>(rt: &impl Abort, alloc: Global) -> Result<(), Fail> {
+pub(crate) fn rows<S: Built>(rt: &impl Abort, alloc: Global) -> Result<(), Fail> {
     auxiliaries_are_all_taken_or_none::<S>(rt, alloc)?;
     a_rec_runs_in_an_active_realm::<S>(rt, alloc)?;
     a_guest_writes_its_page::<S>(rt, alloc)?;

@@ -66,7 +66,7 @@ fn each_check_has_its_refusal<S: Built>(rt: &impl Abort, alloc: Global) -> Resul
     Ok(())
 }
 
-pub fn rows<S: Built>(rt: &impl Abort, alloc: Global) -> Result<(), Fail> {
+pub(crate) fn rows<S: Built>(rt: &impl Abort, alloc: Global) -> Result<(), Fail> {
     tables_are_words_in_their_pages::<S>(rt, alloc)?;
     each_check_has_its_refusal::<S>(rt, alloc)
 }
