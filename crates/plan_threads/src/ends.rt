@@ -16,7 +16,16 @@ pub struct Ends<L0: Lane, L1: Lane, L2: Lane, L3: Lane, L4: Lane, L5: Lane, L6: 
 }
 
 /// The seat and the report of each worker, in their order.
-pub(crate) fn ends_of<L0: Lane, L1: Lane, L2: Lane, L3: Lane, L4: Lane, L5: Lane, L6: Lane, L7: Lane>(
+pub(crate) fn ends_of<
+    L0: Lane,
+    L1: Lane,
+    L2: Lane,
+    L3: Lane,
+    L4: Lane,
+    L5: Lane,
+    L6: Lane,
+    L7: Lane,
+>(
     alloc: Global,
     workers: Vec<Worker<L0, L1, L2, L3, L4, L5, L6, L7>>,
 ) -> Result<Ends<L0, L1, L2, L3, L4, L5, L6, L7>, AllocError>

@@ -32,7 +32,13 @@ pub fn write<S: PageStore>(store: &mut S, table: Gran, index: u16, entry: Entry)
 }
 
 // Writes one entry to `count` places of a table, from `first` on.
-pub(crate) fn fill_entries<S: PageStore>(store: &mut S, table: Gran, first: u16, count: u16, entry: Entry)
+pub(crate) fn fill_entries<S: PageStore>(
+    store: &mut S,
+    table: Gran,
+    first: u16,
+    count: u16,
+    entry: Entry,
+)
     requires inside { table < length (S.page_bytes store.old) }
     requires taken { is_free (S.free_flags store.old) table ≡ false }
     requires fits { first + count ≤ 512 }

@@ -57,7 +57,16 @@ impl<L0: Lane, L1: Lane, L2: Lane, L3: Lane, L4: Lane, L5: Lane, L6: Lane, L7: L
 }
 
 /// A guest at each seat. Build 1 is refused that step.
-pub(crate) fn guests_of<L0: Lane, L1: Lane, L2: Lane, L3: Lane, L4: Lane, L5: Lane, L6: Lane, L7: Lane>(
+pub(crate) fn guests_of<
+    L0: Lane,
+    L1: Lane,
+    L2: Lane,
+    L3: Lane,
+    L4: Lane,
+    L5: Lane,
+    L6: Lane,
+    L7: Lane,
+>(
     alloc: Global,
     seats: Vec<Seat<L0, L1, L2, L3, L4, L5, L6, L7>>,
     refused: usize,
