@@ -12,6 +12,7 @@ pub mod Tables
 pub mod TwoTables
 pub mod Ram
 pub mod Data
+pub mod Numbers
 pub mod WideTables
 pub mod Measured
 -- marks

@@ -39,13 +39,13 @@ use Rattle.realm_model.proofs.Examples.Ram.{mapped, mapped-row, ram, ram-first, 
 abbrev eight : Limits
 eight = record (machine_of 8) { aux = 1 }
 
-abbrev assigned : RipasOf → ℕ → Row
+abbrev pub assigned : RipasOf → ℕ → Row
 assigned ripas granule = record { state = Assigned; ripas = ripas; granule = Some granule }
 
 -- ---- rows, one change after another
 
 -- a row of level 3 that was put last, and the one that a walk ends at
-put_here : (rows : Rows) (ipa : ℕ) (row : Row) → get (insert rows (3, ipa) row) (3, ipa) ≡ Some row
+pub put_here : (rows : Rows) (ipa : ℕ) (row : Row) → get (insert rows (3, ipa) row) (3, ipa) ≡ Some row
 put_here rows ipa row = get-insert place_total rows (3, ipa) row (3, ipa) ∙ ap (λ t. cond t (Some row) (get rows (3, ipa))) (place_self (3, ipa))
 
 abbrev with_data : Rows
