@@ -88,7 +88,8 @@ unmapped_ripas Destroyed = Destroyed
 
 -- ---- several rows at once
 
--- The `n` rows of the level from an IPA granule on are there, and the test holds of each.
+-- The `n` rows of the level from an IPA granule on are there, and the test holds of each. Commands ask for rows below a table
+-- alone, where each is there, so none is refused for a row that is missing.
 unfoldable pub all_rows : (Row → Bool) → Rows → ℕ → ℕ → ℕ → Bool
 all_rows test rows level first zero = true
 all_rows test rows level first (suc n) =

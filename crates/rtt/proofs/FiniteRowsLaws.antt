@@ -1,5 +1,5 @@
 -- What the rows of a function have at each place.
-use Rattle.std.specs.Prelude.{◌≡◌, ◌≢◌, ℕ, zero, suc, ◌<◌, cond, List, [], ◌∷◌, ◌++◌, Option, Some, None, ◌⊎◌, true, false}
+use Rattle.std.specs.Prelude.{◌≡◌, ◌≢◌, ℕ, zero, suc, ◌<◌, ◌≤◌, cond, List, [], ◌∷◌, ◌++◌, Option, Some, None, ◌⊎◌, true, false}
 use Rattle.std.specs.Ordering.{eq_by_cmp}
 use Rattle.std.specs.FinMap.{find, get, get-from_entries, same_map}
 use Rattle.std.proofs.Common.{refl, sym, ap, ◌∙◌, inl, inr, ⊎_elim, arith}
@@ -8,7 +8,12 @@ use Rattle.realm_model.specs.Rows.{Row, Rows, place_cmp}
 use Rattle.realm_model.proofs.Maps.{place_total, same_place, place_cmp-IsAntisymmetric}
 use Rattle.realm_model.proofs.Rows.{is_place as is_at, place_self}
 use Rattle.realm_model.proofs.Booleans.{true_false}
-use Rattle.rtt.specs.FiniteRows.{row_before, rows_below, rows_by, IsBounded}
+use Rattle.rtt.specs.FiniteRows.{row_before, rows_below, rows_by}
+
+-- the function has nothing but at levels 1 to 3 and so many IPA granules
+pub record IsBounded (space : ℕ) (at : ℕ → ℕ → Option Row) : Type 0 where
+  pub levels : (level ipa : ℕ) → level ≡ 0 ⊎ 4 ≤ level → at level ipa ≡ None
+  pub granules : (level ipa : ℕ) → space ≤ ipa → at level ipa ≡ None
 
 -- what a test of two places tells
 pub place_tells : (q k : ℕ × ℕ) → ((is_at q k ≡ true) × (q ≡ k)) ⊎ ((is_at q k ≡ false) × (q ≡ k → ⊥))

@@ -1,5 +1,5 @@
 -- The rows of a function of levels and of IPA granules, as a finite map.
-use Rattle.std.specs.Prelude.{◌≡◌, ℕ, zero, suc, ◌≤◌, ◌⊎◌, List, [], ◌∷◌, ◌++◌, Option, Some, None}
+use Rattle.std.specs.Prelude.{ℕ, zero, suc, List, [], ◌∷◌, ◌++◌, Option, Some, None}
 use Rattle.std.specs.FinMap.{from_entries}
 use Rattle.realm_model.specs.Rows.{Row, Rows}
 
@@ -16,8 +16,3 @@ rows_below at level (suc n) = row_before level n (at level n) (rows_below at lev
 -- The rows that have at each place what a function has there that is bounded by `space` IPA granules.
 unfoldable pub rows_by : ℕ → (ℕ → ℕ → Option Row) → Rows
 rows_by space at = from_entries (rows_below at 1 space ++ (rows_below at 2 space ++ rows_below at 3 space))
-
--- the function has nothing but at levels 1 to 3 and so many IPA granules
-pub record IsBounded (space : ℕ) (at : ℕ → ℕ → Option Row) : Type 0 where
-  pub levels : (level ipa : ℕ) → level ≡ 0 ⊎ 4 ≤ level → at level ipa ≡ None
-  pub granules : (level ipa : ℕ) → space ≤ ipa → at level ipa ≡ None

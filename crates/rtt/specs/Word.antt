@@ -4,7 +4,7 @@ use Rattle.realm_model.specs.declared.states.EntryState.{EntryState}
 use Rattle.realm_model.specs.declared.states.EntryState.TheVariants.{Unassigned, Assigned, Table}
 use Rattle.realm_model.specs.declared.states.Ripas.{Ripas}
 use Rattle.realm_model.specs.declared.states.Ripas.TheVariants.{Empty, Ram, Destroyed}
-use Rattle.realm_model.specs.Rows.{Row}
+use Rattle.realm_model.specs.Rows.{Row, unassigned, assigned, table}
 
 abbrev pub kind_bits : EntryState → ℕ
 kind_bits Unassigned = 0
@@ -47,9 +47,9 @@ ripas_of bits = if bits == 1 then Ram else (if bits == 2 then Destroyed else Emp
 
 -- the entry of a kind, with that RIPAS and that granule where the kind has them
 abbrev pub said : EntryState → Ripas → ℕ → Row
-said Unassigned ripas granule = record { state = Unassigned; ripas = ripas; granule = None }
-said Assigned ripas granule = record { state = Assigned; ripas = ripas; granule = Some granule }
-said Table ripas granule = record { state = Table; ripas = Empty; granule = Some granule }
+said Unassigned ripas granule = unassigned ripas
+said Assigned ripas granule = assigned ripas granule
+said Table ripas granule = table granule
 
 -- The entry that a word is read as, whatever the word.
 abbrev pub entry_of : ℕ → Row
