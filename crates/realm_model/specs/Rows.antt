@@ -1,5 +1,5 @@
 -- The translation of a realm: which row covers an IPA granule. No table stands in it. RMM 1.0, Realm Translation Table.
-use Rattle.std.specs.Prelude.{ℕ, zero, suc, ◌+◌, ◌-◌, ◌*◌, ◌%◌, ◌==◌, ◌&&◌, ◌||◌, Bool, true, false, not, nat_lt, nat_le, Option, Some, None, if◌then◌else◌}
+use Rattle.std.specs.Prelude.{ℕ, zero, suc, ◌+◌, ◌-◌, ◌*◌, ◌/◌, ◌%◌, ◌==◌, ◌&&◌, ◌||◌, Bool, true, false, not, nat_lt, nat_le, Option, Some, None, if◌then◌else◌}
 use Rattle.std.specs.Ordering.{nat_cmp, on, then_cmp}
 use Rattle.std.specs.declared.cmp.Ordering.{Ordering}
 use Rattle.std.specs.FinMap.{FinMap, empty, get, insert, retain_keys}
@@ -151,3 +151,9 @@ has_root_table width rows = not (all_rows (λ row. not (is_table row)) rows 1 0 
 -- a level below the root, and the first IPA granule of a table of that level
 abbrev pub is_table_place : ℕ → ℕ → Bool
 is_table_place ipa level = (level == 2 || level == 3) && ipa % covered_count (level - 1) == 0
+
+-- ---- which pages one call makes RAM. RMM 1.0, RMI_RTT_INIT_RIPAS, input conditions
+
+-- 1 to 512 pages from an IPA granule on, of one table of level 3
+abbrev pub is_page_run : ℕ → ℕ → Bool
+is_page_run ipa count = nat_le 1 count && nat_le count 512 && ipa / 512 == (ipa + count - 1) / 512

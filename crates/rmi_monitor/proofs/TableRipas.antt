@@ -1,11 +1,11 @@
 -- Pages of a NEW realm become RAM: RMI_RTT_INIT_RIPAS over the fields of a monitor.
-use Rattle.std.proofs.Common.{◌≡◌, ℕ, ◌+◌, ◌-◌, Bool, true, false, List, [], ◌∷◌, set, cond, Option, Some, None, Ok, Err, refl, sym, ap, ◌∙◌, subst, arith}
-use Rattle.std.specs.Prelude.{◌/◌, ◌==◌, ◌&&◌, nat_le}
+use Rattle.std.proofs.Common.{◌≡◌, ℕ, Bool, true, false, List, [], ◌∷◌, set, cond, Option, Some, None, Ok, Err, refl, sym, ap, ◌∙◌, subst, arith}
+use Rattle.std.specs.Prelude.{◌&&◌}
 use Rattle.std.proofs.lemmas.Bool.{and_parts}
 use Rattle.granule_addr.specs.Ipa.{is_protected_at}
 use Rattle.granule_addr.specs.declared.root.Root.{Root}
 use Rattle.granule_table.specs.declared.granule.Granule.{Granule}
-use Rattle.realm_model.specs.Rows.{Row, Rows, with_ram}
+use Rattle.realm_model.specs.Rows.{Row, Rows, is_page_run, with_ram}
 use Rattle.realm_model.specs.Measurement.{measurement_after, ripas_event}
 use Rattle.realm_model.specs.Update.{Outcome}
 use Rattle.realm_model.specs.Command.Check.{check, error_input, error_realm, error_rtt, is_new, put_realm}
@@ -33,9 +33,9 @@ pub record RipasCall (at : Tables) (pages : List (List ℕ)) (free : List Bool) 
   pub others : ChangesTablesOnly at.root pages new_pages
   pub keeps : Keeps at.rd at.root pages free granules new_pages new_free granules
 
--- the pages are 1 to 512, of one table of level 3, and protected
+-- the pages are a run, and protected
 abbrev pub is_run : ℕ → ℕ → ℕ → Bool
-is_run ipa count width = nat_le 1 count && nat_le count 512 && ipa / 512 == (ipa + count - 1) / 512 && is_protected_at ipa width
+is_run ipa count width = is_page_run ipa count && is_protected_at ipa width
 
 -- what code makes of them, by the root that it reads of the realm
 module _ (realm : RealmAttributes) (ipa count : ℕ) (root : Root) (read : root ≡ realm.root) (place : Option ℕ) (tested : place ≡ cond (is_run ipa count root.width) (Some ipa) None) where

@@ -1,7 +1,7 @@
 //! Checks of what a command is given.
-ghost use Rattle.std.specs.Prelude.{◌≡◌, ◌+◌, ◌-◌, ◌/◌, ◌==◌, ◌&&◌, nat_le, Some, None, if◌then◌else◌};
+ghost use Rattle.std.specs.Prelude.{◌≡◌, ◌&&◌, Some, None, if◌then◌else◌};
 ghost use Rattle.granule_addr.specs.Ipa.{is_protected_at};
-ghost use Rattle.realm_model.specs.Rows.{is_table_place};
+ghost use Rattle.realm_model.specs.Rows.{is_table_place, is_page_run};
 
 use granule_addr::{IpaGran, IpaWidth, Level, is_protected};
 
@@ -19,8 +19,7 @@ pub fn protected(ipa: u32, width: IpaWidth) -> Option<IpaGran>
 
 // The first of `count` IPA granules, where it is protected, they are 1 to 512, and one table of level 3 serves all of them.
 pub(crate) fn protected_run(ipa: u32, count: u16, width: IpaWidth) -> Option<IpaGran>
-    ensures { result ≡ (if nat_le 1 count && nat_le count 512 && ipa / 512 == (ipa + count - 1) / 512 && is_protected_at ipa width
-        then Some ipa else None) }
+    ensures { result ≡ (if is_page_run ipa count && is_protected_at ipa width then Some ipa else None) }
 {
     let first = protected(ipa, width)?;
     if count == 0 || count > 512 || ipa / 512 != (ipa + u32::from(count) - 1) / 512 {

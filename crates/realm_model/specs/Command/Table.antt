@@ -1,7 +1,7 @@
 -- Commands on translation tables.
-use Rattle.std.specs.Prelude.{ℕ, ◌+◌, ◌-◌, ◌/◌, ◌==◌, nat_le, [], ◌∷◌, ◌&&◌, Ok}
+use Rattle.std.specs.Prelude.{ℕ, [], ◌∷◌, ◌&&◌, Ok}
 use Rattle.realm_model.specs.declared.states.GranuleState.TheVariants.{Rtt}
-use Rattle.realm_model.specs.Rows.{is_table_place, with_table, without_table, with_ram}
+use Rattle.realm_model.specs.Rows.{is_table_place, is_page_run, with_table, without_table, with_ram}
 use Rattle.realm_model.specs.Measurement.{measurement_after, ripas_event}
 use Rattle.realm_model.specs.Machine.{Seen, left, held}
 use Rattle.realm_model.specs.Update.{Outcome, Put}
@@ -30,7 +30,7 @@ rtt_destroy rd ipa level =
 abbrev pub rtt_init_ripas : Seen → ℕ → ℕ → Outcome
 rtt_init_ripas rd ipa count =
     with_realm rd (λ realm.
-    check (nat_le 1 count && nat_le count 512 && ipa / 512 == (ipa + count - 1) / 512 && is_protected realm ipa) error_input
+    check (is_page_run ipa count && is_protected realm ipa) error_input
     (check (is_new realm.state) error_realm
     (with_free_pages realm.rows ipa count (λ row.
     Ok (put_realm rd (record realm {
