@@ -17,8 +17,8 @@ zipped R [] (y ∷ ys) same each = absurd (omega arith)
 zipped R (x ∷ xs) [] same each = absurd (omega arith)
 zipped R (x ∷ xs) (y ∷ ys) same each = (at_place R x y (each 0 x (omega arith)), zipped R xs ys (omega arith) (λ k d lt. each (suc k) d (omega arith)))
 
-pub are_run : (stops : ℕ → ℕ → Type 0) (old new : List WorkerView) → length new ≡ length old
-    → ((k : ℕ) (d : WorkerView) → k < length old → HoldsOf (λ before after. IsRun (stops before.seat.build) before after) old new k d)
-    → AreRun stops old new
+pub are_run : (passes stops : ℕ → ℕ → Type 0) (old new : List WorkerView) → length new ≡ length old
+    → ((k : ℕ) (d : WorkerView) → k < length old → HoldsOf (λ before after. IsRun (passes before.seat.build) (stops before.seat.build) before after) old new k d)
+    → AreRun passes stops old new
 unfolding AreRun
-are_run stops old new same each = zipped (λ before after. IsRun (stops before.seat.build) before after) old new same each
+are_run passes stops old new same each = zipped (λ before after. IsRun (passes before.seat.build) (stops before.seat.build) before after) old new same each

@@ -1,6 +1,6 @@
--- A question more beside a seat's trail.
+-- What a seat is answered, beside its trail.
 use Rattle.std.proofs.Common.{◌≡◌, ℕ, List, [], ◌∷◌, ◌++◌, refl, sym, ap, subst, ◌∙◌}
-use Rattle.std.proofs.lemmas.List.{append-nil}
+use Rattle.std.proofs.lemmas.List.{append-nil, append_assoc}
 use Rattle.std.proofs.lemmas.List.Elements.{filter-append}
 use Rattle.std.specs.Prelude.{Option, Some, None, Result, Ok, Err, IfOk, IfErr, filter, option_and_then}
 use Rattle.std.specs.List.{AllZip, last_or}
@@ -15,14 +15,14 @@ use Rattle.build_commands.specs.declared.cmd.Cmd.{Cmd}
 use Rattle.build_commands.specs.declared.cmd.Cmd.TheVariants.{Take, Fill, Peek, Delegate, Realm, Rtt, Ripas, Data, Unknown, Rec, Activate, Enter, Exit, Poke}
 use Rattle.build_commands.specs.declared.refusal.Refusal.{Refusal}
 use Rattle.build_commands.specs.declared.reply.Reply.{Reply}
-use Rattle.build_books.specs.declared.mark.Mark.{Mark}
 use Rattle.build_books.specs.View.{HostView, open_of}
 use Rattle.realm_host.specs.Answer.{IsActOf}
 use Rattle.realm_host.specs.Call.{Ask, Undo}
 use Rattle.realm_host.specs.declared.reply.Answer.TheVariants.{Replied, Undone as WasUndone}
 use Rattle.realm_host.specs.declared.reply.Undone.{Undone}
 use Rattle.workers.specs.Exchange.{Exchange, Did, Undid, KeptMark, LookedBack, is_event}
-use Rattle.builders.specs.Seats.{SeatView, with_noted}
+use Rattle.builders.specs.Answered.{IsAnswered, AreAnswered}
+use Rattle.builders.specs.Seats.{SeatView, new_seat, with_noted}
 use Rattle.builders.specs.Told.{IsTold, IsRefused}
 use Rattle.builders.specs.Trails.{IsActFor, IsReverseOf, IsEventOf, IsTrailOf}
 
@@ -108,19 +108,50 @@ unfolding Tells
 same_tells old new exchange none same earlier so =
     subst (λ (s : SeatView). IsTrailOf s.build (earlier ++ exchange ∷ []) s.trail) (sym same) (trail_same old.build earlier old.trail exchange none so)
 
-pub asked_tells : (old new : SeatView) (cmd : Cmd) (result : Result Reply Refusal) → IfOk result (λ reply. IsTold (Ask cmd) (Replied reply) old new)
-    → IfErr result (λ refusal. IsRefused (Ask cmd) refusal old × (new ≡ old))
-    → (earlier : List Exchange) → IsTrailOf old.build earlier old.trail → IsTrailOf new.build (earlier ++ Did cmd result ∷ []) new.trail
-unfolding Tells
-asked_tells old new cmd (Ok reply) ok err = noted_tells old new (Did cmd (Ok reply)) ok.event refl (replied_event cmd reply old new ok) ok.noted
-asked_tells old new cmd (Err refusal) ok err = same_tells old new (Did cmd (Err refusal)) refl err.1
+answered_tells : (old new : SeatView) (exchange : Exchange) → IsAnswered old exchange new → Tells old new exchange
+answered_tells old new (Did cmd (Ok reply)) is = noted_tells old new (Did cmd (Ok reply)) is.event refl (replied_event cmd reply old new is) is.noted
+answered_tells old new (Did cmd (Err refusal)) is = same_tells old new (Did cmd (Err refusal)) refl is.1
+answered_tells old new (Undid (Ok undone)) is = noted_tells old new (Undid (Ok undone)) is.event refl (undone_event undone old new is) is.noted
+answered_tells old new (Undid (Err refusal)) is = same_tells old new (Undid (Err refusal)) refl is.1
+answered_tells old new (KeptMark result) is = same_tells old new (KeptMark result) refl is.1
+answered_tells old new (LookedBack mark result) is = same_tells old new (LookedBack mark result) refl is.1
 
-pub undone_tells : (old new : SeatView) (result : Result Undone Refusal) → IfOk result (λ undone. IsTold Undo (WasUndone undone) old new)
-    → IfErr result (λ refusal. IsRefused Undo refusal old × (new ≡ old))
-    → (earlier : List Exchange) → IsTrailOf old.build earlier old.trail → IsTrailOf new.build (earlier ++ Undid result ∷ []) new.trail
+answers_tell : (exchanges earlier : List Exchange) (old new : SeatView) → AreAnswered old exchanges new → IsTrailOf old.build earlier old.trail
+    → IsTrailOf new.build (earlier ++ exchanges) new.trail
 unfolding Tells
-undone_tells old new (Ok undone) ok err = noted_tells old new (Undid (Ok undone)) ok.event refl (undone_event undone old new ok) ok.noted
-undone_tells old new (Err refusal) ok err = same_tells old new (Undid (Err refusal)) refl err.1
+answers_tell [] earlier old new are so =
+    subst (λ es. IsTrailOf new.build es new.trail) (sym (append-nil earlier)) (subst (λ (s : SeatView). IsTrailOf s.build earlier s.trail) (sym are) so)
+answers_tell (exchange ∷ exchanges) earlier old new (between, is, are) so =
+    subst (λ es. IsTrailOf new.build es new.trail) (append_assoc earlier (exchange ∷ []) exchanges)
+    (answers_tell exchanges (earlier ++ exchange ∷ []) between new are (answered_tells old between exchange is earlier so))
+
+-- what a new seat is answered is its trail
+pub trail_of_answers : (build : ℕ) (exchanges : List Exchange) (new : SeatView) → AreAnswered (new_seat build) exchanges new → IsTrailOf new.build exchanges new.trail
+unfolding IsTrailOf
+trail_of_answers build exchanges new are = answers_tell exchanges [] (new_seat build) new are tt
+
+-- ---- one answer more
+
+answered_more : (old : SeatView) (exchanges : List Exchange) (between : SeatView) (exchange : Exchange) (new : SeatView)
+    → AreAnswered old exchanges between → IsAnswered between exchange new → AreAnswered old (exchanges ++ exchange ∷ []) new
+answered_more old [] between exchange new are is = (new, subst (λ (s : SeatView). IsAnswered s exchange new) are is, refl)
+answered_more old (first ∷ exchanges) between exchange new (next, its, are) is = (next, its, answered_more next exchanges between exchange new are is)
+
+-- the answers to a seat that was new at first
+pub answer_more : (old new : SeatView) (exchange : Exchange) → new.build ≡ old.build → IsAnswered old exchange new
+    → (earlier : List Exchange) → AreAnswered (new_seat old.build) earlier old → AreAnswered (new_seat new.build) (earlier ++ exchange ∷ []) new
+answer_more old new exchange same is earlier are =
+    subst (λ build. AreAnswered (new_seat build) (earlier ++ exchange ∷ []) new) (sym same) (answered_more (new_seat old.build) earlier old exchange new are is)
+
+pub asked : (old new : SeatView) (cmd : Cmd) (result : Result Reply Refusal) → IfOk result (λ reply. IsTold (Ask cmd) (Replied reply) old new)
+    → IfErr result (λ refusal. IsRefused (Ask cmd) refusal old × (new ≡ old)) → IsAnswered old (Did cmd result) new
+asked old new cmd (Ok reply) ok err = ok
+asked old new cmd (Err refusal) ok err = err
+
+pub undone : (old new : SeatView) (result : Result Undone Refusal) → IfOk result (λ undone. IsTold Undo (WasUndone undone) old new)
+    → IfErr result (λ refusal. IsRefused Undo refusal old × (new ≡ old)) → IsAnswered old (Undid result) new
+undone old new (Ok did) ok err = ok
+undone old new (Err refusal) ok err = err
 
 pub asked_build : (old new : SeatView) (cmd : Cmd) (result : Result Reply Refusal) → IfOk result (λ reply. IsTold (Ask cmd) (Replied reply) old new)
     → IfErr result (λ refusal. IsRefused (Ask cmd) refusal old × (new ≡ old)) → new.build ≡ old.build
@@ -131,19 +162,3 @@ pub undone_build : (old new : SeatView) (result : Result Undone Refusal) → IfO
     → IfErr result (λ refusal. IsRefused Undo refusal old × (new ≡ old)) → new.build ≡ old.build
 undone_build old new (Ok undone) ok err = ap (λ (s : SeatView). s.build) ok.noted
 undone_build old new (Err refusal) ok err = ap (λ (s : SeatView). s.build) err.1
-
-pub marked_tells : (old new : SeatView) (result : Result Mark Refusal) → new ≡ old
-    → (earlier : List Exchange) → IsTrailOf old.build earlier old.trail → IsTrailOf new.build (earlier ++ KeptMark result ∷ []) new.trail
-unfolding Tells
-marked_tells old new result same = same_tells old new (KeptMark result) refl same
-
-pub looked_tells : (old new : SeatView) (mark : Mark) (result : Result ℕ Refusal) → new ≡ old
-    → (earlier : List Exchange) → IsTrailOf old.build earlier old.trail → IsTrailOf new.build (earlier ++ LookedBack mark result ∷ []) new.trail
-unfolding Tells
-looked_tells old new mark result same = same_tells old new (LookedBack mark result) refl same
-
--- ---- a worker
-
-pub nothing_told : (build : ℕ) (trail : List Event) → trail ≡ [] → IsTrailOf build [] trail
-unfolding IsTrailOf
-nothing_told build trail empty = subst (AllZip (IsEventOf build) []) (sym empty) tt

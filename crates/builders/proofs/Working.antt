@@ -1,5 +1,5 @@
 -- A worker's trail and report after its work, and before it.
-use Rattle.std.proofs.Common.{◌≡◌, ℕ, Bool, List, [], ◌∷◌, inl, inr, refl, sym, ap, subst}
+use Rattle.std.proofs.Common.{◌≡◌, ℕ, Bool, false, List, [], ◌∷◌, length, inl, inr, refl, sym, ◌∙◌, ap, subst}
 use Rattle.std.specs.Prelude.{filter}
 use Rattle.std.specs.List.{AllZip}
 use Rattle.build_commands.specs.declared.cmd.Step.{Step}
@@ -9,19 +9,42 @@ use Rattle.workers.specs.Exchange.{is_event}
 use Rattle.workers.specs.Report.{IsReport, IsWork}
 use Rattle.workers.specs.Standing.{first_standing}
 use Rattle.workers.specs.declared.report.Line.{Line}
-use Rattle.builders.proofs.Telling.{nothing_told}
-use Rattle.builders.specs.Seats.{SeatView}
+use Rattle.realm_model.specs.declared.act.Event.{Event}
+use Rattle.builders.proofs.Telling.{trail_of_answers}
+use Rattle.builders.specs.Answered.{AreAnswered}
+use Rattle.builders.specs.Seats.{SeatView, new_seat}
 use Rattle.builders.specs.Trails.{IsEventOf, IsTrailOf}
-use Rattle.builders.specs.Workers.{WorkerView, HasWorked, IsFaithful}
+use Rattle.builders.specs.Workers.{WorkerView, IsFaithful, IsRun}
 
-pub worked : (old new : SeatView) (passes stops : ℕ → Type 0) (steps : List Step) (lines : List Line) (answered ended : Bool) → old.trail ≡ [] → ended ≡ answered
-    → IsWork (λ exchanges. IsTrailOf old.build exchanges old.trail) (λ exchanges. IsTrailOf new.build exchanges new.trail) passes stops steps lines answered
-    → HasWorked (record { seat = new; steps = steps; lines = lines; ended = ended })
-worked old new passes stops steps lines answered ended empty is work = record {
-  exchanges = work.exchanges;
-  is_report = subst (IsReport 0 first_standing steps work.exchanges lines) (sym is) work.is_report;
-  is_trail = work.told [] (nothing_told old.build old.trail empty);
-}
+-- a seat with no event is new
+is_fresh : (seat : SeatView) → seat.count ≡ length seat.trail → seat.trail ≡ [] → seat ≡ new_seat seat.build
+is_fresh seat counted empty =
+    ap (λ (n : ℕ). record { build = seat.build; count = n; trail = seat.trail }) (counted ∙ ap length empty)
+    ∙ ap (λ (trail : List Event). record { build = seat.build; count = 0; trail = trail }) empty
+
+pub is_run : (old new : SeatView) (passes stops : ℕ → Type 0) (steps : List Step) (lines : List Line) (answered ended : Bool) → ended ≡ answered
+    → old.count ≡ length old.trail → old.trail ≡ [] → new.count ≡ length new.trail → new.build ≡ old.build
+    → IsWork (λ exchanges. AreAnswered (new_seat old.build) exchanges old) (λ exchanges. AreAnswered (new_seat new.build) exchanges new) passes stops steps lines answered
+    → IsRun passes stops (record { seat = old; steps = steps; lines = []; ended = false }) (record { seat = new; steps = steps; lines = lines; ended = ended })
+is_run old new passes stops steps lines answered ended is counts empty counted build work =
+    let are = work.told [] (is_fresh old counts empty) in
+    record {
+      steps_are = refl;
+      build_is = build;
+      worked = record {
+        exchanges = work.exchanges;
+        is_report = subst (IsReport 0 first_standing steps work.exchanges lines) (sym is) work.is_report;
+        answered = are;
+        is_trail = trail_of_answers new.build work.exchanges new are;
+        counted = counted;
+      };
+      passed = work.passed;
+      stopped = λ not_ended. work.stopped (sym is ∙ not_ended);
+    }
+
+-- of any worker with this seat and these steps
+pub of_worker : (passes stops : ℕ → Type 0) (old new : WorkerView) → IsRun passes stops (record { seat = old.seat; steps = old.steps; lines = []; ended = false }) new → IsRun passes stops old new
+of_worker passes stops old new run = record { steps_are = run.steps_are; build_is = run.build_is; worked = run.worked; passed = run.passed; stopped = run.stopped }
 
 none_left : {A B : Type 0} (R : A → B → Type 0) (xs : List A) (ys : List B) → xs ≡ [] → AllZip R xs ys → ys ≡ []
 none_left R [] [] e h = refl

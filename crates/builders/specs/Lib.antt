@@ -5,6 +5,7 @@ pub mod Start
 pub mod Kept
 pub mod Codes
 pub mod Told
+pub mod Answered
 pub mod Close
 pub mod Fault
 pub mod Trails

@@ -1,6 +1,7 @@
 //! A seat of a shared host, as a worker sees it.
 ghost use Rattle.std.specs.Prelude.{◌+◌, ◌*◌};
-ghost use Rattle.builders.specs.Trails.{IsTrailOf};
+ghost use Rattle.builders.specs.Answered.{AreAnswered};
+ghost use Rattle.builders.specs.Seats.{new_seat};
 
 use crate::lanes::Lane;
 use crate::seat::Seat;
@@ -11,7 +12,8 @@ use realm_host::{Cmd, Mark, Refusal, Reply, Undone};
 use std::sync::Wait;
 use workers::{Gate, Stuck, Teller};
 
-/// A seat, and the host that its build's worker asks. The accepted questions are the events of its trail.
+/// A seat, and the host that its build's worker asks. Each question is answered by the host; the accepted ones
+/// are the events of the seat's trail.
 #[derive(Drop)]
 pub struct SeatTeller<
     'a,
@@ -44,7 +46,8 @@ impl<
     L6: Lane,
     L7: Lane,
 > Teller for SeatTeller<'a, R, S, L0, L1, L2, L3, L4, L5, L6, L7> {
-    ghost tells = { λ teller exchanges. IsTrailOf teller.seat.now.build exchanges teller.seat.now.trail };
+    // those that the seat was answered since it was new
+    ghost tells = { λ teller exchanges. AreAnswered (new_seat teller.seat.now.build) exchanges teller.seat.now };
 
     // the seat's, and its build, so that both stay
     ghost loan = { λ teller. 8 * teller.seat.ghost_name + teller.seat.now.build };

@@ -1,6 +1,6 @@
 //! A worker for each build: its seat, its steps and its report.
 ghost use Rattle.std.specs.Prelude.{◌≡◌, ◌+◌, ◌*◌, ◌<◌, ◌≤◌, ℕ, [], false, length, vec_len, vec_capacity, IfOk, IfErr};
-ghost use Rattle.builders.specs.Workers.{HasWorked, IsFaithful, IsRun};
+ghost use Rattle.builders.specs.Workers.{IsFaithful, IsRun};
 
 use crate::lanes::Lane;
 use crate::seat::Seat;
@@ -97,7 +97,7 @@ impl<L0: Lane, L1: Lane, L2: Lane, L3: Lane, L4: Lane, L5: Lane, L6: Lane, L7: L
         gate: &G,
     )
         requires { self.old.lines ≡ [] }
-        ensures { IsRun (G.stops gate.now self.old.seat.build) self.old self.new }
+        ensures { IsRun (G.passes gate.now self.old.seat.build) (G.stops gate.now self.old.seat.build) self.old self.new }
     {
         let Worker {
             seat,
@@ -150,15 +150,15 @@ fn work_at<
     requires few { length steps.now ≤ 1024 }
     requires room { 2 * length steps.now + 1 ≤ vec_capacity report.old.lines }
     requires build { report.old.build ≡ seat.old.build }
-    ensures worked { HasWorked (record { seat = seat.new; steps = steps.now; lines = report.new.lines.items; ended = result }) }
-    ensures stopped { result ≡ false → (turn : ℕ) × G.stops gate.now seat.old.build turn }
-    ensures build { seat.new.build ≡ seat.old.build }
+    ensures run { IsRun (G.passes gate.now seat.old.build) (G.stops gate.now seat.old.build)
+        (record { seat = seat.old; steps = steps.now; lines = []; ended = false })
+        (record { seat = seat.new; steps = steps.now; lines = report.new.lines.items; ended = result }) }
     ensures same { (report.new.build ≡ report.old.build) × (vec_capacity report.new.lines ≡ vec_capacity report.old.lines) }
 {
-    // A seat's build is below 8, before and after.
-    let _ = seat.build();
+    // A seat's build is below 8, before and after, and it counts its trail.
+    let _ = (seat.build(), seat.count());
     let mut teller = SeatTeller { rt, shared, seat };
     let ended = work(report, steps, &mut teller, gate).is_ok();
-    let _ = teller.seat.build();
+    let _ = (teller.seat.build(), teller.seat.count());
     ended
 }

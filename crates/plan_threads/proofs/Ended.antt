@@ -1,9 +1,9 @@
 -- How a run of all workers ends.
-use Rattle.std.proofs.Common.{◌≡◌, inl, inr, ℕ, ◌<◌, ◌++◌, true, List, length, sym, subst, ◌∙◌, ap}
+use Rattle.std.proofs.Common.{◌≡◌, inl, inr, ℕ, ◌++◌, true, List, length, sym, subst, ◌∙◌, ap}
 use Rattle.std.specs.Global.{Vec}
 use Rattle.std.specs.List.{AllZip, flat_map}
 use Rattle.std.specs.Prelude.{All}
-use Rattle.std.proofs.lemmas.List.Elements.{AllZip-get_or, length_all_zip}
+use Rattle.std.proofs.lemmas.List.Elements.{length_all_zip}
 use Rattle.build_books.specs.View.{HostView}
 use Rattle.build_commands.specs.declared.cmd.Step.{Step}
 use Rattle.builders.specs.Close.{IsClosed, IsGivenBack}
@@ -20,36 +20,22 @@ use Rattle.plan_threads.specs.Text.{report_lines, audit_line}
 use Rattle.plan_threads.specs.Threads.{new_workers, seats_of, IsReportOf, IsEndedRun, IsText, IsStuck, IsMismatch}
 use Rattle.plan_threads.proofs.Reports.{workers_fit, reports_fit, text_of_workers}
 
--- ---- a worker that waits
-
--- it waits where the gate stops one of its turns
-turn_is_stopped : (stops : ℕ → ℕ → Type 0) (old new : List WorkerView) (build : ℕ) → AreRun stops old new → IsLowestWaiting new build → (turn : ℕ) × stops build turn
-unfolding AreRun
-turn_is_stopped stops old new build are waiting =
-    let (k, worker, lt, at, waits) = waiting.waits in
-    let same = length_all_zip (λ (before after : WorkerView). IsRun (stops before.seat.build) before after) old new are in
-    let run = AllZip-get_or (λ (before after : WorkerView). IsRun (stops before.seat.build) before after) old new k worker worker are (subst (λ (n : ℕ). k < n) (sym same) lt) in
-    let not_ended = ap (λ (w : WorkerView). w.ended) at ∙ waits.0 in
-    let build_is = sym run.build_is ∙ ap (λ (w : WorkerView). w.seat.build) at ∙ waits.1 in
-    let stopped = run.stopped not_ended in
-    (stopped.0, subst (λ (b : ℕ). stops b stopped.0) build_is stopped.1)
-
 -- there are as many after it as before
-pub same_length : (stops : ℕ → ℕ → Type 0) (old new : List WorkerView) → AreRun stops old new → length new ≡ length old
+pub same_length : (passes stops : ℕ → ℕ → Type 0) (old new : List WorkerView) → AreRun passes stops old new → length new ≡ length old
 unfolding AreRun
-same_length stops old new are = sym (length_all_zip (λ (before after : WorkerView). IsRun (stops before.seat.build) before after) old new are)
+same_length passes stops old new are = sym (length_all_zip (λ (before after : WorkerView). IsRun (passes before.seat.build) (stops before.seat.build) before after) old new are)
 
-module _ (plan : Plan) (stops : ℕ → ℕ → Type 0) (old new : List WorkerView) (are_new : old ≡ new_workers plan) (run : AreRun stops old new) where
-  run_of : AreRun stops (new_workers plan) new
-  run_of = subst (λ (ws : List WorkerView). AreRun stops ws new) are_new run
+module _ (plan : Plan) (passes stops : ℕ → ℕ → Type 0) (old new : List WorkerView) (are_new : old ≡ new_workers plan) (run : AreRun passes stops old new) where
+  run_of : AreRun passes stops (new_workers plan) new
+  run_of = subst (λ (ws : List WorkerView). AreRun passes stops ws new) are_new run
 
-  pub is_stuck : (build : ℕ) → IsLowestWaiting new build → IsStuck plan stops build
-  is_stuck build waits = record { workers = new; run = run_of; waits = waits; stopped = turn_is_stopped stops old new build run waits }
+  pub is_stuck : (build : ℕ) → IsLowestWaiting new build → IsStuck plan passes stops build
+  is_stuck build waits = record { workers = new; run = run_of; waits = waits }
 
   -- ---- all have ended
 
   module _ (ended : All (λ (worker : WorkerView). worker.ended ≡ true) new) (start opened host : HostView) (is_start : opened ≡ start) (seats : List SeatView) (seats_are : seats ≡ seats_of new) where
-    ended_run : IsGivenBack start host seats → IsEndedRun plan stops opened host new
+    ended_run : IsGivenBack start host seats → IsEndedRun plan passes stops opened host new
     ended_run back = record {
       run = run_of;
       ended = ended;
@@ -57,17 +43,17 @@ module _ (plan : Plan) (stops : ℕ → ℕ → Type 0) (old new : List WorkerVi
     }
 
     -- a host that is not closed
-    pub not_closed : (fault : CloseFault) → IsGivenBack start host seats → IsFault fault host seats → IsMismatch plan stops opened
+    pub not_closed : (fault : CloseFault) → IsGivenBack start host seats → IsFault fault host seats → IsMismatch plan passes stops opened
     not_closed fault back bad = record { host = host; workers = new; is_run = ended_run back; differs = inl (fault, subst (IsFault fault host) seats_are bad) }
 
     module _ (reports : List (Report × Vec Step)) (are_reports : AllZip IsReportOf new reports) (back : IsGivenBack start host seats) where
       -- a report that does not fit
-      pub misfit : (All (ReportFits host.history) reports → ⊥) → IsMismatch plan stops opened
+      pub misfit : (All (ReportFits host.history) reports → ⊥) → IsMismatch plan passes stops opened
       misfit bad = record { host = host; workers = new; is_run = ended_run back; differs = inr (λ fit. bad (reports_fit host.history new reports are_reports fit)) }
 
       -- the text
       pub is_text : (text : List ℕ) → IsClosed host seats → All (ReportFits host.history) reports
-          → text ≡ flat_map (report_lines plan) reports ++ (map_text host ++ audit_line) → IsText plan stops opened text
+          → text ≡ flat_map (report_lines plan) reports ++ (map_text host ++ audit_line) → IsText plan passes stops opened text
       is_text text closed fit whole = record {
         host = host;
         workers = new;

@@ -40,9 +40,10 @@ IsReportOf worker (report, asks) = (report.build ≡ worker.seat.build) × (repo
 
 -- ---- runs
 
--- The workers of the plan's builds have run, and this is the host that they leave. The gate stops these turns of each build.
-pub record IsEndedRun (plan : Plan) (stops : ℕ → ℕ → Type 0) (opened host : HostView) (workers : List WorkerView) : Type 0 where
-  pub run : AreRun stops (new_workers plan) workers
+-- The workers of the plan's builds have run, and this is the host that they leave. Of each build the gate lets these turns pass,
+-- and stops those.
+pub record IsEndedRun (plan : Plan) (passes stops : ℕ → ℕ → Type 0) (opened host : HostView) (workers : List WorkerView) : Type 0 where
+  pub run : AreRun passes stops (new_workers plan) workers
   pub ended : All (λ worker. worker.ended ≡ true) workers
   pub given_back : IsGivenBack opened host (seats_of workers)
 
@@ -58,32 +59,31 @@ worker_text plan worker = report_text worker.seat.build (steps_of plan worker.se
 
 -- The text of some run in which each worker has ended: its history is legal, each seat has what it has of the seat's build, and
 -- each report fits it. It is the lines of the reports by build, the map of the history, and the line of the audit.
-pub record IsText (plan : Plan) (stops : ℕ → ℕ → Type 0) (opened : HostView) (text : List ℕ) : Type 0 where
+pub record IsText (plan : Plan) (passes stops : ℕ → ℕ → Type 0) (opened : HostView) (text : List ℕ) : Type 0 where
   pub host : HostView
   pub workers : List WorkerView
-  pub is_run : IsEndedRun plan stops opened host workers
+  pub is_run : IsEndedRun plan passes stops opened host workers
   pub closed : IsClosed host (seats_of workers)
   pub fit : All (WorkerFits host.history) workers
   pub whole : text ≡ flat_map (worker_text plan) workers ++ (map_text host ++ audit_line)
 
 -- ---- why there is no text
 
--- Some run has waited in vain for a turn of this build, which the gate stops, and of no lower one.
-pub record IsStuck (plan : Plan) (stops : ℕ → ℕ → Type 0) (build : ℕ) : Type 0 where
+-- In some run the worker of this build, and of no lower one, has waited in vain for its next turn, which the gate stops.
+pub record IsStuck (plan : Plan) (passes stops : ℕ → ℕ → Type 0) (build : ℕ) : Type 0 where
   pub workers : List WorkerView
-  pub run : AreRun stops (new_workers plan) workers
+  pub run : AreRun passes stops (new_workers plan) workers
   pub waits : IsLowestWaiting workers build
-  pub stopped : (turn : ℕ) × stops build turn
 
 -- Some run has ended with a seat whose events are not those that the history has of its build, or with a report that does not
 -- fit.
-pub record IsMismatch (plan : Plan) (stops : ℕ → ℕ → Type 0) (opened : HostView) : Type 0 where
+pub record IsMismatch (plan : Plan) (passes stops : ℕ → ℕ → Type 0) (opened : HostView) : Type 0 where
   pub host : HostView
   pub workers : List WorkerView
-  pub is_run : IsEndedRun plan stops opened host workers
+  pub is_run : IsEndedRun plan passes stops opened host workers
   pub differs : ((fault : CloseFault) × IsFault fault host (seats_of workers)) ⊎ ¬ (All (WorkerFits host.history) workers)
 
-abbrev pub IsWithoutText : Plan → (ℕ → ℕ → Type 0) → HostView → RunFault → Type 0
-IsWithoutText plan stops opened Memory = Unit {0}
-IsWithoutText plan stops opened (Stuck build) = IsStuck plan stops build
-IsWithoutText plan stops opened Mismatch = IsMismatch plan stops opened
+abbrev pub IsWithoutText : Plan → (ℕ → ℕ → Type 0) → (ℕ → ℕ → Type 0) → HostView → RunFault → Type 0
+IsWithoutText plan passes stops opened Memory = Unit {0}
+IsWithoutText plan passes stops opened (Stuck build) = IsStuck plan passes stops build
+IsWithoutText plan passes stops opened Mismatch = IsMismatch plan passes stops opened

@@ -50,8 +50,8 @@ fn run_with<
     requires name5 { blanks.blank5.name ≡ L5.name }
     requires name6 { blanks.blank6.name ≡ L6.name }
     requires name7 { blanks.blank7.name ≡ L7.name }
-    ensures ok { IfOk result (λ text. IsText (plan_view plan.now) (G.stops gate.now) host (string_bytes text)) }
-    ensures err { IfErr result (IsWithoutText (plan_view plan.now) (G.stops gate.now) host) }
+    ensures ok { IfOk result (λ text. IsText (plan_view plan.now) (G.passes gate.now) (G.stops gate.now) host (string_bytes text)) }
+    ensures err { IfErr result (IsWithoutText (plan_view plan.now) (G.passes gate.now) (G.stops gate.now) host) }
 {
     let (shared, seats) = match Shared::<S, L0, L1, L2, L3, L4, L5, L6, L7>::start(
         alloc, blanks, host,
@@ -87,8 +87,8 @@ pub fn run_text<R: Threads + Wait + Sync, S: PageStore + Drop + Send, G: Gate + 
 ) -> Result<String, RunFault>
     requires empty { host.history ≡ [] }
     requires builds { host.limits.builds ≡ vec_len plan.now.builds }
-    ensures ok { IfOk result (λ text. IsText (plan_view plan.now) (G.stops gate.now) host (string_bytes text)) }
-    ensures err { IfErr result (IsWithoutText (plan_view plan.now) (G.stops gate.now) host) }
+    ensures ok { IfOk result (λ text. IsText (plan_view plan.now) (G.passes gate.now) (G.stops gate.now) host (string_bytes text)) }
+    ensures err { IfErr result (IsWithoutText (plan_view plan.now) (G.passes gate.now) (G.stops gate.now) host) }
 {
     run_with::<R, S, G, Brand, Brand, Brand, Brand, Brand, Brand, Brand, Brand>(
         rt,

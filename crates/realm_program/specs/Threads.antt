@@ -7,13 +7,14 @@ use Rattle.realm_program.specs.Replay.{opening_host}
 use Rattle.realm_program.specs.declared.fault.Fault.{Fault}
 use Rattle.realm_program.specs.declared.fault.Fault.TheVariants.{Memory, Stuck, Mismatch}
 
--- The text of some run of the plan by workers, on a machine of its size. The gate stops these turns of each build.
-abbrev pub IsThreadsText : (ℕ → ℕ → Type 0) → Plan → List ℕ → Type 0
-IsThreadsText stops plan text = threads.IsText plan stops (opening_host plan) text
+-- The text of some run of the plan by workers, on a machine of its size. Of each build the gate lets these turns
+-- pass, and stops those.
+abbrev pub IsThreadsText : (ℕ → ℕ → Type 0) → (ℕ → ℕ → Type 0) → Plan → List ℕ → Type 0
+IsThreadsText passes stops plan text = threads.IsText plan passes stops (opening_host plan) text
 
 -- Why there is none: for want of memory, since a worker waited in vain, or since what was told does not fit the history.
-abbrev pub IsWithoutThreadsText : (ℕ → ℕ → Type 0) → Plan → Fault → Type 0
-IsWithoutThreadsText stops plan Memory = Unit {0}
-IsWithoutThreadsText stops plan (Stuck build) = threads.IsWithoutText plan stops (opening_host plan) (why.Stuck build)
-IsWithoutThreadsText stops plan Mismatch = threads.IsWithoutText plan stops (opening_host plan) why.Mismatch
-IsWithoutThreadsText stops plan fault = ⊥
+abbrev pub IsWithoutThreadsText : (ℕ → ℕ → Type 0) → (ℕ → ℕ → Type 0) → Plan → Fault → Type 0
+IsWithoutThreadsText passes stops plan Memory = Unit {0}
+IsWithoutThreadsText passes stops plan (Stuck build) = threads.IsWithoutText plan passes stops (opening_host plan) (why.Stuck build)
+IsWithoutThreadsText passes stops plan Mismatch = threads.IsWithoutText plan passes stops (opening_host plan) why.Mismatch
+IsWithoutThreadsText passes stops plan fault = ⊥

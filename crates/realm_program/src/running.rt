@@ -26,8 +26,8 @@ fn threads_text_of<H: Threads + Wait + Sync, G: Gate + Sync>(
     plan: &Plan,
     gate: &G,
 ) -> Result<String, Fault>
-    ensures ok { IfOk result (λ text. IsThreadsText (G.stops gate.now) (plan_view plan.now) (string_bytes text)) }
-    ensures err { IfErr result (IsWithoutThreadsText (G.stops gate.now) (plan_view plan.now)) }
+    ensures ok { IfOk result (λ text. IsThreadsText (G.passes gate.now) (G.stops gate.now) (plan_view plan.now) (string_bytes text)) }
+    ensures err { IfErr result (IsWithoutThreadsText (G.passes gate.now) (G.stops gate.now) (plan_view plan.now)) }
 {
     let host = boot::<BuddyArena>(alloc, plan)?;
     Ok(run_text(rt, alloc, plan, host, gate)?)
@@ -49,7 +49,7 @@ pub fn run<H: Threads + Wait + Sync, R: Read, W: Write, G: Gate + Sync>(
 ) -> Result<(), Fault>
     requires readable { input.old.failed ≡ false }
     requires writable { output.old.failed ≡ false }
-    ensures end { IsEnd (IsThreadsText (G.stops gate.now)) (IsWithoutThreadsText (G.stops gate.now)) input.new.failed
+    ensures end { IsEnd (IsThreadsText (G.passes gate.now) (G.stops gate.now)) (IsWithoutThreadsText (G.passes gate.now) (G.stops gate.now)) input.new.failed
         (R.remaining input.old.device) (W.contents output.old.device) (W.contents output.new.device) result }
     ensures device { ((input.new.failed ≡ true) ⊎ (output.new.failed ≡ true)) ↔ (result ≡ Err Device) }
     ensures asked { input.new.reads ≤ input.old.reads + 1048578 }

@@ -13,8 +13,8 @@ returns-in_err-plan-clause-end g c =
     let told = err_from_is_err_and c.from_residual.result c.from_residual.ensures.1 in
     let input = g.R.Read.remaining c.args.input.now.device in
     let output = g.W.Write.contents c.args.output.now.device in
-    let texts = IsThreadsText (g.G.Gate.stops c.args.gate.now) in
-    let without = IsWithoutThreadsText (g.G.Gate.stops c.args.gate.now) in
+    let texts = IsThreadsText (g.G.Gate.passes c.args.gate.now) (g.G.Gate.stops c.args.gate.now) in
+    let without = IsWithoutThreadsText (g.G.Gate.passes c.args.gate.now) (g.G.Gate.stops c.args.gate.now) in
     let unread = c.plan_in.new.input.failed in
     subst (IsEnd texts without unread input output output) (sym (told.1 ∙ ap Err told.2))
     (no_plan texts without unread input output c.in_err-plan.field-0.0 c.in_err-plan.ensures.err (λ is. c.in_err-plan.ensures.told.1 (ap Err is)))
@@ -24,8 +24,8 @@ returns-in_err-text-clause-end g c =
     let told = err_from_is_err_and c.from_residual-in_err-text.result c.from_residual-in_err-text.ensures.1 in
     let input = g.R.Read.remaining c.args.input.now.device in
     let output = g.W.Write.contents c.args.output.now.device in
-    let texts = IsThreadsText (g.G.Gate.stops c.args.gate.now) in
-    let without = IsWithoutThreadsText (g.G.Gate.stops c.args.gate.now) in
+    let texts = IsThreadsText (g.G.Gate.passes c.args.gate.now) (g.G.Gate.stops c.args.gate.now) in
+    let without = IsWithoutThreadsText (g.G.Gate.passes c.args.gate.now) (g.G.Gate.stops c.args.gate.now) in
     let unread = c.plan_in.new.input.failed in
     subst (IsEnd texts without unread input output output) (sym (told.1 ∙ ap Err told.2))
     (no_text texts without unread input output (plan_view c.in_ok-plan.plan) c.in_err-text.field-0.0 c.in_ok-plan.ensures.ok c.in_err-text.ensures.err (λ none. none) (λ fault none. none))
@@ -36,8 +36,8 @@ returns-in_err-write_whole-clause-end g c =
     let input = g.R.Read.remaining c.args.input.now.device in
     let old = g.W.Write.contents c.args.output.now.device in
     let new = g.W.Write.contents c.write_whole.new.self.device in
-    let texts = IsThreadsText (g.G.Gate.stops c.args.gate.now) in
-    let without = IsWithoutThreadsText (g.G.Gate.stops c.args.gate.now) in
+    let texts = IsThreadsText (g.G.Gate.passes c.args.gate.now) (g.G.Gate.stops c.args.gate.now) in
+    let without = IsWithoutThreadsText (g.G.Gate.passes c.args.gate.now) (g.G.Gate.stops c.args.gate.now) in
     let unread = c.plan_in.new.input.failed in
     subst (IsEnd texts without unread input old new) (sym (told.1 ∙ ap Err told.2))
     (cut texts without unread input old new (plan_view c.in_ok-plan.plan) (string_bytes c.in_ok-text.text) (read_well unread c.in_ok-plan.plan c.in_ok-plan.ensures.told)
@@ -48,5 +48,5 @@ returns-clause-end g c =
     let input = g.R.Read.remaining c.args.input.now.device in
     let old = g.W.Write.contents c.args.output.now.device in
     let new = g.W.Write.contents c.write_whole.new.self.device in
-    printed (IsThreadsText (g.G.Gate.stops c.args.gate.now)) (IsWithoutThreadsText (g.G.Gate.stops c.args.gate.now)) c.plan_in.new.input.failed input old new (plan_view c.in_ok-plan.plan) (string_bytes c.in_ok-text.text)
+    printed (IsThreadsText (g.G.Gate.passes c.args.gate.now) (g.G.Gate.stops c.args.gate.now)) (IsWithoutThreadsText (g.G.Gate.passes c.args.gate.now) (g.G.Gate.stops c.args.gate.now)) c.plan_in.new.input.failed input old new (plan_view c.in_ok-plan.plan) (string_bytes c.in_ok-text.text)
     c.in_ok-plan.ensures.ok c.in_ok-text.ensures.ok (subst (Appends old new) c.as_bytes.ensures.value c.in_ok-write_whole.ensures.ok)

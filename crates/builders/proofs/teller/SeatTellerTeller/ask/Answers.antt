@@ -1,5 +1,6 @@
-use Rattle.builders.proofs.Telling.{asked_tells}
+use Rattle.builders.proofs.Telling.{answer_more, asked, asked_build}
 use Rattle.builders.proofs.teller.SeatTellerTeller.ask.Goals as goal
 
 pub returns-clause-told : goal.returns-clause-told
-returns-clause-told g c = asked_tells _ _ _ _ c.call.ensures.told c.call.ensures.refused
+returns-clause-told g c =
+    answer_more _ _ _ (asked_build _ _ _ _ c.call.ensures.told c.call.ensures.refused) (asked _ _ _ _ c.call.ensures.told c.call.ensures.refused)

@@ -1,5 +1,6 @@
-use Rattle.builders.proofs.Telling.{undone_tells}
+use Rattle.builders.proofs.Telling.{answer_more, undone, undone_build}
 use Rattle.builders.proofs.teller.SeatTellerTeller.undo.Goals as goal
 
 pub returns-clause-told : goal.returns-clause-told
-returns-clause-told g c = undone_tells _ _ _ c.undo.ensures.told c.undo.ensures.refused
+returns-clause-told g c =
+    answer_more _ _ _ (undone_build _ _ _ c.undo.ensures.told c.undo.ensures.refused) (undone _ _ _ c.undo.ensures.told c.undo.ensures.refused)
