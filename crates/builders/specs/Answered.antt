@@ -6,7 +6,8 @@ use Rattle.workers.specs.Exchange.{Exchange, Did, Undid, KeptMark, LookedBack}
 use Rattle.builders.specs.Seats.{SeatView}
 use Rattle.builders.specs.Told.{IsTold, IsRefused, IsMarkTold, IsBackTold}
 
--- There was a host behind the lock that answers so. An accepted command or undo makes a new seat, all else leaves it as it is.
+-- There was a host that can lie behind the lock and answers so. An accepted command or undo makes a new seat, all else leaves it
+-- as it is.
 abbrev pub IsAnswered : SeatView → Exchange → SeatView → Type 0
 IsAnswered seat (Did cmd (Ok reply)) new = IsTold (Ask cmd) (Replied reply) seat new
 IsAnswered seat (Did cmd (Err refusal)) new = IsRefused (Ask cmd) refusal seat × (new ≡ seat)

@@ -34,7 +34,7 @@ pub record HasWorked (worker : WorkerView) : Type 0 where
 abbrev pub IsFaithful : WorkerView → Type 0
 IsFaithful worker = IsNew worker ⊎ HasWorked worker
 
--- A worker has worked on its steps. The gate let a turn pass for each question, in order; and where the worker has not ended,
+-- A worker has worked on its steps. The gate let the turn of each question pass, from 0 on; and where the worker has not ended,
 -- the gate stops the next.
 pub record IsRun (passes stops : ℕ → Type 0) (old new : WorkerView) : Type 0 where
   pub steps_are : new.steps ≡ old.steps

@@ -102,8 +102,8 @@ pub data IsReport : ℕ → StandingView → List Step → List Exchange → Lis
       → IsStep place standing step exchanges lines ending.Cut
       → IsReport place standing (step ∷ steps) exchanges lines false
 
--- A worker has done its work, or waits for a turn that does not come. The teller was asked just this, and before each
--- question the gate let its turn pass; and the report tells it.
+-- A worker has done its work, or waits for a turn that does not come. The teller was asked just this, the gate let the turn
+-- of each question pass, and the report tells it.
 pub record IsWork (before after : List Exchange → Type 0) (passes stops : ℕ → Type 0) (steps : List Step) (lines : List Line) (ended : Bool) : Type 0 where
   pub exchanges : List Exchange
   pub told : (earlier : List Exchange) → before earlier → after (earlier ++ exchanges)
