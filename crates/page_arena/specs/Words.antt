@@ -61,10 +61,6 @@ apart i j other = ⊎_elim (λ l. inl (omega arith)) (λ l. inr (omega arith)) (
 -- ---- a word written into a page
 
 module _ (page : List ℕ) (i word : ℕ) (whole : length page ≡ 4096) (index : i < 512) where
-  pub length-page_with_word : length (page_with_word page i word) ≡ 4096
-  unfolding page_with_word
-  length-page_with_word = length-with_bytes page (to_le_bytes w64 word) (8 * i) refl (omega arith) ∙ whole
-
   -- the word that was written
   pub word_of_page-page_with_word_same : word < 2 ^ 64 → word_of_page (page_with_word page i word) i ≡ word
   unfolding word_of_page page_with_word

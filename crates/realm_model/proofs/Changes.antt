@@ -20,6 +20,7 @@ use Rattle.realm_model.specs.Act.{named, holder}
 use Rattle.realm_model.specs.Outcome.{outcome_of, is_in_range, fits, leads_to, realm_is, is_root}
 use Rattle.realm_model.specs.World.{World, is_leased_to, realm_of, updated, updated_all}
 use Rattle.realm_model.specs.Step.{step, is_allowed, used_vmids, after_outcome}
+use Rattle.realm_model.specs.Undoing.{by}
 use Rattle.realm_model.specs.Rows.{Rows, Walk, walk, row_at, is_assigned}
 use Rattle.realm_model.proofs.Leases.{set_lease, leased}
 use Rattle.realm_model.proofs.Written.{each_put, put_seen, seen-each_put}
@@ -61,7 +62,7 @@ pub step-command : (limits : Limits) (w : World) (build : ℕ) (act : Act) (us :
     → is_in_range act ≡ true → fits act (realm_of build w) (map (seen w.machine) (named act)) ≡ true
     → outcome_of limits.vmids limits.aux (used_vmids w.machine) act (realm_of build w) (map (seen w.machine) (named act)) ≡ Ok us
     → list_all (is_change build w.leases) us ≡ true
-    → step limits w (record { build = build; act = act }) ≡ Some (record { machine = machine_after_all us w.machine; leases = w.leases })
+    → step limits w (by build act) ≡ Some (record { machine = machine_after_all us w.machine; leases = w.leases })
 unfolding step
 step-command limits w build act us below leases range fit planned changes =
     ap (λ t. cond t (after_outcome build (outcome_of limits.vmids limits.aux (used_vmids w.machine) act (realm_of build w) (map (seen w.machine) (named act))) w) None)
@@ -188,9 +189,9 @@ holder_is build _ k = refl
 
 -- where the granules named are the build's, the act fits, and its command is not refused, the step is made
 pub step_exact : (limits : Limits) (w : World) (build : ℕ) (act : Act) (us : List Update) → is_of_block act ≡ false → ReachesOwn limits build w act (realm_of build w)
-    → is_allowed limits w (record { build = build; act = act }) ≡ true
+    → is_allowed limits w (by build act) ≡ true
     → outcome_of limits.vmids limits.aux (used_vmids w.machine) act (realm_of build w) (map (seen w.machine) (named act)) ≡ Ok us
-    → step limits w (record { build = build; act = act }) ≡ Some (record { machine = machine_after_all us w.machine; leases = w.leases })
+    → step limits w (by build act) ≡ Some (record { machine = machine_after_all us w.machine; leases = w.leases })
 step_exact limits w build act us k reach opened planned =
     let outer = and_parts _ _ opened in
     let ranged = and_parts _ _ outer.0 in

@@ -16,7 +16,7 @@ use Rattle.realm_model.specs.declared.states.RecState.{RecState}
 use Rattle.realm_model.specs.declared.states.RecState.TheVariants.{Ready, Running}
 use Rattle.realm_model.specs.declared.states.Ripas.{Ripas as RipasOf}
 use Rattle.realm_model.specs.declared.states.Ripas.TheVariants.{Empty, Ram, Destroyed}
-use Rattle.realm_model.specs.Rows.{Row, Rows, unmapped_ripas}
+use Rattle.realm_model.specs.Rows.{Row, Rows}
 use Rattle.realm_model.specs.Measurement.{zero_measurement, measurement_after, data_event, ripas_event, rec_event}
 use Rattle.realm_model.specs.Machine.{Limits, RecRow, RealmRow, Cell}
 use Rattle.realm_model.specs.Act.{named, reverse_of, is_reverse}
@@ -73,6 +73,18 @@ with_other = insert without_unknown (3, 1) (assigned Empty 4)
 
 abbrev without_other : Rows
 without_other = insert with_other (3, 1) (vacant Empty)
+
+without_other-zero : get without_other (3, 0) ≡ Some (vacant Destroyed)
+without_other-zero =
+    get-insert place_total with_other (3, 1) (vacant Empty) (3, 0) ∙ get-insert place_total without_unknown (3, 1) (assigned Empty 4) (3, 0)
+    ∙ get-insert place_total with_unknown (3, 8) (vacant Destroyed) (3, 0) ∙ get-insert place_total without_data (3, 8) (assigned Ram 4) (3, 0)
+    ∙ put_here with_data 0 (vacant Destroyed)
+
+abbrev with_third : Rows
+with_third = insert without_other (3, 0) (assigned Destroyed 4)
+
+abbrev without_third : Rows
+without_third = insert with_third (3, 0) (vacant Destroyed)
 
 -- ---- a realm on a machine of eight pages: table pages 1 to 3, a page of data at 4, and its source at 5
 
@@ -220,9 +232,16 @@ emptied-other = step_by eight _ _ (by 0 (UnData 4 1)) _
     (ap (λ o. elim o [ Some r ↦ option_eq nat_eq r.granule (Some 4) | None ↦ false ]) (put_here without_unknown 1 (assigned Empty 4)))
     (end_there with_other 1 3 _ _ (walk_there with_other 1 3 (assigned Empty 4) (lit≤ tt) (put_here without_unknown 1 (assigned Empty 4)))) refl
 
--- and DESTROYED stays
-unmapped-destroyed : unmapped_ripas Destroyed ≡ Destroyed
-unmapped-destroyed = refl
+-- and where it was DESTROYED
+filled-third : step eight (late (active without_other gone) delegated delegated delegated) (by 0 (Unknown 4 0)) ≡ Some (late (active with_third gone) (of_realm InData zero_page) delegated delegated)
+unfolding named outcome_of fits updated_all check realm_from with_realm starting_tables
+filled-third = step_by eight _ _ (by 0 (Unknown 4 0)) _ refl (end_there without_other 0 3 _ _ (walk_there without_other 0 3 (vacant Destroyed) (lit≤ tt) without_other-zero)) refl
+
+emptied-third : step eight (late (active with_third gone) (of_realm InData zero_page) delegated delegated) (by 0 (UnData 4 0)) ≡ Some (late (active without_third gone) delegated delegated delegated)
+unfolding named outcome_of fits updated_all check realm_from with_realm with_granule starting_tables
+emptied-third = step_by eight _ _ (by 0 (UnData 4 0)) _
+    (ap (λ o. elim o [ Some r ↦ option_eq nat_eq r.granule (Some 4) | None ↦ false ]) (put_here without_other 0 (assigned Destroyed 4)))
+    (end_there with_third 0 3 _ _ (walk_there with_third 0 3 (assigned Destroyed 4) (lit≤ tt) (put_here without_other 0 (assigned Destroyed 4)))) refl
 
 -- ---- the whole history
 
@@ -231,23 +250,25 @@ up = by 0 (Rtt 2 0 2) ∷ by 0 (Rtt 3 0 3) ∷ by 0 (Ripas 8 4) ∷ by 0 (Data 4
     ∷ by 0 (Poke 0 0 4095 1) ∷ by 0 (Exit 0) ∷ []
 
 abbrev down : List Event
-down = by 0 (UnRec 6 (record { items = 7 ∷ [] }) 0) ∷ by 0 (UnData 4 0) ∷ by 0 (Unknown 4 8) ∷ by 0 (UnData 4 8) ∷ by 0 (Unknown 4 1) ∷ by 0 (UnData 4 1) ∷ []
+down = by 0 (UnRec 6 (record { items = 7 ∷ [] }) 0) ∷ by 0 (UnData 4 0) ∷ by 0 (Unknown 4 8) ∷ by 0 (UnData 4 8) ∷ by 0 (Unknown 4 1) ∷ by 0 (UnData 4 1)
+    ∷ by 0 (Unknown 4 0) ∷ by 0 (UnData 4 0) ∷ []
 
 abbrev then : List Event
 then = up ++ down
 
-then-world : replay eight (begun ++ then) ≡ Some (late (active without_other gone) delegated delegated delegated)
+then-world : replay eight (begun ++ then) ≡ Some (late (active without_third gone) delegated delegated delegated)
 then-world =
     after_append eight begun then (opening eight) ∙ ap (option_and_then (after eight then)) begun-world
     ∙ and_then eight _ _ _ _ _ upper (and_then eight _ _ _ _ _ lower (and_then eight _ _ _ _ _ rammed (and_then eight _ _ _ _ _ loaded
     (and_then eight _ _ _ _ _ made (and_then eight _ _ _ _ _ activated (and_then eight _ _ _ _ _ entered (and_then eight _ _ _ _ _ poked
     (and_then eight _ _ _ _ _ exited (and_then eight _ _ _ _ _ unmade (and_then eight _ _ _ _ _ unloaded (and_then eight _ _ _ _ _ filled
     (and_then eight _ _ _ _ _ emptied
-    (and_then eight _ _ _ _ _ filled-other (and_then eight _ _ _ _ _ emptied-other (at_end eight _)))))))))))))))
+    (and_then eight _ _ _ _ _ filled-other (and_then eight _ _ _ _ _ emptied-other
+    (and_then eight _ _ _ _ _ filled-third (and_then eight _ _ _ _ _ emptied-third (at_end eight _)))))))))))))))))
 
 then-legal : IsLegal eight (begun ++ then)
 unfolding is_reverse open_entries reverse_of
 then-legal = record {
   steps = ap is_some then-world;
-  in_turn = joined [] (begun ++ up) down (forward [] (begun ++ up) refl) (λ r. refl, (λ r. refl, (λ r. cc, (λ r. refl, (λ r. cc, (λ r. refl, tt))))));
+  in_turn = joined [] (begun ++ up) down (forward [] (begun ++ up) refl) (λ r. refl, (λ r. refl, (λ r. cc, (λ r. refl, (λ r. cc, (λ r. refl, (λ r. cc, (λ r. refl, tt))))))));
 }

@@ -1,5 +1,5 @@
 -- A REC that runs, stops and is gone, and with it all that its build had.
-use Rattle.std.proofs.Common.{◌≡◌, ℕ, true, false, cond, ◌&&◌, ◌||◌, not, List, [], ◌∷◌, ◌++◌, length, Some, None, Err, refl, ap, ◌∙◌}
+use Rattle.std.proofs.Common.{◌≡◌, ℕ, true, false, cond, ◌&&◌, ◌||◌, not, List, [], ◌∷◌, ◌++◌, length, Some, None, Err, refl, sym, ap, ◌∙◌}
 use Rattle.std.specs.Prelude.{◌==◌, is_some, option_and_then}
 use Rattle.std.specs.FinMap.{get, insert, remove, empty, len, get-insert, get-remove, get-empty}
 use Rattle.std.specs.Cmp.{nat_cmp_total}
@@ -31,13 +31,13 @@ use Rattle.realm_model.specs.Step.{step, outcome_in}
 use Rattle.realm_model.specs.History.{after, replay, open_entries, IsLegal}
 use Rattle.realm_model.specs.Running.{is_rec_running, running_count, is_running}
 use Rattle.realm_model.specs.Undoing.{by, undoing}
-use Rattle.realm_model.specs.Marks.{mark_at, above, rolling_back}
+use Rattle.realm_model.specs.Marks.{mark_at, above, rolling_back, erase_after}
 use Rattle.realm_model.proofs.HistoryParts.{after_append}
 use Rattle.realm_model.proofs.Outcomes.{check_true, rec_there}
 use Rattle.realm_model.proofs.Reversal.{no_recs}
 use Rattle.realm_model.proofs.RowKinds.{Vacant}
 use Rattle.realm_model.proofs.Rows.{all_rows_from, put_there}
-use Rattle.realm_model.proofs.Examples.Worlds.{machine_of, page, delegated, rd, table_page, of_realm, start, start_rows, fresh, world_of, Recs, latest, step_by, and_then, forward, joined}
+use Rattle.realm_model.proofs.Examples.Worlds.{machine_of, page, delegated, rd, table_page, of_realm, start, start_rows, fresh, world_of, Recs, latest, step_by, and_then, at_end, forward, joined}
 use Rattle.realm_model.proofs.Examples.Realms.{on_four}
 
 -- ---- the REC of number 0
@@ -174,6 +174,27 @@ marked-depth = refl
 marked-back : rolling_back (mark_at 0 on_four) stopped_again ≡ by 0 unmade ∷ []
 unfolding open_entries reverse_of is_reverse
 marked-back = refl
+
+-- the history that went back to the mark, and where it led
+marked-world : replay (machine_of 4) (stopped_again ++ rolling_back (mark_at 0 on_four) stopped_again) ≡ Some (world gone delegated)
+marked-world =
+    ap (λ es. replay (machine_of 4) (stopped_again ++ es)) marked-back
+    ∙ after_append (machine_of 4) entered (by 0 (Enter 0) ∷ by 0 (Exit 0) ∷ by 0 unmade ∷ []) (opening (machine_of 4))
+    ∙ ap (option_and_then (after (machine_of 4) (by 0 (Enter 0) ∷ by 0 (Exit 0) ∷ by 0 unmade ∷ []))) entered-world
+    ∙ and_then (machine_of 4) _ _ _ (by 0 (Enter 0)) _ runs
+    (and_then (machine_of 4) _ _ _ (by 0 (Exit 0)) _ stops
+    (and_then (machine_of 4) _ _ _ (by 0 unmade) _ goes (at_end (machine_of 4) _)))
+
+marked-legal : IsLegal (machine_of 4) (stopped_again ++ by 0 unmade ∷ [])
+unfolding is_reverse open_entries reverse_of
+marked-legal = record {
+  steps = ap is_some (ap (λ es. replay (machine_of 4) (stopped_again ++ es)) (sym marked-back) ∙ marked-world);
+  in_turn = joined [] stopped_again (by 0 unmade ∷ []) (forward [] stopped_again refl) (λ r. refl, tt);
+}
+
+-- of that history what stays of the build is what the mark saw: the REC, its runs and the activation are left out
+marked-left : erase_after 0 (mark_at 0 on_four).place (stopped_again ++ by 0 unmade ∷ []) ≡ on_four
+marked-left = refl
 
 -- not while it runs
 marked-runs : list_any (is_running (realm_of 0 (world running (of_realm InRec zero_page)))) (above (mark_at 0 on_four) (entered ++ by 0 (Enter 0) ∷ [])) ≡ true

@@ -174,6 +174,14 @@ closed-above =
     ∙ get-drop_rows emptied 3 second 512 (1, second)
     ∙ get-insert place_total filled (3, second) (vacant Empty) (1, second) ∙ get-insert place_total lower (3, second) page_row (1, second) ∙ lower-start
 
+closed-parent : get closed (2, second) ≡ Some (vacant Destroyed)
+unfolding without_table
+closed-parent = get-insert place_total (drop_rows emptied 3 second 512) (2, second) (unassigned Destroyed) (2, second)
+
+closed-first : get closed (3, second) ≡ None
+unfolding without_table
+closed-first = get-insert place_total (drop_rows emptied 3 second 512) (2, second) (unassigned Destroyed) (3, second) ∙ get-drop_rows emptied 3 second 512 (3, second)
+
 abbrev bare : Rows
 bare = without_table closed 2 second
 
