@@ -1,6 +1,7 @@
 -- Several pages of one table become RAM.
 use Rattle.std.proofs.Common.{◌≡◌, ◌≢◌, ℕ, ◌+◌, ◌-◌, ◌/◌, ◌%◌, ◌<◌, ◌≤◌, Bool, true, false, List, ◌⊎◌, Some, None, refl, sym, ap, subst, ◌∙◌, arith}
 use Rattle.std.specs.Prelude.{IsTrue, ◌↔◌}
+use Rattle.std.proofs.lemmas.Bool.{and_parts, leb-true, eqb-true}
 use Rattle.granule_addr.specs.Ipa.{entry_index}
 use Rattle.granule_addr.specs.Root.{served_space}
 use Rattle.granule_addr.specs.declared.root.Root.{Root}
@@ -11,7 +12,7 @@ use Rattle.page_arena.specs.Word.{word_at}
 use Rattle.realm_model.specs.declared.states.GranuleState.TheVariants.{Rtt as InRtt}
 use Rattle.realm_model.specs.declared.states.EntryState.TheVariants.{Unassigned}
 use Rattle.realm_model.specs.declared.states.Ripas.TheVariants.{Ram}
-use Rattle.realm_model.specs.Rows.{Row, unassigned, is_unassigned, all_rows, as_ram, with_ram}
+use Rattle.realm_model.specs.Rows.{Row, is_page_run, unassigned, is_unassigned, all_rows, as_ram, with_ram}
 use Rattle.realm_model.specs.Sound.{look, IsSoundRows}
 use Rattle.realm_model.proofs.SoundRows.{with_ram_sound}
 use Rattle.rtt.specs.Word.{entry_word, IsSaid, IsEntry}
@@ -24,10 +25,13 @@ use Rattle.rtt.proofs.OtherRealms.{others_kept}
 use Rattle.rtt.proofs.Written.{IsEntry-entries_of, same_entry, entry_filled, exact_after, word_unfilled}
 
 -- IPA granules that one table serves have their entries in it
-pub fits_table : (ipa level first count : ℕ) → level ≡ 3 → first ≡ entry_index level ipa → 1 ≤ count → ipa / 512 ≡ (ipa + count - 1) / 512 → first + count ≤ 512
-fits_table ipa level first count last first_is some one_table =
+pub fits_table : (ipa level first count : ℕ) → level ≡ 3 → first ≡ entry_index level ipa → is_page_run ipa count ≡ true → first + count ≤ 512
+fits_table ipa level first count last first_is run =
     let start : first ≡ ipa / 1 % 512 = first_is ∙ ap (λ (l : ℕ). entry_index l ipa) last in
-    omega arith
+    let parts = and_parts _ _ run in
+    let some : 1 ≤ count = leb-true 1 count (and_parts _ _ parts.0).0 in
+    let one_table : ipa / 512 ≡ (ipa + count - 1) / 512 = eqb-true (ipa / 512) ((ipa + count - 1) / 512) parts.1 in
+    omega (arith, start, some, one_table)
 
 -- whether the rows are all UNASSIGNED
 pub pages_unused : (pages : List (List ℕ)) (root : Root) (level ipa table first count : ℕ) (answer : Bool) → IsInside root.width level ipa → level ≡ 3 → table_at (entries_of pages) root level ipa ≡ Some table

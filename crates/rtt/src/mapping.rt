@@ -1,10 +1,10 @@
 //! Pages of data, and RIPAS.
-ghost use Rattle.std.specs.Prelude.{◌≡◌, ℕ, ◌+◌, ◌-◌, ◌/◌, ◌<◌, ◌≤◌, Some, None, OnOk, OnErr};
+ghost use Rattle.std.specs.Prelude.{◌≡◌, ℕ, ◌<◌, true, Some, None, OnOk, OnErr};
 ghost use Rattle.granule_table.specs.Granules.{IsIn};
 ghost use Rattle.granule_addr.specs.Page.{zero_page};
 ghost use Rattle.granule_addr.specs.Root.{served_space};
 ghost use Rattle.page_arena.specs.Page.{page_at};
-ghost use Rattle.realm_model.specs.Rows.{with_ram, unmapped_ripas};
+ghost use Rattle.realm_model.specs.Rows.{is_page_run, with_ram, unmapped_ripas};
 ghost use Rattle.rtt.specs.Tables.{rows};
 ghost use Rattle.rtt.specs.Realm.{IsBacked, HasTables};
 ghost use Rattle.realm_model.specs.Command.Found.{with_free_page, with_mapped_page, with_free_pages};
@@ -132,9 +132,7 @@ impl Tables {
         requires backed { IsBacked (S.page_bytes store.old) (S.free_flags store.old) granules.now }
         requires tables { HasTables (S.page_bytes store.old) granules.now self.now.rd self.now.root }
         requires inside { ipa < served_space self.now.root.width }
-        requires some { 1 ≤ count }
-        requires few { count ≤ 512 }
-        requires one_table { ipa / 512 ≡ (ipa + count - 1) / 512 }
+        requires run { is_page_run ipa count ≡ true }
         ensures answer { Answers result (with_free_pages (rows (S.page_bytes store.old) self.now.root) ipa count) }
         ensures rows { OnOk result (rows (S.page_bytes store.new) self.now.root
             ≡ with_ram (rows (S.page_bytes store.old) self.now.root) ipa count) }

@@ -10,7 +10,7 @@ done : (g : Over) (c : goal.After-fill_entries g) → RamGiven (g.S.PageStore.pa
 done g c =
     ram_given (g.S.PageStore.page_bytes c.args.store.now) (g.S.PageStore.page_bytes c.fill_entries.new.store) c.args.granules.now c.args.self.now.rd c.args.self.now.root
     c.find-place.result.level c.args.ipa c.find-place.result.table c.index_at-first.result c.args.count c.unassigned.result
-    c.requires.tables c.find-place.ensures.inside (omega arith) c.find-place.ensures.table c.index_at-first.ensures.value (fits_table c.args.ipa c.find-place.result.level c.index_at-first.result c.args.count (omega arith) c.index_at-first.ensures.value c.requires.some c.requires.one_table) c.unassigned.ensures
+    c.requires.tables c.find-place.ensures.inside (omega arith) c.find-place.ensures.table c.index_at-first.ensures.value (fits_table c.args.ipa c.find-place.result.level c.index_at-first.result c.args.count (omega arith) c.index_at-first.ensures.value c.requires.run) c.unassigned.ensures
     (c.if-not-all_unassigned.ensures.0 refl) c.fill_entries.ensures.written c.fill_entries.ensures.kept c.fill_entries.ensures.others
 
 pub returns-clause-rows : goal.returns-clause-rows
@@ -29,14 +29,14 @@ pub returns-then-not-all_unassigned-clause-answer : goal.returns-then-not-all_un
 returns-then-not-all_unassigned-clause-answer g c =
     row_refused (rows (g.S.PageStore.page_bytes c.args.store.now) c.args.self.now.root) c.args.ipa 3 c.last.result c.find-place.result.level c.find-place.result.entry c.last.ensures c.find-place.ensures.walk (λ _. all_rows is_unassigned (rows (g.S.PageStore.page_bytes c.args.store.now) c.args.self.now.root) 3 c.args.ipa c.args.count)
     (inr (pages_unused (g.S.PageStore.page_bytes c.args.store.now) c.args.self.now.root c.find-place.result.level c.args.ipa c.find-place.result.table c.index_at-first.result c.args.count false c.find-place.ensures.inside (omega arith) c.find-place.ensures.table
-    c.index_at-first.ensures.value (fits_table c.args.ipa c.find-place.result.level c.index_at-first.result c.args.count (omega arith) c.index_at-first.ensures.value c.requires.some c.requires.one_table) c.if-not-all_unassigned.ensures))
+    c.index_at-first.ensures.value (fits_table c.args.ipa c.find-place.result.level c.index_at-first.result c.args.count (omega arith) c.index_at-first.ensures.value c.requires.run) c.if-not-all_unassigned.ensures))
 
 pub returns-clause-answer : goal.returns-clause-answer
 returns-clause-answer g c = (
   c.find-place.result.entry,
   row_passed (rows (g.S.PageStore.page_bytes c.args.store.now) c.args.self.now.root) c.args.ipa 3 c.last.result c.find-place.result.level c.find-place.result.entry c.last.ensures c.find-place.ensures.walk (λ _. all_rows is_unassigned (rows (g.S.PageStore.page_bytes c.args.store.now) c.args.self.now.root) 3 c.args.ipa c.args.count)
       (omega arith) (pages_unused (g.S.PageStore.page_bytes c.args.store.now) c.args.self.now.root c.find-place.result.level c.args.ipa c.find-place.result.table c.index_at-first.result c.args.count true c.find-place.ensures.inside (omega arith) c.find-place.ensures.table
-      c.index_at-first.ensures.value (fits_table c.args.ipa c.find-place.result.level c.index_at-first.result c.args.count (omega arith) c.index_at-first.ensures.value c.requires.some c.requires.one_table) c.if-not-all_unassigned.ensures),
+      c.index_at-first.ensures.value (fits_table c.args.ipa c.find-place.result.level c.index_at-first.result c.args.count (omega arith) c.index_at-first.ensures.value c.requires.run) c.if-not-all_unassigned.ensures),
 )
 
 pub returns-then-number-ne3-clause-answer : goal.returns-then-number-ne3-clause-answer
