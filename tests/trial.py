@@ -9,6 +9,7 @@ import threading
 import time
 
 import edits as read
+from proving import is_stamped
 
 REFUSED, NOT_REFUSED, BAD_EDIT, NO_VERDICT = "refused", "NOT REFUSED", "BAD EDIT", "NO VERDICT"
 Told = collections.namedtuple("Told", "edit kind why")
@@ -17,6 +18,8 @@ Told = collections.namedtuple("Told", "edit kind why")
 FLAGS = ["--jobs", "1"]
 # How much of a line of the prover's is told.
 LONGEST = 160
+# Where the crate's folder keeps what these checks prove of it.
+KEPT = "out/tried"
 
 # What the prover refuses, and what it says behind that:
 UNPROVED = re.compile(r"\w+ (\S+): (?:not proved|no proof|could not tell)\b(.*)")
@@ -111,12 +114,12 @@ class Trial:
         """Proves the crate as it stands, over what its folder out/ keeps, and copies it. Returns why that failed, or
         ''."""
         for library in crate.below():
-            if not library.is_built():
+            if not is_stamped(library, library.rlib):
                 return f"its library {library.name} is not proved: see rt check there"
         for part in self.library.PARTS:
             if os.path.isdir(f"{crate.folder}/{part}"):
                 shutil.copytree(f"{crate.folder}/{part}", f"{self.crate.folder}/{part}")
-        kept = f"{crate.folder}/{self.library.KEPT[1]}"
+        kept = f"{crate.folder}/{KEPT}"
         os.makedirs(kept, exist_ok=True)
         ran = self.timed({}, kept)
         if ran.returncode:

@@ -2,6 +2,7 @@
 import importlib.machinery
 import os
 import shutil
+import threading
 import types
 
 
@@ -19,9 +20,33 @@ class Toolchain:
                 raise LookupError(f"{found} is no toolchain's own rt, or of another version: beside it is no {name}")
         self.rt, self.reader = self.load("rt"), self.load("rt-plant-bodies")
         self.library = self.rt.rtlib
+        self.library.Crate.stamp = summed_once(self.library.Crate.stamp)
 
     def load(self, name):
         module = types.ModuleType(name)
         module.__file__ = f"{self.folder}/{name}"
         importlib.machinery.SourceFileLoader(name, module.__file__).exec_module(module)
         return module
+
+    def crates(self, top):
+        """Returns the crates of the repository, each after the libraries that it stands on."""
+        # (its first call sets a signal's handler, which only the main thread may)
+        self.library.guarded()
+        return self.library.crates_below(top)
+
+
+def summed_once(stamp):
+    """Returns a crate's method `stamp` that sums each library below once, and not once for each way down to it."""
+    inside = threading.local()
+
+    def quick(crate):
+        outer = getattr(inside, "sums", None)
+        inside.sums = {} if outer is None else outer
+        try:
+            if crate.folder not in inside.sums:
+                inside.sums[crate.folder] = stamp(crate)
+            return inside.sums[crate.folder]
+        finally:
+            inside.sums = outer
+
+    return quick
