@@ -1,34 +1,60 @@
-# PLAN is the plan that `make try` and `make run` replay.
+# PLAN: the plans of `make try` (several in quotes: PLAN="a.toml b.toml"). TRACE: the traces of `make try-trace`, likewise.
 PLAN ?= plans/first.toml
-# CRATE is the crate whose wrong bodies are tried, all if it is left out. JOBS is how many checks run side by side.
+TRACE ?= traces/granules.trace
+# CRATE: the crates whose wrong bodies are tried (all). SINCE: a commit; only what has changed since then is tried.
+# JOBS: how many checks run side by side (one a processor).
 CRATE ?=
-JOBS ?= 2
+SINCE ?=
+JOBS ?=
+# Where `make install` puts the programs and what belongs to them.
+PREFIX ?= /usr/local
+DESTDIR ?=
 
-.PHONY: allocations bench help planted run test try wrong-bodies
+PROGRAMS = realmhost rmitrace
+SHARE = $(DESTDIR)$(PREFIX)/share
+
+.PHONY: allocations bench build help install planted test try try-trace wrong-bodies
 
 help: ## lists the targets
-	@grep -E '^[a-z-]+:.*## ' $(MAKEFILE_LIST) | sed 's/:.*## /  /'
+	@grep -E '^[a-z-]+:.*## ' $(MAKEFILE_LIST) | sed 's/:.*## /\t/' | expand -t 16
 
-try: ## builds the program with nothing proved, and replays PLAN
-	@echo 'try: nothing is proved here; make run proves the program first' >&2
-	@cd crates/realmhost && rt try -- replay < $(abspath $(PLAN))
+try: ## a minute: builds realmhost with nothing proved, and replays PLAN
+	@tools/try realmhost $(PLAN) -- replay
 
-run: ## proves what has to be, builds the program, and replays PLAN
-	@cd crates/realmhost && rt run -- replay < $(abspath $(PLAN))
+try-trace: ## a minute: builds rmitrace with nothing proved, and checks TRACE
+	@tools/try rmitrace $(TRACE) -- check
 
-test: ## the whole gate from nothing: proofs, must-fail edits, tests, and what the built programs say
+build: ## proves both programs and all that they stand on, and puts them into bin/
+	@tools/build
+
+install: ## copies what `make build` has built, the documents, plans and traces below PREFIX
+	@for it in $(PROGRAMS); do test -x bin/$$it || { echo "install: there is no bin/$$it yet: make build" >&2; exit 1; }; done
+	install -d $(DESTDIR)$(PREFIX)/bin $(SHARE)/doc/realmhost/docs/pictures $(SHARE)/realmhost/plans $(SHARE)/realmhost/traces
+	install -m 755 $(PROGRAMS:%=bin/%) $(DESTDIR)$(PREFIX)/bin
+	install -m 644 README.md LICENSE $(SHARE)/doc/realmhost
+	install -m 644 docs/*.md $(SHARE)/doc/realmhost/docs
+	install -m 644 docs/pictures/*.svg $(SHARE)/doc/realmhost/docs/pictures
+	install -m 644 plans/* $(SHARE)/realmhost/plans
+	install -m 644 traces/* $(SHARE)/realmhost/traces
+
+test: ## the whole gate from nothing: proofs, tests, what the built programs print, and the documents
 	rt ci
+	@mkdir -p bin
+	@for it in $(PROGRAMS); do install -m 755 crates/$$it/out/$$it bin/$$it || exit 1; done
 	tests/program
 	tests/traces
+	tests/documents
+	tests/commands
+	tools/pictures --check
 
-allocations: ## refuses each allocation of the program in turn, over each plan (needs a C compiler)
+wrong-bodies: ## tries bodies that do something else, of CRATE or all: the prover has to refuse each
+	@tests/wrong-bodies $(if $(JOBS),--jobs $(JOBS)) $(if $(SINCE),--since $(SINCE)) $(CRATE)
+
+planted: ## tries edits that are no wrong bodies, after a change of tests/wrong-bodies or of the toolchain
+	@tests/wrong-bodies $(if $(JOBS),--jobs $(JOBS)) --planted $(CRATE)
+
+allocations: build ## refuses each allocation of the program in turn, over each plan (needs a C compiler)
 	@tests/allocations
 
-bench: ## CPU time and peak memory of the built program over plans of several shapes, beside plain Rust (needs rustc)
+bench: build ## CPU time and peak memory of the program over plans of several shapes, beside plain Rust (needs rustc)
 	@bench/run
-
-wrong-bodies: ## tries the must-fail edits of CRATE, several in one check: the prover has to refuse each
-	@tests/wrong-bodies --jobs $(JOBS) $(CRATE)
-
-planted: ## tries edits that have to be told as no wrong bodies, after a change of tests/wrong-bodies or of the toolchain
-	@tests/wrong-bodies --jobs $(JOBS) --planted $(CRATE)

@@ -5,38 +5,13 @@ is one line, and an old one stands in its file once. An edit changes the body of
 is then that function which the prover has to refuse. It may add functions right behind: `{ 0 } pub fn kept(self) -> u8`
 in front of a body makes `{ 0 }` the body, and hands the old one to `kept`.
 """
-import importlib.machinery
 import os
 import re
-import shutil
 import subprocess
 import tempfile
-import types
 
 FOLDERS = ("must-fail", "wrong-bodies")
 NOT_ONE_BODY = "it changes more than the body of one function of src/"
-
-
-class Toolchain:
-    """What stands beside `rt`: its commands as functions, and the reader of functions that `rt plant` has."""
-
-    def __init__(self):
-        found = shutil.which("rt")
-        if not found:
-            raise LookupError("there is no rt in the PATH: put the toolchain's folder bin/ there")
-        # (rt may be a link to the toolchain's)
-        self.folder = os.path.dirname(os.path.realpath(found))
-        for name in ("rt", "rtlib.py", "rt-plant-bodies"):
-            if not os.path.isfile(f"{self.folder}/{name}"):
-                raise LookupError(f"{found} is no toolchain's own rt, or of another version: beside it is no {name}")
-        self.rt, self.reader = self.load("rt"), self.load("rt-plant-bodies")
-        self.library = self.rt.rtlib
-
-    def load(self, name):
-        module = types.ModuleType(name)
-        module.__file__ = f"{self.folder}/{name}"
-        importlib.machinery.SourceFileLoader(name, module.__file__).exec_module(module)
-        return module
 
 
 class Edit:

@@ -5,8 +5,11 @@ import os
 import re
 import shutil
 import tempfile
+import threading
+import time
 
 import edits as read
+from proving import is_stamped
 
 REFUSED, NOT_REFUSED, BAD_EDIT, NO_VERDICT = "refused", "NOT REFUSED", "BAD EDIT", "NO VERDICT"
 Told = collections.namedtuple("Told", "edit kind why")
@@ -15,6 +18,8 @@ Told = collections.namedtuple("Told", "edit kind why")
 FLAGS = ["--jobs", "1"]
 # How much of a line of the prover's is told.
 LONGEST = 160
+# Where the crate's folder keeps what these checks prove of it.
+KEPT = "out/tried"
 
 # What the prover refuses, and what it says behind that:
 UNPROVED = re.compile(r"\w+ (\S+): (?:not proved|no proof|could not tell)\b(.*)")
@@ -92,46 +97,50 @@ def folders_of(name):
 
 class Trial:
     """A crate whose edits are tried, in a room of its own: a copy of its texts and of what was proved of them. So a
-    change of the crate meanwhile does not matter, and no check proves again what another one changed."""
+    change of the crate meanwhile does not matter, and no check proves again what another one changed. While it is made,
+    no other rt may work in the crate's folder and its libraries'."""
 
     def __init__(self, toolchain, crate, room):
         self.rt, self.library = toolchain.rt, toolchain.library
         self.room, self.kept, self.printed = room, f"{room}/kept", set()
+        # How many checks there were, and how long they took in all.
+        self.checks, self.seconds, self.counting = 0, 0.0, threading.Lock()
         self.crate = copy.copy(crate)
         self.crate.folder = f"{room}/crate"
-        # Until these are closed, no other rt works in the crate's folder and its libraries'.
-        held = self.library.lock([*crate.below(), crate])
-        try:
-            self.why_not = self.prepare(crate)
-        finally:
-            for it in held:
-                os.close(it)
+        self.why_not = self.prepare(crate)
         self.sources = None if self.why_not else read.Sources(toolchain, self.crate, self.printed)
 
     def prepare(self, crate):
         """Proves the crate as it stands, over what its folder out/ keeps, and copies it. Returns why that failed, or
         ''."""
-        for library in map(copy.copy, crate.below()):
-            with open(os.devnull, "w") as library.out:
-                if library.build_rlib(FLAGS, anew=False):
-                    return f"its library {library.name} is not proved: see rt check there"
+        for library in crate.below():
+            if not is_stamped(library, library.rlib):
+                return f"its library {library.name} is not proved: see rt check there"
         for part in self.library.PARTS:
             if os.path.isdir(f"{crate.folder}/{part}"):
                 shutil.copytree(f"{crate.folder}/{part}", f"{self.crate.folder}/{part}")
-        kept = f"{crate.folder}/{self.library.KEPT[1]}"
+        kept = f"{crate.folder}/{KEPT}"
         os.makedirs(kept, exist_ok=True)
-        ran = self.rt.checked(self.crate, {}, FLAGS, kept)
+        ran = self.timed({}, kept)
         if ran.returncode:
             return "the crate is not proved as it stands: see rt check"
         self.printed.update(re.findall(r"^fn (\S+): proved(?:, may wait)?$", ran.stdout, re.M))
         shutil.copytree(kept, self.kept)
         return ""
 
+    def timed(self, texts, kept):
+        """Checks the crate with these texts in place of its own, over what `kept` holds."""
+        began = time.monotonic()
+        ran = self.rt.checked(self.crate, texts, FLAGS, kept)
+        with self.counting:
+            self.checks, self.seconds = self.checks + 1, self.seconds + time.monotonic() - began
+        return ran
+
     def check(self, edits):
         """Checks the crate with these edits."""
         texts, lines = self.sources.merged(edits)
         with tempfile.TemporaryDirectory(dir=self.room) as room:
-            ran = self.rt.checked(self.crate, texts, FLAGS, shutil.copytree(self.kept, f"{room}/kept"))
+            ran = self.timed(texts, shutil.copytree(self.kept, f"{room}/kept"))
         check = Check(ran, lines, lambda line: self.rt.unread(line, texts))
         # (someone may have built a library anew meanwhile)
         check.is_verdict = check.is_verdict and not self.library.STALE.search(ran.stdout)

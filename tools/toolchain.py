@@ -1,0 +1,52 @@
+"""What stands beside `rt`: its commands as functions, and the reader of functions that `rt plant` has."""
+import importlib.machinery
+import os
+import shutil
+import threading
+import types
+
+
+class Toolchain:
+    """The toolchain that is on the PATH."""
+
+    def __init__(self):
+        found = shutil.which("rt")
+        if not found:
+            raise LookupError("there is no rt in the PATH: put the toolchain's folder bin/ there")
+        # (rt may be a link to the toolchain's)
+        self.folder = os.path.dirname(os.path.realpath(found))
+        for name in ("rt", "rtlib.py", "rt-plant-bodies"):
+            if not os.path.isfile(f"{self.folder}/{name}"):
+                raise LookupError(f"{found} is no toolchain's own rt, or of another version: beside it is no {name}")
+        self.rt, self.reader = self.load("rt"), self.load("rt-plant-bodies")
+        self.library = self.rt.rtlib
+        self.library.Crate.stamp = summed_once(self.library.Crate.stamp)
+
+    def load(self, name):
+        module = types.ModuleType(name)
+        module.__file__ = f"{self.folder}/{name}"
+        importlib.machinery.SourceFileLoader(name, module.__file__).exec_module(module)
+        return module
+
+    def crates(self, top):
+        """Returns the crates of the repository, each after the libraries that it stands on."""
+        # (its first call sets a signal's handler, which only the main thread may)
+        self.library.guarded()
+        return self.library.crates_below(top)
+
+
+def summed_once(stamp):
+    """Returns a crate's method `stamp` that sums each library below once, and not once for each way down to it."""
+    inside = threading.local()
+
+    def quick(crate):
+        outer = getattr(inside, "sums", None)
+        inside.sums = {} if outer is None else outer
+        try:
+            if crate.folder not in inside.sums:
+                inside.sums[crate.folder] = stamp(crate)
+            return inside.sums[crate.folder]
+        finally:
+            inside.sums = outer
+
+    return quick
