@@ -21,14 +21,14 @@ fn serve(rt: &HostRuntime) -> Result<Verdict, Stop<Fault>> {
     Ok(run(alloc, asked, &mut input, &mut output)?)
 }
 
-/// The exit status. Where the program stops, standard error is told why. An answer that is wrong is told on standard output.
+/// The exit status. Where the program stops, standard error says why. A line that is wrong stands on standard output.
 fn end(rt: &HostRuntime, outcome: Result<Verdict, Stop<Fault>>) -> ExitCode
     ensures value { exit_status result ≡ status_of_outcome outcome }
     ensures stops { IfErr outcome (λ _. IsStatus (exit_status result)) }
 {
     match outcome {
         Ok(Verdict::Agree) => ExitCode::SUCCESS,
-        Ok(Verdict::Differ) => ExitCode::FAILURE,
+        Ok(Verdict::NoAnswers | Verdict::Differ) => ExitCode::FAILURE,
         Err(stop) => stop.end(rt),
     }
 }

@@ -1,13 +1,14 @@
 -- What has been read and agreed, one byte after another.
-use Rattle.std.proofs.Common.{◌≡◌, ℕ, ◌+◌, ◌<◌, ◌==◌, true, false, List, [], ◌∷◌, ◌++◌, length, map, suc, get_or, take, drop, None, refl, sym, ap, ◌∙◌, subst, append_assoc, length-append}
+use Rattle.std.proofs.Common.{◌≡◌, ℕ, ◌+◌, ◌<◌, ◌==◌, Bool, true, false, List, [], ◌∷◌, ◌++◌, length, map, suc, get_or, take, drop, None, refl, sym, ap, ◌∙◌, subst, append_assoc, length-append}
 use mathlib.Core.List.{append-nil}
-use Rattle.std.specs.Prelude.{filter, is_some}
+use Rattle.std.specs.Prelude.{filter}
 use Rattle.std.proofs.Math.Seq.{take-suc}
 use Rattle.std.proofs.lemmas.List.{take-append-drop, map-append, length-map}
 use Rattle.std.proofs.lemmas.List.Elements.{filter-append}
 use Rattle.trace_program.specs.Session.{Now}
 use Rattle.trace_program.specs.Input.{kept_of}
-use Rattle.trace_program.specs.Verdict.{stated_in, IsAgreed, Differs, AreAgreed, answers_in, LastDiffers}
+use Rattle.trace_program.specs.Verdict.{has_answer, is_only_performed, IsAgreed, Differs, AreAgreed, LastDiffers}
+use Rattle.trace_program.specs.declared.checking.Counts.{Counts}
 use Rattle.trace_program.specs.Checking.{IsAgreedSoFar, CountsLine, StopsAtFeed}
 use Rattle.trace_program.proofs.Kept.{kept_none}
 use Rattle.trace_program.proofs.Parts.{cut_feed, cut_more, lines_without}
@@ -18,10 +19,11 @@ agreed_more : (old : Now) (lines : List (List ℕ)) (line : List ℕ) (mid new :
 agreed_more old [] line mid new is a = (new, subst (λ (m : Now). IsAgreed m line new) is a, refl)
 agreed_more old (l ∷ ls) line mid new (m, first, rest) a = (m, first, agreed_more m ls line mid new rest a)
 
-answers_more : (lines : List (List ℕ)) (line : List ℕ) → answers_in (lines ++ line ∷ []) ≡ answers_in lines + answers_in (line ∷ [])
-answers_more lines line =
-    ap length (filter-append (λ bytes. is_some (stated_in bytes)) lines (line ∷ []))
-    ∙ length-append (filter (λ bytes. is_some (stated_in bytes)) lines) (filter (λ bytes. is_some (stated_in bytes)) (line ∷ []))
+abbrev count_of : (List ℕ → Bool) → List (List ℕ) → ℕ
+count_of p lines = length (filter p lines)
+
+count_more : (p : List ℕ → Bool) (lines : List (List ℕ)) (line : List ℕ) → count_of p (lines ++ line ∷ []) ≡ count_of p lines + count_of p (line ∷ [])
+count_more p lines line = ap length (filter-append p lines (line ∷ [])) ∙ length-append (filter p lines) (filter p (line ∷ []))
 
 kept_with : (lines : List (List ℕ)) (rest line : List ℕ) → line ≡ kept_of rest → map kept_of (lines ++ rest ∷ []) ≡ map kept_of lines ++ line ∷ []
 kept_with lines rest line kept = map-append kept_of lines (rest ∷ []) ∙ ap (λ (l : List ℕ). map kept_of lines ++ l ∷ []) (sym kept)
@@ -31,8 +33,8 @@ module _ (lines : List (List ℕ)) (rest line : List ℕ) (bench : Now) (kept : 
   pub kept_agreed : (after : Now) → IsAgreed bench line after → AreAgreed None (map kept_of (lines ++ rest ∷ [])) after
   kept_agreed after a = rw (kept_with lines rest line kept) (agreed_more None (map kept_of lines) line bench after agreed a)
 
-  pub kept_answers : (before after : ℕ) → before ≡ answers_in (map kept_of lines) → after ≡ before + answers_in (line ∷ []) → after ≡ answers_in (map kept_of (lines ++ rest ∷ []))
-  kept_answers before after b a = a ∙ ap (λ n. n + answers_in (line ∷ [])) b ∙ sym (answers_more (map kept_of lines) line) ∙ ap answers_in (sym (kept_with lines rest line kept))
+  pub kept_count : (p : List ℕ → Bool) (before after : ℕ) → before ≡ count_of p (map kept_of lines) → after ≡ before + count_of p (line ∷ []) → after ≡ count_of p (map kept_of (lines ++ rest ∷ []))
+  kept_count p before after b a = a ∙ ap (λ n. n + count_of p (line ∷ [])) b ∙ sym (count_more p (map kept_of lines) line) ∙ ap (count_of p) (sym (kept_with lines rest line kept))
 
   pub kept_differs : (count : ℕ) (text : List ℕ) → count ≡ length lines → Differs bench (count + 1) line text → LastDiffers (map kept_of (lines ++ rest ∷ [])) text
   kept_differs count text counted d = record {
@@ -46,12 +48,12 @@ module _ (lines : List (List ℕ)) (rest line : List ℕ) (bench : Now) (kept : 
 
 -- ---- one byte more
 
-pub agreed_none : IsAgreedSoFar [] None 0 0 []
-agreed_none = record { lines = []; rest = []; cut = refl; is_kept = sym kept_none; agreed = refl; counted = refl; answered = refl }
+pub agreed_none : IsAgreedSoFar [] None (record { lines = 0; answers = 0; performed = 0 }) []
+agreed_none = record { lines = []; rest = []; cut = refl; is_kept = sym kept_none; agreed = refl; counted = refl; answered = refl; performed = refl }
 
-module _ (read : List ℕ) (bench : Now) (count answers : ℕ) (line : List ℕ) (b : ℕ) where
-  pub agreed_byte : (grown : List ℕ) → IsAgreedSoFar read bench count answers line → (b == 10) ≡ false → ((rest : List ℕ) → line ≡ kept_of rest → grown ≡ kept_of (rest ++ b ∷ []))
-      → IsAgreedSoFar (read ++ b ∷ []) bench count answers grown
+module _ (read : List ℕ) (bench : Now) (counts : Counts) (line : List ℕ) (b : ℕ) where
+  pub agreed_byte : (grown : List ℕ) → IsAgreedSoFar read bench counts line → (b == 10) ≡ false → ((rest : List ℕ) → line ≡ kept_of rest → grown ≡ kept_of (rest ++ b ∷ []))
+      → IsAgreedSoFar (read ++ b ∷ []) bench counts grown
   agreed_byte grown s other keeps = record {
     lines = s.lines;
     rest = s.rest ++ b ∷ [];
@@ -60,21 +62,23 @@ module _ (read : List ℕ) (bench : Now) (count answers : ℕ) (line : List ℕ)
     agreed = s.agreed;
     counted = s.counted;
     answered = s.answered;
+    performed = s.performed;
   }
 
-  pub agreed_line : (after : Now) (count_after answers_after : ℕ) (line_after : List ℕ) → IsAgreedSoFar read bench count answers line → (b == 10) ≡ true
-      → CountsLine bench count answers line after count_after answers_after line_after → IsAgreedSoFar (read ++ b ∷ []) after count_after answers_after line_after
-  agreed_line after count_after answers_after line_after s feed w = record {
+  pub agreed_line : (after : Now) (counts_after : Counts) (line_after : List ℕ) → IsAgreedSoFar read bench counts line → (b == 10) ≡ true
+      → CountsLine bench counts line after counts_after line_after → IsAgreedSoFar (read ++ b ∷ []) after counts_after line_after
+  agreed_line after counts_after line_after s feed w = record {
     lines = s.lines ++ s.rest ∷ [];
     rest = [];
     cut = cut_feed read s.lines s.rest b feed s.cut;
     is_kept = w.empty ∙ sym kept_none;
     agreed = kept_agreed s.lines s.rest line bench s.is_kept s.agreed after w.agreed;
     counted = w.counted ∙ ap (λ n. n + 1) s.counted ∙ sym (length-append s.lines (s.rest ∷ []));
-    answered = kept_answers s.lines s.rest line bench s.is_kept s.agreed answers answers_after s.answered w.answered;
+    answered = kept_count s.lines s.rest line bench s.is_kept s.agreed has_answer counts.answers counts_after.answers s.answered w.answered;
+    performed = kept_count s.lines s.rest line bench s.is_kept s.agreed is_only_performed counts.performed counts_after.performed s.performed w.performed;
   }
 
-  pub differs_at_feed : (text : List ℕ) → IsAgreedSoFar read bench count answers line → (b == 10) ≡ true → b ≡ 10 → Differs bench (count + 1) line text → StopsAtFeed (read ++ b ∷ []) text
+  pub differs_at_feed : (text : List ℕ) → IsAgreedSoFar read bench counts line → (b == 10) ≡ true → b ≡ 10 → Differs bench (counts.lines + 1) line text → StopsAtFeed (read ++ b ∷ []) text
   differs_at_feed text s feed is d = record {
     front = read ++ b ∷ [];
     ahead = [];
@@ -82,7 +86,7 @@ module _ (read : List ℕ) (bench : Now) (count answers : ℕ) (line : List ℕ)
     ends = (read, ap (λ (c : ℕ). read ++ c ∷ []) is);
     first = subst (λ (ls : List (List ℕ)). LastDiffers (map kept_of ls) text)
         (sym (lines_without (read ++ b ∷ []) (s.lines ++ s.rest ∷ []) [] (cut_feed read s.lines s.rest b feed s.cut) refl))
-        (kept_differs s.lines s.rest line bench s.is_kept s.agreed count text s.counted d);
+        (kept_differs s.lines s.rest line bench s.is_kept s.agreed counts.lines text s.counted d);
   }
 
 -- more was read after it

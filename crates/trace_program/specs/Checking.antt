@@ -3,29 +3,32 @@ use Rattle.std.specs.Prelude.{◌≡◌, ℕ, ◌+◌, List, [], ◌∷◌, ◌+
 use Rattle.std.specs.Io.KnownBytes.{Consumes}
 use Rattle.trace_program.specs.Session.{Now}
 use Rattle.trace_program.specs.Input.{parts_of, kept_of, lines_in}
-use Rattle.trace_program.specs.Verdict.{IsAgreed, AreAgreed, answers_in, EndsWithFeed, LastDiffers}
+use Rattle.trace_program.specs.Verdict.{IsAgreed, AreAgreed, answers_in, performed_in, EndsWithFeed, LastDiffers}
+use Rattle.trace_program.specs.declared.checking.Counts.{Counts}
 
--- Lines of what was read agree, so many of them have an answer, and of the rest so much is kept.
-pub record IsAgreedSoFar (read : List ℕ) (bench : Now) (count answers : ℕ) (kept : List ℕ) : Type 0 where
+-- Lines of what was read agree, these are their counts, and of the rest so much is kept.
+pub record IsAgreedSoFar (read : List ℕ) (bench : Now) (counts : Counts) (kept : List ℕ) : Type 0 where
   pub lines : List (List ℕ)
   pub rest : List ℕ
   pub cut : parts_of read ≡ lines ++ rest ∷ []
   pub is_kept : kept ≡ kept_of rest
   pub agreed : AreAgreed None (map kept_of lines) bench
-  pub counted : count ≡ length lines
-  pub answered : answers ≡ answers_in (map kept_of lines)
+  pub counted : counts.lines ≡ length lines
+  pub answered : counts.answers ≡ answers_in (map kept_of lines)
+  pub performed : counts.performed ≡ performed_in (map kept_of lines)
 
 -- the same, of what the reader gave
-pub record IsAgreedUnderway (input left : Option (List ℕ)) (bench : Now) (count answers : ℕ) (kept : List ℕ) : Type 0 where
+pub record IsAgreedUnderway (input left : Option (List ℕ)) (bench : Now) (counts : Counts) (kept : List ℕ) : Type 0 where
   pub read : List ℕ
   pub consumed : Consumes input left read
-  pub so_far : IsAgreedSoFar read bench count answers kept
+  pub so_far : IsAgreedSoFar read bench counts kept
 
--- a line ends, and its answer is right: it is counted, and nothing is kept
-pub record CountsLine (bench : Now) (count answers : ℕ) (line : List ℕ) (after : Now) (count_after answers_after : ℕ) (kept : List ℕ) : Type 0 where
+-- a line ends, and it is right: it is counted, and nothing is kept
+pub record CountsLine (bench : Now) (counts : Counts) (line : List ℕ) (after : Now) (counts_after : Counts) (kept : List ℕ) : Type 0 where
   pub agreed : IsAgreed bench line after
-  pub counted : count_after ≡ count + 1
-  pub answered : answers_after ≡ answers + answers_in (line ∷ [])
+  pub counted : counts_after.lines ≡ counts.lines + 1
+  pub answered : counts_after.answers ≡ counts.answers + answers_in (line ∷ [])
+  pub performed : counts_after.performed ≡ counts.performed + performed_in (line ∷ [])
   pub empty : kept ≡ []
 
 -- a line that ends in a line feed was the first that differs

@@ -1,16 +1,18 @@
--- Whether the answers that stand in a trace are those that the rules give.
-use Rattle.std.specs.Prelude.{◌≡◌, ℕ, ◌+◌, List, [], ◌∷◌, ◌++◌, codes, decimal, length, map, filter, is_some, Option, Some, None, ◌⊎◌}
+-- Whether the lines of a trace are right: an answer that stands there is the one that the rules give, and a line that is no command says so.
+use Rattle.std.specs.Prelude.{◌≡◌, ℕ, ◌+◌, ◌<◌, ◌&&◌, Bool, true, false, List, [], ◌∷◌, ◌++◌, codes, decimal, length, map, filter, is_some, is_none, Option, Some, None, ◌⊎◌}
 use Rattle.std.specs.Io.KnownBytes.{Consumes, IsAtEnd, Appends}
 use Rattle.told_device.specs.Whole.{AppendsFront}
 use Rattle.rmi_trace.specs.Answers.{repeated_line, answer_text}
 use Rattle.rmi_trace.specs.Lines.{text_of, answer_in, line_of}
 use Rattle.rmi_trace.specs.declared.answer.Answer.{Answer}
+use Rattle.rmi_trace.specs.declared.answer.Answer.TheVariants.{NoCommand}
 use Rattle.rmi_trace.specs.declared.line.Line.{Line}
 use Rattle.rmi_trace.specs.declared.line.Line.TheVariants as line
+use Rattle.rmi_trace.specs.declared.request.Request.TheVariants.{Command, Reading}
 use Rattle.trace_program.specs.Session.{Now, IsAnswer, written_with}
 use Rattle.trace_program.specs.Input.{lines_in, kept_of}
 use Rattle.trace_program.specs.declared.checking.Verdict.{Verdict}
-use Rattle.trace_program.specs.declared.checking.Verdict.TheVariants.{Agree, Differ}
+use Rattle.trace_program.specs.declared.checking.Verdict.TheVariants.{Agree, NoAnswers, Differ}
 
 -- ---- one line
 
@@ -22,19 +24,31 @@ stated_with bytes _ = answer_in (text_of bytes)
 abbrev pub stated_in : List ℕ → Option (List ℕ)
 stated_in bytes = stated_with bytes (line_of bytes)
 
--- The answer that stands there, if one does, is the one that the rules give.
+abbrev pub has_answer : List ℕ → Bool
+has_answer bytes = is_some (stated_in bytes)
+
+abbrev pub is_command_or_reading : Line → Bool
+is_command_or_reading (line.Request (Command c)) = true
+is_command_or_reading (line.Request (Reading r)) = true
+is_command_or_reading _ = false
+
+-- a command or a reading that has no answer: there is nothing to compare
+abbrev pub is_only_performed : List ℕ → Bool
+is_only_performed bytes = is_command_or_reading (line_of bytes) && is_none (stated_in bytes)
+
+-- A line that is answered `no command` has to say so. Any other may be without an answer; the one that it has is the one that the rules give.
 abbrev pub IsRight : Option (List ℕ) → Option Answer → Type 0
-IsRight None given = Unit {0}
+IsRight None given = ¬ (given ≡ Some NoCommand)
 IsRight (Some stated) None = ⊥
 IsRight (Some stated) (Some a) = stated ≡ answer_text a
 
--- the line is performed, and its answer is right
+-- the line is performed, and it is right
 pub record IsAgreed (old : Now) (bytes : List ℕ) (new : Now) : Type 0 where
   pub given : Option Answer
   pub answer : IsAnswer (line_of bytes) old given new
   pub right : IsRight (stated_in bytes) given
 
--- The line is performed, and its answer is wrong. What is told of it is its number, the line, and the line as it is answered.
+-- The line is performed, and it is wrong. What is said of it is its number, the line, and the line as it is answered.
 pub record Differs (old : Now) (number : ℕ) (bytes text : List ℕ) : Type 0 where
   pub new : Now
   pub given : Option Answer
@@ -44,22 +58,29 @@ pub record Differs (old : Now) (number : ℕ) (bytes text : List ℕ) : Type 0 w
 
 -- ---- lines in their order
 
--- Lines whose answers are right, one after another.
+-- Lines that are right, one after another.
 abbrev pub AreAgreed : Now → List (List ℕ) → Now → Type 0
 AreAgreed old [] new = new ≡ old
 AreAgreed old (bytes ∷ more) new = (mid : Now) × IsAgreed old bytes mid × AreAgreed mid more new
 
 -- how many of the lines have an answer
 abbrev pub answers_in : List (List ℕ) → ℕ
-answers_in lines = length (filter (λ bytes. is_some (stated_in bytes)) lines)
+answers_in lines = length (filter has_answer lines)
 
--- all answers are right: how many there are is told
+-- how many of them are performed without one
+abbrev pub performed_in : List (List ℕ) → ℕ
+performed_in lines = length (filter is_only_performed lines)
+
+abbrev pub agreement_text : ℕ → ℕ → List ℕ
+agreement_text answers performed = decimal answers ++ codes " answers agree, " ++ decimal performed ++ codes " lines performed\n"
+
+-- all lines are right: the text says how many have an answer, and how many are performed without one
 pub record AllAgree (lines : List (List ℕ)) (text : List ℕ) : Type 0 where
   pub last : Now
   pub agreed : AreAgreed None lines last
-  pub told : text ≡ decimal (answers_in lines) ++ codes " answers agree\n"
+  pub told : text ≡ agreement_text (answers_in lines) (performed_in lines)
 
--- the answers before the last line are right, and that of the last line is wrong
+-- the lines before the last are right, and the last is wrong
 pub record LastDiffers (lines : List (List ℕ)) (text : List ℕ) : Type 0 where
   pub before : List (List ℕ)
   pub bytes : List ℕ
@@ -73,7 +94,7 @@ pub record LastDiffers (lines : List (List ℕ)) (text : List ℕ) : Type 0 wher
 abbrev pub EndsWithFeed : List ℕ → Type 0
 EndsWithFeed bytes = (most : List ℕ) × (bytes ≡ most ++ 10 ∷ [])
 
--- The first line of what was read whose answer is wrong: a line feed ends it, or the input. `left` is what the reader has left.
+-- The first line of what was read that is wrong: a line feed ends it, or the input. `left` is what the reader has left.
 pub record HasDifference (left : Option (List ℕ)) (read text : List ℕ) : Type 0 where
   pub front : List ℕ
   pub ahead : List ℕ
@@ -81,9 +102,10 @@ pub record HasDifference (left : Option (List ℕ)) (read text : List ℕ) : Typ
   pub ends : EndsWithFeed front ⊎ (IsAtEnd left × (ahead ≡ []))
   pub first : LastDiffers (map kept_of (lines_in front)) text
 
--- The verdict on what was read, and its text. All agree where the input was read to its end.
+-- The verdict on what was read, and its text. Where no line is wrong, the input was read to its end. Where none has an answer, nothing was compared, and that is no agreement.
 abbrev pub IsVerdict : Verdict → Option (List ℕ) → List ℕ → List ℕ → Type 0
-IsVerdict Agree left read text = IsAtEnd left × AllAgree (map kept_of (lines_in read)) text
+IsVerdict Agree left read text = IsAtEnd left × AllAgree (map kept_of (lines_in read)) text × (0 < answers_in (map kept_of (lines_in read)))
+IsVerdict NoAnswers left read text = IsAtEnd left × AllAgree (map kept_of (lines_in read)) text × (answers_in (map kept_of (lines_in read)) ≡ 0)
 IsVerdict Differ left read text = HasDifference left read text
 
 -- an input was read as far as it takes for the verdict

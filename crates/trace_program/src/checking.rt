@@ -1,27 +1,30 @@
-//! Lines in, and whether the answers in them are those of the rules.
-ghost use Rattle.std.specs.Prelude.{◌≡◌, ◌≤◌, ◌<◌, ◌+◌, ◌^◌, ◌++◌, ◌⊎◌, ◌↔◌, ℕ, List, [], ◌∷◌, codes, decimal, length, Option, false, true, Err, IsTrue, IfOk, OnErr, IfSome, IfNone};
+//! Lines in, and whether they are right: the answers in them are those of the rules, and a line that is no command says so.
+ghost use Rattle.std.specs.Prelude.{◌≡◌, ◌≤◌, ◌<◌, ◌+◌, ◌^◌, ◌++◌, ◌⊎◌, ◌↔◌, ℕ, List, [], ◌∷◌, codes, decimal, length, Option, false, true, Err, IsTrue, IfOk, OnOk, OnErr, IfSome, IfNone};
 ghost use Rattle.std.specs.Option.{option_copied};
 ghost use Rattle.std.specs.Io.KnownBytes.{Keeps, IsAtEnd};
 ghost use Rattle.rmi_trace.specs.Answers.{repeated_line};
 ghost use Rattle.trace_program.specs.Session.{written_with};
-ghost use Rattle.trace_program.specs.Verdict.{stated_with, IsRight, Differs, IsJudged, IsChecked, IsCheckedInPart};
+ghost use Rattle.trace_program.specs.Verdict.{stated_with, IsRight, is_command_or_reading, agreement_text, Differs, IsJudged, IsChecked, IsCheckedInPart};
 ghost use Rattle.trace_program.specs.Checking.{CountsLine, IsAgreedSoFar, IsAgreedUnderway, StopsAtFeed};
 ghost use Rattle.trace_program.specs.declared.fault.Fault.TheVariants.{Memory, Device};
-ghost use Rattle.trace_program.specs.declared.checking.Verdict.TheVariants.{Agree};
+ghost use Rattle.trace_program.specs.declared.checking.Verdict.TheVariants.{Agree, NoAnswers};
 
 use crate::answering::keep;
 use crate::session::push_told;
 use crate::{Fault, Session};
-use rmi_trace::{Answer, Line, cut_answer, parse, push_line};
+use rmi_trace::{Answer, Line, Request, cut_answer, parse, push_line};
 use std::alloc::{AllocError, Global};
 use std::io::{Read, Write};
 use told_device::Told;
 
-/// Whether the answers that stand in a trace are those of the rules.
+/// Whether the lines of a trace are right: each has the answer of the rules, where it has one, and one that is answered
+/// `no command` says so.
 #[derive(Clone, Copy, Debug, PartialEq, Eq)]
 pub enum Verdict {
-    /// All are.
+    /// All are, and there is an answer among them.
     Agree,
+    /// All are, but none has an answer: nothing was compared.
+    NoAnswers,
     /// One is not.
     Differ,
 }
@@ -43,29 +46,59 @@ fn stated<'a>(bytes: &'a [u8], line: &Line) -> Option<&'a [u8]>
     }
 }
 
-// Whether the answer that stands there, if one does, is the one that is given.
+// Whether a line in which this answer stands, if one does, is right where this one is given.
 fn is_right(stated: Option<&[u8]>, given: &Option<Answer>) -> bool
     ensures { IsTrue result ↔ IsRight (option_copied stated.entry) given.now }
 {
     match (stated, given) {
+        (None, Some(Answer::NoCommand)) => false,
         (None, _) => true,
         (Some(stated), Some(answer)) => stated == answer.text().as_slice(),
         (Some(_), None) => false,
     }
 }
 
-// The verdict where all answers are right.
-fn agreement(alloc: Global, answers: u128) -> Result<Judged, AllocError>
-    ensures verdict { IfOk result (λ judged. judged.verdict ≡ Agree) }
-    ensures text { IfOk result (λ judged. judged.text.items ≡ decimal answers ++ codes " answers agree\n") }
+fn is_command_or_reading(line: &Line) -> bool
+    ensures { result ≡ is_command_or_reading line.now }
 {
-    let mut buffer = itoa::Buffer::new();
-    let mut text = Vec::from_slice(alloc, buffer.format(answers).as_bytes())?;
-    text.extend_from_slice(b" answers agree\n")?;
-    Ok(Judged {
-        verdict: Verdict::Agree,
-        text,
-    })
+    matches!(
+        line,
+        Line::Request(Request::Command(_)) | Line::Request(Request::Reading(_))
+    )
+}
+
+// How many lines there were, how many of them had an answer, and how many commands and readings had none.
+#[derive(Clone, Copy)]
+struct Counts {
+    lines: u128,
+    answers: u128,
+    performed: u128,
+}
+
+// Appends the number in decimal.
+fn push_number(text: &mut Vec<u8>, number: u128) -> Result<(), AllocError>
+    ensures { OnOk result (text.new.items ≡ text.old.items ++ decimal number) }
+{
+    text.extend_from_slice(itoa::Buffer::new().format(number).as_bytes())
+}
+
+// The verdict where all lines are right, and its text.
+fn agreement(alloc: Global, counts: Counts) -> Result<Judged, AllocError>
+    ensures some { 0 < counts.answers → IfOk result (λ judged. judged.verdict ≡ Agree) }
+    ensures none { counts.answers ≡ 0 → IfOk result (λ judged. judged.verdict ≡ NoAnswers) }
+    ensures text { IfOk result (λ judged. judged.text.items ≡ agreement_text counts.answers counts.performed) }
+{
+    let verdict = if counts.answers == 0 {
+        Verdict::NoAnswers
+    } else {
+        Verdict::Agree
+    };
+    let mut text = Vec::new(alloc);
+    push_number(&mut text, counts.answers)?;
+    text.extend_from_slice(b" answers agree, ")?;
+    push_number(&mut text, counts.performed)?;
+    text.extend_from_slice(b" lines performed\n")?;
+    Ok(Judged { verdict, text })
 }
 
 // What is told of the line of that number.
@@ -78,45 +111,44 @@ fn difference(
 ) -> Result<Vec<u8>, AllocError>
     ensures { IfOk result (λ text. text.items ≡ codes "line " ++ repeated_line (decimal number) ++ repeated_line bytes.now ++ written_with bytes.now line.now given.now) }
 {
-    let mut buffer = itoa::Buffer::new();
     let mut text = Vec::from_slice(alloc, b"line ")?;
-    push_line(&mut text, buffer.format(number).as_bytes())?;
+    push_line(&mut text, itoa::Buffer::new().format(number).as_bytes())?;
     push_line(&mut text, bytes)?;
     push_told(&mut text, bytes, line, given)?;
     Ok(text)
 }
 
-// A trace that is being checked: what its lines have come to, what is kept of the next line, how many lines there were, and
-// how many of them had an answer.
+// A trace that is being checked: what its lines have come to, what is kept of the next line, and the counts of its lines.
 #[derive(Drop)]
 struct Checking {
     session: Session,
     line: Vec<u8>,
-    count: u128,
-    answers: u128,
+    counts: Counts,
 }
 
 impl Checking {
-    // Ends the line. If its answer is wrong, that is told.
+    // Ends the line. If it is wrong, that is told.
     fn end_line(&mut self, alloc: Global) -> Result<Option<Vec<u8>>, AllocError>
-        requires few { self.old.answers ≤ self.old.count }
-        requires room { self.old.count + 1 < 2 ^ 100 }
-        ensures agreed { IfOk result (λ d. IfNone d (CountsLine self.old.session.bench self.old.count self.old.answers self.old.line.items
-            self.new.session.bench self.new.count self.new.answers self.new.line.items)) }
-        ensures few { IfOk result (λ d. IfNone d (self.new.answers ≤ self.new.count)) }
-        ensures one { IfOk result (λ d. IfNone d (self.new.count ≤ self.old.count + 1)) }
-        ensures differs { IfOk result (λ d. IfSome d (λ text. Differs self.old.session.bench (self.old.count + 1) self.old.line.items text.items)) }
+        requires few { self.old.counts.answers + self.old.counts.performed ≤ self.old.counts.lines }
+        requires room { self.old.counts.lines + 1 < 2 ^ 100 }
+        ensures agreed { IfOk result (λ d. IfNone d (CountsLine self.old.session.bench self.old.counts self.old.line.items
+            self.new.session.bench self.new.counts self.new.line.items)) }
+        ensures few { IfOk result (λ d. IfNone d (self.new.counts.answers + self.new.counts.performed ≤ self.new.counts.lines)) }
+        ensures one { IfOk result (λ d. IfNone d (self.new.counts.lines ≤ self.old.counts.lines + 1)) }
+        ensures differs { IfOk result (λ d. IfSome d (λ text. Differs self.old.session.bench (self.old.counts.lines + 1) self.old.line.items text.items)) }
     {
         let line = parse(&self.line);
         let given = self.session.answer(alloc, &line)?;
         let stated = stated(&self.line, &line);
-        self.count += 1;
+        self.counts.lines += 1;
         if !is_right(stated, &given) {
-            let text = difference(alloc, self.count, &self.line, &line, &given)?;
+            let text = difference(alloc, self.counts.lines, &self.line, &line, &given)?;
             return Ok(Some(text));
         }
         if stated.is_some() {
-            self.answers += 1;
+            self.counts.answers += 1;
+        } else if is_command_or_reading(&line) {
+            self.counts.performed += 1;
         }
         self.line.clear();
         Ok(None)
@@ -124,13 +156,13 @@ impl Checking {
 
     // Takes a byte of the input.
     fn take_byte(&mut self, alloc: Global, byte: u8) -> Result<Option<Vec<u8>>, AllocError>
-        requires few { self.old.answers ≤ self.old.count }
-        requires room { self.old.count + 1 < 2 ^ 100 }
-        ensures agreed { (read : List ℕ) → IsAgreedSoFar read self.old.session.bench self.old.count self.old.answers self.old.line.items
-            → IfOk result (λ d. IfNone d (IsAgreedSoFar (read ++ byte ∷ []) self.new.session.bench self.new.count self.new.answers self.new.line.items)) }
-        ensures few { IfOk result (λ d. IfNone d (self.new.answers ≤ self.new.count)) }
-        ensures one { IfOk result (λ d. IfNone d (self.new.count ≤ self.old.count + 1)) }
-        ensures differs { (read : List ℕ) → IsAgreedSoFar read self.old.session.bench self.old.count self.old.answers self.old.line.items
+        requires few { self.old.counts.answers + self.old.counts.performed ≤ self.old.counts.lines }
+        requires room { self.old.counts.lines + 1 < 2 ^ 100 }
+        ensures agreed { (read : List ℕ) → IsAgreedSoFar read self.old.session.bench self.old.counts self.old.line.items
+            → IfOk result (λ d. IfNone d (IsAgreedSoFar (read ++ byte ∷ []) self.new.session.bench self.new.counts self.new.line.items)) }
+        ensures few { IfOk result (λ d. IfNone d (self.new.counts.answers + self.new.counts.performed ≤ self.new.counts.lines)) }
+        ensures one { IfOk result (λ d. IfNone d (self.new.counts.lines ≤ self.old.counts.lines + 1)) }
+        ensures differs { (read : List ℕ) → IsAgreedSoFar read self.old.session.bench self.old.counts self.old.line.items
             → IfOk result (λ d. IfSome d (λ text. StopsAtFeed (read ++ byte ∷ []) text.items)) }
     {
         if byte == b'\n' {
@@ -142,13 +174,13 @@ impl Checking {
 
     // Takes bytes of the input.
     fn take_bytes(&mut self, alloc: Global, part: &[u8]) -> Result<Option<Vec<u8>>, AllocError>
-        requires few { self.old.answers ≤ self.old.count }
-        requires room { self.old.count + length part.now < 2 ^ 100 }
-        ensures agreed { (read : List ℕ) → IsAgreedSoFar read self.old.session.bench self.old.count self.old.answers self.old.line.items
-            → IfOk result (λ d. IfNone d (IsAgreedSoFar (read ++ part.now) self.new.session.bench self.new.count self.new.answers self.new.line.items)) }
-        ensures few { IfOk result (λ d. IfNone d (self.new.answers ≤ self.new.count)) }
-        ensures most { IfOk result (λ d. IfNone d (self.new.count ≤ self.old.count + length part.now)) }
-        ensures differs { (read : List ℕ) → IsAgreedSoFar read self.old.session.bench self.old.count self.old.answers self.old.line.items
+        requires few { self.old.counts.answers + self.old.counts.performed ≤ self.old.counts.lines }
+        requires room { self.old.counts.lines + length part.now < 2 ^ 100 }
+        ensures agreed { (read : List ℕ) → IsAgreedSoFar read self.old.session.bench self.old.counts self.old.line.items
+            → IfOk result (λ d. IfNone d (IsAgreedSoFar (read ++ part.now) self.new.session.bench self.new.counts self.new.line.items)) }
+        ensures few { IfOk result (λ d. IfNone d (self.new.counts.answers + self.new.counts.performed ≤ self.new.counts.lines)) }
+        ensures most { IfOk result (λ d. IfNone d (self.new.counts.lines ≤ self.old.counts.lines + length part.now)) }
+        ensures differs { (read : List ℕ) → IsAgreedSoFar read self.old.session.bench self.old.counts self.old.line.items
             → IfOk result (λ d. IfSome d (λ text. StopsAtFeed (read ++ part.now) text.items)) }
     {
         'bytes: for byte in part {
@@ -161,25 +193,25 @@ impl Checking {
 
     // Ends the last line, which has no line feed, unless it is empty, and gives the verdict.
     fn end(&mut self, alloc: Global) -> Result<Judged, AllocError>
-        requires few { self.old.answers ≤ self.old.count }
-        requires room { self.old.count + 1 < 2 ^ 100 }
-        ensures { (input left : Option (List ℕ)) → IsAgreedUnderway input left self.old.session.bench self.old.count self.old.answers self.old.line.items
+        requires few { self.old.counts.answers + self.old.counts.performed ≤ self.old.counts.lines }
+        requires room { self.old.counts.lines + 1 < 2 ^ 100 }
+        ensures { (input left : Option (List ℕ)) → IsAgreedUnderway input left self.old.session.bench self.old.counts self.old.line.items
             → IsAtEnd left → IfOk result (λ judged. IsJudged input left judged.verdict judged.text.items) }
     {
         if self.line.is_empty() {
-            return agreement(alloc, self.answers);
+            return agreement(alloc, self.counts);
         }
         match self.end_line(alloc)? {
             Some(text) => Ok(Judged {
                 verdict: Verdict::Differ,
                 text,
             }),
-            None => agreement(alloc, self.answers),
+            None => agreement(alloc, self.counts),
         }
     }
 }
 
-// Reads the lines of a trace, up to the first whose answer is wrong, or to their end.
+// Reads the lines of a trace, up to the first that is wrong, or to their end.
 fn judge<R: Read>(alloc: Global, input: &mut Told<R>) -> Result<Judged, Fault>
     requires { input.old.failed ≡ false }
     ensures judged { IfOk result (λ judged. IsJudged (R.remaining input.old.device) (R.remaining input.new.device) judged.verdict judged.text.items) }
@@ -189,8 +221,11 @@ fn judge<R: Read>(alloc: Global, input: &mut Told<R>) -> Result<Judged, Fault>
     let mut checking = Checking {
         session: Session::new(),
         line: Vec::new(alloc),
-        count: 0,
-        answers: 0,
+        counts: Counts {
+            lines: 0,
+            answers: 0,
+            performed: 0,
+        },
     };
     let mut buf = [0u8; 4096];
     'reads: for _ in 0..u64::MAX {
@@ -211,13 +246,15 @@ fn judge<R: Read>(alloc: Global, input: &mut Told<R>) -> Result<Judged, Fault>
     Err(Fault::Device)
 }
 
-/// Reads the lines of a trace, and writes whether the answers that stand in them are those of the rules.
+/// Reads the lines of a trace, and writes whether they are right: a line has the answer of the rules, or none; and one that
+/// is answered `no command` has to say so.
 ///
-/// It reads up to the first line whose answer is wrong, and writes that line's number, the line, and the line as it is
-/// answered; or to the end, and writes how many lines have an answer. A line with no answer is only performed. Memory is
-/// taken for a fresh machine, for a line, of which no more than 65,537 bytes are kept, and for what is written. Errors:
-/// Memory, where a growth was refused, and nothing is written; Device, where a read failed, and nothing is written, or a
-/// write, and then a front of the text is, or after 2^64 - 1 reads.
+/// It reads up to the first line that is wrong, and writes that line's number, the line, and the line as it is answered; or
+/// to the end, and writes how many lines have an answer, and how many commands and readings have none and are only
+/// performed. With no answer at all, nothing was compared, and the verdict is `NoAnswers`. Memory is taken for a fresh
+/// machine, for a line, of which no more than 65,537 bytes are kept, and for what is written. Errors: Memory, where an
+/// allocation failed, and nothing is written; Device, where a read failed, and nothing is written, or a write, and then a
+/// prefix of the text is, or after 2^64 - 1 reads.
 pub fn check<R: Read, W: Write>(
     alloc: Global,
     input: &mut Told<R>,

@@ -1,4 +1,4 @@
-//! The parts of the program for traces: what is answered to each line, whether the answers of a trace are right, its command
+//! The parts of the program for traces: what is answered to each line, whether the lines of a trace are right, its command
 //! line, and how a run ends.
 //!
 //! `perform` and `read` answer one command and one reading of a bench. A `Session` takes the lines of a trace one after

@@ -22,7 +22,7 @@ const ANSWER: &str =
     "Writes each line with its answer, as soon as it is read; an answer that it has is set aside";
 
 const CHECK: &str =
-    "Writes whether the answers that stand in the trace are right, and else the first that is not";
+    "Writes how many answers of the trace are right, or the first line that is wrong";
 
 // What the command line's reader is told of the program.
 fn command<'a>(alloc: Global) -> Result<Command<'a>, AllocError>

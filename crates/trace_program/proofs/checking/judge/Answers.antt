@@ -17,11 +17,11 @@ pub returns-then-n-eq0-clause-judged : goal.returns-then-n-eq0-clause-judged
 returns-then-n-eq0-clause-judged g c =
     let none : take c.in_ok-n.n c.read.new.buf ≡ [] = rw c.if-n-eq0.true in
     let some : 0 < length c.read.new.buf = omega (arith, c.read.auto.buf) in
-    c.in_ok-end.ensures _ _ (agreed_underway_at_end _ _ _ _ _ _ _ _ c.reads.invariant.underway none c.in_ok-n.ensures.bytes.0) (c.in_ok-n.ensures.bytes.1 c.if-n-eq0.true some)
+    c.in_ok-end.ensures _ _ (agreed_underway_at_end _ _ _ _ _ _ _ c.reads.invariant.underway none c.in_ok-n.ensures.bytes.0) (c.in_ok-n.ensures.bytes.1 c.if-n-eq0.true some)
 
 pub returns-in-Some-clause-judged : goal.returns-in-Some-clause-judged
 returns-in-Some-clause-judged g c =
-    judged_in_part _ _ _ _ _ _ _ _ c.in-Some.text.items c.reads.invariant.underway c.in_ok-n.ensures.bytes.0 (λ read s. at_some _ _ _ c.in-Some.is (c.in_ok-take_bytes.ensures.differs read s))
+    judged_in_part _ _ _ _ _ _ _ c.in-Some.text.items c.reads.invariant.underway c.in_ok-n.ensures.bytes.0 (λ read s. at_some _ _ _ c.in-Some.is (c.in_ok-take_bytes.ensures.differs read s))
 
 pub reads-preserved : goal.reads-preserved
 reads-preserved g c = record {
@@ -29,5 +29,5 @@ reads-preserved g c = record {
   few = at_none _ c.in-None.is c.in_ok-take_bytes.ensures.few;
   most = let most = at_none _ c.in-None.is c.in_ok-take_bytes.ensures.most in grind (arith, common_steps, most, c.reads.invariant.most, c.in_ok-n.ensures.bound, c.read.auto.buf);
   asked = grind (arith, c.reads.invariant.asked, c.in_ok-n.ensures.counted, c.reads.auto.counter-end, c.reads-test.true);
-  underway = agreed_underway_more _ _ _ _ _ _ _ _ _ _ _ _ c.reads.invariant.underway c.in_ok-n.ensures.bytes.0 (λ read s. at_none _ c.in-None.is (c.in_ok-take_bytes.ensures.agreed read s));
+  underway = agreed_underway_more _ _ _ _ _ _ _ _ _ _ c.reads.invariant.underway c.in_ok-n.ensures.bytes.0 (λ read s. at_none _ c.in-None.is (c.in_ok-take_bytes.ensures.agreed read s));
 }
