@@ -6,7 +6,7 @@ use Rattle.trace_program.specs.Input.{parts_of, kept_of, lines_in}
 use Rattle.trace_program.specs.Verdict.{IsAgreed, AreAgreed, answers_in, performed_in, EndsWithFeed, LastDiffers}
 use Rattle.trace_program.specs.declared.checking.Counts.{Counts}
 
--- Lines of what was read agree, these are their counts, and of the rest so much is kept.
+-- Lines of what was read are right, these are their counts, and of the rest so much is kept.
 pub record IsAgreedSoFar (read : List ℕ) (bench : Now) (counts : Counts) (kept : List ℕ) : Type 0 where
   pub lines : List (List ℕ)
   pub rest : List ℕ

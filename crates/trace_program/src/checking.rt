@@ -63,7 +63,7 @@ fn is_command_or_reading(line: &Line) -> bool
 {
     matches!(
         line,
-        Line::Request(Request::Command(_)) | Line::Request(Request::Reading(_))
+        Line::Request(Request::Command(_) | Request::Reading(_))
     )
 }
 
@@ -127,7 +127,7 @@ struct Checking {
 }
 
 impl Checking {
-    // Ends the line. If it is wrong, that is told.
+    // Ends the line, and gives what is written of it if it is wrong.
     fn end_line(&mut self, alloc: Global) -> Result<Option<Vec<u8>>, AllocError>
         requires few { self.old.counts.answers + self.old.counts.performed ≤ self.old.counts.lines }
         requires room { self.old.counts.lines + 1 < 2 ^ 100 }

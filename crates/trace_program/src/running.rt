@@ -11,7 +11,7 @@ use std::alloc::Global;
 use std::io::{Read, Write};
 use told_device::Told;
 
-/// Does what is asked, over any reader and any writer. Where lines are answered, nothing can differ: the verdict is `Agree`.
+/// Does what is asked, over any reader and any writer. Where lines are answered, the answers are right: the verdict is `Agree`.
 pub fn run<R: Read, W: Write>(
     alloc: Global,
     asked: Asked,
