@@ -13,6 +13,8 @@ mod map;
 mod place;
 mod report;
 mod run;
+#[cfg(test)]
+mod tests;
 mod turn;
 
 pub use answer::TurnAnswer;
