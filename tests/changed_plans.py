@@ -1,0 +1,127 @@
+"""Plans of the repository with random changes, for `tests/program`, and what has to hold whatever they have become.
+
+The changes are the same at each run. No text is known for such a plan, so `findings` compares its answers with one another.
+"""
+import random
+import re
+from pathlib import Path
+
+TOP = Path(__file__).resolve().parent.parent
+PLANS = 300
+# Only short plans are changed: in a long one, most changes would meet one step of many that are alike.
+MOST_BYTES = 2000
+# Beside the numbers below 9, which most pages, orders and levels have: both sides of limits.
+NUMBERS = (
+    15, 16, 17, 38, 39, 40, 43, 44, 255, 256, 511, 512, 513, 1024, 4095, 4096, 4097, 16384, 65535, 65536, 262143, 262144,
+    67108863, 67108864, 134217728, 4294967295, 4294967296,
+)
+STEP, TURNS = re.compile(rb'"[^"]*"'), re.compile(rb"order = \[[^]]*\]")
+
+
+def replaced(plan, at, text):
+    return plan[: at.start()] + text + plan[at.end() :]
+
+
+def with_a_number(plan, dice):
+    """Another number, but for those of turns."""
+    turns = [range(*at.span()) for at in TURNS.finditer(plan)]
+    places = [at for at in re.finditer(rb"\d+", plan) if not any(at.start() in its for its in turns)]
+    number = dice.choice((dice.randrange(9), dice.choice(NUMBERS)))
+    return replaced(plan, dice.choice(places), b"%d" % number) if places else plan
+
+
+def with_a_step(plan, dice):
+    """A copy of one step in the place of another."""
+    places = list(STEP.finditer(plan))
+    return replaced(plan, dice.choice(places), dice.choice(places).group()) if places else plan
+
+
+def with_other_turns(plan, dice):
+    """The same turns in another order."""
+
+    def shuffled(at):
+        turns = re.findall(rb"\d+", at.group())
+        dice.shuffle(turns)
+        return b"order = [" + b", ".join(turns) + b"]"
+
+    return TURNS.sub(shuffled, plan)
+
+
+def with_a_byte(plan, dice):
+    """Any byte in the place of one, or between two."""
+    at = dice.randrange(len(plan))
+    return plan[:at] + bytes([dice.randrange(256)]) + plan[at + dice.randrange(2) :]
+
+
+# Most changes keep a plan a plan.
+CHANGES, SHARES = (with_a_number, with_a_step, with_other_turns, with_a_byte), (12, 12, 6, 1)
+
+
+def changed_plans():
+    """The number of each changed plan, the plan, and a build to leave out."""
+    paths = sorted([*TOP.glob("plans/*.toml"), *TOP.glob("tests/runs/*.toml")])
+    plans = [path.read_bytes() for path in paths if path.stat().st_size < MOST_BYTES]
+    for number in range(PLANS):
+        dice = random.Random(number)
+        plan = plans[number % len(plans)]
+        build = dice.randrange(plan.count(b"[[build]]") or 1)
+        for change in dice.choices(CHANGES, SHARES, k=dice.randint(1, 4)):
+            plan = change(plan, dice)
+        yield number, plan, build
+
+
+REFUSED = re.compile(rb"plan (20 syntax|21 key|22 step [0-7] \d{1,4}|23 order \d{1,5}|24 limit)\n")
+FREE = re.compile(rb"free (\d+)\n")
+
+
+def map_of(text):
+    """The lines of a text that are those of no turn."""
+    return [line for line in text.splitlines(keepends=True) if b" = " not in line and not line.endswith(b" - idle\n")]
+
+
+def is_of(build, line):
+    return line.startswith(b"%d " % build)
+
+
+def without(build, lines):
+    """A map without a build: its lines are gone, and its pages are free."""
+    pages = sum(line.startswith(b"%d page " % build) for line in lines)
+    free = int(FREE.fullmatch(lines[-1])[1])
+    return b"".join(line for line in lines[:-1] if not is_of(build, line)) + b"free %d\n" % (free + pages)
+
+
+def fault_of_a_replay(status, out, err):
+    """There is a text that ends with its map, or nothing but one line on standard error."""
+    if status == 1:
+        return not REFUSED.fullmatch(err) or out != b""
+    return status != 0 or err != b"" or not FREE.fullmatch(out[out.rfind(b"free ") :])
+
+
+def fault_of_an_erasure(replayed, erased, build):
+    """Leaving a build out takes its lines from the map and frees its pages, and changes nothing else."""
+    if replayed[0] == 1:
+        return erased != replayed
+    if erased == (2, b"", b"erase names no build\n"):
+        return any(is_of(build, line) for line in replayed[1].splitlines())
+    return erased != (0, without(build, map_of(replayed[1])), b"")
+
+
+def fault_of_threads(replayed, ran):
+    """There is a text that ends with its audit, and a build that was refused has no line of the map: it has cleared itself."""
+    if replayed[0] == 1:
+        return ran != replayed
+    status, out, err = ran
+    refused = {line[:1] for line in out.splitlines() if b" = no " in line}
+    return status != 0 or err != b"" or not out.endswith(b"\naudit ok\n") or any(line[:1] in refused for line in map_of(out))
+
+
+def findings(ask, plan, build):
+    """Which answers to a plan are wrong. `ask(words, plan)` answers status, standard output and standard error."""
+    erase = (b"replay", b"--erase", b"%d" % build)
+    replayed, erased, ran = (ask(words, plan) for words in ((b"replay",), erase, (b"run",)))
+    if fault_of_a_replay(*replayed):
+        yield "replay", replayed
+    elif fault_of_an_erasure(replayed, erased, build):
+        yield f"replay --erase {build}", erased
+    elif fault_of_threads(replayed, ran):
+        yield "run", ran
