@@ -13,8 +13,6 @@ mod map;
 mod place;
 mod report;
 mod run;
-#[cfg(test)]
-mod tests;
 mod turn;
 
 pub use answer::TurnAnswer;

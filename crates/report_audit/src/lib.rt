@@ -11,8 +11,6 @@ mod command;
 pub mod law;
 mod line;
 mod pages;
-#[cfg(test)]
-mod tests;
 mod undo;
 
 pub use audit::{fit_all, fits};

@@ -12,8 +12,6 @@ mod report;
 mod standing;
 mod step;
 mod teller;
-#[cfg(test)]
-mod tests;
 mod worker;
 
 pub use report::{Answer, Asked, Line, Report, Stuck};

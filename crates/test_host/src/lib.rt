@@ -1,0 +1,22 @@
+//! Tests of the host by calls that no plan makes, or whose answers no plan prints: aborts, marks, recorded events, refusals
+//! and measurements, over both stores of pages; limits of settings, texts of refusals, and memory that is found.
+#![tactic(auto)]
+
+#[cfg(test)]
+mod aborts;
+#[cfg(test)]
+mod calls;
+#[cfg(test)]
+mod hosts;
+#[cfg(test)]
+mod marks;
+#[cfg(test)]
+mod measurement;
+#[cfg(test)]
+mod memory;
+#[cfg(test)]
+mod recorded;
+#[cfg(test)]
+mod refusals;
+#[cfg(test)]
+mod wanted;

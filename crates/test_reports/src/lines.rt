@@ -1,0 +1,30 @@
+//! Lines of reports, and builds.
+use granule_addr::BuildId;
+use realm_host::{Kind, Reply, Undone};
+use workers::{Answer, Asked, Line};
+
+/// A step is answered so.
+pub(crate) fn step(place: usize, answer: Answer) -> Line {
+    Line {
+        asked: Asked::Step(place),
+        answer,
+    }
+}
+
+/// A step has that reply.
+pub(crate) fn replied(place: usize, reply: Reply) -> Line {
+    step(place, Answer::Replied(reply))
+}
+
+/// An act is undone, which leaves so many open.
+pub(crate) fn undone(asked: Asked, kind: Kind, left: u16) -> Line {
+    Line {
+        asked,
+        answer: Answer::Undone(Undone { kind, left }),
+    }
+}
+
+/// The build of that number, modulo 8.
+pub(crate) fn build(number: u8) -> BuildId {
+    BuildId::new(number % 8).unwrap()
+}

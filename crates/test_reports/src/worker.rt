@@ -1,0 +1,259 @@
+//! Workers over a teller and a gate in the place of a host.
+use crate::lines;
+use crate::lines::{replied, step};
+use build_books::{Books, Mark};
+use build_commands::{Cmd, Refusal, Reply, Step};
+use granule_addr::{BuildId, RecNo};
+use realm_host::{Kind, Undone};
+use std::alloc::Global;
+use std::process::Abort;
+use std::test::Fail;
+use workers::{Answer, Asked, Gate, Line, Report, Stuck, Teller, work};
+
+// Accepts all questions but those two, counted from 0. An undo always leaves 1.
+#[derive(Drop)]
+struct Fake {
+    asked: usize,
+    refused: usize,
+    refused_later: usize,
+    mark: Mark,
+    above: u16,
+}
+
+impl Fake {
+    fn answer(&mut self) -> Result<(), Refusal> {
+        let question = self.asked;
+        self.asked = question.saturating_add(1);
+        if question == self.refused || question == self.refused_later {
+            return Err(Refusal::HistoryFull);
+        }
+        Ok(())
+    }
+}
+
+impl Teller for Fake {
+    ghost tells = { λ fake exchanges. Unit {0} };
+
+    ghost loan = { λ fake. 0 };
+
+    fn ask(&mut self, cmd: Cmd) -> Result<Reply, Refusal> {
+        let _cmd = cmd;
+        self.answer()?;
+        Ok(Reply::Done)
+    }
+
+    fn undo(&mut self) -> Result<Undone, Refusal> {
+        self.answer()?;
+        Ok(Undone {
+            kind: Kind::Delegate,
+            left: 1,
+        })
+    }
+
+    fn mark(&mut self) -> Result<Mark, Refusal> {
+        self.answer()?;
+        Ok(self.mark)
+    }
+
+    fn check_back(&mut self, mark: Mark) -> Result<u16, Refusal> {
+        let _mark = mark;
+        self.answer()?;
+        Ok(self.above)
+    }
+}
+
+// Lets so many turns pass.
+#[derive(Drop)]
+struct Turns(usize);
+
+impl Gate for Turns {
+    ghost passes = { λ gate build turn. Unit {0} };
+
+    ghost stops = { λ gate build turn. Unit {0} };
+
+    fn pass(&self, build: BuildId, turn: usize) -> Result<(), Stuck> {
+        let _build = build;
+        if turn < self.0 { Ok(()) } else { Err(Stuck) }
+    }
+}
+
+// What is refused, how many acts are above the mark, and how many turns come.
+#[derive(Clone, Copy)]
+struct Case {
+    refused: usize,
+    refused_later: usize,
+    above: u16,
+    turns: usize,
+}
+
+const NEVER: usize = 10_000;
+
+const ALL: Case = Case {
+    refused: NEVER,
+    refused_later: NEVER,
+    above: 0,
+    turns: NEVER,
+};
+
+fn done(place: usize) -> Line {
+    replied(place, Reply::Done)
+}
+
+fn undone(asked: Asked) -> Line {
+    lines::undone(asked, Kind::Delegate, 1)
+}
+
+fn exited(number: u16) -> Line {
+    Line {
+        asked: Asked::Exit(RecNo::new(number)),
+        answer: Answer::Replied(Reply::Done),
+    }
+}
+
+fn refused(place: usize) -> Line {
+    step(place, Answer::Refused(Refusal::HistoryFull))
+}
+
+fn undo_refused() -> Line {
+    Line {
+        asked: Asked::Undo,
+        answer: Answer::Refused(Refusal::HistoryFull),
+    }
+}
+
+fn delegate() -> Step {
+    Step::Ask(Cmd::Delegate { page: 0 })
+}
+
+fn enter(number: u16) -> Step {
+    Step::Ask(Cmd::Enter {
+        number: RecNo::new(number),
+    })
+}
+
+// A worker takes the steps, and has these lines then, and has ended or not.
+fn works(
+    rt: &impl Abort,
+    alloc: Global,
+    case: &Case,
+    steps: &[Step],
+    want: &[Line],
+    ended: bool,
+) -> Result<(), Fail> {
+    let build = BuildId::new(0).unwrap();
+    let books = Books::build(alloc, 1, 1, 0, 1, 16)?;
+    let mut fake = Fake {
+        asked: 0,
+        refused: case.refused,
+        refused_later: case.refused_later,
+        mark: books.mark_now(build),
+        above: case.above,
+    };
+    assert!(rt; steps.len() <= 16);
+    let lines = Vec::with_capacity(alloc, 2 * steps.len() + 1)?;
+    let mut report = Report { build, lines };
+    let told = work(&mut report, steps, &mut fake, &Turns(case.turns));
+    assert_eq!(rt; told.is_ok(), ended);
+    assert_eq!(rt; report.lines.as_slice(), want);
+    Ok(())
+}
+
+#[test]
+fn refused_step_is_followed_by_undos(rt: HostRuntime) -> Result<(), Fail> {
+    let steps = [delegate(), delegate(), delegate(), Step::Undo];
+    let case = Case { refused: 2, ..ALL };
+    let want = [
+        done(0),
+        done(1),
+        refused(2),
+        undone(Asked::Undo),
+        undone(Asked::Undo),
+    ];
+    works(&rt, rt.alloc(), &case, &steps, &want, true)
+}
+
+#[test]
+fn refused_undo_ends_it(rt: HostRuntime) -> Result<(), Fail> {
+    let steps = [delegate(), delegate(), delegate()];
+    let case = Case {
+        refused: 2,
+        refused_later: 3,
+        ..ALL
+    };
+    let want = [done(0), done(1), refused(2), undo_refused()];
+    works(&rt, rt.alloc(), &case, &steps, &want, true)
+}
+
+#[test]
+fn nothing_is_told_of_a_turn_that_does_not_come(rt: HostRuntime) -> Result<(), Fail> {
+    let steps = [delegate(), delegate(), delegate()];
+    let case = Case {
+        refused: 2,
+        turns: 4,
+        ..ALL
+    };
+    let want = [done(0), done(1), refused(2), undone(Asked::Undo)];
+    works(&rt, rt.alloc(), &case, &steps, &want, false)
+}
+
+#[test]
+fn abort_undoes_what_its_own_replies_count(rt: HostRuntime) -> Result<(), Fail> {
+    let steps = [delegate(), delegate(), Step::Abort, Step::Abort, Step::Back];
+    let want = [
+        done(0),
+        done(1),
+        undone(Asked::Step(2)),
+        undone(Asked::Step(2)),
+        step(3, Answer::Nothing),
+        step(4, Answer::Refused(Refusal::NothingToUndo)),
+    ];
+    works(&rt, rt.alloc(), &ALL, &steps, &want, true)
+}
+
+#[test]
+fn running_recs_exit_in_rising_number(rt: HostRuntime) -> Result<(), Fail> {
+    let steps = [enter(5), enter(3), delegate(), enter(5), Step::Abort];
+    let want = [
+        done(0),
+        done(1),
+        done(2),
+        done(3),
+        step(4, Answer::Refused(Refusal::RecRunning)),
+        exited(3),
+        exited(5),
+        undone(Asked::Undo),
+    ];
+    works(&rt, rt.alloc(), &ALL, &steps, &want, true)
+}
+
+#[test]
+fn way_back_is_no_longer_than_the_journal(rt: HostRuntime) -> Result<(), Fail> {
+    let steps = [delegate(), Step::Mark, delegate(), Step::Back, Step::Back];
+    let case = Case { above: 7, ..ALL };
+    let want = [
+        done(0),
+        step(1, Answer::Marked(0)),
+        done(2),
+        undone(Asked::Step(3)),
+        undone(Asked::Step(3)),
+        step(4, Answer::Nothing),
+    ];
+    works(&rt, rt.alloc(), &case, &steps, &want, true)
+}
+
+#[test]
+fn looking_back_takes_a_turn(rt: HostRuntime) -> Result<(), Fail> {
+    let steps = [delegate(), Step::Mark, delegate(), Step::Back];
+    let case = Case {
+        above: 2,
+        turns: 5,
+        ..ALL
+    };
+    let want = [
+        done(0),
+        step(1, Answer::Marked(0)),
+        done(2),
+        undone(Asked::Step(3)),
+    ];
+    works(&rt, rt.alloc(), &case, &steps, &want, false)
+}

@@ -1,0 +1,174 @@
+//! A host that builds share: what their seats are told, and how it is closed.
+ghost use Rattle.std.specs.Prelude.{◌≡◌, []};
+
+use crate::hosts::booted;
+use crate::wanted::equal;
+use builders::{Blanks, CloseFault, Lane, Seat, Shared};
+use granule_addr::{BuildId, PageOff};
+use page_arena::PlainStore;
+use realm_host::{Cmd, Host, Kind, Refusal, Reply, Undone};
+use std::alloc::Global;
+use std::marker::Brand;
+use std::process::Abort;
+use std::sync::Wait;
+use std::test::Fail;
+
+// A seat asks for a command, and is answered so.
+fn asks<
+    R: Wait + Abort,
+    L0: Lane,
+    L1: Lane,
+    L2: Lane,
+    L3: Lane,
+    L4: Lane,
+    L5: Lane,
+    L6: Lane,
+    L7: Lane,
+>(
+    rt: &R,
+    shared: &Shared<PlainStore, L0, L1, L2, L3, L4, L5, L6, L7>,
+    seat: &mut Seat<L0, L1, L2, L3, L4, L5, L6, L7>,
+    cmd: Cmd,
+    want: Result<Reply, Refusal>,
+) {
+    let answer = shared.call(rt, seat, cmd);
+    assert_eq!(rt; answer, want);
+}
+
+// A seat takes a page, fills it, reads what it filled, goes back to its mark, and is refused another's page.
+fn works<
+    R: Wait + Abort,
+    L0: Lane,
+    L1: Lane,
+    L2: Lane,
+    L3: Lane,
+    L4: Lane,
+    L5: Lane,
+    L6: Lane,
+    L7: Lane,
+>(
+    rt: &R,
+    shared: &Shared<PlainStore, L0, L1, L2, L3, L4, L5, L6, L7>,
+    seat: &mut Seat<L0, L1, L2, L3, L4, L5, L6, L7>,
+    value: u8,
+) -> Result<(), Fail> {
+    asks(
+        rt,
+        shared,
+        seat,
+        Cmd::Take { order: 0 },
+        Ok(Reply::FirstPage(0)),
+    );
+    asks(
+        rt,
+        shared,
+        seat,
+        Cmd::Fill { page: 0, value },
+        Ok(Reply::Done),
+    );
+    let offset = PageOff::new(7).ok_or("an offset")?;
+    asks(
+        rt,
+        shared,
+        seat,
+        Cmd::Peek { page: 0, offset },
+        Ok(Reply::Byte(value)),
+    );
+    let mark = shared.mark(rt, seat).ok().ok_or("a mark")?;
+    asks(rt, shared, seat, Cmd::Delegate { page: 0 }, Ok(Reply::Done));
+    assert_eq!(rt; shared.check_back(rt, seat, mark), Ok(1));
+    let back = shared.undo(rt, seat);
+    assert_eq!(rt;
+        back,
+        Ok(Undone {
+            kind: Kind::Delegate,
+            left: 1
+        })
+    );
+    let fill = Cmd::Fill { page: 1, value };
+    asks(rt, shared, seat, fill, Err(Refusal::NotLeased(1)));
+    equal(rt, "events", seat.count() as u64, 5);
+    Ok(())
+}
+
+// Two builds work on a shared host. It is closed with the seats of both, or with that of build 0 alone; at `Some` is what
+// was wrong then.
+fn closed<
+    R: Wait + Abort,
+    L0: Lane,
+    L1: Lane,
+    L2: Lane,
+    L3: Lane,
+    L4: Lane,
+    L5: Lane,
+    L6: Lane,
+    L7: Lane,
+>(
+    rt: &R,
+    alloc: Global,
+    blanks: Blanks,
+    host: Host<PlainStore>,
+    with_both: bool,
+) -> Result<Option<CloseFault>, Fail>
+    requires empty { host.history ≡ [] }
+    requires opened { host ≡ L0.opened }
+    requires name0 { blanks.blank0.name ≡ L0.name }
+    requires name1 { blanks.blank1.name ≡ L1.name }
+    requires name2 { blanks.blank2.name ≡ L2.name }
+    requires name3 { blanks.blank3.name ≡ L3.name }
+    requires name4 { blanks.blank4.name ≡ L4.name }
+    requires name5 { blanks.blank5.name ≡ L5.name }
+    requires name6 { blanks.blank6.name ≡ L6.name }
+    requires name7 { blanks.blank7.name ≡ L7.name }
+{
+    let (shared, mut seats) = match Shared::<PlainStore, L0, L1, L2, L3, L4, L5, L6, L7>::start(
+        alloc, blanks, host,
+    ) {
+        Ok(started) => started,
+        Err((error, _, _)) => return Err(error.into()),
+    };
+    equal(rt, "seats", seats.len() as u64, 2);
+    for seat in seats.iter_mut() {
+        let value = 10 + seat.build().number();
+        works(rt, &shared, seat, value)?;
+    }
+    if !with_both {
+        seats.pop();
+    }
+    let (fault, host) = match shared.close(seats) {
+        Ok(host) => (None, host),
+        Err((fault, host)) => (Some(fault), host),
+    };
+    equal(rt, "events", host.history().len() as u64, 10);
+    Ok(fault)
+}
+
+// As `closed`, on a host of four pages and two builds.
+fn booted_and_closed<R: Wait + Abort>(
+    rt: &R,
+    alloc: Global,
+    with_both: bool,
+) -> Result<Option<CloseFault>, Fail> {
+    let host = booted(alloc, 4, 2)?;
+    closed::<R, Brand, Brand, Brand, Brand, Brand, Brand, Brand, Brand>(
+        rt,
+        alloc,
+        Blanks::new(),
+        host,
+        with_both,
+    )
+}
+
+#[test]
+fn closes_with_each_seat(rt: HostRuntime) -> Result<(), Fail> {
+    assert_eq!(rt; booted_and_closed(&rt, rt.alloc(), true)?, None);
+    Ok(())
+}
+
+#[test]
+fn misses_a_seat(rt: HostRuntime) -> Result<(), Fail> {
+    let second = BuildId::new(1).unwrap();
+    let want = Some(CloseFault::SeatMissing(second));
+    assert_eq!(rt; booted_and_closed(&rt, rt.alloc(), false)?, want);
+    Ok(())
+}

@@ -1,0 +1,262 @@
+//! Workers of a shared host in threads of their own: what they are answered, and which build is told that has not ended.
+ghost use Rattle.std.specs.Prelude.{◌≡◌, [], All, IfOk};
+
+use crate::hosts::booted;
+use build_commands::Step;
+use builders::{Blanks, Lane, OpenGate, Seat, Shared, Worker, run_builds};
+use granule_addr::{BuildId, PageOff};
+use page_arena::PlainStore;
+use plan_runs::map_text;
+use realm_host::{Cmd, Host, Kind, Refusal, Reply, Undone};
+use realm_model::Rmi;
+use std::alloc::Global;
+use std::marker::{Brand, Send, Sync};
+use std::process::Abort;
+use std::sync::Wait;
+use std::test::Fail;
+use std::thread::Threads;
+use test_gates::{ForBuild0, Together};
+use workers::{Answer, Asked, Gate, Line, Report};
+
+// What came of builds that worked side by side: the build that has not ended, the reports by build, and the map.
+#[derive(Drop)]
+struct Outcome {
+    ends: Result<(), BuildId>,
+    reports: Vec<Report>,
+    map: String,
+}
+
+fn take(order: u8) -> Step {
+    Step::Ask(Cmd::Take { order })
+}
+
+fn delegate() -> Step {
+    Step::Ask(Cmd::Delegate { page: 0 })
+}
+
+fn fill(page: u16, value: u8) -> Step {
+    Step::Ask(Cmd::Fill { page, value })
+}
+
+// The offset modulo 4096.
+fn peek(offset: u16) -> Step {
+    let offset = PageOff::new(offset % 4096).unwrap();
+    Step::Ask(Cmd::Peek { page: 0, offset })
+}
+
+// Build 0 fills a page, build 1 is refused at its third step, and build 2 reads what it filled.
+fn three_plans(alloc: Global) -> Result<Vec<Vec<Step>>, Fail> {
+    let fills = Vec::from_array(alloc, [take(1), fill(0, 1)])?;
+    let is_refused = Vec::from_array(alloc, [take(1), delegate(), delegate(), fill(1, 5)])?;
+    let reads = Vec::from_array(alloc, [take(0), fill(0, 2), peek(4095)])?;
+    Ok(Vec::from_array(alloc, [fills, is_refused, reads])?)
+}
+
+// Both builds fill a page and read from it.
+fn two_plans(alloc: Global) -> Result<Vec<Vec<Step>>, Fail> {
+    let first = Vec::from_array(alloc, [take(0), fill(0, 9), peek(0)])?;
+    let second = Vec::from_array(alloc, [take(0), fill(0, 3), peek(0)])?;
+    Ok(Vec::from_array(alloc, [first, second])?)
+}
+
+fn answered(place: usize, answer: Answer) -> Line {
+    Line {
+        asked: Asked::Step(place),
+        answer,
+    }
+}
+
+fn replied(place: usize, reply: Reply) -> Line {
+    answered(place, Answer::Replied(reply))
+}
+
+// The first page of the build that was taken.
+fn taken() -> Line {
+    replied(0, Reply::FirstPage(0))
+}
+
+fn undone(kind: Kind, left: u16) -> Line {
+    Line {
+        asked: Asked::Undo,
+        answer: Answer::Undone(Undone { kind, left }),
+    }
+}
+
+// The report of a build has these lines.
+fn has_lines(rt: &impl Abort, outcome: &Outcome, number: u8, want: &[Line]) -> Result<(), Fail> {
+    let report = outcome.reports.get(number as usize).ok_or("a report")?;
+    assert_eq!(rt; report.build.number(), number);
+    assert_eq!(rt; report.lines.as_slice(), want);
+    Ok(())
+}
+
+// The worker of a seat that has asked nothing.
+fn worker_of<L0: Lane, L1: Lane, L2: Lane, L3: Lane, L4: Lane, L5: Lane, L6: Lane, L7: Lane>(
+    alloc: Global,
+    seat: Seat<L0, L1, L2, L3, L4, L5, L6, L7>,
+    steps: Vec<Step>,
+) -> Result<Worker<L0, L1, L2, L3, L4, L5, L6, L7>, Fail>
+    ensures { IfOk result (λ worker. worker.lines ≡ []) }
+{
+    if seat.count() > 0 || steps.len() > 1024 {
+        return Err("a new seat and few steps".into());
+    }
+    match Worker::build(alloc, seat, steps) {
+        Ok(worker) => Ok(worker),
+        Err((error, _, _)) => Err(error.into()),
+    }
+}
+
+// The workers of all seats, the last one first.
+fn workers_of<L0: Lane, L1: Lane, L2: Lane, L3: Lane, L4: Lane, L5: Lane, L6: Lane, L7: Lane>(
+    alloc: Global,
+    mut seats: Vec<Seat<L0, L1, L2, L3, L4, L5, L6, L7>>,
+    mut plans: Vec<Vec<Step>>,
+) -> Result<Vec<Worker<L0, L1, L2, L3, L4, L5, L6, L7>>, Fail>
+    ensures { IfOk result (λ workers. All (λ worker. worker.lines ≡ []) workers.items) }
+{
+    let mut workers = Vec::new(alloc);
+    for _ in 0..seats.len() {
+        let seat = seats.pop().ok_or("a seat")?;
+        let steps = plans.pop().ok_or("steps")?;
+        workers.push(worker_of(alloc, seat, steps)?)?;
+    }
+    Ok(workers)
+}
+
+// Builds work side by side, each by its plan.
+fn work_together<
+    R: Threads + Wait + Abort + Sync,
+    G: Gate + Sync,
+    L0: Lane + Send + Sync,
+    L1: Lane + Send + Sync,
+    L2: Lane + Send + Sync,
+    L3: Lane + Send + Sync,
+    L4: Lane + Send + Sync,
+    L5: Lane + Send + Sync,
+    L6: Lane + Send + Sync,
+    L7: Lane + Send + Sync,
+>(
+    rt: &R,
+    alloc: Global,
+    blanks: Blanks,
+    host: Host<PlainStore>,
+    gate: &G,
+    plans: Vec<Vec<Step>>,
+) -> Result<Outcome, Fail>
+    requires empty { host.history ≡ [] }
+    requires opened { host ≡ L0.opened }
+    requires name0 { blanks.blank0.name ≡ L0.name }
+    requires name1 { blanks.blank1.name ≡ L1.name }
+    requires name2 { blanks.blank2.name ≡ L2.name }
+    requires name3 { blanks.blank3.name ≡ L3.name }
+    requires name4 { blanks.blank4.name ≡ L4.name }
+    requires name5 { blanks.blank5.name ≡ L5.name }
+    requires name6 { blanks.blank6.name ≡ L6.name }
+    requires name7 { blanks.blank7.name ≡ L7.name }
+{
+    let (shared, seats) = match Shared::<PlainStore, L0, L1, L2, L3, L4, L5, L6, L7>::start(
+        alloc, blanks, host,
+    ) {
+        Ok(started) => started,
+        Err((error, _, _)) => return Err(error.into()),
+    };
+    let mut workers = workers_of(alloc, seats, plans)?;
+    let ends = run_builds(rt, &shared, workers.as_mut_slice(), gate);
+    let mut seats = Vec::new(alloc);
+    let mut reports = Vec::new(alloc);
+    for _ in 0..workers.len() {
+        let worker = workers.pop().ok_or("a worker")?;
+        let (seat, _steps, report) = worker.end();
+        seats.push(seat)?;
+        reports.push(report)?;
+    }
+    match shared.close(seats) {
+        Ok(host) => Ok(Outcome {
+            ends,
+            reports,
+            map: map_text(alloc, &host)?,
+        }),
+        Err((_fault, _host)) => Err("each trail is the history's".into()),
+    }
+}
+
+// As `work_together`, on a host of so many pages, with a build for each plan.
+fn boot_and_work<R: Threads + Wait + Abort + Sync, G: Gate + Sync>(
+    rt: &R,
+    alloc: Global,
+    pages: u16,
+    gate: &G,
+    plans: Vec<Vec<Step>>,
+) -> Result<Outcome, Fail> {
+    let builds = u8::try_from(plans.len()).ok().ok_or("few builds")?;
+    let host = booted(alloc, pages, builds)?;
+    work_together::<R, G, Brand, Brand, Brand, Brand, Brand, Brand, Brand, Brand>(
+        rt,
+        alloc,
+        Blanks::new(),
+        host,
+        gate,
+        plans,
+    )
+}
+
+#[test]
+fn one_of_three_is_refused(rt: HostRuntime) -> Result<(), Fail> {
+    let outcome = boot_and_work(&rt, rt.alloc(), 16, &OpenGate, three_plans(rt.alloc())?)?;
+    assert_eq!(rt; outcome.ends, Ok(()));
+    has_lines(&rt, &outcome, 0, &[taken(), replied(1, Reply::Done)])?;
+    let want = [
+        taken(),
+        replied(1, Reply::Done),
+        answered(2, Answer::Refused(Refusal::Rmi(Rmi::INPUT))),
+        undone(Kind::Delegate, 1),
+        undone(Kind::Take, 0),
+    ];
+    has_lines(&rt, &outcome, 1, &want)?;
+    let want = [taken(), replied(1, Reply::Done), replied(2, Reply::Byte(2))];
+    has_lines(&rt, &outcome, 2, &want)?;
+    let map = "0 page 0 UNDELEGATED 4096
+0 page 1 UNDELEGATED 0
+2 page 0 UNDELEGATED 8192
+free 13
+";
+    assert_eq!(rt; outcome.map.as_str(), map);
+    Ok(())
+}
+
+#[test]
+fn two_of_three_are_stopped(rt: HostRuntime) -> Result<(), Fail> {
+    let second = BuildId::new(1).unwrap();
+    let outcome = boot_and_work(&rt, rt.alloc(), 16, &ForBuild0, three_plans(rt.alloc())?)?;
+    assert_eq!(rt; outcome.ends, Err(second));
+    has_lines(&rt, &outcome, 0, &[taken(), replied(1, Reply::Done)])?;
+    has_lines(&rt, &outcome, 1, &[taken()])?;
+    has_lines(&rt, &outcome, 2, &[taken()])?;
+    let map = "0 page 0 UNDELEGATED 4096
+0 page 1 UNDELEGATED 0
+1 page 0 UNDELEGATED 0
+1 page 1 UNDELEGATED 0
+2 page 0 UNDELEGATED 0
+free 11
+";
+    assert_eq!(rt; outcome.map.as_str(), map);
+    Ok(())
+}
+
+#[test]
+fn each_reads_after_both_have_filled(rt: HostRuntime) -> Result<(), Fail> {
+    let gate = Together::from(&rt);
+    let outcome = boot_and_work(&rt, rt.alloc(), 2, &gate, two_plans(rt.alloc())?)?;
+    assert_eq!(rt; outcome.ends, Ok(()));
+    let want = [taken(), replied(1, Reply::Done), replied(2, Reply::Byte(9))];
+    has_lines(&rt, &outcome, 0, &want)?;
+    let want = [taken(), replied(1, Reply::Done), replied(2, Reply::Byte(3))];
+    has_lines(&rt, &outcome, 1, &want)?;
+    let map = "0 page 0 UNDELEGATED 36864
+1 page 0 UNDELEGATED 12288
+free 0
+";
+    assert_eq!(rt; outcome.map.as_str(), map);
+    Ok(())
+}

@@ -1,2 +1,0 @@
-pub mod Taken
-pub mod Sizes
