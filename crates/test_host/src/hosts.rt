@@ -1,7 +1,6 @@
 //! Hosts of which no build has done anything, over either store.
 ghost use Rattle.std.specs.Prelude.{◌≡◌, true, length, replicate};
 ghost use Rattle.granule_addr.specs.Page.{zero_page};
-ghost use Rattle.build_books.specs.Booted.{booted};
 
 use buddy::BuddyArena;
 use granule_addr::BuildId;
@@ -11,9 +10,7 @@ use std::alloc::Global;
 use std::process::Abort;
 
 /// A host over a plain store of so many pages.
-pub(crate) fn plain(rt: &impl Abort, alloc: Global, pages: u16, builds: u8) -> Host<PlainStore>
-    ensures { result ≡ booted pages 8 0 builds 1024 }
-{
+pub(crate) fn plain(rt: &impl Abort, alloc: Global, pages: u16, builds: u8) -> Host<PlainStore> {
     match PlainStore::build(alloc, pages) {
         Ok(store) => boot(rt, alloc, store, builds),
         Err(_) => panic!(rt; "there is no store of {pages} pages"),
@@ -21,9 +18,7 @@ pub(crate) fn plain(rt: &impl Abort, alloc: Global, pages: u16, builds: u8) -> H
 }
 
 /// A host over an arena of so many pages.
-pub(crate) fn arena(rt: &impl Abort, alloc: Global, pages: u16, builds: u8) -> Host<BuddyArena>
-    ensures { result ≡ booted pages 8 0 builds 1024 }
-{
+pub(crate) fn arena(rt: &impl Abort, alloc: Global, pages: u16, builds: u8) -> Host<BuddyArena> {
     match BuddyArena::build(alloc, pages) {
         Ok(store) => boot(rt, alloc, store, builds),
         Err(_) => panic!(rt; "there is no arena of {pages} pages"),
@@ -33,7 +28,6 @@ pub(crate) fn arena(rt: &impl Abort, alloc: Global, pages: u16, builds: u8) -> H
 fn boot<S: PageStore + Drop>(rt: &impl Abort, alloc: Global, store: S, builds: u8) -> Host<S>
     requires zero { S.page_bytes store ≡ replicate (length (S.page_bytes store)) zero_page }
     requires free { S.free_flags store ≡ replicate (length (S.page_bytes store)) true }
-    ensures { result ≡ booted (length (S.page_bytes store)) 8 0 builds 1024 }
 {
     let Some(settings) = Settings::new(8, 0, 1024, builds) else {
         panic!(rt; "there are no {builds} builds");

@@ -2,10 +2,9 @@
 use crate::calls;
 use crate::hosts::{arena, build, plain};
 use crate::wanted::holds;
-use granule_addr::RecNo;
 use page_arena::PageStore;
 use realm_host::{Cmd, Host, Kind, Mark, Refusal, Reply};
-use realm_model::{GranuleState, RealmState, Rmi};
+use realm_model::GranuleState;
 use std::process::Abort;
 
 // Build 0 takes four pages.
@@ -60,21 +59,6 @@ fn a_build_goes_back<S: PageStore + Drop>(rt: &impl Abort, mut host: Host<S>) {
     calls::free(rt, &host, 0);
 }
 
-fn a_rec_runs_above_the_mark<S: PageStore + Drop>(rt: &impl Abort, mut host: Host<S>) {
-    let number = RecNo::new(0);
-    calls::make_realm(rt, &mut host);
-    let mark = marks(rt, &mut host, 5);
-    calls::ask_for_rec(rt, &mut host, Ok(Reply::Number(number)));
-    calls::done(rt, &mut host, 0, Cmd::Activate);
-    calls::done(rt, &mut host, 0, Cmd::Enter { number });
-    goes_back(rt, &mut host, 0, &mark, Err(Refusal::RecRunning));
-    calls::done(rt, &mut host, 0, Cmd::Exit { number });
-    goes_back(rt, &mut host, 0, &mark, Ok(1));
-    calls::ask_for_rec(rt, &mut host, Err(Refusal::Rmi(Rmi::REALM)));
-    calls::page(rt, &host, 0, 2, GranuleState::Delegated, 0);
-    calls::realm(rt, &host, 0, RealmState::Active, 1);
-}
-
 fn no_mark<S: PageStore>(rt: &impl Abort, host: &mut Host<S>, number: u8, refusal: Refusal) {
     let answer = host.mark(build(number)).err();
     holds(rt, "no mark", answer == Some(refusal));
@@ -95,13 +79,11 @@ fn marks_are_refused<S: PageStore + Drop>(rt: &impl Abort, mut host: Host<S>) {
 #[test]
 fn over_a_plain_store(rt: HostRuntime) {
     a_build_goes_back(&rt, plain(&rt, rt.alloc(), 4, 1));
-    a_rec_runs_above_the_mark(&rt, plain(&rt, rt.alloc(), 4, 1));
     marks_are_refused(&rt, plain(&rt, rt.alloc(), 4, 1));
 }
 
 #[test]
 fn over_an_arena(rt: HostRuntime) {
     a_build_goes_back(&rt, arena(&rt, rt.alloc(), 4, 1));
-    a_rec_runs_above_the_mark(&rt, arena(&rt, rt.alloc(), 4, 1));
     marks_are_refused(&rt, arena(&rt, rt.alloc(), 4, 1));
 }

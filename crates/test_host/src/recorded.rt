@@ -1,13 +1,10 @@
 //! Recorded events, applied to another host.
-ghost use Rattle.std.specs.Prelude.{◌≡◌};
-ghost use Rattle.realm_host.specs.Recorded.{fresh_like};
-
 use crate::calls;
 use crate::hosts::{arena, build, plain};
-use crate::wanted::{equal, holds};
+use crate::wanted::holds;
 use granule_addr::{Gran, Order};
 use page_arena::PageStore;
-use realm_host::{Host, apply_without};
+use realm_host::Host;
 use realm_model::{Act, Event};
 use std::process::Abort;
 
@@ -47,49 +44,12 @@ fn only_legal_events_are_applied<S: PageStore + Drop>(rt: &impl Abort, mut host:
     calls::free(rt, &host, 4);
 }
 
-// A fresh host gets the history and the world of one of two builds. The bytes of that build's page of memory have that sum.
-fn is_left_out<S: PageStore, T: PageStore + Drop>(
-    rt: &impl Abort,
-    host: &Host<S>,
-    mut fresh: Host<T>,
-    left_out: u8,
-    other: u8,
-    sum: u32,
-)
-    requires { fresh ≡ fresh_like host.now }
-{
-    let is_applied = apply_without(host, build(left_out), &mut fresh);
-    holds(rt, "applied", is_applied);
-    equal(rt, "events", fresh.history().len() as u64, 11);
-    for event in fresh.history() {
-        holds(rt, "of the other build", event.build == build(other));
-    }
-    calls::is_guest(rt, host, other, sum);
-    calls::is_guest(rt, &fresh, other, sum);
-    calls::is_gone(rt, &fresh, left_out);
-    calls::free(rt, &fresh, 8);
-}
-
 #[test]
 fn over_a_plain_store(rt: HostRuntime) {
-    let alloc = rt.alloc();
-    only_legal_events_are_applied(&rt, plain(&rt, alloc, 4, 2));
-    let mut host = plain(&rt, alloc, 16, 2);
-    calls::two_guests(&rt, &mut host);
-    is_left_out(&rt, &host, plain(&rt, alloc, 16, 2), 1, 0, 28_672);
-    is_left_out(&rt, &host, plain(&rt, alloc, 16, 2), 0, 1, 36_864);
-    is_left_out(&rt, &host, arena(&rt, alloc, 16, 2), 1, 0, 28_672);
-    is_left_out(&rt, &host, arena(&rt, alloc, 16, 2), 0, 1, 36_864);
+    only_legal_events_are_applied(&rt, plain(&rt, rt.alloc(), 4, 2));
 }
 
 #[test]
 fn over_an_arena(rt: HostRuntime) {
-    let alloc = rt.alloc();
-    only_legal_events_are_applied(&rt, arena(&rt, alloc, 4, 2));
-    let mut host = arena(&rt, alloc, 16, 2);
-    calls::two_guests(&rt, &mut host);
-    is_left_out(&rt, &host, arena(&rt, alloc, 16, 2), 1, 0, 28_672);
-    is_left_out(&rt, &host, arena(&rt, alloc, 16, 2), 0, 1, 36_864);
-    is_left_out(&rt, &host, plain(&rt, alloc, 16, 2), 1, 0, 28_672);
-    is_left_out(&rt, &host, plain(&rt, alloc, 16, 2), 0, 1, 36_864);
+    only_legal_events_are_applied(&rt, arena(&rt, rt.alloc(), 4, 2));
 }

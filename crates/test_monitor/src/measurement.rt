@@ -1,39 +1,12 @@
-//! Events of measurements, and the measurements that they lead to.
-use granule_addr::{Gran, IpaGran, IpaWidth, RecNo, Root, Vmid};
-use realm_objects::{RealmDesc, data_event, extend_measurement, rec_event, ripas_event};
-use std::process::Abort;
+//! The bytes by which an event is measured.
+use granule_addr::{IpaGran, RecNo};
+use realm_objects::{data_event, rec_event, ripas_event};
 
-// The digests below are Python's hashlib's, of bytes written out by hand.
-
-// SHA-256 of 32 zeros and 03 00 00 00 00
-pub const AFTER_REC_0: [u8; 32] = [
-    0x1c, 0x49, 0x0e, 0xd8, 0x91, 0xe5, 0xed, 0x4a, 0x59, 0xf5, 0x54, 0x93, 0xa3, 0x79, 0x7e, 0xa2,
-    0xf7, 0x9c, 0x54, 0x63, 0xb8, 0x02, 0x7a, 0xfc, 0x24, 0x80, 0xc7, 0x5b, 0xa2, 0x59, 0x83, 0x3b,
-];
-
-// SHA-256 of AFTER_REC_0 and 03 00 00 00 01
-pub const AFTER_REC_1: [u8; 32] = [
-    0x52, 0x40, 0x6e, 0x2e, 0xf2, 0xe5, 0xfd, 0xc7, 0x01, 0xf6, 0x4e, 0xe4, 0x40, 0xef, 0xf9, 0x01,
-    0xc8, 0x69, 0x36, 0xf5, 0x54, 0x8a, 0x22, 0x82, 0xdc, 0x5d, 0xd6, 0xf5, 0x8a, 0x3c, 0x8c, 0xcd,
-];
-
-// 01 03 ff ff ff, and SHA-256 of 4,096 bytes 5a
+// 01 03 ff ff ff, and SHA-256 of 4,096 bytes 5a, by Python's hashlib
 const DATA_EVENT: [u8; 37] = [
     0x01, 0x03, 0xff, 0xff, 0xff, //
     0xf3, 0x02, 0x95, 0x7d, 0xa5, 0x22, 0x09, 0x38, 0xa7, 0xe3, 0xe5, 0x1a, 0x87, 0x18, 0xc7, 0x9b,
     0x9e, 0x00, 0xdc, 0x13, 0xab, 0x21, 0x19, 0xe8, 0xcf, 0xc9, 0x78, 0xf0, 0x41, 0x72, 0x03, 0x82,
-];
-
-// SHA-256 of AFTER_REC_1 and DATA_EVENT
-const AFTER_DATA: [u8; 32] = [
-    0x53, 0x7b, 0x12, 0x0d, 0x62, 0x9c, 0x34, 0x44, 0x57, 0xa2, 0x94, 0x6e, 0x7f, 0x54, 0xce, 0x32,
-    0xad, 0x4e, 0xaf, 0xbd, 0xe8, 0x91, 0x17, 0xbc, 0xc1, 0xe1, 0xda, 0x71, 0x4b, 0xba, 0xfa, 0x04,
-];
-
-// SHA-256 of AFTER_DATA and 02 03 ff fe 00 00 00 02 00
-const AFTER_RIPAS: [u8; 32] = [
-    0x9f, 0xab, 0xfd, 0xa4, 0x52, 0x8a, 0xc0, 0xd2, 0x9c, 0xe4, 0x41, 0x48, 0x1c, 0xc5, 0xa8, 0x2e,
-    0xf5, 0x14, 0xfd, 0xe4, 0x9d, 0xf2, 0x66, 0xc2, 0xe2, 0x76, 0xb4, 0xd0, 0x25, 0x2a, 0xa7, 0xad,
 ];
 
 #[test]
@@ -46,36 +19,4 @@ fn events_are_big_endian(rt: HostRuntime) {
     assert_eq!(rt; data_event(last, &[0x5a; 4096]), DATA_EVENT);
     assert_eq!(rt; ripas_event(first, 512), [2, 3, 0xff, 0xfe, 0, 0, 0, 2, 0]);
     assert_eq!(rt; rec_event(RecNo::new(258)), [3, 0, 0, 1, 2]);
-}
-
-// An event leads from one measurement to the next.
-fn leads(rt: &impl Abort, from: [u8; 32], event: &[u8], to: [u8; 32]) {
-    assert_eq!(rt; extend_measurement(&from, event), to);
-}
-
-// Two RECs, a page of data, and 512 pages of RAM.
-#[test]
-fn measurements_follow_one_another(rt: HostRuntime) {
-    leads(&rt, [0; 32], &[3, 0, 0, 0, 0], AFTER_REC_0);
-    leads(&rt, AFTER_REC_0, &[3, 0, 0, 0, 1], AFTER_REC_1);
-    leads(&rt, AFTER_REC_1, &DATA_EVENT, AFTER_DATA);
-    let ripas = [2, 3, 0xff, 0xfe, 0, 0, 0, 2, 0];
-    leads(&rt, AFTER_DATA, &ripas, AFTER_RIPAS);
-}
-
-// A realm has that measurement.
-fn is_measured(rt: &impl Abort, realm: &RealmDesc, want: [u8; 32]) {
-    assert_eq!(rt; *realm.measurement(), want);
-}
-
-#[test]
-fn a_new_realm_is_measured(rt: HostRuntime) {
-    let vmid = Vmid::new(7).unwrap();
-    let first = Gran::new(5, 8).unwrap();
-    let width = IpaWidth::least();
-    let mut realm = RealmDesc::new(vmid, Root { first, width });
-    is_measured(&rt, &realm, [0; 32]);
-    let boot = realm.next_rec();
-    realm.measure(&rec_event(boot));
-    is_measured(&rt, &realm, AFTER_REC_0);
 }

@@ -1,8 +1,6 @@
-//! Tests of the stores of pages: worked rows, and long random sequences beside a plain list of flags.
+//! Tests of the stores of pages, by worked rows. What a store answers to any calls is in the contract of `PageStore`.
 #![tactic(auto)]
 
-#[cfg(test)]
-mod beside;
 #[cfg(test)]
 mod blocks;
 #[cfg(test)]
@@ -10,8 +8,8 @@ mod bytes;
 #[cfg(test)]
 mod names;
 #[cfg(test)]
-mod random;
+mod sizes;
 #[cfg(test)]
-mod sequences;
+mod visits;
 #[cfg(test)]
 mod wanted;

@@ -1,9 +1,0 @@
-use Rattle.std.proofs.Common.{sym, subst}
-use Rattle.rmi_monitor.specs.View.{MonitorView, IsRec}
-use Rattle.test_monitor.proofs.Taken.{all_taken_on_rec}
-use Rattle.test_monitor.proofs.bench.Bench.write.Goals as goal
-
-pub invariant_of-self : goal.invariant_of-self
-invariant_of-self g c =
-    all_taken_on_rec _ c.guest_write.result c.self.inside.monitor _ c.granule.result c.args.number c.in-Some.rec 8 c.guest_write.ensures
-    (subst (λ (m : MonitorView). IsRec m.machine c.granule.result c.args.number c.in-Some.rec) (sym c.self.view_is) c.in-Some.ensures.0) c.self.invariant

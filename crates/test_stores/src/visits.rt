@@ -1,0 +1,44 @@
+//! How many orders a call of the arena looks at.
+use crate::names::order;
+use crate::wanted::{equal, holds};
+use buddy::BuddyArena;
+use page_arena::PageStore;
+use std::process::Abort;
+
+// The last call looked at so many orders.
+fn visited(rt: &impl Abort, arena: &BuddyArena, count: u64) {
+    equal(rt, "visits", arena.visits() as u64, count);
+}
+
+// A page is taken and given back, and each call looks at so many orders.
+#[tactic(auto, using(page_arena::specs::Blocks::taken_block))]
+fn comes_and_goes(rt: &impl Abort, arena: &mut BuddyArena, count: u64) {
+    let one = order(0);
+    let Some(page) = arena.take(one) else {
+        panic!(rt; "no page is free");
+    };
+    visited(rt, arena, count);
+    arena.give(page, one);
+    visited(rt, arena, count);
+}
+
+#[test]
+fn of_512_pages(rt: HostRuntime) {
+    let Ok(mut arena) = BuddyArena::build(rt.alloc(), 512) else {
+        panic!(rt; "there is no arena");
+    };
+    visited(&rt, &arena, 0);
+    comes_and_goes(&rt, &mut arena, 10);
+    holds(&rt, "all pages", arena.take(order(9)).is_some());
+    visited(&rt, &arena, 1);
+    holds(&rt, "no page is left", arena.take(order(0)).is_none());
+    visited(&rt, &arena, 0);
+}
+
+#[test]
+fn of_one_page(rt: HostRuntime) {
+    let Ok(mut arena) = BuddyArena::build(rt.alloc(), 1) else {
+        panic!(rt; "there is no arena");
+    };
+    comes_and_goes(&rt, &mut arena, 1);
+}
