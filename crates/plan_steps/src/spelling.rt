@@ -1,21 +1,101 @@
 //! Steps as plans and turn lines spell them.
+ghost use Rattle.std.specs.Prelude.{◌≡◌, ◌∷◌, ◌≤◌, length};
+ghost use Rattle.arrayvec.specs.ArrayVec.{array_vec_len};
+ghost use Rattle.plan_steps.specs.Written.{written_cmd};
+
 use crate::step::PlanStep;
+use arrayvec::ArrayVec;
 use build_commands::{Cmd, Step};
 use std::fmt;
 
-/// Each page in decimal behind one space.
-#[derive(Clone, Copy)]
-struct Pages<'a>(&'a [u16]);
+/// As many numbers as a command can have: the page of a REC, and 16 auxiliaries.
+const MOST_NUMBERS: usize = 17;
 
-impl fmt::Display for Pages<'_> {
+// The word of a command.
+fn word_of(cmd: &Cmd) -> &'static str
+    ensures { result.now ≡ (written_cmd cmd.now).word }
+{
+    match cmd {
+        Cmd::Take { .. } => "take",
+        Cmd::Fill { .. } => "fill",
+        Cmd::Peek { .. } => "peek",
+        Cmd::Delegate { .. } => "delegate",
+        Cmd::Realm { .. } => "realm",
+        Cmd::Rtt { .. } => "rtt",
+        Cmd::Ripas { .. } => "ripas",
+        Cmd::Data { .. } => "data",
+        Cmd::Unknown { .. } => "unknown",
+        Cmd::Rec { .. } => "rec",
+        Cmd::Activate => "activate",
+        Cmd::Enter { .. } => "enter",
+        Cmd::Exit { .. } => "exit",
+        Cmd::Poke { .. } => "poke",
+    }
+}
+
+fn numbers(values: &[u32]) -> ArrayVec<u32, MOST_NUMBERS>
+    requires { length values.now ≤ 17 }
+    ensures { result.items ≡ values.now }
+{
+    let mut numbers = ArrayVec::new();
+    numbers.try_extend_from_slice(values).unwrap();
+    numbers
+}
+
+// The page of a REC, and its auxiliaries.
+fn rec_numbers(page: u16, auxiliaries: &[u16]) -> ArrayVec<u32, MOST_NUMBERS>
+    requires { length auxiliaries.now ≤ 16 }
+    ensures { result.items ≡ page ∷ auxiliaries.now }
+{
+    let mut numbers = numbers(&[page as u32]);
+    for auxiliary in auxiliaries {
+        numbers.push(*auxiliary as u32);
+    }
+    numbers
+}
+
+// The numbers of a command, in the order of its text.
+fn numbers_of(cmd: &Cmd) -> ArrayVec<u32, MOST_NUMBERS>
+    ensures { result.items ≡ (written_cmd cmd.now).numbers }
+{
+    match cmd {
+        Cmd::Take { order } => numbers(&[*order as u32]),
+        Cmd::Fill { page, value } => numbers(&[*page as u32, *value as u32]),
+        Cmd::Peek { page, offset } => numbers(&[*page as u32, offset.number() as u32]),
+        Cmd::Delegate { page } => numbers(&[*page as u32]),
+        Cmd::Realm { rd, root, width } => numbers(&[*rd as u32, *root as u32, *width as u32]),
+        Cmd::Rtt { page, ipa, level } => numbers(&[*page as u32, *ipa, *level as u32]),
+        Cmd::Ripas { ipa, count } => numbers(&[*ipa, *count as u32]),
+        Cmd::Data { page, ipa, source } => numbers(&[*page as u32, *ipa, *source as u32]),
+        Cmd::Unknown { page, ipa } => numbers(&[*page as u32, *ipa]),
+        Cmd::Rec { page, auxiliaries } => rec_numbers(*page, auxiliaries.as_slice()),
+        Cmd::Activate => ArrayVec::new(),
+        Cmd::Enter { number } | Cmd::Exit { number } => numbers(&[number.number() as u32]),
+        Cmd::Poke {
+            number,
+            ipa,
+            offset,
+            value,
+        } => {
+            let (number, offset) = (number.number() as u32, offset.number() as u32);
+            numbers(&[number, *ipa, offset, *value as u32])
+        }
+    }
+}
+
+/// Each number in decimal behind one space.
+#[derive(Clone, Copy)]
+struct NumbersText<'a>(&'a [u32]);
+
+impl fmt::Display for NumbersText<'_> {
     ghost use Rattle.std.specs.Prelude.{Some};
     ghost use Rattle.number_text.specs.Numbers.{spelled_numbers};
 
-    ghost output = { λ p. Some (spelled_numbers p.0.now) };
+    ghost output = { λ n. Some (spelled_numbers n.0.now) };
 
     fn fmt<W: fmt::Write>(&self, f: &mut fmt::Formatter<W>) -> fmt::Result {
-        for page in self.0 {
-            write!(f, " {page}")?;
+        for number in self.0 {
+            write!(f, " {number}")?;
         }
         Ok(())
     }
@@ -32,33 +112,8 @@ impl fmt::Display for CmdText<'_> {
     ghost output = { λ c. Some (spelling_of (written_cmd c.0.now)) };
 
     fn fmt<W: fmt::Write>(&self, f: &mut fmt::Formatter<W>) -> fmt::Result {
-        match self.0 {
-            Cmd::Take { order } => write!(f, "take {order}"),
-            Cmd::Fill { page, value } => write!(f, "fill {page} {value}"),
-            Cmd::Peek { page, offset } => write!(f, "peek {page} {}", offset.number()),
-            Cmd::Delegate { page } => write!(f, "delegate {page}"),
-            Cmd::Realm { rd, root, width } => write!(f, "realm {rd} {root} {width}"),
-            Cmd::Rtt { page, ipa, level } => write!(f, "rtt {page} {ipa} {level}"),
-            Cmd::Ripas { ipa, count } => write!(f, "ripas {ipa} {count}"),
-            Cmd::Data { page, ipa, source } => write!(f, "data {page} {ipa} {source}"),
-            Cmd::Unknown { page, ipa } => write!(f, "unknown {page} {ipa}"),
-            Cmd::Rec { page, auxiliaries } => {
-                write!(f, "rec {page}{}", Pages(auxiliaries.as_slice()))
-            }
-            Cmd::Activate => write!(f, "activate"),
-            Cmd::Enter { number } => write!(f, "enter {}", number.number()),
-            Cmd::Exit { number } => write!(f, "exit {}", number.number()),
-            Cmd::Poke {
-                number,
-                ipa,
-                offset,
-                value,
-            } => {
-                let number = number.number();
-                let offset = offset.number();
-                write!(f, "poke {number} {ipa} {offset} {value}")
-            }
-        }
+        let numbers = numbers_of(self.0);
+        write!(f, "{}{}", word_of(self.0), NumbersText(numbers.as_slice()))
     }
 }
 

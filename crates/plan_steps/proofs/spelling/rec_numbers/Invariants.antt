@@ -1,0 +1,6 @@
+use Rattle.std.proofs.Common.{◌≡◌, ◌∷◌, ◌+◌, take}
+use Rattle.arrayvec.specs.ArrayVec.{array_vec_len}
+use Rattle.plan_steps.proofs.spelling.rec_numbers.Given as goal
+
+abbrev pub invariant-loop-auxiliary : goal.invariant-loop-auxiliary
+invariant-loop-auxiliary l = l.numbers.items ≡ l.page ∷ take l.auxiliary-index l.auxiliaries
