@@ -9,6 +9,7 @@ import shutil
 import tempfile
 import threading
 import time
+from concurrent.futures import FIRST_COMPLETED, ThreadPoolExecutor, wait
 
 FOLDER = "out/statements"
 
@@ -66,36 +67,83 @@ def make(crate, made, work):
     return is_well, said
 
 
-def prove(toolchain, crate, failed, jobs, progress):
+class Lanes:
+    """Runs the work of crates side by side, each after that of its libraries.
+
+    The crate with the longest way of others above it comes first. It gets as many jobs as there are processors, and the others
+    fill what it leaves free: they run with less priority, as many as memory holds."""
+
+    def __init__(self, toolchain):
+        self.rt, self.processors, self.memory = toolchain.rt, toolchain.rt.processors(), 0.85 * toolchain.rt.free()
+
+    def run(self, crates, work):
+        """Does `work(crate, jobs, nice, failed)` for each crate, where `failed` has its libraries whose work failed. Returns
+        whether all went well."""
+        left, way, waits, running, went = list(crates), ways_above(crates), waits_of(crates), {}, {}
+        with ThreadPoolExecutor(len(left) or 1) as pool:
+            while left or running:
+                for crate in sorted(left, key=lambda it: -way[it.name]):
+                    if all(name in went for name in waits[crate.name]):
+                        is_first = way[crate.name] >= max(way[it.name] for it in [crate, *running.values()])
+                        jobs = self.processors if is_first else max(self.processors // 2, 1)
+                        if self.has_room(crate, jobs, running.values()):
+                            left.remove(crate)
+                            failed = [name for name in waits[crate.name] if not went[name]]
+                            running[pool.submit(work, crate, jobs, 0 if is_first else 10, failed)] = crate
+                for it in wait(running, return_when=FIRST_COMPLETED).done:
+                    went[running.pop(it).name] = it.result()
+        return all(went.values())
+
+    def has_room(self, crate, jobs, running):
+        # (a job more takes about six tenths of what the first one takes)
+        held = sum(self.rt.need(it) * (1 + 0.6 * (self.processors // 2 - 1)) for it in running)
+        return not running or held + self.rt.need(crate) * (1 + 0.6 * (jobs - 1)) <= self.memory
+
+
+def waits_of(crates):
+    """Returns of each crate, by its name, those of these crates that it stands on."""
+    names = {it.name for it in crates}
+    return {it.name: [below.name for below in it.below() if below.name in names] for it in crates}
+
+
+def ways_above(crates):
+    """Returns of each crate, by its name, the lines of the longest way from it up through these crates."""
+    waits, lines = waits_of(crates), {it.name: it.count(rb"\n") for it in crates}
+    way = dict(lines)
+    # (a crate comes after those that it stands on)
+    for crate in reversed(crates):
+        for name in waits[crate.name]:
+            way[name] = max(way[name], lines[name] + way[crate.name])
+    return way
+
+
+def prove(toolchain, crate, jobs, nice, failed, progress):
     """Proves a library. Returns whether it is proved."""
     if failed:
         progress.say(crate.name, f"not tried, since {failed[0]} is not proved")
         return False
     began = time.monotonic()
     words = lambda it: ["build", *it.words(["--jobs", str(jobs)], keeps=False), "--statements", "-o", it.rlib]
-    is_proved, said = make(crate, crate.rlib, lambda it: it.call(toolchain.library.RATTLE, *words(it)) == 0)
+    call = lambda it: it.call("nice", "-n", str(nice), toolchain.library.RATTLE, *words(it)) == 0
+    is_proved, said = make(crate, crate.rlib, call)
     if not is_proved:
         print(said, end="", flush=True)
     progress.say(crate.name, f"proved in {time.monotonic() - began:.0f} s" if is_proved else "NOT PROVED")
     return is_proved
 
 
-def prove_all(toolchain, libraries, more=0):
-    """Proves what is not proved yet. Returns the progress, which counts `more` steps, and whether all is proved."""
+def prove_all(toolchain, libraries, programs=(), build=None):
+    """Proves what is not proved yet, and does `build(program, jobs, nice, failed, progress)` for programs. Returns whether all
+    went well."""
     left = [it for it in libraries if not is_stamped(it, it.rlib)]
-    progress = Progress(len(left) + more)
-    if not left:
-        return progress, True
-    print(f"{len(left)} of {len(libraries)} libraries have to be proved, those with the most above them first", flush=True)
-    names, tasks = {it.name for it in left}, {}
-    for crate in left:
-        waits = [it.name for it in crate.below() if it.name in names]
-        call = lambda given, jobs, it=crate, on=waits: prove(toolchain, it, [name for name in on if not given[name]], jobs, progress)
-        tasks[crate.name] = (waits, crate.count(rb"\n"), toolchain.rt.need(crate), call)
+    progress = Progress(len(left) + len(programs))
+    if left:
+        print(f"{len(left)} of {len(libraries)} libraries have to be proved, those with the most above them first", flush=True)
+    work = lambda it, *how: build(it, *how, progress) if it in programs else prove(toolchain, it, *how, progress)
     # Until these are closed, no other rt works in the libraries' folders.
     held = toolchain.library.lock(libraries)
     try:
-        return progress, all(toolchain.rt.in_lanes(tasks).values())
+        return Lanes(toolchain).run([*left, *programs], work)
     finally:
         for it in held:
             os.close(it)
