@@ -5,7 +5,9 @@
 #![tactic(auto)]
 
 mod number;
+mod operands;
 mod range;
 
 pub use number::{cut_at_space, numbers_of};
+pub use operands::{Operand, four_operands, one_operand, three_operands, two_operands};
 pub use range::{at_most, up_to};

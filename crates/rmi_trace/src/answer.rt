@@ -9,7 +9,7 @@ use arrayvec::ArrayVec;
 pub const MOST_BYTES: usize = 128;
 
 /// The state of a granule.
-#[derive(Debug, Clone, Copy)]
+#[derive(Clone, Copy)]
 pub enum State {
     Undelegated,
     Delegated,
@@ -21,21 +21,21 @@ pub enum State {
 }
 
 /// The state of a realm.
-#[derive(Debug, Clone, Copy)]
+#[derive(Clone, Copy)]
 pub enum RealmState {
     New,
     Active,
 }
 
 /// The state of a REC.
-#[derive(Debug, Clone, Copy)]
+#[derive(Clone, Copy)]
 pub enum RecState {
     Ready,
     Running,
 }
 
 /// What the monitor answers.
-#[derive(Debug, Drop)]
+#[derive(Drop)]
 pub enum Answer {
     /// The result word of a command.
     ResultWord(u64),

@@ -1,134 +1,157 @@
 //! The command that a word and its numbers are.
-ghost use Rattle.std.specs.Prelude.{◌≡◌};
+ghost use Rattle.std.specs.Prelude.{◌≡◌, codes};
 ghost use Rattle.rmi_trace.specs.Commands.{rec_create_at, granule_command_at, realm_command_at, table_command_at, data_command_at, rec_command_at, command_at};
 
 use crate::request::Command;
-use number_text::{at_most, up_to};
+use number_text::{Operand, four_operands, one_operand, three_operands, two_operands, up_to};
 
-// The greatest number of each type of operand.
-pub const U8: u32 = 255;
+fn granule_delegate(numbers: &[u32]) -> Option<Command>
+    ensures { result ≡ granule_command_at (codes "granule_delegate") numbers.now }
+{
+    let granule = one_operand(numbers)?;
+    Some(Command::GranuleDelegate { granule })
+}
 
-pub const U16: u32 = 65_535;
+fn granule_undelegate(numbers: &[u32]) -> Option<Command>
+    ensures { result ≡ granule_command_at (codes "granule_undelegate") numbers.now }
+{
+    let granule = one_operand(numbers)?;
+    Some(Command::GranuleUndelegate { granule })
+}
 
-pub const U32: u32 = 4_294_967_295;
+fn host_fill(numbers: &[u32]) -> Option<Command>
+    ensures { result ≡ granule_command_at (codes "host_fill") numbers.now }
+{
+    let (granule, value) = two_operands(numbers)?;
+    Some(Command::HostFill { granule, value })
+}
+
+fn host_peek(numbers: &[u32]) -> Option<Command>
+    ensures { result ≡ granule_command_at (codes "host_peek") numbers.now }
+{
+    let (granule, offset) = two_operands(numbers)?;
+    Some(Command::HostPeek { granule, offset })
+}
 
 fn granule_command(word: &str, numbers: &[u32]) -> Option<Command>
     ensures { result ≡ granule_command_at word.now numbers.now }
 {
     match word {
-        "granule_delegate" => {
-            let [granule] = at_most(numbers, [U16])?;
-            Some(Command::GranuleDelegate {
-                granule: granule as u16,
-            })
-        }
-        "granule_undelegate" => {
-            let [granule] = at_most(numbers, [U16])?;
-            Some(Command::GranuleUndelegate {
-                granule: granule as u16,
-            })
-        }
-        "host_fill" => {
-            let [granule, value] = at_most(numbers, [U16, U8])?;
-            Some(Command::HostFill {
-                granule: granule as u16,
-                value: value as u8,
-            })
-        }
-        "host_peek" => {
-            let [granule, offset] = at_most(numbers, [U16, U16])?;
-            Some(Command::HostPeek {
-                granule: granule as u16,
-                offset: offset as u16,
-            })
-        }
+        "granule_delegate" => granule_delegate(numbers),
+        "granule_undelegate" => granule_undelegate(numbers),
+        "host_fill" => host_fill(numbers),
+        "host_peek" => host_peek(numbers),
         _ => None,
     }
+}
+
+fn realm_create(numbers: &[u32]) -> Option<Command>
+    ensures { result ≡ realm_command_at (codes "realm_create") numbers.now }
+{
+    let (rd, root, vmid, width) = four_operands(numbers)?;
+    Some(Command::RealmCreate {
+        rd,
+        root,
+        vmid,
+        width,
+    })
+}
+
+fn realm_activate(numbers: &[u32]) -> Option<Command>
+    ensures { result ≡ realm_command_at (codes "realm_activate") numbers.now }
+{
+    let rd = one_operand(numbers)?;
+    Some(Command::RealmActivate { rd })
+}
+
+fn realm_destroy(numbers: &[u32]) -> Option<Command>
+    ensures { result ≡ realm_command_at (codes "realm_destroy") numbers.now }
+{
+    let rd = one_operand(numbers)?;
+    Some(Command::RealmDestroy { rd })
 }
 
 fn realm_command(word: &str, numbers: &[u32]) -> Option<Command>
     ensures { result ≡ realm_command_at word.now numbers.now }
 {
     match word {
-        "realm_create" => {
-            let [rd, root, vmid, width] = at_most(numbers, [U16, U16, U8, U8])?;
-            Some(Command::RealmCreate {
-                rd: rd as u16,
-                root: root as u16,
-                vmid: vmid as u8,
-                width: width as u8,
-            })
-        }
-        "realm_activate" => {
-            let [rd] = at_most(numbers, [U16])?;
-            Some(Command::RealmActivate { rd: rd as u16 })
-        }
-        "realm_destroy" => {
-            let [rd] = at_most(numbers, [U16])?;
-            Some(Command::RealmDestroy { rd: rd as u16 })
-        }
+        "realm_create" => realm_create(numbers),
+        "realm_activate" => realm_activate(numbers),
+        "realm_destroy" => realm_destroy(numbers),
         _ => None,
     }
+}
+
+fn rtt_create(numbers: &[u32]) -> Option<Command>
+    ensures { result ≡ table_command_at (codes "rtt_create") numbers.now }
+{
+    let (rd, granule, ipa, level) = four_operands(numbers)?;
+    Some(Command::RttCreate {
+        rd,
+        granule,
+        ipa,
+        level,
+    })
+}
+
+fn rtt_destroy(numbers: &[u32]) -> Option<Command>
+    ensures { result ≡ table_command_at (codes "rtt_destroy") numbers.now }
+{
+    let (rd, ipa, level) = three_operands(numbers)?;
+    Some(Command::RttDestroy { rd, ipa, level })
+}
+
+fn rtt_init_ripas(numbers: &[u32]) -> Option<Command>
+    ensures { result ≡ table_command_at (codes "rtt_init_ripas") numbers.now }
+{
+    let (rd, ipa, count) = three_operands(numbers)?;
+    Some(Command::RttInitRipas { rd, ipa, count })
 }
 
 fn table_command(word: &str, numbers: &[u32]) -> Option<Command>
     ensures { result ≡ table_command_at word.now numbers.now }
 {
     match word {
-        "rtt_create" => {
-            let [rd, granule, ipa, level] = at_most(numbers, [U16, U16, U32, U8])?;
-            Some(Command::RttCreate {
-                rd: rd as u16,
-                granule: granule as u16,
-                ipa,
-                level: level as u8,
-            })
-        }
-        "rtt_destroy" => {
-            let [rd, ipa, level] = at_most(numbers, [U16, U32, U8])?;
-            Some(Command::RttDestroy {
-                rd: rd as u16,
-                ipa,
-                level: level as u8,
-            })
-        }
-        "rtt_init_ripas" => {
-            let [rd, ipa, count] = at_most(numbers, [U16, U32, U16])?;
-            Some(Command::RttInitRipas {
-                rd: rd as u16,
-                ipa,
-                count: count as u16,
-            })
-        }
+        "rtt_create" => rtt_create(numbers),
+        "rtt_destroy" => rtt_destroy(numbers),
+        "rtt_init_ripas" => rtt_init_ripas(numbers),
         _ => None,
     }
+}
+
+fn data_create(numbers: &[u32]) -> Option<Command>
+    ensures { result ≡ data_command_at (codes "data_create") numbers.now }
+{
+    let (rd, granule, ipa, source) = four_operands(numbers)?;
+    Some(Command::DataCreate {
+        rd,
+        granule,
+        ipa,
+        source,
+    })
+}
+
+fn data_create_unknown(numbers: &[u32]) -> Option<Command>
+    ensures { result ≡ data_command_at (codes "data_create_unknown") numbers.now }
+{
+    let (rd, granule, ipa) = three_operands(numbers)?;
+    Some(Command::DataCreateUnknown { rd, granule, ipa })
+}
+
+fn data_destroy(numbers: &[u32]) -> Option<Command>
+    ensures { result ≡ data_command_at (codes "data_destroy") numbers.now }
+{
+    let (rd, ipa) = two_operands(numbers)?;
+    Some(Command::DataDestroy { rd, ipa })
 }
 
 fn data_command(word: &str, numbers: &[u32]) -> Option<Command>
     ensures { result ≡ data_command_at word.now numbers.now }
 {
     match word {
-        "data_create" => {
-            let [rd, granule, ipa, source] = at_most(numbers, [U16, U16, U32, U16])?;
-            Some(Command::DataCreate {
-                rd: rd as u16,
-                granule: granule as u16,
-                ipa,
-                source: source as u16,
-            })
-        }
-        "data_create_unknown" => {
-            let [rd, granule, ipa] = at_most(numbers, [U16, U16, U32])?;
-            Some(Command::DataCreateUnknown {
-                rd: rd as u16,
-                granule: granule as u16,
-                ipa,
-            })
-        }
-        "data_destroy" => {
-            let [rd, ipa] = at_most(numbers, [U16, U32])?;
-            Some(Command::DataDestroy { rd: rd as u16, ipa })
-        }
+        "data_create" => data_create(numbers),
+        "data_create_unknown" => data_create_unknown(numbers),
+        "data_destroy" => data_destroy(numbers),
         _ => None,
     }
 }
@@ -139,11 +162,43 @@ fn rec_create(numbers: &[u32]) -> Option<Command>
     let [rd, granule, more @ ..] = numbers else {
         return None;
     };
-    let [rd, granule] = at_most(&[*rd, *granule], [U16, U16])?;
     Some(Command::RecCreate {
-        rd: rd as u16,
-        granule: granule as u16,
-        auxiliaries: up_to(more, U16 as u16)?,
+        rd: u16::from_number(*rd)?,
+        granule: u16::from_number(*granule)?,
+        auxiliaries: up_to(more, u16::MAX)?,
+    })
+}
+
+fn rec_enter(numbers: &[u32]) -> Option<Command>
+    ensures { result ≡ rec_command_at (codes "rec_enter") numbers.now }
+{
+    let rec = one_operand(numbers)?;
+    Some(Command::RecEnter { rec })
+}
+
+fn rec_exit(numbers: &[u32]) -> Option<Command>
+    ensures { result ≡ rec_command_at (codes "rec_exit") numbers.now }
+{
+    let rec = one_operand(numbers)?;
+    Some(Command::RecExit { rec })
+}
+
+fn rec_destroy(numbers: &[u32]) -> Option<Command>
+    ensures { result ≡ rec_command_at (codes "rec_destroy") numbers.now }
+{
+    let rec = one_operand(numbers)?;
+    Some(Command::RecDestroy { rec })
+}
+
+fn guest_write(numbers: &[u32]) -> Option<Command>
+    ensures { result ≡ rec_command_at (codes "guest_write") numbers.now }
+{
+    let (rec, ipa, offset, value) = four_operands(numbers)?;
+    Some(Command::GuestWrite {
+        rec,
+        ipa,
+        offset,
+        value,
     })
 }
 
@@ -152,27 +207,10 @@ fn rec_command(word: &str, numbers: &[u32]) -> Option<Command>
 {
     match word {
         "rec_create" => rec_create(numbers),
-        "rec_enter" => {
-            let [rec] = at_most(numbers, [U16])?;
-            Some(Command::RecEnter { rec: rec as u16 })
-        }
-        "rec_exit" => {
-            let [rec] = at_most(numbers, [U16])?;
-            Some(Command::RecExit { rec: rec as u16 })
-        }
-        "rec_destroy" => {
-            let [rec] = at_most(numbers, [U16])?;
-            Some(Command::RecDestroy { rec: rec as u16 })
-        }
-        "guest_write" => {
-            let [rec, ipa, offset, value] = at_most(numbers, [U16, U32, U16, U8])?;
-            Some(Command::GuestWrite {
-                rec: rec as u16,
-                ipa,
-                offset: offset as u16,
-                value: value as u8,
-            })
-        }
+        "rec_enter" => rec_enter(numbers),
+        "rec_exit" => rec_exit(numbers),
+        "rec_destroy" => rec_destroy(numbers),
+        "guest_write" => guest_write(numbers),
         _ => None,
     }
 }

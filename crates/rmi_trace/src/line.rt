@@ -10,7 +10,7 @@ use crate::requests::request_of;
 pub const MOST_LINE: usize = 65_536;
 
 /// What a line is.
-#[derive(Debug, Drop)]
+#[derive(Drop)]
 pub enum Line {
     /// A comment, or an empty line.
     Remark,

@@ -6,7 +6,7 @@ use arrayvec::ArrayVec;
 
 /// A fresh machine, in which every page is taken and zero: of 1 to 4,096 pages, with 1 to 255 VMIDs, and with up to 16
 /// auxiliary granules for each REC.
-#[derive(Debug, Drop)]
+#[derive(Drop)]
 pub struct Opening {
     pub pages: u16,
     pub vmids: u8,
@@ -14,7 +14,7 @@ pub struct Opening {
 }
 
 /// A command of the monitor.
-#[derive(Debug, Drop)]
+#[derive(Drop)]
 pub enum Command {
     GranuleDelegate {
         granule: u16,
@@ -97,7 +97,7 @@ pub enum Command {
 }
 
 /// A reading, which changes nothing.
-#[derive(Debug, Drop)]
+#[derive(Drop)]
 pub enum Reading {
     /// The granule's state.
     State { granule: u16 },
@@ -114,7 +114,7 @@ pub enum Reading {
 }
 
 /// What a line asks for.
-#[derive(Debug, Drop)]
+#[derive(Drop)]
 pub enum Request {
     Opening(Opening),
     Command(Command),

@@ -1,61 +1,92 @@
 //! The request that a text is.
-ghost use Rattle.std.specs.Prelude.{◌≡◌, IfSome, IfNone};
+ghost use Rattle.std.specs.Prelude.{◌≡◌, codes, IfSome, IfNone};
 ghost use Rattle.number_text.specs.Grammar.{meaning_of_text};
 ghost use Rattle.rmi_trace.specs.declared.request.Request.{Request};
-ghost use Rattle.rmi_trace.specs.Requests.{reading_at, opening_at, request_at};
+ghost use Rattle.rmi_trace.specs.Requests.{reading_at, machine_at, opening_at, request_at};
 ghost use Rattle.rmi_trace.specs.Written.{IsWritten};
 
-use crate::command::{U16, command};
+use crate::command::command;
 use crate::request::{Opening, Reading, Request};
-use number_text::{at_most, cut_at_space, numbers_of};
+use number_text::{cut_at_space, numbers_of, one_operand, three_operands, two_operands};
 
 /// The most numbers that a request has: an RD, a REC's granule, and its auxiliaries.
 const MOST_NUMBERS: usize = 18;
 
-// The reading that the word and its number are.
+/// The most pages of a machine.
+const MOST_PAGES: u16 = 4096;
+
+/// The most auxiliaries of a REC.
+const MOST_AUXILIARIES: u8 = 16;
+
+fn state(numbers: &[u32]) -> Option<Reading>
+    ensures { result ≡ reading_at (codes "state") numbers.now }
+{
+    let granule = one_operand(numbers)?;
+    Some(Reading::State { granule })
+}
+
+fn sum(numbers: &[u32]) -> Option<Reading>
+    ensures { result ≡ reading_at (codes "sum") numbers.now }
+{
+    let granule = one_operand(numbers)?;
+    Some(Reading::Sum { granule })
+}
+
+fn word_of_granule(numbers: &[u32]) -> Option<Reading>
+    ensures { result ≡ reading_at (codes "word") numbers.now }
+{
+    let (granule, index) = two_operands(numbers)?;
+    Some(Reading::Word { granule, index })
+}
+
+fn realm(numbers: &[u32]) -> Option<Reading>
+    ensures { result ≡ reading_at (codes "realm") numbers.now }
+{
+    let granule = one_operand(numbers)?;
+    Some(Reading::Realm { granule })
+}
+
+fn measurement(numbers: &[u32]) -> Option<Reading>
+    ensures { result ≡ reading_at (codes "measurement") numbers.now }
+{
+    let granule = one_operand(numbers)?;
+    Some(Reading::Measurement { granule })
+}
+
+fn rec(numbers: &[u32]) -> Option<Reading>
+    ensures { result ≡ reading_at (codes "rec") numbers.now }
+{
+    let granule = one_operand(numbers)?;
+    Some(Reading::Rec { granule })
+}
+
+// The reading that the word and its numbers are.
 fn reading(word: &str, numbers: &[u32]) -> Option<Reading>
     ensures { result ≡ reading_at word.now numbers.now }
 {
     match word {
-        "state" => {
-            let [granule] = at_most(numbers, [U16])?;
-            Some(Reading::State {
-                granule: granule as u16,
-            })
-        }
-        "sum" => {
-            let [granule] = at_most(numbers, [U16])?;
-            Some(Reading::Sum {
-                granule: granule as u16,
-            })
-        }
-        "word" => {
-            let [granule, index] = at_most(numbers, [U16, U16])?;
-            Some(Reading::Word {
-                granule: granule as u16,
-                index: index as u16,
-            })
-        }
-        "realm" => {
-            let [granule] = at_most(numbers, [U16])?;
-            Some(Reading::Realm {
-                granule: granule as u16,
-            })
-        }
-        "measurement" => {
-            let [granule] = at_most(numbers, [U16])?;
-            Some(Reading::Measurement {
-                granule: granule as u16,
-            })
-        }
-        "rec" => {
-            let [granule] = at_most(numbers, [U16])?;
-            Some(Reading::Rec {
-                granule: granule as u16,
-            })
-        }
+        "state" => state(numbers),
+        "sum" => sum(numbers),
+        "word" => word_of_granule(numbers),
+        "realm" => realm(numbers),
+        "measurement" => measurement(numbers),
+        "rec" => rec(numbers),
         _ => None,
     }
+}
+
+fn machine(numbers: &[u32]) -> Option<Opening>
+    ensures { result ≡ machine_at numbers.now }
+{
+    let (pages, vmids, auxiliaries) = three_operands(numbers)?;
+    if pages == 0 || pages > MOST_PAGES || vmids == 0 || auxiliaries > MOST_AUXILIARIES {
+        return None;
+    }
+    Some(Opening {
+        pages,
+        vmids,
+        auxiliaries,
+    })
 }
 
 // The opening that the word and its numbers are.
@@ -63,17 +94,7 @@ fn opening(word: &str, numbers: &[u32]) -> Option<Opening>
     ensures { result ≡ opening_at word.now numbers.now }
 {
     match word {
-        "machine" => {
-            let [pages, vmids, auxiliaries] = at_most(numbers, [4096, 255, 16])?;
-            if pages == 0 || vmids == 0 {
-                return None;
-            }
-            Some(Opening {
-                pages: pages as u16,
-                vmids: vmids as u8,
-                auxiliaries: auxiliaries as u8,
-            })
-        }
+        "machine" => machine(numbers),
         _ => None,
     }
 }
