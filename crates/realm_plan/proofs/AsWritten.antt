@@ -15,8 +15,8 @@ use Rattle.realm_plan.specs.Written.{written_steps}
 use Rattle.realm_plan.specs.declared.fault.PlanFault.{PlanFault}
 use Rattle.realm_plan.specs.declared.fault.PlanFault.TheVariants as fault
 use Rattle.realm_plan.specs.declared.fault.PlanError.{PlanError}
-use Rattle.realm_plan.specs.declared.limits.Numbers.{Numbers}
 use Rattle.realm_plan.specs.declared.plan.Plan as code
+use Rattle.realm_plan.proofs.InOrder.{ends, after_order, after_builds}
 
 bind_ok : {A B : Type 0} (f : A → Result B PlanFault) (r : Result A PlanFault) (y : B) → r >>= f ≡ Ok y → (x : A) × (r ≡ Ok x) × (f x ≡ Ok y)
 bind_ok f (Ok x) y e = (x, refl, e)
@@ -46,17 +46,6 @@ builds_as_written b (texts ∷ others) builds e =
     let found = bind_ok _ (steps_of b 0 texts) builds e in
     let more = bind_ok _ (builds_of (b + 1) others) builds found.2 in
     builds_first texts others found.0 more.0 builds (steps_as_written b 0 texts found.0 found.1) (builds_as_written (b + 1) others more.0 more.1) (cc)
-
--- what comes after the steps are read, one bind after another
-abbrev ends : Contents → List (List PlanStep) → List ℕ → Numbers → Result Plan PlanFault
-ends c builds order n =
-    lengths_of builds order >>= (λ _. Ok (record { pages = n.pages; vmids = n.vmids; aux = n.aux; history = n.history; builds = builds; order = order }))
-
-abbrev after_order : Contents → List (List PlanStep) → List ℕ → Result Plan PlanFault
-after_order c builds order = numbers_of c >>= ends c builds order
-
-abbrev after_builds : Contents → List (List PlanStep) → Result Plan PlanFault
-after_builds c builds = order_of (length builds) 0 c.order >>= after_order c builds
 
 same_builds : (c : Contents) (builds : List (List PlanStep)) (p : Plan) → after_builds c builds ≡ Ok p → p.builds ≡ builds
 same_builds c builds p e =

@@ -1,4 +1,5 @@
 pub mod AsWritten
 pub mod Documents
 pub mod Fronts
+pub mod InOrder
 pub mod Views

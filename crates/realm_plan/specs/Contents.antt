@@ -3,6 +3,7 @@ use Rattle.std.specs.Prelude.{ℕ, ℤ, pos, Bool, true, ◌&&◌, List, [], ◌
 use Rattle.std.specs.List.{list_any}
 use Rattle.std.specs.Str.{bytes_eq}
 use Rattle.toml.specs.Data.{Data, Items, no_items, item, Members, no_members, member, get_member, as_integer, as_str, as_array, as_table}
+use Rattle.realm_plan.specs.declared.contents.Wholes.{Wholes}
 
 infixl 10 ◌>>=◌
 abbrev pub ◌>>=◌ : {A B : Type 0} → Option A → (A → Option B) → Option B
@@ -17,6 +18,15 @@ has_only names (member key value more) = list_any (bytes_eq key) names && has_on
 abbrev pub whole_of : Option ℤ → Option Data → Option ℤ
 whole_of default None = default
 whole_of default (Some value) = as_integer value
+
+-- the whole numbers, of which all but `pages` have a default
+unfoldable pub wholes_at : Members → Option Wholes
+wholes_at ms =
+    whole_of None (get_member (codes "pages") ms) >>= (λ pages.
+    whole_of (Some (pos 8)) (get_member (codes "vmids") ms) >>= (λ vmids.
+    whole_of (Some (pos 0)) (get_member (codes "aux") ms) >>= (λ aux.
+    whole_of (Some (pos 1024)) (get_member (codes "history") ms) >>= (λ history.
+    Some (record { pages = pages; vmids = vmids; aux = aux; history = history })))))
 
 -- whole numbers and no other items
 abbrev pub wholes_of : Items → Option (List ℤ)
@@ -42,6 +52,9 @@ abbrev pub builds_of : Items → Option (List (List (List ℕ)))
 builds_of no_items = Some []
 builds_of (item value more) = steps_of value >>= (λ b. option_map (λ bs. b ∷ bs) (builds_of more))
 
+abbrev pub builds_at : Members → Option (List (List (List ℕ)))
+builds_at ms = get_member (codes "build") ms >>= as_array >>= builds_of
+
 -- no order is the empty one
 abbrev pub order_of : Option Data → Option (List ℤ)
 order_of None = Some []
@@ -59,11 +72,8 @@ pub record Contents : Type 0 where
 unfoldable pub contents_of : Members → Option Contents
 contents_of ms =
     if has_only plan_keys ms then
-    whole_of None (get_member (codes "pages") ms) >>= (λ pages.
-    whole_of (Some (pos 8)) (get_member (codes "vmids") ms) >>= (λ vmids.
-    whole_of (Some (pos 0)) (get_member (codes "aux") ms) >>= (λ aux.
-    whole_of (Some (pos 1024)) (get_member (codes "history") ms) >>= (λ history.
+    wholes_at ms >>= (λ n.
     order_of (get_member (codes "order") ms) >>= (λ order.
-    get_member (codes "build") ms >>= as_array >>= builds_of >>= (λ builds.
-    Some (record { pages = pages; vmids = vmids; aux = aux; history = history; order = order; builds = builds })))))))
+    builds_at ms >>= (λ builds.
+    Some (record { pages = n.pages; vmids = n.vmids; aux = n.aux; history = n.history; order = order; builds = builds }))))
     else None

@@ -4,7 +4,7 @@ ghost use Rattle.std.specs.List.{list_any};
 ghost use Rattle.std.specs.Str.{bytes_eq};
 ghost use Rattle.toml.specs.Data.{get_member};
 ghost use Rattle.toml.specs.View.{view, array_view, table_view};
-ghost use Rattle.realm_plan.specs.Contents.{has_only, whole_of, wholes_of, texts_of, steps_of, builds_of, order_of};
+ghost use Rattle.realm_plan.specs.Contents.{has_only, whole_of, wholes_at, wholes_of, texts_of, steps_of, builds_of, builds_at, order_of};
 
 use std::alloc::{AllocError, Global};
 use toml::value::Array;
@@ -25,6 +25,32 @@ fn whole_at(table: &Table, key: &str, default: Option<i64>) -> Option<i64>
         Some(value) => value.as_integer(),
         None => default,
     }
+}
+
+/// The whole numbers of a plan.
+#[derive(Clone, Copy)]
+struct Wholes {
+    pages: i64,
+    vmids: i64,
+    aux: i64,
+    history: i64,
+}
+
+/// The whole numbers that the document has. There is no default for `pages`.
+#[tactic(auto, unfolding(crate::specs::Contents::wholes_at))]
+fn wholes_at(table: &Table) -> Option<Wholes>
+    ensures { result ≡ wholes_at (table_view table.now) }
+{
+    let pages = whole_at(table, "pages", None)?;
+    let vmids = whole_at(table, "vmids", Some(8))?;
+    let aux = whole_at(table, "aux", Some(0))?;
+    let history = whole_at(table, "history", Some(1024))?;
+    Some(Wholes {
+        pages,
+        vmids,
+        aux,
+        history,
+    })
 }
 
 /// The whole numbers of an array that has nothing else.
@@ -112,6 +138,20 @@ fn builds_of<'a>(alloc: Global, array: &'a Array) -> Result<Option<Vec<Vec<&'a s
     Ok(Some(found))
 }
 
+/// The texts of the steps of each build that the document has.
+fn builds_at<'a>(alloc: Global, table: &'a Table) -> Result<Option<Vec<Vec<&'a str>>>, AllocError>
+    ensures { IfOk result (λ r. option_map (λ v. map (λ b. map (λ t. t.now) b.items) v.items) r
+        ≡ builds_at (table_view table.now)) }
+{
+    let Some(build) = value_at(table, "build") else {
+        return Ok(None);
+    };
+    let Some(array) = build.as_array() else {
+        return Ok(None);
+    };
+    builds_of(alloc, array)
+}
+
 /// The entries of the order. Where the key is missing there are none.
 fn order_of(alloc: Global, value: Option<&Value>) -> Result<Option<Vec<i64>>, AllocError>
     ensures { IfOk result (λ r. option_map (λ v. v.items) r
@@ -152,35 +192,20 @@ impl<'a> Contents<'a> {
         ) {
             return Ok(None);
         }
-        let Some(pages) = whole_at(table, "pages", None) else {
-            return Ok(None);
-        };
-        let Some(vmids) = whole_at(table, "vmids", Some(8)) else {
-            return Ok(None);
-        };
-        let Some(aux) = whole_at(table, "aux", Some(0)) else {
-            return Ok(None);
-        };
-        let Some(history) = whole_at(table, "history", Some(1024)) else {
+        let Some(wholes) = wholes_at(table) else {
             return Ok(None);
         };
         let Some(order) = order_of(alloc, value_at(table, "order"))? else {
             return Ok(None);
         };
-        let Some(build) = value_at(table, "build") else {
-            return Ok(None);
-        };
-        let Some(array) = build.as_array() else {
-            return Ok(None);
-        };
-        let Some(builds) = builds_of(alloc, array)? else {
+        let Some(builds) = builds_at(alloc, table)? else {
             return Ok(None);
         };
         Ok(Some(Contents {
-            pages,
-            vmids,
-            aux,
-            history,
+            pages: wholes.pages,
+            vmids: wholes.vmids,
+            aux: wholes.aux,
+            history: wholes.history,
             order,
             builds,
         }))

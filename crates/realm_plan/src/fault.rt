@@ -26,7 +26,7 @@ pub enum PlanFault {
 }
 
 /// Why no plan is given.
-#[derive(Clone, Copy, Debug, PartialEq, Eq, Error)]
+#[derive(Clone, Copy, Debug, Error)]
 pub enum PlanError {
     /// A growth was refused.
     #[error("memory")]

@@ -13,7 +13,7 @@ use toml::Table;
 pub const MOST_BYTES: usize = 1_048_576;
 
 /// A machine, the builds on it, and their turns.
-#[derive(Debug, Drop)]
+#[derive(Drop)]
 pub struct Plan {
     pub pages: u16,
     pub vmids: u8,

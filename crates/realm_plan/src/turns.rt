@@ -1,5 +1,5 @@
 //! The steps of builds, and their turns.
-ghost use Rattle.std.specs.Prelude.{◌≡◌, ◌<◌, map, All, IfOk};
+ghost use Rattle.std.specs.Prelude.{◌≡◌, ◌<◌, map, All, IfOk, IfSome};
 ghost use Rattle.realm_plan.specs.Outcome.{Gives};
 ghost use Rattle.realm_plan.specs.Plan.{steps_of, builds_of, build_named as build_named_at, order_of};
 
@@ -36,7 +36,8 @@ pub(crate) fn builds_of(alloc: Global, texts: &[Vec<&str>]) -> Result<Vec<Vec<Pl
 
 /// The build that an entry of the order names, among so many.
 fn build_named(count: usize, entry: i64) -> Option<usize>
-    ensures { result ≡ build_named_at count entry }
+    ensures value { result ≡ build_named_at count entry }
+    ensures below { IfSome result (λ build. build < count) }
 {
     match usize::try_from(entry) {
         Ok(build) if build < count => Some(build),

@@ -5,4 +5,4 @@ use Rattle.realm_plan.proofs.Fronts.{with_front}
 use Rattle.realm_plan.proofs.contents.builds_of.Given as goal
 
 abbrev pub invariant-loop-value : goal.invariant-loop-value
-invariant-loop-value l = with_front (map (λ b. map (λ t. t.now) b.items) l.found.items) (builds_of (items_view (drop l.value-index l.array.items))) ≡ builds_of (items_view l.array.items)
+invariant-loop-value l = with_front (map (λ b. map (λ t. t.now) b.items) l.found.items) (builds_of (items_view (drop l.value-index l.value-items))) ≡ builds_of (items_view l.array.items)

@@ -5,4 +5,4 @@ use Rattle.realm_plan.proofs.Fronts.{with_front}
 use Rattle.realm_plan.proofs.contents.wholes_of.Given as goal
 
 abbrev pub invariant-loop-value : goal.invariant-loop-value
-invariant-loop-value l = with_front l.found.items (wholes_of (items_view (drop l.value-index l.array.items))) ≡ wholes_of (items_view l.array.items)
+invariant-loop-value l = with_front l.found.items (wholes_of (items_view (drop l.value-index l.value-items))) ≡ wholes_of (items_view l.array.items)

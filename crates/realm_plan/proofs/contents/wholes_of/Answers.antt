@@ -1,0 +1,25 @@
+use Rattle.std.proofs.Common.{[], ◌∷◌, ◌++◌, FitsSigned, w64, refl, sym, ap, ◌∙◌, rules}
+use Rattle.std.proofs.lemmas.Int.{to_z-of_z}
+use Rattle.toml.specs.Data.{as_integer}
+use Rattle.realm_plan.specs.Contents.{wholes_of}
+use Rattle.realm_plan.proofs.Fronts.{ReadsEach, item_read, item_missing, items_read}
+use Rattle.realm_plan.proofs.contents.wholes_of.Goals as goal
+
+reads : ReadsEach as_integer wholes_of
+reads = record { none_left = refl; one_more = λ _ _. refl }
+
+pub loop-value-preserved : goal.loop-value-preserved
+loop-value-preserved c =
+    let fits : FitsSigned w64 c.in-Some.whole = search rules in
+    item_read as_integer wholes_of reads c.deref-value-items.result.now c.loop-value.value-index c.value-item.result c.loop-value.found.items c.push.new.self.items c.in-Some.whole
+    c.loop-value-test.true c.value-item.is c.in-Some.ensures (c.in_ok-push.ensures.items ∙ ap (λ whole. c.loop-value.found.items ++ whole ∷ []) (to_z-of_z w64 c.in-Some.whole fits))
+    ∙ c.loop-value.invariant
+
+pub returns-in_default : goal.returns-in_default
+returns-in_default c =
+    sym (item_missing as_integer wholes_of reads c.deref-value-items.result.now c.loop-value.value-index c.value-item.result c.loop-value.found.items
+    c.loop-value-test.true c.value-item.is c.in_default.ensures)
+    ∙ c.loop-value.invariant
+
+pub returns : goal.returns
+returns c = sym (items_read as_integer wholes_of reads c.deref-value-items.result.now c.loop-value.value-index c.loop-value.found.items c.loop-value-test.false) ∙ c.loop-value.invariant
