@@ -117,10 +117,11 @@ module _ (opened : HostView) (kept : KeptView) (is_kept : IsKept opened kept) (p
 
     pub behind_noted : (trail : List Event) (seat : SeatView)
         → ((before : List Event) (event : Event) → host.history ≡ before ++ event ∷ [] → seat ≡ with_noted (record { build = now.build; count = now.count; trail = trail }) event)
-        → IsBehind host seat
+        → IsBehind opened host seat
     behind_noted trail seat noted =
         let seat_is = noted kept.host.history (by pass.build act) (ap (λ (h : HostView). h.history) grows) in
         record {
           shared = shared_after opened kept is_kept pass.build pass.count below had act host grows sound;
+          of_start = of_start_after opened kept is_kept pass.build pass.count below had act host grows;
           counted = ap (λ (s : SeatView). length (events_of s.build host.history)) seat_is ∙ pass_counts ∙ sym (ap (λ (s : SeatView). s.count) seat_is);
         }

@@ -1,6 +1,7 @@
 -- What a run of all workers leaves, from what the run of each leaves.
 use Rattle.std.proofs.Common.{◌≡◌, ℕ, suc, ◌<◌, List, [], ◌∷◌, length, get_or, subst, arith}
 use Rattle.std.specs.List.{AllZip}
+use Rattle.build_books.specs.View.{HostView}
 use Rattle.builders.specs.Runs.{AreRun}
 use Rattle.builders.specs.Workers.{WorkerView, IsRun}
 
@@ -17,8 +18,8 @@ zipped R [] (y ∷ ys) same each = absurd (omega arith)
 zipped R (x ∷ xs) [] same each = absurd (omega arith)
 zipped R (x ∷ xs) (y ∷ ys) same each = (at_place R x y (each 0 x (omega arith)), zipped R xs ys (omega arith) (λ k d lt. each (suc k) d (omega arith)))
 
-pub are_run : (passes stops : ℕ → ℕ → Type 0) (old new : List WorkerView) → length new ≡ length old
-    → ((k : ℕ) (d : WorkerView) → k < length old → HoldsOf (λ before after. IsRun (passes before.seat.build) (stops before.seat.build) before after) old new k d)
-    → AreRun passes stops old new
+pub are_run : (opened : HostView) (passes stops : ℕ → ℕ → Type 0) (old new : List WorkerView) → length new ≡ length old
+    → ((k : ℕ) (d : WorkerView) → k < length old → HoldsOf (λ before after. IsRun opened (passes before.seat.build) (stops before.seat.build) before after) old new k d)
+    → AreRun opened passes stops old new
 unfolding AreRun
-are_run passes stops old new same each = zipped (λ before after. IsRun (passes before.seat.build) (stops before.seat.build) before after) old new same each
+are_run opened passes stops old new same each = zipped (λ before after. IsRun opened (passes before.seat.build) (stops before.seat.build) before after) old new same each

@@ -57,14 +57,14 @@ same_end : (history grown : List Event) (event other : Event) → grown ≡ hist
 same_end history grown event other one two =
     ap (event_or other) (sym (last_push None history event) ∙ ap (last_or None) (sym one ∙ two) ∙ last_push None history other)
 
-replied_event : (cmd : Cmd) (reply : Reply) (seat new : SeatView) (told : IsTold (Ask cmd) (Replied reply) seat new) → IsEventOf seat.build (Did cmd (Ok reply)) told.event
-replied_event cmd reply seat new told =
+replied_event : (opened : HostView) (cmd : Cmd) (reply : Reply) (seat new : SeatView) (told : IsTold opened (Ask cmd) (Replied reply) seat new) → IsEventOf seat.build (Did cmd (Ok reply)) told.event
+replied_event opened cmd reply seat new told =
     let it = told.answered in
     let is = same_end told.host.history told.new.history (by seat.build it.act) told.event (ap (λ (h : HostView). h.history) it.accepted.grows) told.ends in
     subst (IsEventOf seat.build (Did cmd (Ok reply))) is (refl, act_for told.host seat.build cmd it.act it.accepted.act_of, (_, it.reply_is))
 
-undone_event : (undone : Undone) (seat new : SeatView) (told : IsTold Undo (WasUndone undone) seat new) → IsEventOf seat.build (Undid (Ok undone)) told.event
-undone_event undone seat new told =
+undone_event : (opened : HostView) (undone : Undone) (seat new : SeatView) (told : IsTold opened Undo (WasUndone undone) seat new) → IsEventOf seat.build (Undid (Ok undone)) told.event
+undone_event opened undone seat new told =
     let it = told.answered in
     let is = same_end told.host.history told.new.history (by seat.build it.act) told.event (ap (λ (h : HostView). h.history) it.accepted.grows) told.ends in
     subst (IsEventOf seat.build (Undid (Ok undone))) is
@@ -108,57 +108,57 @@ unfolding Tells
 same_tells old new exchange none same earlier so =
     subst (λ (s : SeatView). IsTrailOf s.build (earlier ++ exchange ∷ []) s.trail) (sym same) (trail_same old.build earlier old.trail exchange none so)
 
-answered_tells : (old new : SeatView) (exchange : Exchange) → IsAnswered old exchange new → Tells old new exchange
-answered_tells old new (Did cmd (Ok reply)) is = noted_tells old new (Did cmd (Ok reply)) is.event refl (replied_event cmd reply old new is) is.noted
-answered_tells old new (Did cmd (Err refusal)) is = same_tells old new (Did cmd (Err refusal)) refl is.1
-answered_tells old new (Undid (Ok undone)) is = noted_tells old new (Undid (Ok undone)) is.event refl (undone_event undone old new is) is.noted
-answered_tells old new (Undid (Err refusal)) is = same_tells old new (Undid (Err refusal)) refl is.1
-answered_tells old new (KeptMark result) is = same_tells old new (KeptMark result) refl is.1
-answered_tells old new (LookedBack mark result) is = same_tells old new (LookedBack mark result) refl is.1
+answered_tells : (opened : HostView) (old new : SeatView) (exchange : Exchange) → IsAnswered opened old exchange new → Tells old new exchange
+answered_tells opened old new (Did cmd (Ok reply)) is = noted_tells old new (Did cmd (Ok reply)) is.event refl (replied_event opened cmd reply old new is) is.noted
+answered_tells opened old new (Did cmd (Err refusal)) is = same_tells old new (Did cmd (Err refusal)) refl is.1
+answered_tells opened old new (Undid (Ok undone)) is = noted_tells old new (Undid (Ok undone)) is.event refl (undone_event opened undone old new is) is.noted
+answered_tells opened old new (Undid (Err refusal)) is = same_tells old new (Undid (Err refusal)) refl is.1
+answered_tells opened old new (KeptMark result) is = same_tells old new (KeptMark result) refl is.1
+answered_tells opened old new (LookedBack mark result) is = same_tells old new (LookedBack mark result) refl is.1
 
-answers_tell : (exchanges earlier : List Exchange) (old new : SeatView) → AreAnswered old exchanges new → IsTrailOf old.build earlier old.trail
+answers_tell : (opened : HostView) (exchanges earlier : List Exchange) (old new : SeatView) → AreAnswered opened old exchanges new → IsTrailOf old.build earlier old.trail
     → IsTrailOf new.build (earlier ++ exchanges) new.trail
 unfolding Tells
-answers_tell [] earlier old new are so =
+answers_tell opened [] earlier old new are so =
     subst (λ es. IsTrailOf new.build es new.trail) (sym (append-nil earlier)) (subst (λ (s : SeatView). IsTrailOf s.build earlier s.trail) (sym are) so)
-answers_tell (exchange ∷ exchanges) earlier old new (between, is, are) so =
+answers_tell opened (exchange ∷ exchanges) earlier old new (between, is, are) so =
     subst (λ es. IsTrailOf new.build es new.trail) (append_assoc earlier (exchange ∷ []) exchanges)
-    (answers_tell exchanges (earlier ++ exchange ∷ []) between new are (answered_tells old between exchange is earlier so))
+    (answers_tell opened exchanges (earlier ++ exchange ∷ []) between new are (answered_tells opened old between exchange is earlier so))
 
 -- what a new seat is answered is its trail
-pub trail_of_answers : (build : ℕ) (exchanges : List Exchange) (new : SeatView) → AreAnswered (new_seat build) exchanges new → IsTrailOf new.build exchanges new.trail
+pub trail_of_answers : (opened : HostView) (build : ℕ) (exchanges : List Exchange) (new : SeatView) → AreAnswered opened (new_seat build) exchanges new → IsTrailOf new.build exchanges new.trail
 unfolding IsTrailOf
-trail_of_answers build exchanges new are = answers_tell exchanges [] (new_seat build) new are tt
+trail_of_answers opened build exchanges new are = answers_tell opened exchanges [] (new_seat build) new are tt
 
 -- ---- one answer more
 
-answered_more : (old : SeatView) (exchanges : List Exchange) (between : SeatView) (exchange : Exchange) (new : SeatView)
-    → AreAnswered old exchanges between → IsAnswered between exchange new → AreAnswered old (exchanges ++ exchange ∷ []) new
-answered_more old [] between exchange new are is = (new, subst (λ (s : SeatView). IsAnswered s exchange new) are is, refl)
-answered_more old (first ∷ exchanges) between exchange new (next, its, are) is = (next, its, answered_more next exchanges between exchange new are is)
+answered_more : (opened : HostView) (old : SeatView) (exchanges : List Exchange) (between : SeatView) (exchange : Exchange) (new : SeatView)
+    → AreAnswered opened old exchanges between → IsAnswered opened between exchange new → AreAnswered opened old (exchanges ++ exchange ∷ []) new
+answered_more opened old [] between exchange new are is = (new, subst (λ (s : SeatView). IsAnswered opened s exchange new) are is, refl)
+answered_more opened old (first ∷ exchanges) between exchange new (next, its, are) is = (next, its, answered_more opened next exchanges between exchange new are is)
 
 -- the answers to a seat that was new at first
-pub answer_more : (old new : SeatView) (exchange : Exchange) → new.build ≡ old.build → IsAnswered old exchange new
-    → (earlier : List Exchange) → AreAnswered (new_seat old.build) earlier old → AreAnswered (new_seat new.build) (earlier ++ exchange ∷ []) new
-answer_more old new exchange same is earlier are =
-    subst (λ build. AreAnswered (new_seat build) (earlier ++ exchange ∷ []) new) (sym same) (answered_more (new_seat old.build) earlier old exchange new are is)
+pub answer_more : (opened : HostView) (old new : SeatView) (exchange : Exchange) → new.build ≡ old.build → IsAnswered opened old exchange new
+    → (earlier : List Exchange) → AreAnswered opened (new_seat old.build) earlier old → AreAnswered opened (new_seat new.build) (earlier ++ exchange ∷ []) new
+answer_more opened old new exchange same is earlier are =
+    subst (λ build. AreAnswered opened (new_seat build) (earlier ++ exchange ∷ []) new) (sym same) (answered_more opened (new_seat old.build) earlier old exchange new are is)
 
-pub asked : (old new : SeatView) (cmd : Cmd) (result : Result Reply Refusal) → IfOk result (λ reply. IsTold (Ask cmd) (Replied reply) old new)
-    → IfErr result (λ refusal. IsRefused (Ask cmd) refusal old × (new ≡ old)) → IsAnswered old (Did cmd result) new
-asked old new cmd (Ok reply) ok err = ok
-asked old new cmd (Err refusal) ok err = err
+pub asked : (opened : HostView) (old new : SeatView) (cmd : Cmd) (result : Result Reply Refusal) → IfOk result (λ reply. IsTold opened (Ask cmd) (Replied reply) old new)
+    → IfErr result (λ refusal. IsRefused opened (Ask cmd) refusal old × (new ≡ old)) → IsAnswered opened old (Did cmd result) new
+asked opened old new cmd (Ok reply) ok err = ok
+asked opened old new cmd (Err refusal) ok err = err
 
-pub undone : (old new : SeatView) (result : Result Undone Refusal) → IfOk result (λ undone. IsTold Undo (WasUndone undone) old new)
-    → IfErr result (λ refusal. IsRefused Undo refusal old × (new ≡ old)) → IsAnswered old (Undid result) new
-undone old new (Ok did) ok err = ok
-undone old new (Err refusal) ok err = err
+pub undone : (opened : HostView) (old new : SeatView) (result : Result Undone Refusal) → IfOk result (λ undone. IsTold opened Undo (WasUndone undone) old new)
+    → IfErr result (λ refusal. IsRefused opened Undo refusal old × (new ≡ old)) → IsAnswered opened old (Undid result) new
+undone opened old new (Ok did) ok err = ok
+undone opened old new (Err refusal) ok err = err
 
-pub asked_build : (old new : SeatView) (cmd : Cmd) (result : Result Reply Refusal) → IfOk result (λ reply. IsTold (Ask cmd) (Replied reply) old new)
-    → IfErr result (λ refusal. IsRefused (Ask cmd) refusal old × (new ≡ old)) → new.build ≡ old.build
-asked_build old new cmd (Ok reply) ok err = ap (λ (s : SeatView). s.build) ok.noted
-asked_build old new cmd (Err refusal) ok err = ap (λ (s : SeatView). s.build) err.1
+pub asked_build : (opened : HostView) (old new : SeatView) (cmd : Cmd) (result : Result Reply Refusal) → IfOk result (λ reply. IsTold opened (Ask cmd) (Replied reply) old new)
+    → IfErr result (λ refusal. IsRefused opened (Ask cmd) refusal old × (new ≡ old)) → new.build ≡ old.build
+asked_build opened old new cmd (Ok reply) ok err = ap (λ (s : SeatView). s.build) ok.noted
+asked_build opened old new cmd (Err refusal) ok err = ap (λ (s : SeatView). s.build) err.1
 
-pub undone_build : (old new : SeatView) (result : Result Undone Refusal) → IfOk result (λ undone. IsTold Undo (WasUndone undone) old new)
-    → IfErr result (λ refusal. IsRefused Undo refusal old × (new ≡ old)) → new.build ≡ old.build
-undone_build old new (Ok undone) ok err = ap (λ (s : SeatView). s.build) ok.noted
-undone_build old new (Err refusal) ok err = ap (λ (s : SeatView). s.build) err.1
+pub undone_build : (opened : HostView) (old new : SeatView) (result : Result Undone Refusal) → IfOk result (λ undone. IsTold opened Undo (WasUndone undone) old new)
+    → IfErr result (λ refusal. IsRefused opened Undo refusal old × (new ≡ old)) → new.build ≡ old.build
+undone_build opened old new (Ok undone) ok err = ap (λ (s : SeatView). s.build) ok.noted
+undone_build opened old new (Err refusal) ok err = ap (λ (s : SeatView). s.build) err.1

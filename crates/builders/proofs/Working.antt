@@ -2,6 +2,7 @@
 use Rattle.std.proofs.Common.{◌≡◌, ℕ, Bool, false, List, [], ◌∷◌, length, inl, inr, refl, sym, ◌∙◌, ap, subst}
 use Rattle.std.specs.Prelude.{filter}
 use Rattle.std.specs.List.{AllZip}
+use Rattle.build_books.specs.View.{HostView}
 use Rattle.build_commands.specs.declared.cmd.Step.{Step}
 use Rattle.workers.proofs.Events.{accepted_tell_events}
 use Rattle.workers.specs.Events.{IsLineOf, is_accepted}
@@ -22,11 +23,11 @@ is_fresh seat counted empty =
     ap (λ (n : ℕ). record { build = seat.build; count = n; trail = seat.trail }) (counted ∙ ap length empty)
     ∙ ap (λ (trail : List Event). record { build = seat.build; count = 0; trail = trail }) empty
 
-pub is_run : (old new : SeatView) (passes stops : ℕ → Type 0) (steps : List Step) (lines : List Line) (answered ended : Bool) → ended ≡ answered
+pub is_run : (opened : HostView) (old new : SeatView) (passes stops : ℕ → Type 0) (steps : List Step) (lines : List Line) (answered ended : Bool) → ended ≡ answered
     → old.count ≡ length old.trail → old.trail ≡ [] → new.count ≡ length new.trail → new.build ≡ old.build
-    → IsWork (λ exchanges. AreAnswered (new_seat old.build) exchanges old) (λ exchanges. AreAnswered (new_seat new.build) exchanges new) passes stops steps lines answered
-    → IsRun passes stops (record { seat = old; steps = steps; lines = []; ended = false }) (record { seat = new; steps = steps; lines = lines; ended = ended })
-is_run old new passes stops steps lines answered ended is counts empty counted build work =
+    → IsWork (λ exchanges. AreAnswered opened (new_seat old.build) exchanges old) (λ exchanges. AreAnswered opened (new_seat new.build) exchanges new) passes stops steps lines answered
+    → IsRun opened passes stops (record { seat = old; steps = steps; lines = []; ended = false }) (record { seat = new; steps = steps; lines = lines; ended = ended })
+is_run opened old new passes stops steps lines answered ended is counts empty counted build work =
     let are = work.told [] (is_fresh old counts empty) in
     record {
       steps_are = refl;
@@ -35,7 +36,7 @@ is_run old new passes stops steps lines answered ended is counts empty counted b
         exchanges = work.exchanges;
         is_report = subst (IsReport 0 first_standing steps work.exchanges lines) (sym is) work.is_report;
         answered = are;
-        is_trail = trail_of_answers new.build work.exchanges new are;
+        is_trail = trail_of_answers opened new.build work.exchanges new are;
         counted = counted;
       };
       passed = work.passed;
@@ -43,8 +44,8 @@ is_run old new passes stops steps lines answered ended is counts empty counted b
     }
 
 -- of any worker with this seat and these steps
-pub of_worker : (passes stops : ℕ → Type 0) (old new : WorkerView) → IsRun passes stops (record { seat = old.seat; steps = old.steps; lines = []; ended = false }) new → IsRun passes stops old new
-of_worker passes stops old new run = record { steps_are = run.steps_are; build_is = run.build_is; worked = run.worked; passed = run.passed; stopped = run.stopped }
+pub of_worker : (opened : HostView) (passes stops : ℕ → Type 0) (old new : WorkerView) → IsRun opened passes stops (record { seat = old.seat; steps = old.steps; lines = []; ended = false }) new → IsRun opened passes stops old new
+of_worker opened passes stops old new run = record { steps_are = run.steps_are; build_is = run.build_is; worked = run.worked; passed = run.passed; stopped = run.stopped }
 
 none_left : {A B : Type 0} (R : A → B → Type 0) (xs : List A) (ys : List B) → xs ≡ [] → AllZip R xs ys → ys ≡ []
 none_left R [] [] e h = refl
@@ -52,10 +53,10 @@ none_left R [] (y ∷ ys) e h = absurd h
 none_left R (x ∷ xs) ys e h = cc
 
 -- without a line there is no event
-pub no_event : (worker : WorkerView) → IsFaithful worker → worker.lines ≡ [] → worker.seat.trail ≡ []
+pub no_event : (opened : HostView) (worker : WorkerView) → IsFaithful opened worker → worker.lines ≡ [] → worker.seat.trail ≡ []
 unfolding IsTrailOf
-no_event worker (inl fresh) none = fresh.no_event
-no_event worker (inr worked) none =
+no_event opened worker (inl fresh) none = fresh.no_event
+no_event opened worker (inr worked) none =
     none_left (IsEventOf worker.seat.build) (filter is_event worked.exchanges) worker.seat.trail
     (none_left (IsLineOf worker.steps) (filter is_accepted worker.lines) (filter is_event worked.exchanges) (ap (filter is_accepted) none)
     (accepted_tell_events first_standing worker.steps worked.exchanges worker.lines worker.ended worked.is_report))

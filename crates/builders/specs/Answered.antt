@@ -1,22 +1,24 @@
 -- What a seat is answered, one question after the other.
 use Rattle.std.specs.Prelude.{◌≡◌, List, [], ◌∷◌, Ok, Err}
+use Rattle.build_books.specs.View.{HostView}
 use Rattle.realm_host.specs.Call.{Ask, Undo}
 use Rattle.realm_host.specs.declared.reply.Answer.TheVariants.{Replied, Undone}
 use Rattle.workers.specs.Exchange.{Exchange, Did, Undid, KeptMark, LookedBack}
 use Rattle.builders.specs.Seats.{SeatView}
 use Rattle.builders.specs.Told.{IsTold, IsRefused, IsMarkTold, IsBackTold}
 
--- There was a host that can lie behind the lock and answers so. An accepted command or undo makes a new seat, all else leaves it
--- as it is.
-abbrev pub IsAnswered : SeatView → Exchange → SeatView → Type 0
-IsAnswered seat (Did cmd (Ok reply)) new = IsTold (Ask cmd) (Replied reply) seat new
-IsAnswered seat (Did cmd (Err refusal)) new = IsRefused (Ask cmd) refusal seat × (new ≡ seat)
-IsAnswered seat (Undid (Ok undone)) new = IsTold Undo (Undone undone) seat new
-IsAnswered seat (Undid (Err refusal)) new = IsRefused Undo refusal seat × (new ≡ seat)
-IsAnswered seat (KeptMark result) new = IsMarkTold seat result × (new ≡ seat)
-IsAnswered seat (LookedBack mark result) new = IsBackTold seat mark result × (new ≡ seat)
+-- There was a host that can lie behind the lock of builds that were started with `opened`, and answers so. An accepted command
+-- or undo makes a new seat, all else leaves it as it is.
+abbrev pub IsAnswered : HostView → SeatView → Exchange → SeatView → Type 0
+IsAnswered opened seat (Did cmd (Ok reply)) new = IsTold opened (Ask cmd) (Replied reply) seat new
+IsAnswered opened seat (Did cmd (Err refusal)) new = IsRefused opened (Ask cmd) refusal seat × (new ≡ seat)
+IsAnswered opened seat (Undid (Ok undone)) new = IsTold opened Undo (Undone undone) seat new
+IsAnswered opened seat (Undid (Err refusal)) new = IsRefused opened Undo refusal seat × (new ≡ seat)
+IsAnswered opened seat (KeptMark result) new = IsMarkTold opened seat result × (new ≡ seat)
+IsAnswered opened seat (LookedBack mark result) new = IsBackTold opened seat mark result × (new ≡ seat)
 
 -- each with the seat that the one before it left
-abbrev pub AreAnswered : SeatView → List Exchange → SeatView → Type 0
-AreAnswered seat [] new = new ≡ seat
-AreAnswered seat (exchange ∷ exchanges) new = (between : SeatView) × IsAnswered seat exchange between × AreAnswered between exchanges new
+abbrev pub AreAnswered : HostView → SeatView → List Exchange → SeatView → Type 0
+AreAnswered opened seat [] new = new ≡ seat
+AreAnswered opened seat (exchange ∷ exchanges) new =
+    (between : SeatView) × IsAnswered opened seat exchange between × AreAnswered opened between exchanges new

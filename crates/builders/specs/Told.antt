@@ -1,5 +1,5 @@
--- What the answer to a call through the lock tells of the host behind it. Which host that was is not said; but it has as many
--- events of the seat's build as the seat counts.
+-- What the answer to a call through the lock tells of the host behind it. Which host that was is not said; but its machine is
+-- that of the start, and it has as many events of the seat's build as the seat counts.
 use Rattle.std.specs.Prelude.{◌≡◌, ℕ, ◌-◌, [], ◌∷◌, ◌++◌, length, Result}
 use Rattle.std.specs.Result.{IfOk, OnOk}
 use Rattle.realm_model.specs.declared.act.Event.{Event}
@@ -14,41 +14,44 @@ use Rattle.realm_host.specs.declared.reply.Answer.{Answer}
 use Rattle.realm_host.specs.declared.reply.Answer.TheVariants.{Refused}
 use Rattle.builders.specs.Kept.{IsShared}
 use Rattle.builders.specs.Seats.{SeatView, events_of, with_noted}
+use Rattle.builders.specs.Start.{IsOfStart}
 
--- A host that can lie behind the lock, and has as many events of the seat's build as the seat counts.
-pub record IsBehind (host : HostView) (seat : SeatView) : Type 0 where
+-- A host that can lie behind the lock of builds that were started with `opened`, and has as many events of the seat's build as
+-- the seat counts.
+pub record IsBehind (opened host : HostView) (seat : SeatView) : Type 0 where
   pub shared : IsShared host
+  pub of_start : IsOfStart opened host
   pub counted : length (events_of seat.build host.history) ≡ seat.count
 
 -- An accepted call: there was a host that answers so, and the event that ends its history then ends the trail.
-pub record IsTold (call : Call) (answer : Answer) (seat new_seat : SeatView) : Type 0 where
+pub record IsTold (opened : HostView) (call : Call) (answer : Answer) (seat new_seat : SeatView) : Type 0 where
   pub host : HostView
   pub new : HostView
   pub event : Event
-  pub before : IsBehind host seat
+  pub before : IsBehind opened host seat
   pub answered : IsAnswer host seat.build call answer new
   pub ends : new.history ≡ host.history ++ event ∷ []
-  pub after : IsBehind new new_seat
+  pub after : IsBehind opened new new_seat
   pub noted : new_seat ≡ with_noted seat event
 
 -- A refused call: there was a host that refuses so, and stays as it is.
-pub record IsRefused (call : Call) (refusal : Refusal) (seat : SeatView) : Type 0 where
+pub record IsRefused (opened : HostView) (call : Call) (refusal : Refusal) (seat : SeatView) : Type 0 where
   pub host : HostView
-  pub behind : IsBehind host seat
+  pub behind : IsBehind opened host seat
   pub answered : IsAnswer host seat.build call (Refused refusal) host
 
 -- A mark, or why there is none: there was a host that answers so.
-pub record IsMarkTold (seat : SeatView) (result : Result Mark Refusal) : Type 0 where
+pub record IsMarkTold (opened : HostView) (seat : SeatView) (result : Result Mark Refusal) : Type 0 where
   pub host : HostView
   pub new : HostView
-  pub behind : IsBehind host seat
+  pub behind : IsBehind opened host seat
   pub answered : IsMarked host seat.build result new
 
 -- How far back a mark is, or why there is no way back to it: there was a host that answers so. It is as many acts as are open
 -- but were not at the mark.
-pub record IsBackTold (seat : SeatView) (mark : Mark) (result : Result ℕ Refusal) : Type 0 where
+pub record IsBackTold (opened : HostView) (seat : SeatView) (mark : Mark) (result : Result ℕ Refusal) : Type 0 where
   pub host : HostView
-  pub behind : IsBehind host seat
+  pub behind : IsBehind opened host seat
   pub answered : result ≡ way_back host seat.build mark
   pub stands : OnOk result (IsMarkOf host seat.build mark)
   pub count_is : IfOk result (λ count. count ≡ length (open_of host seat.build) - mark.length)

@@ -1,5 +1,6 @@
 -- What a worker shows: its seat, its steps and its report.
 use Rattle.std.specs.Prelude.{◌≡◌, ℕ, ◌<◌, ◌⊎◌, Bool, false, List, [], length}
+use Rattle.build_books.specs.View.{HostView}
 use Rattle.build_commands.specs.declared.cmd.Step.{Step}
 use Rattle.workers.specs.Exchange.{Exchange}
 use Rattle.workers.specs.Report.{IsReport}
@@ -22,23 +23,23 @@ pub record IsNew (worker : WorkerView) : Type 0 where
   pub not_ended : worker.ended ≡ false
 
 -- These questions are those of the report of the steps. Its seat was answered so, since it was new, by hosts that can lie
--- behind the lock; the accepted ones are the trail's events, which the seat counts.
-pub record HasWorked (worker : WorkerView) : Type 0 where
+-- behind the lock of builds that were started with `opened`; the accepted ones are the trail's events, which the seat counts.
+pub record HasWorked (opened : HostView) (worker : WorkerView) : Type 0 where
   pub exchanges : List Exchange
   pub is_report : IsReport 0 first_standing worker.steps exchanges worker.lines worker.ended
-  pub answered : AreAnswered (new_seat worker.seat.build) exchanges worker.seat
+  pub answered : AreAnswered opened (new_seat worker.seat.build) exchanges worker.seat
   pub is_trail : IsTrailOf worker.seat.build exchanges worker.seat.trail
   pub counted : worker.seat.count ≡ length worker.seat.trail
 
 -- what always holds of a worker
-abbrev pub IsFaithful : WorkerView → Type 0
-IsFaithful worker = IsNew worker ⊎ HasWorked worker
+abbrev pub IsFaithful : HostView → WorkerView → Type 0
+IsFaithful opened worker = IsNew worker ⊎ HasWorked opened worker
 
 -- A worker has worked on its steps. The gate let the turn of each question pass, from 0 on; and where the worker has not ended,
 -- the gate stops the next.
-pub record IsRun (passes stops : ℕ → Type 0) (old new : WorkerView) : Type 0 where
+pub record IsRun (opened : HostView) (passes stops : ℕ → Type 0) (old new : WorkerView) : Type 0 where
   pub steps_are : new.steps ≡ old.steps
   pub build_is : new.seat.build ≡ old.seat.build
-  pub worked : HasWorked new
+  pub worked : HasWorked opened new
   pub passed : (turn : ℕ) → turn < length worked.exchanges → passes turn
   pub stopped : new.ended ≡ false → stops (length worked.exchanges)

@@ -83,8 +83,8 @@ impl<
         ensures answer { IsAnswer self.old.host seat.old.build (Ask cmd) (replied result) self.new.host }
         ensures noted { IfOk result (λ _. IsNoted self.old seat.old self.new seat.new) }
         ensures refused { IfErr result (λ _. (self.new ≡ self.old) × (seat.new ≡ seat.old)) }
-        ensures before { IsBehind self.old.host seat.old }
-        ensures after { IsBehind self.new.host seat.new }
+        ensures before { IsBehind L0.opened self.old.host seat.old }
+        ensures after { IsBehind L0.opened self.new.host seat.new }
     {
         let build = seat.pass.build();
         self.books.audit(&mut seat.pass);
@@ -102,8 +102,8 @@ impl<
         ensures answer { IsAnswer self.old.host seat.old.build Undo (undone result) self.new.host }
         ensures noted { IfOk result (λ _. IsNoted self.old seat.old self.new seat.new) }
         ensures refused { IfErr result (λ _. (self.new ≡ self.old) × (seat.new ≡ seat.old)) }
-        ensures before { IsBehind self.old.host seat.old }
-        ensures after { IsBehind self.new.host seat.new }
+        ensures before { IsBehind L0.opened self.old.host seat.old }
+        ensures after { IsBehind L0.opened self.new.host seat.new }
     {
         let build = seat.pass.build();
         self.books.audit(&mut seat.pass);
@@ -117,8 +117,8 @@ impl<
         ensures answer { IsMarked self.old.host seat.old.build result self.new.host }
         ensures books { self.new.books ≡ self.old.books }
         ensures seat { seat.new ≡ seat.old }
-        ensures before { IsBehind self.old.host seat.old }
-        ensures after { IsBehind self.new.host seat.new }
+        ensures before { IsBehind L0.opened self.old.host seat.old }
+        ensures after { IsBehind L0.opened self.new.host seat.new }
     {
         let build = seat.pass.build();
         self.books.audit(&mut seat.pass);
@@ -137,7 +137,7 @@ impl<
         ensures answer { result ≡ way_back self.old.host seat.old.build mark }
         ensures stands { OnOk result (IsMarkOf self.old.host seat.old.build mark) }
         ensures same { (self.new ≡ self.old) × (seat.new ≡ seat.old) }
-        ensures behind { IsBehind self.old.host seat.old }
+        ensures behind { IsBehind L0.opened self.old.host seat.old }
     {
         let build = seat.pass.build();
         self.books.audit(&mut seat.pass);

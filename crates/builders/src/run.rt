@@ -35,7 +35,7 @@ pub fn run_builds<
     gate: &G,
 ) -> Result<(), BuildId>
     requires { All (λ worker. worker.lines ≡ []) workers.old }
-    ensures run { AreRun (G.passes gate.now) (G.stops gate.now) workers.old workers.new }
+    ensures run { AreRun L0.opened (G.passes gate.now) (G.stops gate.now) workers.old workers.new }
     ensures told { MatchResult result (λ _. All (λ worker. worker.ended ≡ true) workers.new) (λ build. IsLowestWaiting workers.new build) }
 {
     // There has to be one thread, also for no worker.
@@ -46,7 +46,7 @@ pub fn run_builds<
         threads,
         &|_, worker: &mut Worker<L0, L1, L2, L3, L4, L5, L6, L7>|
             requires { worker.old.lines ≡ [] }
-            ensures { IsRun (G.passes gate.entry.now worker.old.seat.build) (G.stops gate.entry.now worker.old.seat.build) worker.old worker.new }
+            ensures { IsRun L0.opened (G.passes gate.entry.now worker.old.seat.build) (G.stops gate.entry.now worker.old.seat.build) worker.old worker.new }
         { worker.run(rt, shared, gate) },
     );
     lowest_waiting(workers).map_or(Ok(()), Err)

@@ -93,8 +93,8 @@ impl<
         seat: &mut Seat<L0, L1, L2, L3, L4, L5, L6, L7>,
         cmd: Cmd,
     ) -> Result<Reply, Refusal>
-        ensures told { IfOk result (λ reply. IsTold (Ask cmd) (Replied reply) seat.old seat.new) }
-        ensures refused { IfErr result (λ refusal. IsRefused (Ask cmd) refusal seat.old × (seat.new ≡ seat.old)) }
+        ensures told { IfOk result (λ reply. IsTold L0.opened (Ask cmd) (Replied reply) seat.old seat.new) }
+        ensures refused { IfErr result (λ refusal. IsRefused L0.opened (Ask cmd) refusal seat.old × (seat.new ≡ seat.old)) }
     {
         self.kept.lock(rt).call(seat, cmd)
     }
@@ -105,8 +105,8 @@ impl<
         rt: &impl Wait,
         seat: &mut Seat<L0, L1, L2, L3, L4, L5, L6, L7>,
     ) -> Result<Undone, Refusal>
-        ensures told { IfOk result (λ done. IsTold Undo (WasUndone done) seat.old seat.new) }
-        ensures refused { IfErr result (λ refusal. IsRefused Undo refusal seat.old × (seat.new ≡ seat.old)) }
+        ensures told { IfOk result (λ done. IsTold L0.opened Undo (WasUndone done) seat.old seat.new) }
+        ensures refused { IfErr result (λ refusal. IsRefused L0.opened Undo refusal seat.old × (seat.new ≡ seat.old)) }
     {
         self.kept.lock(rt).undo(seat)
     }
@@ -117,7 +117,7 @@ impl<
         rt: &impl Wait,
         seat: &mut Seat<L0, L1, L2, L3, L4, L5, L6, L7>,
     ) -> Result<Mark, Refusal>
-        ensures told { IsMarkTold seat.old result }
+        ensures told { IsMarkTold L0.opened seat.old result }
         ensures seat { seat.new ≡ seat.old }
     {
         self.kept.lock(rt).mark(seat)
@@ -130,7 +130,7 @@ impl<
         seat: &mut Seat<L0, L1, L2, L3, L4, L5, L6, L7>,
         mark: Mark,
     ) -> Result<u16, Refusal>
-        ensures told { IsBackTold seat.old mark result }
+        ensures told { IsBackTold L0.opened seat.old mark result }
         ensures seat { seat.new ≡ seat.old }
     {
         self.kept.lock(rt).check_back(seat, mark)

@@ -47,7 +47,7 @@ impl<
     L7: Lane,
 > Teller for SeatTeller<'a, R, S, L0, L1, L2, L3, L4, L5, L6, L7> {
     // those that the seat was answered since it was new
-    ghost tells = { λ teller exchanges. AreAnswered (new_seat teller.seat.now.build) exchanges teller.seat.now };
+    ghost tells = { λ teller exchanges. AreAnswered L0.opened (new_seat teller.seat.now.build) exchanges teller.seat.now };
 
     // the seat's, and its build, so that both stay
     ghost loan = { λ teller. 8 * teller.seat.ghost_name + teller.seat.now.build };

@@ -32,7 +32,7 @@ impl<L0: Lane, L1: Lane, L2: Lane, L3: Lane, L4: Lane, L5: Lane, L6: Lane, L7: L
 
     ghost view = { λ w. record { seat = w.seat; steps = w.steps.items; lines = w.report.lines.items; ended = w.ended } };
 
-    ghost invariant = { λ w. IsFaithful (record { seat = w.seat; steps = w.steps.items; lines = w.report.lines.items; ended = w.ended }) × (w.report.build ≡ w.seat.build) × (vec_len w.steps ≤ 1024) × (2 * vec_len w.steps + 1 ≤ vec_capacity w.report.lines) };
+    ghost invariant = { λ w. IsFaithful L0.opened (record { seat = w.seat; steps = w.steps.items; lines = w.report.lines.items; ended = w.ended }) × (w.report.build ≡ w.seat.build) × (vec_len w.steps ≤ 1024) × (2 * vec_len w.steps + 1 ≤ vec_capacity w.report.lines) };
 }
 
 impl<L0: Lane, L1: Lane, L2: Lane, L3: Lane, L4: Lane, L5: Lane, L6: Lane, L7: Lane> Worker<
@@ -97,7 +97,7 @@ impl<L0: Lane, L1: Lane, L2: Lane, L3: Lane, L4: Lane, L5: Lane, L6: Lane, L7: L
         gate: &G,
     )
         requires { self.old.lines ≡ [] }
-        ensures { IsRun (G.passes gate.now self.old.seat.build) (G.stops gate.now self.old.seat.build) self.old self.new }
+        ensures { IsRun L0.opened (G.passes gate.now self.old.seat.build) (G.stops gate.now self.old.seat.build) self.old self.new }
     {
         let Worker {
             seat,
@@ -112,7 +112,7 @@ impl<L0: Lane, L1: Lane, L2: Lane, L3: Lane, L4: Lane, L5: Lane, L6: Lane, L7: L
     pub fn end(self) -> (Seat<L0, L1, L2, L3, L4, L5, L6, L7>, Vec<Step>, Report)
         ensures parts { (result.0 ≡ self.seat) × (result.1.items ≡ self.steps) × (result.2.lines.items ≡ self.lines) }
         ensures build { result.2.build ≡ self.seat.build }
-        ensures faithful { IsFaithful self }
+        ensures faithful { IsFaithful L0.opened self }
     {
         let Worker {
             seat,
@@ -150,7 +150,7 @@ fn work_at<
     requires few { length steps.now ≤ 1024 }
     requires room { 2 * length steps.now + 1 ≤ vec_capacity report.old.lines }
     requires build { report.old.build ≡ seat.old.build }
-    ensures run { IsRun (G.passes gate.now seat.old.build) (G.stops gate.now seat.old.build)
+    ensures run { IsRun L0.opened (G.passes gate.now seat.old.build) (G.stops gate.now seat.old.build)
         (record { seat = seat.old; steps = steps.now; lines = []; ended = false })
         (record { seat = seat.new; steps = steps.now; lines = report.new.lines.items; ended = result }) }
     ensures same { (report.new.build ≡ report.old.build) × (vec_capacity report.new.lines ≡ vec_capacity report.old.lines) }
