@@ -21,20 +21,21 @@ use Rattle.plan_threads.specs.Threads.{new_workers, seats_of, IsReportOf, IsEnde
 use Rattle.plan_threads.proofs.Reports.{workers_fit, reports_fit, text_of_workers}
 
 -- there are as many after it as before
-pub same_length : (passes stops : ℕ → ℕ → Type 0) (old new : List WorkerView) → AreRun passes stops old new → length new ≡ length old
+pub same_length : (opened : HostView) (passes stops : ℕ → ℕ → Type 0) (old new : List WorkerView) → AreRun opened passes stops old new → length new ≡ length old
 unfolding AreRun
-same_length passes stops old new are = sym (length_all_zip (λ (before after : WorkerView). IsRun (passes before.seat.build) (stops before.seat.build) before after) old new are)
+same_length opened passes stops old new are = sym (length_all_zip (λ (before after : WorkerView). IsRun opened (passes before.seat.build) (stops before.seat.build) before after) old new are)
 
-module _ (plan : Plan) (passes stops : ℕ → ℕ → Type 0) (old new : List WorkerView) (are_new : old ≡ new_workers plan) (run : AreRun passes stops old new) where
-  run_of : AreRun passes stops (new_workers plan) new
-  run_of = subst (λ (ws : List WorkerView). AreRun passes stops ws new) are_new run
+module _ (plan : Plan) (passes stops : ℕ → ℕ → Type 0) (start opened : HostView) (is_start : opened ≡ start) (old new : List WorkerView) (are_new : old ≡ new_workers plan)
+    (run : AreRun start passes stops old new) where
+  run_of : AreRun opened passes stops (new_workers plan) new
+  run_of = subst (λ (o : HostView). AreRun o passes stops (new_workers plan) new) (sym is_start) (subst (λ (ws : List WorkerView). AreRun start passes stops ws new) are_new run)
 
-  pub is_stuck : (build : ℕ) → IsLowestWaiting new build → IsStuck plan passes stops build
+  pub is_stuck : (build : ℕ) → IsLowestWaiting new build → IsStuck plan passes stops opened build
   is_stuck build waits = record { workers = new; run = run_of; waits = waits }
 
   -- ---- all have ended
 
-  module _ (ended : All (λ (worker : WorkerView). worker.ended ≡ true) new) (start opened host : HostView) (is_start : opened ≡ start) (seats : List SeatView) (seats_are : seats ≡ seats_of new) where
+  module _ (ended : All (λ (worker : WorkerView). worker.ended ≡ true) new) (host : HostView) (seats : List SeatView) (seats_are : seats ≡ seats_of new) where
     ended_run : IsGivenBack start host seats → IsEndedRun plan passes stops opened host new
     ended_run back = record {
       run = run_of;

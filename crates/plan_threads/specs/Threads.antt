@@ -40,10 +40,10 @@ IsReportOf worker (report, asks) = (report.build ≡ worker.seat.build) × (repo
 
 -- ---- runs
 
--- The workers of the plan's builds have run, and this is the host that they leave. Of each build the gate lets these turns pass,
--- and stops those.
+-- The workers of the plan's builds have run, started with the host `opened`, and this is the host that they leave. Of each build
+-- the gate lets these turns pass, and stops those.
 pub record IsEndedRun (plan : Plan) (passes stops : ℕ → ℕ → Type 0) (opened host : HostView) (workers : List WorkerView) : Type 0 where
-  pub run : AreRun passes stops (new_workers plan) workers
+  pub run : AreRun opened passes stops (new_workers plan) workers
   pub ended : All (λ worker. worker.ended ≡ true) workers
   pub given_back : IsGivenBack opened host (seats_of workers)
 
@@ -70,9 +70,9 @@ pub record IsText (plan : Plan) (passes stops : ℕ → ℕ → Type 0) (opened 
 -- ---- why there is no text
 
 -- In some run the worker of this build, and of no lower one, has waited in vain for its next turn, which the gate stops.
-pub record IsStuck (plan : Plan) (passes stops : ℕ → ℕ → Type 0) (build : ℕ) : Type 0 where
+pub record IsStuck (plan : Plan) (passes stops : ℕ → ℕ → Type 0) (opened : HostView) (build : ℕ) : Type 0 where
   pub workers : List WorkerView
-  pub run : AreRun passes stops (new_workers plan) workers
+  pub run : AreRun opened passes stops (new_workers plan) workers
   pub waits : IsLowestWaiting workers build
 
 -- Some run has ended with a seat whose events are not those that the history has of its build, or with a report that does not
@@ -85,5 +85,5 @@ pub record IsMismatch (plan : Plan) (passes stops : ℕ → ℕ → Type 0) (ope
 
 abbrev pub IsWithoutText : Plan → (ℕ → ℕ → Type 0) → (ℕ → ℕ → Type 0) → HostView → RunFault → Type 0
 IsWithoutText plan passes stops opened Memory = Unit {0}
-IsWithoutText plan passes stops opened (Stuck build) = IsStuck plan passes stops build
+IsWithoutText plan passes stops opened (Stuck build) = IsStuck plan passes stops opened build
 IsWithoutText plan passes stops opened Mismatch = IsMismatch plan passes stops opened
