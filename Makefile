@@ -6,6 +6,8 @@ TRACE ?= traces/granules.trace
 CRATE ?=
 SINCE ?=
 JOBS ?=
+# COUNT: how many random inputs of each kind `make fuzz` runs (2,000).
+COUNT ?=
 # Where `make install` puts the programs and what belongs to them.
 PREFIX ?= /usr/local
 DESTDIR ?=
@@ -13,7 +15,7 @@ DESTDIR ?=
 PROGRAMS = realmhost rmitrace
 SHARE = $(DESTDIR)$(PREFIX)/share
 
-.PHONY: allocations bench build help install planted test try try-trace wrong-bodies
+.PHONY: allocations bench build fuzz help install memcheck planted test try try-trace wrong-bodies
 
 help: ## lists the targets
 	@grep -E '^[a-z-]+:.*## ' $(MAKEFILE_LIST) | sed 's/:.*## /\t/' | expand -t 16
@@ -40,9 +42,10 @@ install: ## copies what `make build` has built, the documents, plans and traces 
 test: ## the whole gate from nothing: proofs, tests, what the built programs print, and the documents
 	rt ci
 	@mkdir -p bin
-	@for it in $(PROGRAMS); do install -m 755 crates/$$it/out/$$it bin/$$it || exit 1; done
+	@for it in $(PROGRAMS) test_memory; do install -m 755 crates/$$it/out/$$it bin/$$it || exit 1; done
 	tests/program
 	tests/traces
+	tests/allocations
 	tests/documents
 	tests/commands
 	tools/pictures --check
@@ -53,8 +56,15 @@ wrong-bodies: ## tries bodies that do something else, of CRATE or all: the prove
 planted: ## tries edits that are no wrong bodies, after a change of tests/wrong-bodies or of the toolchain
 	@tests/wrong-bodies $(if $(JOBS),--jobs $(JOBS)) --planted $(CRATE)
 
-allocations: build ## refuses each allocation of the program in turn, over each plan (needs a C compiler)
-	@tests/allocations
+allocations: ## refuses each allocation of the programs in turn, over all plans and traces; `make test` has the first of them
+	@tools/build $(PROGRAMS) test_memory
+	@tests/allocations --all
+
+memcheck: build ## runs the programs under valgrind's memcheck
+	@tests/memcheck
+
+fuzz: build ## runs COUNT plans and traces of each kind of random change, and long inputs
+	@tests/fuzz $(COUNT)
 
 bench: build ## CPU time and peak memory of the program over plans of several shapes, beside plain Rust (needs rustc)
 	@bench/run

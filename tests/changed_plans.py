@@ -1,13 +1,15 @@
-"""Plans of the repository with random changes, for `tests/program`, and what has to hold whatever they have become.
+"""Plans of the repository with random changes, for `tests/program` and `tests/fuzz`, and what has to hold whatever they have
+become.
 
-The changes are the same at each run. No text is known for such a plan, so `findings` compares its answers with one another.
+A plan of the same number is changed alike at each run. No text is known for it, so `findings` compares its answers with one
+another.
 """
 import random
 import re
+import tomllib
 from pathlib import Path
 
 TOP = Path(__file__).resolve().parent.parent
-PLANS = 300
 # Only short plans are changed: in a long one, most changes would meet one step of many that are alike.
 MOST_BYTES = 2000
 # Beside the numbers below 9, which most pages, orders and levels have: both sides of limits.
@@ -57,11 +59,11 @@ def with_a_byte(plan, dice):
 CHANGES, SHARES = (with_a_number, with_a_step, with_other_turns, with_a_byte), (12, 12, 6, 1)
 
 
-def changed_plans():
-    """The number of each changed plan, the plan, and a build to leave out."""
+def changed_plans(numbers):
+    """For each number a changed plan, and a build to leave out."""
     paths = sorted([*TOP.glob("plans/*.toml"), *TOP.glob("tests/runs/*.toml")])
     plans = [path.read_bytes() for path in paths if path.stat().st_size < MOST_BYTES]
-    for number in range(PLANS):
+    for number in numbers:
         dice = random.Random(number)
         plan = plans[number % len(plans)]
         build = dice.randrange(plan.count(b"[[build]]") or 1)
@@ -88,6 +90,25 @@ def without(build, lines):
     pages = sum(line.startswith(b"%d page " % build) for line in lines)
     free = int(FREE.fullmatch(lines[-1])[1])
     return b"".join(line for line in lines[:-1] if not is_of(build, line)) + b"free %d\n" % (free + pages)
+
+
+def accepted_alone(plan, text):
+    """A plan without the steps that were refused and without their turns, and the text that its run has to have."""
+    keys, lines = tomllib.loads(plan.decode()), text.decode().splitlines()
+    order, told, steps = [], [], [[] for _ in keys.pop("build")]
+    is_underway = [False] * len(steps)
+    for build, line in zip(keys.pop("order", []), lines):
+        step, _, answer = line[2:].partition(" = ")
+        if answer.startswith("no "):
+            continue
+        if answer and not is_underway[build]:
+            steps[build].append(step)
+        # An abort and a way back stay the build's step until they are done.
+        is_underway[build] = step in ("abort", "back") and answer.startswith("ok ")
+        order.append(build)
+        told.append(f"{line}\n".encode())
+    rows = [f"{key} = {value}" for key, value in {**keys, "order": order}.items()] + [f"[[build]]\nsteps = {its}" for its in steps]
+    return "\n".join(rows).encode(), b"".join([*told, *map_of(text)])
 
 
 def fault_of_a_replay(status, out, err):
@@ -121,7 +142,13 @@ def findings(ask, plan, build):
     replayed, erased, ran = (ask(words, plan) for words in ((b"replay",), erase, (b"run",)))
     if fault_of_a_replay(*replayed):
         yield "replay", replayed
-    elif fault_of_an_erasure(replayed, erased, build):
+        return
+    if replayed[0] == 0:
+        accepted, text = accepted_alone(plan, replayed[1])
+        again = ask((b"replay",), accepted)
+        if again != (0, text, b""):
+            yield f"a replay of its accepted steps, {accepted!r},", again
+    if fault_of_an_erasure(replayed, erased, build):
         yield f"replay --erase {build}", erased
-    elif fault_of_threads(replayed, ran):
+    if fault_of_threads(replayed, ran):
         yield "run", ran

@@ -1,0 +1,58 @@
+//! How long a block takes to come and go.
+use crate::{Fault, tell};
+use buddy::BuddyArena;
+use granule_addr::{Gran, Order};
+use page_arena::{BuildError, PageStore};
+use std::alloc::Global;
+
+const TIMES: u32 = 200_000;
+
+// A block of 512 pages is taken, as the store picks it, and given back.
+#[tactic(auto, using(page_arena::specs::Blocks::taken_block))]
+fn comes_and_goes(arena: &mut BuddyArena, order: Order) -> bool {
+    match arena.take(order) {
+        Some(first) => {
+            arena.give(first, order);
+            true
+        }
+        None => false,
+    }
+}
+
+// The same block is taken by its name, and given back.
+#[tactic(auto, using(page_arena::specs::Blocks::taken_block))]
+fn is_named_and_goes(arena: &mut BuddyArena, order: Order, first: Gran) -> bool {
+    if !arena.take_at(order, first) {
+        return false;
+    }
+    arena.give(first, order);
+    true
+}
+
+/// Blocks of so many pages come and go, by their names or as the store picks them. Nothing else happens between the lines.
+pub(crate) fn come_and_go(
+    rt: &impl Print,
+    alloc: Global,
+    pages: u16,
+    are_named: bool,
+) -> Result<(), Fault> {
+    let mut arena = match BuddyArena::build(alloc, pages) {
+        Ok(arena) => arena,
+        Err(BuildError::Memory(error)) => return Err(error.into()),
+        Err(BuildError::BadSize) => return Err(Fault::Other),
+    };
+    let order = Order::new(9).unwrap();
+    let first = Gran::new(0, 1).unwrap();
+    let mut count: u32 = 0;
+    tell(rt, "quiet");
+    for _ in 0..TIMES {
+        let has_gone = if are_named {
+            is_named_and_goes(&mut arena, order, first)
+        } else {
+            comes_and_goes(&mut arena, order)
+        };
+        count = count.saturating_add(u32::from(has_gone));
+    }
+    let _told = println!(rt; "{count} blocks come and go in {pages} pages, by name: {are_named}");
+    Ok(())
+}

@@ -1,0 +1,43 @@
+//! A host that is booted once more where it was refused memory.
+ghost use Rattle.std.specs.Prelude.{◌≡◌, [], true, length, replicate, IfOk};
+ghost use Rattle.granule_addr.specs.Page.{zero_page};
+
+use crate::{Fault, tell_try};
+use buddy::BuddyArena;
+use page_arena::{BuildError, PageStore};
+use realm_host::{Host, Settings};
+use std::alloc::Global;
+
+// Boots over a store, and once more over the same one where there was no memory.
+fn boot<S: PageStore + Drop>(
+    rt: &impl Print,
+    alloc: Global,
+    settings: Settings,
+    store: S,
+) -> Result<Host<S>, Fault>
+    requires zero { S.page_bytes store ≡ replicate (length (S.page_bytes store)) zero_page }
+    requires free { S.free_flags store ≡ replicate (length (S.page_bytes store)) true }
+    ensures { IfOk result (λ host. host.history ≡ []) }
+{
+    let (host, is_second) = match Host::boot(alloc, settings, store) {
+        Ok(host) => (host, false),
+        Err((_, store)) => match Host::boot(alloc, settings, store) {
+            Ok(host) => (host, true),
+            Err((error, _)) => return Err(error.into()),
+        },
+    };
+    tell_try(rt, "booted", is_second);
+    Ok(host)
+}
+
+/// A host of 16 pages and two builds.
+pub(crate) fn booted(rt: &impl Print, alloc: Global) -> Result<Host<BuddyArena>, Fault>
+    ensures { IfOk result (λ host. host.history ≡ []) }
+{
+    let settings = Settings::new(8, 0, 1024, 2).unwrap();
+    match BuddyArena::build(alloc, 16) {
+        Ok(store) => boot(rt, alloc, settings, store),
+        Err(BuildError::Memory(error)) => Err(error.into()),
+        Err(BuildError::BadSize) => Err(Fault::Other),
+    }
+}

@@ -1,0 +1,73 @@
+//! Tests alone: what was handed in comes back where memory is refused, and after that no call takes any.
+//!
+//! `tests/allocations` refuses each allocation of this program in turn: a host is then booted or shared, or a worker built, at
+//! the second try, from what came back of the first. It counts the allocations between a line `quiet` and the line after it,
+//! and compares the times of the last three such parts.
+#![tactic(auto)]
+
+mod blocks;
+mod boot;
+mod calls;
+mod recorded;
+mod seats;
+
+use std::alloc::{AllocError, AllocFailed};
+use std::marker::Sync;
+use std::process::ExitCode;
+use std::sync::Wait;
+use std::thread::Threads;
+
+/// Why the program stops.
+#[derive(Clone, Copy)]
+pub(crate) enum Fault {
+    /// Memory was refused where nothing was handed in.
+    Memory,
+    /// Something else went wrong, which is not to be.
+    Other,
+}
+
+impl From<AllocError> for Fault {
+    fn from(_: AllocError) -> Fault {
+        Fault::Memory
+    }
+}
+
+impl<T: Drop> From<AllocFailed<T>> for Fault {
+    fn from(_: AllocFailed<T>) -> Fault {
+        Fault::Memory
+    }
+}
+
+/// Prints a line. Where that fails, the line is missing.
+pub(crate) fn tell(rt: &impl Print, line: &str) {
+    let _told = println!(rt; "{line}");
+}
+
+/// Something is done, at the first try or at the second.
+pub(crate) fn tell_try(rt: &impl Print, what: &str, is_second: bool) {
+    let _told = if is_second {
+        println!(rt; "{what} at the second try")
+    } else {
+        println!(rt; "{what}")
+    };
+}
+
+fn run<R: Print + AllocGlobal + Threads + Wait + Sync>(rt: &R) -> Result<(), Fault> {
+    let first = calls::all_calls(rt, rt.alloc())?;
+    recorded::applies_again(rt, rt.alloc(), &first)?;
+    seats::work(rt, rt.alloc())?;
+    blocks::come_and_go(rt, rt.alloc(), 4096, false)?;
+    blocks::come_and_go(rt, rt.alloc(), 512, true)?;
+    blocks::come_and_go(rt, rt.alloc(), 4096, true)
+}
+
+fn main(rt: HostRuntime) -> ExitCode {
+    match run(&rt) {
+        Ok(()) => ExitCode::SUCCESS,
+        Err(Fault::Memory) => {
+            let _told = eprintln!(rt; "memory");
+            ExitCode::from(3)
+        }
+        Err(Fault::Other) => ExitCode::FAILURE,
+    }
+}
