@@ -12,7 +12,7 @@ use Rattle.realm_model.specs.Command.Check.{is_in}
 use Rattle.realm_model.proofs.SetEach.{get_or-set_each}
 use Rattle.build_books.specs.View.{HostView, is_aborting, with_event}
 use Rattle.builders.specs.Kept.{KeptView, IsSound, IsShared, IsCounted, IsKept}
-use Rattle.builders.specs.Lanes.{PassView}
+use Rattle.builders.specs.Passes.{PassView}
 use Rattle.builders.specs.Seats.{SeatView, events_of, with_noted}
 use Rattle.builders.specs.Start.{IsOfStart}
 use Rattle.builders.specs.Told.{IsBehind}

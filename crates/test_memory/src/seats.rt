@@ -1,12 +1,13 @@
 //! A host that builds share: calls through its lock, and workers.
 ghost use Rattle.std.specs.Prelude.{◌≡◌, [], IfOk};
+ghost use Rattle.builders.specs.Names.{AreNamed};
 
 use crate::boot::booted;
 use crate::calls::{TURNS, Tally, command};
 use crate::{Fault, tell, tell_try};
 use buddy::BuddyArena;
 use build_commands::Step;
-use builders::{Blanks, Lane, OpenGate, Seat, Shared, Worker, run_builds};
+use builders::{Blanks, Ledgers, OpenGate, Seat, Shared, Worker, run_builds};
 use realm_host::{Cmd, Host};
 use std::alloc::{AllocError, Global};
 use std::marker::{Brand, Send, Sync};
@@ -14,10 +15,10 @@ use std::sync::Wait;
 use std::thread::Threads;
 
 // Every call through the lock. The answers are counted.
-fn ask_all<R: Wait, L0: Lane, L1: Lane, L2: Lane, L3: Lane, L4: Lane, L5: Lane, L6: Lane, L7: Lane>(
+fn ask_all<R: Wait, L: Ledgers>(
     rt: &R,
-    shared: &Shared<BuddyArena, L0, L1, L2, L3, L4, L5, L6, L7>,
-    seat: &mut Seat<L0, L1, L2, L3, L4, L5, L6, L7>,
+    shared: &Shared<BuddyArena, L>,
+    seat: &mut Seat<L>,
     tally: &mut Tally,
 ) {
     for turn in 0..TURNS {
@@ -46,11 +47,7 @@ fn few_steps(alloc: Global) -> Result<Vec<Step>, AllocError> {
 }
 
 // The worker of a seat that has asked nothing, built once more of what came back where there was no memory.
-fn worker_of<L0: Lane, L1: Lane, L2: Lane, L3: Lane, L4: Lane, L5: Lane, L6: Lane, L7: Lane>(
-    rt: &impl Print,
-    alloc: Global,
-    seat: Seat<L0, L1, L2, L3, L4, L5, L6, L7>,
-) -> Result<Worker<L0, L1, L2, L3, L4, L5, L6, L7>, Fault>
+fn worker_of<L: Ledgers>(rt: &impl Print, alloc: Global, seat: Seat<L>) -> Result<Worker<L>, Fault>
     ensures { IfOk result (λ worker. worker.lines ≡ []) }
 {
     let steps = few_steps(alloc)?;
@@ -69,21 +66,11 @@ fn worker_of<L0: Lane, L1: Lane, L2: Lane, L3: Lane, L4: Lane, L5: Lane, L6: Lan
 }
 
 // Two builds on a shared host: the one asks through its seat, the other has a worker.
-fn ask_and_work<
-    R: Print + Threads + Wait + Sync,
-    L0: Lane + Send + Sync,
-    L1: Lane + Send + Sync,
-    L2: Lane + Send + Sync,
-    L3: Lane + Send + Sync,
-    L4: Lane + Send + Sync,
-    L5: Lane + Send + Sync,
-    L6: Lane + Send + Sync,
-    L7: Lane + Send + Sync,
->(
+fn ask_and_work<R: Print + Threads + Wait + Sync, L: Ledgers + Send + Sync>(
     rt: &R,
     alloc: Global,
-    shared: &Shared<BuddyArena, L0, L1, L2, L3, L4, L5, L6, L7>,
-    seats: &mut Vec<Seat<L0, L1, L2, L3, L4, L5, L6, L7>>,
+    shared: &Shared<BuddyArena, L>,
+    seats: &mut Vec<Seat<L>>,
 ) -> Result<(), Fault> {
     let last = seats.pop().ok_or(Fault::Other)?;
     let mut seat = seats.pop().ok_or(Fault::Other)?;
@@ -105,44 +92,19 @@ fn ask_and_work<
 }
 
 // Shares a host, and once more where there was no memory. It is closed in the end.
-fn share<
-    R: Print + Threads + Wait + Sync,
-    L0: Lane + Send + Sync,
-    L1: Lane + Send + Sync,
-    L2: Lane + Send + Sync,
-    L3: Lane + Send + Sync,
-    L4: Lane + Send + Sync,
-    L5: Lane + Send + Sync,
-    L6: Lane + Send + Sync,
-    L7: Lane + Send + Sync,
->(rt: &R, alloc: Global, blanks: Blanks, host: Host<BuddyArena>) -> Result<(), Fault>
+fn share<R: Print + Threads + Wait + Sync, L: Ledgers + Send + Sync>(
+    rt: &R,
+    alloc: Global,
+    blanks: Blanks,
+    host: Host<BuddyArena>,
+) -> Result<(), Fault>
     requires empty { host.history ≡ [] }
-    requires opened { host ≡ L0.opened }
-    requires name0 { blanks.blank0.name ≡ L0.name }
-    requires name1 { blanks.blank1.name ≡ L1.name }
-    requires name2 { blanks.blank2.name ≡ L2.name }
-    requires name3 { blanks.blank3.name ≡ L3.name }
-    requires name4 { blanks.blank4.name ≡ L4.name }
-    requires name5 { blanks.blank5.name ≡ L5.name }
-    requires name6 { blanks.blank6.name ≡ L6.name }
-    requires name7 { blanks.blank7.name ≡ L7.name }
+    requires opened { host ≡ L.opened }
+    requires named { AreNamed L.names blanks }
 {
-    let (shared, mut seats, is_second) = match Shared::<
-        BuddyArena,
-        L0,
-        L1,
-        L2,
-        L3,
-        L4,
-        L5,
-        L6,
-        L7,
-    >::start(alloc, blanks, host)
-    {
+    let (shared, mut seats, is_second) = match Shared::<BuddyArena, L>::start(alloc, blanks, host) {
         Ok((shared, seats)) => (shared, seats, false),
-        Err((_, blanks, host)) => match Shared::<BuddyArena, L0, L1, L2, L3, L4, L5, L6, L7>::start(
-            alloc, blanks, host,
-        ) {
+        Err((_, blanks, host)) => match Shared::<BuddyArena, L>::start(alloc, blanks, host) {
             Ok((shared, seats)) => (shared, seats, true),
             Err(_) => return Err(Fault::Memory),
         },
@@ -161,10 +123,5 @@ fn share<
 /// A shared host is started, worked on and closed.
 pub(crate) fn work<R: Print + Threads + Wait + Sync>(rt: &R, alloc: Global) -> Result<(), Fault> {
     let host = booted(rt, alloc)?;
-    share::<R, Brand, Brand, Brand, Brand, Brand, Brand, Brand, Brand>(
-        rt,
-        alloc,
-        Blanks::new(),
-        host,
-    )
+    share::<R, Brand>(rt, alloc, Blanks::new(), host)
 }

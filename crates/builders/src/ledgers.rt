@@ -1,83 +1,53 @@
 //! A ledger for each build: the books that lie behind the lock, and the passes that the seats carry.
-ghost use Rattle.std.specs.Prelude.{◌≡◌, ◌+◌, ◌<◌, [], ◌∷◌, ◌++◌, length, map, slice_index, slice_set};
+ghost use Rattle.std.specs.Prelude.{◌≡◌, ℕ, ◌+◌, ◌<◌, [], ◌∷◌, ◌++◌, length, map, slice_index, slice_set};
 ghost use Rattle.std.specs.List.{range_with_len};
 ghost use Rattle.build_books.specs.View.{HostView};
-ghost use Rattle.builders.specs.Lanes.{unused};
+ghost use Rattle.builders.specs.Passes.{unused};
 ghost use Rattle.builders.specs.Start.{no_host};
+ghost use Rattle.builders.specs.Names.{AreNamed};
 
+use crate::blanks::Blanks;
 use granule_addr::BuildId;
 use std::marker::{Brand, Model, PhantomData};
-use std::sync::ledger::{Blank, Book, Ledger, Share};
+use std::sync::ledger::{Book, Ledger, Share};
 
-/// The ledger of a build, and the host that the builds were started with.
-pub trait Lane: Ledger {
+/// The ledgers of the builds that share a host, and the host that the builds were started with.
+pub trait Ledgers {
     ghost opened: { HostView };
+
+    /// The name of each build's ledger.
+    ghost names: { ℕ → ℕ };
 }
 
-impl Lane for Brand {
+impl Ledgers for Brand {
     ghost opened = { no_host };
+
+    ghost names = { λ build. 0 };
 }
 
-/// A ledger of one part.
-pub struct One<L>(PhantomData<L>);
+/// The ledger of one build, of one part.
+pub struct LedgerOf<L, const BUILD: u8>(PhantomData<L>);
 
-impl<L: Ledger> Ledger for One<L> {
-    ghost name = { L.name };
+impl<L: Ledgers, const BUILD: u8> Ledger for LedgerOf<L, BUILD> {
+    ghost name = { L.names BUILD };
 
     ghost parts = { 1 };
 }
 
-/// A blank of one part for each build.
-#[derive(Drop)]
-pub struct Blanks {
-    pub blank0: Blank,
-    pub blank1: Blank,
-    pub blank2: Blank,
-    pub blank3: Blank,
-    pub blank4: Blank,
-    pub blank5: Blank,
-    pub blank6: Blank,
-    pub blank7: Blank,
-    ghost one0: { blank0.parts ≡ 1 },
-    ghost one1: { blank1.parts ≡ 1 },
-    ghost one2: { blank2.parts ≡ 1 },
-    ghost one3: { blank3.parts ≡ 1 },
-    ghost one4: { blank4.parts ≡ 1 },
-    ghost one5: { blank5.parts ≡ 1 },
-    ghost one6: { blank6.parts ≡ 1 },
-    ghost one7: { blank7.parts ≡ 1 },
-}
-
-impl Blanks {
-    pub fn new() -> Blanks {
-        Blanks {
-            blank0: Blank::new(1),
-            blank1: Blank::new(1),
-            blank2: Blank::new(1),
-            blank3: Blank::new(1),
-            blank4: Blank::new(1),
-            blank5: Blank::new(1),
-            blank6: Blank::new(1),
-            blank7: Blank::new(1),
-        }
-    }
-}
-
 /// The books of all builds, seen as their totals.
 #[derive(Drop)]
-pub struct Books<L0: Lane, L1: Lane, L2: Lane, L3: Lane, L4: Lane, L5: Lane, L6: Lane, L7: Lane> {
-    book0: Book<One<L0>>,
-    book1: Book<One<L1>>,
-    book2: Book<One<L2>>,
-    book3: Book<One<L3>>,
-    book4: Book<One<L4>>,
-    book5: Book<One<L5>>,
-    book6: Book<One<L6>>,
-    book7: Book<One<L7>>,
+pub struct Books<L: Ledgers> {
+    book0: Book<LedgerOf<L, 0>>,
+    book1: Book<LedgerOf<L, 1>>,
+    book2: Book<LedgerOf<L, 2>>,
+    book3: Book<LedgerOf<L, 3>>,
+    book4: Book<LedgerOf<L, 4>>,
+    book5: Book<LedgerOf<L, 5>>,
+    book6: Book<LedgerOf<L, 6>>,
+    book7: Book<LedgerOf<L, 7>>,
 }
 
-impl<L0: Lane, L1: Lane, L2: Lane, L3: Lane, L4: Lane, L5: Lane, L6: Lane, L7: Lane> Model
-    for Books<L0, L1, L2, L3, L4, L5, L6, L7> {
+impl<L: Ledgers> Model for Books<L> {
     ghost use Rattle.std.specs.Prelude.{List, [], ◌∷◌, ℕ};
 
     ghost Value = { List ℕ };
@@ -85,18 +55,9 @@ impl<L0: Lane, L1: Lane, L2: Lane, L3: Lane, L4: Lane, L5: Lane, L6: Lane, L7: L
     ghost view = { λ b. b.book0.total ∷ b.book1.total ∷ b.book2.total ∷ b.book3.total ∷ b.book4.total ∷ b.book5.total ∷ b.book6.total ∷ b.book7.total ∷ [] };
 }
 
-impl<L0: Lane, L1: Lane, L2: Lane, L3: Lane, L4: Lane, L5: Lane, L6: Lane, L7: Lane> Books<
-    L0,
-    L1,
-    L2,
-    L3,
-    L4,
-    L5,
-    L6,
-    L7,
-> {
+impl<L: Ledgers> Books<L> {
     /// Shows that a pass counts what its build's book does. Nothing changes.
-    pub fn audit(&mut self, pass: &mut Pass<L0, L1, L2, L3, L4, L5, L6, L7>)
+    pub fn audit(&mut self, pass: &mut Pass<L>)
         ensures same { (self.new ≡ self.old) × (pass.new ≡ pass.old) }
         ensures build { pass.old.build < 8 }
         ensures count { slice_index self.old pass.old.build ≡ pass.old.count }
@@ -115,7 +76,7 @@ impl<L0: Lane, L1: Lane, L2: Lane, L3: Lane, L4: Lane, L5: Lane, L6: Lane, L7: L
     }
 
     /// Counts one event more in a pass and in its build's book.
-    pub(crate) fn raise(&mut self, pass: &mut Pass<L0, L1, L2, L3, L4, L5, L6, L7>)
+    pub(crate) fn raise(&mut self, pass: &mut Pass<L>)
         ensures book { self.new ≡ slice_set self.old pass.old.build (pass.old.count + 1) }
         ensures pass { pass.new ≡ record pass.old { count = pass.old.count + 1 } }
     {
@@ -135,27 +96,26 @@ impl<L0: Lane, L1: Lane, L2: Lane, L3: Lane, L4: Lane, L5: Lane, L6: Lane, L7: L
 
 // The whole share of the ledger of one build.
 #[derive(Drop)]
-enum Whole<L0: Lane, L1: Lane, L2: Lane, L3: Lane, L4: Lane, L5: Lane, L6: Lane, L7: Lane> {
-    Build0(Share<One<L0>>),
-    Build1(Share<One<L1>>),
-    Build2(Share<One<L2>>),
-    Build3(Share<One<L3>>),
-    Build4(Share<One<L4>>),
-    Build5(Share<One<L5>>),
-    Build6(Share<One<L6>>),
-    Build7(Share<One<L7>>),
+enum Whole<L: Ledgers> {
+    Build0(Share<LedgerOf<L, 0>>),
+    Build1(Share<LedgerOf<L, 1>>),
+    Build2(Share<LedgerOf<L, 2>>),
+    Build3(Share<LedgerOf<L, 3>>),
+    Build4(Share<LedgerOf<L, 4>>),
+    Build5(Share<LedgerOf<L, 5>>),
+    Build6(Share<LedgerOf<L, 6>>),
+    Build7(Share<LedgerOf<L, 7>>),
 }
 
 /// The whole share of one build's ledger, seen as the build and the count.
 #[derive(Drop)]
-pub struct Pass<L0: Lane, L1: Lane, L2: Lane, L3: Lane, L4: Lane, L5: Lane, L6: Lane, L7: Lane> {
-    whole: Whole<L0, L1, L2, L3, L4, L5, L6, L7>,
+pub struct Pass<L: Ledgers> {
+    whole: Whole<L>,
 }
 
-impl<L0: Lane, L1: Lane, L2: Lane, L3: Lane, L4: Lane, L5: Lane, L6: Lane, L7: Lane> Model
-    for Pass<L0, L1, L2, L3, L4, L5, L6, L7> {
+impl<L: Ledgers> Model for Pass<L> {
     ghost use Rattle.std.specs.Prelude.{◌≡◌};
-    ghost use Rattle.builders.specs.Lanes.{PassView};
+    ghost use Rattle.builders.specs.Passes.{PassView};
     ghost use Rattle.builders.specs.Whole.{build_of, parts_of, amount_of};
 
     ghost Value = { PassView };
@@ -165,16 +125,7 @@ impl<L0: Lane, L1: Lane, L2: Lane, L3: Lane, L4: Lane, L5: Lane, L6: Lane, L7: L
     ghost invariant = { λ p. parts_of p.whole ≡ 1 };
 }
 
-impl<L0: Lane, L1: Lane, L2: Lane, L3: Lane, L4: Lane, L5: Lane, L6: Lane, L7: Lane> Pass<
-    L0,
-    L1,
-    L2,
-    L3,
-    L4,
-    L5,
-    L6,
-    L7,
-> {
+impl<L: Ledgers> Pass<L> {
     /// The build whose events it counts.
     pub fn build(&self) -> BuildId
         ensures build { result ≡ self.now.build }
@@ -196,42 +147,26 @@ impl<L0: Lane, L1: Lane, L2: Lane, L3: Lane, L4: Lane, L5: Lane, L6: Lane, L7: L
 
 /// The books, and the pass of each build in their order. Nothing is counted yet.
 #[derive(Drop)]
-pub struct Opened<L0: Lane, L1: Lane, L2: Lane, L3: Lane, L4: Lane, L5: Lane, L6: Lane, L7: Lane> {
-    pub books: Books<L0, L1, L2, L3, L4, L5, L6, L7>,
-    pub passes: [Pass<L0, L1, L2, L3, L4, L5, L6, L7>; 8],
+pub struct Opened<L: Ledgers> {
+    pub books: Books<L>,
+    pub passes: [Pass<L>; 8],
     ghost books_are: { books ≡ 0 ∷ 0 ∷ 0 ∷ 0 ∷ 0 ∷ 0 ∷ 0 ∷ 0 ∷ [] },
     ghost passes_are: { passes ≡ map unused (range_with_len 0 8) },
 }
 
-impl<L0: Lane, L1: Lane, L2: Lane, L3: Lane, L4: Lane, L5: Lane, L6: Lane, L7: Lane> Opened<
-    L0,
-    L1,
-    L2,
-    L3,
-    L4,
-    L5,
-    L6,
-    L7,
-> {
+impl<L: Ledgers> Opened<L> {
     /// Opens a ledger on each blank.
-    pub fn new(blanks: Blanks) -> Opened<L0, L1, L2, L3, L4, L5, L6, L7>
-        requires name0 { blanks.blank0.name ≡ L0.name }
-        requires name1 { blanks.blank1.name ≡ L1.name }
-        requires name2 { blanks.blank2.name ≡ L2.name }
-        requires name3 { blanks.blank3.name ≡ L3.name }
-        requires name4 { blanks.blank4.name ≡ L4.name }
-        requires name5 { blanks.blank5.name ≡ L5.name }
-        requires name6 { blanks.blank6.name ≡ L6.name }
-        requires name7 { blanks.blank7.name ≡ L7.name }
+    pub fn new(blanks: Blanks) -> Opened<L>
+        requires named { AreNamed L.names blanks }
     {
-        let (book0, share0) = blanks.blank0.open::<One<L0>>();
-        let (book1, share1) = blanks.blank1.open::<One<L1>>();
-        let (book2, share2) = blanks.blank2.open::<One<L2>>();
-        let (book3, share3) = blanks.blank3.open::<One<L3>>();
-        let (book4, share4) = blanks.blank4.open::<One<L4>>();
-        let (book5, share5) = blanks.blank5.open::<One<L5>>();
-        let (book6, share6) = blanks.blank6.open::<One<L6>>();
-        let (book7, share7) = blanks.blank7.open::<One<L7>>();
+        let (book0, share0) = blanks.blank0.open::<LedgerOf<L, 0>>();
+        let (book1, share1) = blanks.blank1.open::<LedgerOf<L, 1>>();
+        let (book2, share2) = blanks.blank2.open::<LedgerOf<L, 2>>();
+        let (book3, share3) = blanks.blank3.open::<LedgerOf<L, 3>>();
+        let (book4, share4) = blanks.blank4.open::<LedgerOf<L, 4>>();
+        let (book5, share5) = blanks.blank5.open::<LedgerOf<L, 5>>();
+        let (book6, share6) = blanks.blank6.open::<LedgerOf<L, 6>>();
+        let (book7, share7) = blanks.blank7.open::<LedgerOf<L, 7>>();
         Opened {
             books: Books {
                 book0,
