@@ -2,7 +2,7 @@
 ghost use Rattle.std.specs.Prelude.{◌≡◌, ◌+◌, ◌<◌, ◌≤◌, ◌↔◌, ℕ, [], ◌∷◌, ◌++◌, length, filter, slice_index, true, IsTrue, IfSome, IfNone};
 ghost use Rattle.std.specs.List.{All};
 ghost use Rattle.builders.specs.Close.{seats_of, Fits, IsMissing, IsWhole, Differs, FitsAll};
-ghost use Rattle.builders.specs.Seats.{events_of};
+ghost use Rattle.realm_model.specs.History.{events_of};
 
 use crate::ledgers::{Books, Ledgers};
 use crate::seat::Seat;

@@ -10,7 +10,8 @@ ghost use Rattle.realm_host.specs.Marked.{IsMarked, way_back};
 ghost use Rattle.builders.specs.Close.{IsClosed, IsGivenBack};
 ghost use Rattle.builders.specs.Fault.{IsFault};
 ghost use Rattle.builders.specs.Kept.{IsNoted, IsSound};
-ghost use Rattle.builders.specs.Seats.{events_of, with_noted};
+ghost use Rattle.realm_model.specs.History.{events_of};
+ghost use Rattle.builders.specs.Seats.{with_noted};
 ghost use Rattle.builders.specs.Told.{IsBehind};
 
 use crate::close;

@@ -6,8 +6,8 @@ use Rattle.build_commands.specs.declared.refusal.Refusal.{Refusal}
 use Rattle.build_commands.specs.declared.refusal.Refusal.TheVariants as refusal
 use Rattle.build_commands.specs.declared.reply.Reply.{Reply}
 use Rattle.build_commands.specs.declared.reply.Reply.TheVariants as reply
-use Rattle.build_journal.specs.declared.kind.Kind.{Kind}
-use Rattle.build_journal.specs.declared.kind.Kind.TheVariants as kind
+use Rattle.realm_model.specs.declared.kind.Kind.{Kind}
+use Rattle.realm_model.specs.declared.kind.Kind.TheVariants as kind
 
 -- a space, and the number
 abbrev pub then_number : ℕ → List ℕ

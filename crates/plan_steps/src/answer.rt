@@ -1,6 +1,6 @@
 //! How a turn line tells what was answered.
 use build_commands::{Refusal, Reply};
-use build_journal::Kind;
+use realm_model::Kind;
 use std::fmt;
 
 /// The word for an act that was undone.

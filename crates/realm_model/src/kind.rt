@@ -1,8 +1,8 @@
 //! Kinds of acts that can be reversed.
 ghost use Rattle.std.specs.Prelude.{◌≡◌};
-ghost use Rattle.build_journal.specs.Kind.{act_kind};
+ghost use Rattle.realm_model.specs.Kind.{act_kind};
 
-use realm_model::Act;
+use crate::act::Act;
 
 /// The kind of an act that can be reversed.
 #[derive(Clone, Copy, Debug, PartialEq, Eq)]
