@@ -86,19 +86,14 @@ fn refused_at<R: Threads + Wait + Abort + Clock + Sync>(
 ) -> Result<(), Fail> {
     let host = booted(alloc)?;
     let gate = Turns::new(rt, waiting, refused);
-    let host = work_together::<
-        R,
-        PlainStore,
-        Turns<R>,
-        Brand,
-        Brand,
-        Brand,
-        Brand,
-        Brand,
-        Brand,
-        Brand,
-        Brand,
-    >(rt, alloc, Blanks::new(), host, &gate, refused)?;
+    let host = work_together::<R, PlainStore, Turns<R>, Brand>(
+        rt,
+        alloc,
+        Blanks::new(),
+        host,
+        &gate,
+        refused,
+    )?;
     has_two_guests(rt, alloc, &host)?;
     is_without_build_1(rt, alloc, &host, &mut booted(alloc)?)
 }

@@ -17,10 +17,10 @@ fn failure(call: u64) -> io::Error {
 
 /// Gives up to `most` bytes a read, and fails at one of its reads, counted from 0.
 #[derive(Drop)]
-pub(crate) struct Source<'a> {
-    pub(crate) rest: &'a [u8],
+pub struct Source<'a> {
+    pub rest: &'a [u8],
     most: usize,
-    pub(crate) reads: u64,
+    pub reads: u64,
     fails_at: Option<u64>,
 }
 
@@ -38,7 +38,8 @@ impl Read for Source<'_> {
     }
 }
 
-pub(crate) fn told_source(rest: &[u8], most: usize, fails_at: Option<u64>) -> Told<Source<'_>>
+/// Such a source of bytes, which has told of no failure.
+pub fn told_source(rest: &[u8], most: usize, fails_at: Option<u64>) -> Told<Source<'_>>
     ensures { result.failed ≡ false }
 {
     Told::new(Source {
@@ -51,18 +52,18 @@ pub(crate) fn told_source(rest: &[u8], most: usize, fails_at: Option<u64>) -> To
 
 /// Takes up to `most` bytes a write, and fails at one of its writes, counted from 0, or at its flush.
 #[derive(Drop)]
-pub(crate) struct Sink {
+pub struct Sink {
     got: Vec<u8>,
     most: usize,
-    pub(crate) writes: u64,
-    pub(crate) flushes: u64,
+    pub writes: u64,
+    pub flushes: u64,
     fails_at: Option<u64>,
     fails_to_flush: bool,
 }
 
 impl Sink {
     /// Whether these are the bytes that were taken.
-    pub(crate) fn has(&self, bytes: &[u8]) -> bool {
+    pub fn has(&self, bytes: &[u8]) -> bool {
         self.got.as_slice() == bytes
     }
 }
@@ -89,7 +90,8 @@ impl Write for Sink {
     }
 }
 
-pub(crate) fn told_sink(
+/// Such a sink, which has told of no failure.
+pub fn told_sink(
     alloc: Global,
     most: usize,
     fails_at: Option<u64>,

@@ -2,8 +2,8 @@
 use Rattle.std.specs.Prelude.{◌≡◌, ℕ, List, codes, Option, Some, None, Ok}
 use Rattle.std.specs.Str.Parse.{ParsesUnsigned}
 use Rattle.clap.specs.Words.{Row, Text, one_of}
-use Rattle.realm_program.specs.declared.line.Line.{Line}
-use Rattle.realm_program.specs.declared.line.Line.TheVariants.{Replay, Run}
+use Rattle.realmhost_line.specs.declared.line.Line.{Line}
+use Rattle.realmhost_line.specs.declared.line.Line.TheVariants.{Replay, Run}
 
 -- The build that the text names: the number of 3 bits that it is read as, and there is one. `clap` lets no other text
 -- through.

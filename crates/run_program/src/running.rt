@@ -2,15 +2,14 @@
 ghost use Rattle.std.specs.Prelude.{◌≡◌, ◌+◌, ◌≤◌, ◌↔◌, ◌⊎◌, false, true, Err, IfOk, IfErr, string_bytes};
 ghost use Rattle.realm_plan.specs.PlanView.{plan_view};
 ghost use Rattle.realm_program.specs.Printed.{IsEnd};
-ghost use Rattle.realm_program.specs.Threads.{IsThreadsText, IsWithoutThreadsText};
+ghost use Rattle.run_program.specs.Threads.{IsThreadsText, IsWithoutThreadsText};
+ghost use Rattle.run_program.specs.Fault.{fault_of_run};
 ghost use Rattle.realm_program.specs.declared.fault.Fault.TheVariants.{Device};
 
-use crate::boot::boot;
-use crate::fault::Fault;
-use crate::source::plan_in;
 use buddy::BuddyArena;
-use plan_threads::run_text;
+use plan_threads::{RunFault, run_text};
 use realm_plan::Plan;
+use realm_program::{Fault, boot, plan_in};
 use std::alloc::Global;
 use std::io::{Read, Write};
 use std::marker::Sync;
@@ -18,6 +17,17 @@ use std::sync::Wait;
 use std::thread::Threads;
 use told_device::Told;
 use workers::Gate;
+
+// The program's word for why there is no text.
+fn fault_of(fault: RunFault) -> Fault
+    ensures { result ≡ fault_of_run fault }
+{
+    match fault {
+        RunFault::Memory => Fault::Memory,
+        RunFault::Stuck(build) => Fault::Stuck(build),
+        RunFault::Mismatch => Fault::Mismatch,
+    }
+}
 
 // The text of a run of the plan in threads.
 fn threads_text_of<H: Threads + Wait + Sync, G: Gate + Sync>(
@@ -30,7 +40,7 @@ fn threads_text_of<H: Threads + Wait + Sync, G: Gate + Sync>(
     ensures err { IfErr result (IsWithoutThreadsText (G.passes gate.now) (G.stops gate.now) (plan_view plan.now)) }
 {
     let host = boot::<BuddyArena>(alloc, plan)?;
-    Ok(run_text(rt, alloc, plan, host, gate)?)
+    run_text(rt, alloc, plan, host, gate).map_err(fault_of)
 }
 
 /// Reads a plan, runs each of its builds by a worker in a thread of its own, with its turns from the gate, and writes the text

@@ -1,7 +1,7 @@
 use Rattle.std.proofs.Common.{◌∙◌, ap, ap₂, rules}
 use Rattle.std.proofs.lemmas.Result.{IfOk-weaker}
 use Rattle.clap.specs.Words.{App, with_subcommand}
-use Rattle.realm_program.proofs.line.command.Goals as goal
+use Rattle.realmhost_line.proofs.line.command.Goals as goal
 
 pub returns : goal.returns
 returns c =

@@ -4,9 +4,9 @@ use Rattle.std.proofs.lemmas.Result.{err_from_is_err_and}
 use Rattle.realm_plan.specs.PlanView.{plan_view}
 use Rattle.told_device.specs.Whole.{AppendsFront}
 use Rattle.realm_program.specs.Printed.{IsEnd}
-use Rattle.realm_program.specs.Threads.{IsThreadsText, IsWithoutThreadsText}
+use Rattle.run_program.specs.Threads.{IsThreadsText, IsWithoutThreadsText}
 use Rattle.realm_program.proofs.Ends.{no_plan, no_text, read_well, printed, cut}
-use Rattle.realm_program.proofs.running.run.Goals as goal
+use Rattle.run_program.proofs.running.run.Goals as goal
 
 pub returns-in_err-plan-clause-end : goal.returns-in_err-plan-clause-end
 returns-in_err-plan-clause-end g c =

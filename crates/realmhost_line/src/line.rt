@@ -2,7 +2,7 @@
 ghost use Rattle.std.specs.Prelude.{◌≡◌, IfOk, false, nat_lt, if◌then◌else◌, Some, None, option_and_then};
 ghost use Rattle.clap.specs.Words.{app_of, rule_of};
 ghost use Rattle.clap.specs.declared.builder.command.Command.TheViews.{out-Command as fields_of};
-ghost use Rattle.realm_program.specs.Program.{erase, replay, program, realmhost};
+ghost use Rattle.realmhost_line.specs.Program.{erase, replay, program, realmhost};
 
 use clap::{Arg, ArgAction, Command, Error, value_parser};
 use granule_addr::BuildId;
@@ -78,7 +78,7 @@ fn build_of(number: Option<u8>) -> Option<BuildId>
 impl Line {
     ghost use Rattle.std.specs.Prelude.{map, string_bytes};
     ghost use Rattle.clap.specs.Words.{FailsBy, fault_of, subcommand_of};
-    ghost use Rattle.realm_program.specs.Line.{IsLine};
+    ghost use Rattle.realmhost_line.specs.Line.{IsLine};
 
     /// The line that the words are. The first word is the program's name.
     pub fn of(alloc: Global, words: &[String]) -> Result<Line, Error>

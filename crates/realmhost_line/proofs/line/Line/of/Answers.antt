@@ -6,8 +6,8 @@ use Rattle.std.proofs.lemmas.Result.{err_from_is_err_and}
 use Rattle.clap.specs.Words.{App, HasKind, Kinds, fault_of, found_of, is_simple, rows_of, is_simple_and_free, subcommand_of, subcommand_rows_of}
 use Rattle.clap.proofs.WalkLemmas.{one_text-rows}
 use Rattle.command_line.proofs.Subcommands.{name_of_rows}
-use Rattle.realm_program.proofs.Words.{realmhost_is_simple, realmhost_is_free, replay_is_asked, run_is_asked, erase_passed, erase_from}
-use Rattle.realm_program.proofs.line.Line.of.Goals as goal
+use Rattle.realmhost_line.proofs.Words.{realmhost_is_simple, realmhost_is_free, replay_is_asked, run_is_asked, erase_passed, erase_from}
+use Rattle.realmhost_line.proofs.line.Line.of.Goals as goal
 
 pub returns-in_err-matches-clause-kinds : goal.returns-in_err-matches-clause-kinds
 returns-in_err-matches-clause-kinds c =

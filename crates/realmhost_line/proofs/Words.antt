@@ -11,9 +11,9 @@ use Rattle.clap.specs.declared.builder.value_parser.ValueParser.TheVariants as p
 use Rattle.clap.proofs.CallerReads.{signed_reads}
 use Rattle.command_line.proofs.Passed.{Each, IsPassed, accepted, text_passed}
 use Rattle.command_line.proofs.Subcommands.{NamesOne, is_entered, is_one, name_in, values_passed}
-use Rattle.realm_program.specs.Line.{IsErase, IsLine}
-use Rattle.realm_program.specs.Program.{erase, realmhost}
-use Rattle.realm_program.specs.declared.line.Line.TheVariants.{Replay, Run}
+use Rattle.realmhost_line.specs.Line.{IsErase, IsLine}
+use Rattle.realmhost_line.specs.Program.{erase, realmhost}
+use Rattle.realmhost_line.specs.declared.line.Line.TheVariants.{Replay, Run}
 
 pub realmhost_is_simple : is_simple realmhost ≡ true
 realmhost_is_simple = refl
