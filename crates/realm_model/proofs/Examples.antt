@@ -17,3 +17,5 @@ pub mod WideTables
 pub mod Measured
 -- marks
 pub mod Marks
+-- orders
+pub mod Orders

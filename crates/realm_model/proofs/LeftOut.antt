@@ -22,7 +22,7 @@ pub each-replicate : (f : Option ℕ → Cell → Cell) → f None blank ≡ bla
 each-replicate f e zero = refl
 each-replicate f e (suc n) = λ i. e i ∷ each-replicate f e n i
 
-map-replicate : (f : Option ℕ → Option ℕ) → f None ≡ None → (n : ℕ) → map f (replicate n None) ≡ replicate n None
+pub map-replicate : (f : Option ℕ → Option ℕ) → f None ≡ None → (n : ℕ) → map f (replicate n None) ≡ replicate n None
 map-replicate f e zero = refl
 map-replicate f e (suc n) = λ i. e i ∷ map-replicate f e n i
 

@@ -27,6 +27,8 @@ pub mod Stack
 pub mod Growth
 pub mod HistoryParts
 pub mod Reached
+-- a build alone
+pub mod TakenAlone
 -- steps
 pub mod StepSays
 pub mod Blocks
@@ -76,6 +78,9 @@ pub mod PairsLeadBack
 pub mod RealmNumbers
 pub mod OpenRealm
 pub mod OpenVmids
+-- two events of different builds
+pub mod GoesThere
+pub mod Commuting
 -- all undone
 pub mod Rests
 pub mod AtRest

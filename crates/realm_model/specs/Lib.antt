@@ -16,6 +16,7 @@ pub mod Pages
 pub mod Running
 pub mod Room
 pub mod LeftOut
+pub mod Interleaving
 pub mod Ownership
 pub mod Sound
 pub mod Roles

@@ -12,6 +12,7 @@ ghost use Rattle.realm_model.specs.Reachable.{IsReachable};
 ghost use Rattle.realm_model.specs.Running.{RestIsOfAll};
 ghost use Rattle.realm_model.specs.Room.{RoomIsTaken, RoomIsSum};
 ghost use Rattle.realm_model.specs.LeftOut.{OthersKeepTheirRoom, WhatIsLeftIsAccepted};
+ghost use Rattle.realm_model.specs.Interleaving.{StandsAlone, HasSameEvents, EventsCommute};
 ghost use Rattle.realm_model.specs.Aborting.{StaysAtRest, AbortGoesOn};
 ghost use Rattle.realm_model.specs.OpenRealm.{RealmIsOpen, VmidIsOpen, NumbersAreFew};
 ghost use Rattle.realm_model.specs.Marks.{Mark, mark_at, Stands, StandsOn, CanRollBack};
@@ -20,6 +21,22 @@ ghost use Rattle.realm_model.specs.Undoing.{NewestCanBeUndone, AllCanBeUndone, N
 /// A legal history without the events of a build is legal, and gives the world without that build's part.
 pub fn builds_can_be_left_out()
     ensures { (limits : Limits) (history : List Event) (build : ℕ) → IsLegal limits history → LeavesNoTrace limits history build }
+{}
+
+/// A legal history's events of one build are legal alone, and lead to that build's part of the world.
+pub fn builds_can_be_taken_alone()
+    ensures { (limits : Limits) (history : List Event) (build : ℕ) → IsLegal limits history → StandsAlone limits history build }
+{}
+
+/// Two legal histories with the same events of each build, each build's in the same order, lead to the same world.
+pub fn order_does_not_matter()
+    ensures { (limits : Limits) (history other : List Event) → IsLegal limits history → IsLegal limits other → HasSameEvents history other → replay limits history ≡ replay limits other }
+{}
+
+/// Two events of different builds that can follow one another can do so the other way round, unless the first gives back
+/// what the second takes; and they lead to the same world.
+pub fn events_of_two_builds_commute()
+    ensures { (limits : Limits) (history : List Event) (one other : Event) → EventsCommute limits history one other }
 {}
 
 /// A step is what it says: it asks no more than `IsStep` does, in any world that a history leads to.

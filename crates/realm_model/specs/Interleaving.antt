@@ -1,0 +1,65 @@
+-- What the order of events can change: a build's events alone, two histories with the same events of each build, and two
+-- events of different builds.
+use Rattle.std.specs.Prelude.{◌≡◌, ◌≢◌, ◌↔◌, ◌⊎◌, ◌==◌, ℕ, List, [], ◌∷◌, ◌++◌, filter, option_map}
+use Rattle.std.specs.List.{Contains}
+use Rattle.realm_model.specs.declared.act.Act.{Act}
+use Rattle.realm_model.specs.declared.act.Act.TheVariants.{Take, UnTake, Realm, UnRealm}
+use Rattle.realm_model.specs.declared.act.Event.{Event}
+use Rattle.realm_model.specs.Machine.{Limits}
+use Rattle.realm_model.specs.Act.{block}
+use Rattle.realm_model.specs.World.{part_of}
+use Rattle.realm_model.specs.History.{replay, IsLegal}
+
+-- the events of a build, in their order
+abbrev pub events_of : ℕ → List Event → List Event
+events_of build history = filter (λ event. event.build == build) history
+
+-- The events of a build alone are a legal history, and lead to the build's part of the world.
+abbrev pub StandsAlone : Limits → List Event → ℕ → Type 0
+StandsAlone limits history build =
+    IsLegal limits (events_of build history)
+    × (replay limits (events_of build history) ≡ option_map (λ world. part_of world build) (replay limits history))
+
+-- Two histories have the same events of each build, each build's in the same order.
+abbrev pub HasSameEvents : List Event → List Event → Type 0
+HasSameEvents history other = (build : ℕ) → events_of build history ≡ events_of build other
+
+-- ---- two events of different builds
+
+-- the granules that an act takes, and those that it gives back
+abbrev pub granules_taken : Act → List ℕ
+granules_taken (Take order first) = block order first
+granules_taken _ = []
+
+abbrev pub granules_given_back : Act → List ℕ
+granules_given_back (UnTake order first) = block order first
+granules_given_back _ = []
+
+-- the VMID that an act takes, and the one that it gives back
+abbrev pub vmids_taken : Act → List ℕ
+vmids_taken (Realm rd root vmid) = vmid ∷ []
+vmids_taken _ = []
+
+abbrev pub vmids_given_back : Act → List ℕ
+vmids_given_back (UnRealm rd root vmid) = vmid ∷ []
+vmids_given_back _ = []
+
+-- a number is in both lists
+abbrev pub Meet : List ℕ → List ℕ → Type 0
+Meet xs ys = (x : ℕ) × Contains xs x × Contains ys x
+
+-- An act gives back a granule or a VMID that another takes.
+abbrev pub GivesTo : Act → Act → Type 0
+GivesTo act taker =
+    Meet (granules_given_back act) (granules_taken taker) ⊎ Meet (vmids_given_back act) (vmids_taken taker)
+
+-- Where one event can be followed by another: the other can come first unless it takes what the one gives back, and either
+-- way the world is the same.
+pub record Commute (limits : Limits) (history : List Event) (one other : Event) : Type 0 where
+  pub other_first : IsLegal limits (history ++ other ∷ one ∷ []) ↔ ¬ GivesTo one.act other.act
+  pub same_world : IsLegal limits (history ++ other ∷ one ∷ []) → replay limits (history ++ other ∷ one ∷ []) ≡ replay limits (history ++ one ∷ other ∷ [])
+
+-- of different builds
+abbrev pub EventsCommute : Limits → List Event → Event → Event → Type 0
+EventsCommute limits history one other =
+    one.build ≢ other.build → IsLegal limits (history ++ one ∷ other ∷ []) → Commute limits history one other
