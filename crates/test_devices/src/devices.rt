@@ -42,12 +42,13 @@ impl Read for Source<'_> {
 pub fn told_source(rest: &[u8], most: usize, fails_at: Option<u64>) -> Told<Source<'_>>
     ensures { result.failed ≡ false }
 {
-    Told::new(Source {
+    let source = Source {
         rest,
         most,
         reads: 0,
         fails_at,
-    })
+    };
+    Told::new(source)
 }
 
 /// Takes up to `most` bytes a write, and fails at one of its writes, counted from 0, or at its flush.
@@ -99,12 +100,13 @@ pub fn told_sink(
 ) -> Told<Sink>
     ensures { result.failed ≡ false }
 {
-    Told::new(Sink {
+    let sink = Sink {
         got: Vec::new(alloc),
         most,
         writes: 0,
         flushes: 0,
         fails_at,
         fails_to_flush,
-    })
+    };
+    Told::new(sink)
 }
