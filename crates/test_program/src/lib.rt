@@ -6,3 +6,5 @@
 mod replay;
 #[cfg(test)]
 mod told;
+#[cfg(test)]
+mod wanted;

@@ -3,3 +3,5 @@
 
 #[cfg(test)]
 mod run;
+#[cfg(test)]
+mod wanted;

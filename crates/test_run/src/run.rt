@@ -1,4 +1,5 @@
 //! A plan run in threads, and the text of its run, over bytes in memory, over devices that fail, and at gates.
+use crate::wanted::{equal, holds};
 use builders::OpenGate;
 use command_line::Reason;
 use granule_addr::BuildId;
@@ -6,7 +7,7 @@ use realm_plan::PlanFault;
 use realm_program::Fault;
 use run_program::run;
 use std::test::Fail;
-use test_devices::{equal, holds, told_sink, told_source};
+use test_devices::{told_sink, told_source};
 use test_gates::{ForBuild0, Together};
 
 const PLAN: &[u8] = br#"pages = 2

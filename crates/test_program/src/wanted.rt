@@ -5,11 +5,11 @@
 use std::process::Abort;
 
 /// What is seen is what is wanted.
-pub fn equal(rt: &impl Abort, what: &str, seen: u64, want: u64) {
+pub(crate) fn equal(rt: &impl Abort, what: &str, seen: u64, want: u64) {
     assert_eq!(rt; seen, want, "{what}");
 }
 
 /// It holds: 1, and not 0.
-pub fn holds(rt: &impl Abort, what: &str, is_so: bool) {
+pub(crate) fn holds(rt: &impl Abort, what: &str, is_so: bool) {
     equal(rt, what, u64::from(is_so), 1);
 }
