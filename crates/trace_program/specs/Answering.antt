@@ -1,9 +1,9 @@
 -- What has been read and written so far.
-use Rattle.std.specs.Prelude.{◌≡◌, ℕ, List, [], ◌∷◌, ◌++◌, map, Option, None}
+use Rattle.std.specs.Prelude.{◌≡◌, ℕ, Bool, true, false, List, [], ◌∷◌, ◌++◌, map, Option, None}
 use Rattle.std.specs.Io.KnownBytes.{Appends, Consumes}
 use Rattle.told_device.specs.Whole.{AppendsFront}
 use Rattle.trace_program.specs.Session.{Now, IsTold, IsSession}
-use Rattle.trace_program.specs.Input.{parts_of, kept_of}
+use Rattle.trace_program.specs.Input.{parts_of, kept_of, AreAnswered}
 
 -- Lines of what was read are answered, and of the rest so much is kept.
 pub record IsSoFar (old new : Option (List ℕ)) (read : List ℕ) (bench : Now) (kept : List ℕ) : Type 0 where
@@ -33,3 +33,8 @@ pub record IsUnderway (input left old new : Option (List ℕ)) (bench : Now) (ke
   pub read : List ℕ
   pub consumed : Consumes input left read
   pub so_far : IsSoFar old new read bench kept
+
+-- there may be more to read, or the input was read to its end
+abbrev pub GoesOn : Bool → (input left old new : Option (List ℕ)) → Now → List ℕ → Type 0
+GoesOn true input left old new bench kept = IsUnderway input left old new bench kept
+GoesOn false input left old new bench kept = AreAnswered input left old new

@@ -1,7 +1,7 @@
 //! Lines in, the same lines with their answers out.
-ghost use Rattle.std.specs.Prelude.{◌≡◌, ◌≤◌, ◌+◌, ◌^◌, ◌++◌, ◌⊎◌, ℕ, List, [], ◌∷◌, Option, false, true, ◌↔◌, Err, OnOk, OnErr};
+ghost use Rattle.std.specs.Prelude.{◌≡◌, ◌≤◌, ◌+◌, ◌-◌, ◌^◌, ◌++◌, ◌⊎◌, ℕ, min, List, [], ◌∷◌, Option, false, true, ◌↔◌, Err, IfOk, OnOk, OnErr};
 ghost use Rattle.std.specs.Io.KnownBytes.{Keeps, IsAtEnd};
-ghost use Rattle.trace_program.specs.Answering.{IsSoFar, IsUnderway, Writes, WritesFront};
+ghost use Rattle.trace_program.specs.Answering.{IsSoFar, IsUnderway, GoesOn, Writes, WritesFront};
 ghost use Rattle.trace_program.specs.Input.{kept_of, AreAnswered, IsCutShort, AreCutShort};
 ghost use Rattle.trace_program.specs.declared.fault.Fault.TheVariants.{Device};
 
@@ -110,6 +110,33 @@ impl Answering {
         self.end_line(alloc, output)?;
         Ok(())
     }
+
+    // Reads once, and takes what was read; at the end of the input, ends the last line. Whether there may be more.
+    fn read_on<R: Read, W: Write>(
+        &mut self,
+        alloc: Global,
+        input: &mut Told<R>,
+        buf: &mut [u8; 4096],
+        output: &mut Told<W>,
+    ) -> Result<bool, Fault>
+        requires readable { input.old.failed ≡ false }
+        requires writable { output.old.failed ≡ false }
+        ensures ok { (begin start : Option (List ℕ)) → IsUnderway begin (R.remaining input.old.device) start (W.contents output.old.device) self.old.session.bench self.old.line.items
+            → IfOk result (λ more. GoesOn more begin (R.remaining input.new.device) start (W.contents output.new.device) self.new.session.bench self.new.line.items) }
+        ensures err { (begin start : Option (List ℕ)) → IsUnderway begin (R.remaining input.old.device) start (W.contents output.old.device) self.old.session.bench self.old.line.items
+            → OnErr result (AreCutShort begin (R.remaining input.new.device) start (W.contents output.new.device)) }
+        ensures told { ((input.new.failed ≡ true) ⊎ (output.new.failed ≡ true)) ↔ (result ≡ Err Device) }
+        ensures fine { IfOk result (λ more. more ≡ true → (input.new.failed ≡ false) × (output.new.failed ≡ false)) }
+        ensures counted { input.new.reads ≡ min (input.old.reads + 1) (2 ^ 64 - 1) }
+    {
+        let n = input.read(buf)?;
+        if n == 0 {
+            self.end(alloc, output)?;
+            return Ok(false);
+        }
+        self.take_bytes(alloc, &buf[..n], output)?;
+        Ok(true)
+    }
 }
 
 /// Reads the lines of a trace to their end, and writes each with its answer as soon as it has it.
@@ -138,12 +165,10 @@ pub fn answer<R: Read, W: Write>(
     };
     let mut buf = [0u8; 4096];
     'reads: for _ in 0..u64::MAX {
-        let n = input.read(&mut buf)?;
-        if n == 0 {
-            answering.end(alloc, output)?;
+        let more = answering.read_on(alloc, input, &mut buf, output)?;
+        if !more {
             return Ok(());
         }
-        answering.take_bytes(alloc, &buf[..n], output)?;
     }
     Err(Fault::Device)
 }

@@ -1,5 +1,5 @@
 //! Lines in, and whether they are right: the answers in them are those of the rules, and a line that is no command says so.
-ghost use Rattle.std.specs.Prelude.{◌≡◌, ◌≤◌, ◌<◌, ◌+◌, ◌^◌, ◌++◌, ◌⊎◌, ◌↔◌, ℕ, List, [], ◌∷◌, codes, decimal, length, Option, false, true, Err, IsTrue, IfOk, OnOk, OnErr, IfSome, IfNone};
+ghost use Rattle.std.specs.Prelude.{◌≡◌, ◌≤◌, ◌<◌, ◌+◌, ◌-◌, ◌^◌, ◌++◌, ◌⊎◌, ◌↔◌, ℕ, min, List, [], ◌∷◌, codes, decimal, length, Option, false, true, Err, IsTrue, IfOk, OnOk, OnErr, IfSome, IfNone};
 ghost use Rattle.std.specs.Option.{option_copied};
 ghost use Rattle.std.specs.Io.KnownBytes.{Keeps, IsAtEnd};
 ghost use Rattle.rmi_trace.specs.Answers.{repeated_line};
@@ -209,6 +209,38 @@ impl Checking {
             None => agreement(alloc, self.counts),
         }
     }
+
+    // Reads once, and takes what was read; at the end of the input, ends the last line. Gives the verdict, if there is one.
+    fn read_on<R: Read>(
+        &mut self,
+        alloc: Global,
+        input: &mut Told<R>,
+        buf: &mut [u8; 4096],
+    ) -> Result<Option<Judged>, Fault>
+        requires readable { input.old.failed ≡ false }
+        requires few { self.old.counts.answers + self.old.counts.performed ≤ self.old.counts.lines }
+        requires room { self.old.counts.lines + 4096 < 2 ^ 100 }
+        ensures agreed { (begin : Option (List ℕ)) → IsAgreedUnderway begin (R.remaining input.old.device) self.old.session.bench self.old.counts self.old.line.items
+            → IfOk result (λ d. IfNone d (IsAgreedUnderway begin (R.remaining input.new.device) self.new.session.bench self.new.counts self.new.line.items)) }
+        ensures judged { (begin : Option (List ℕ)) → IsAgreedUnderway begin (R.remaining input.old.device) self.old.session.bench self.old.counts self.old.line.items
+            → IfOk result (λ d. IfSome d (λ judged. IsJudged begin (R.remaining input.new.device) judged.verdict judged.text.items)) }
+        ensures few { IfOk result (λ d. IfNone d (self.new.counts.answers + self.new.counts.performed ≤ self.new.counts.lines)) }
+        ensures most { IfOk result (λ d. IfNone d (self.new.counts.lines ≤ self.old.counts.lines + 4096)) }
+        ensures told { (input.new.failed ≡ true) ↔ (result ≡ Err Device) }
+        ensures counted { input.new.reads ≡ min (input.old.reads + 1) (2 ^ 64 - 1) }
+    {
+        let n = input.read(buf)?;
+        if n == 0 {
+            return Ok(Some(self.end(alloc)?));
+        }
+        match self.take_bytes(alloc, &buf[..n])? {
+            None => Ok(None),
+            Some(text) => Ok(Some(Judged {
+                verdict: Verdict::Differ,
+                text,
+            })),
+        }
+    }
 }
 
 // Reads the lines of a trace, up to the first that is wrong, or to their end.
@@ -229,18 +261,8 @@ fn judge<R: Read>(alloc: Global, input: &mut Told<R>) -> Result<Judged, Fault>
     };
     let mut buf = [0u8; 4096];
     'reads: for _ in 0..u64::MAX {
-        let n = input.read(&mut buf)?;
-        if n == 0 {
-            return Ok(checking.end(alloc)?);
-        }
-        match checking.take_bytes(alloc, &buf[..n])? {
-            None => {}
-            Some(text) => {
-                return Ok(Judged {
-                    verdict: Verdict::Differ,
-                    text,
-                });
-            }
+        if let Some(judged) = checking.read_on(alloc, input, &mut buf)? {
+            return Ok(judged);
         }
     }
     Err(Fault::Device)

@@ -1,9 +1,10 @@
 //! The command line.
-ghost use Rattle.std.specs.Prelude.{◌≡◌, IfOk};
-ghost use Rattle.clap.specs.Words.{app_of};
-ghost use Rattle.trace_program.specs.Program.{rmitrace};
+ghost use Rattle.std.specs.Prelude.{◌≡◌, IfOk, false, map, string_bytes};
+ghost use Rattle.clap.specs.Words.{FailsBy, app_of, fault_of, new_app, subcommand_of, subcommand_rows_of};
+ghost use Rattle.clap.specs.declared.builder.command.Command.TheViews.{out-Command as fields_of};
+ghost use Rattle.trace_program.specs.Program.{program, rmitrace};
 
-use clap::{Command, Error};
+use clap::{ArgMatches, Command, Error};
 use std::alloc::{AllocError, Global};
 
 /// What the program is asked to do.
@@ -24,24 +25,44 @@ const ANSWER: &str =
 const CHECK: &str =
     "Writes how many answers of the trace are right, or the first line that is wrong";
 
+// A subcommand without options.
+fn subcommand_named<'a>(alloc: Global, name: &'a str, about: &'a str) -> Command<'a>
+    ensures app { app_of result ≡ new_app name.now }
+    ensures local { (fields_of result).has_globals ≡ false }
+{
+    Command::new(alloc, name).about(about)
+}
+
+// The program, but for its subcommands.
+fn program<'a>(alloc: Global) -> Command<'a>
+    ensures { app_of result ≡ program }
+{
+    let named = Command::new(alloc, "rmitrace")
+        .version("0.1.0")
+        .about(ABOUT);
+    named
+        .subcommand_required(true)
+        .disable_help_subcommand(true)
+}
+
 // What the command line's reader is told of the program.
 fn command<'a>(alloc: Global) -> Result<Command<'a>, AllocError>
     ensures { IfOk result (λ c. app_of c ≡ rmitrace) }
 {
-    let answer = Command::new(alloc, "answer").about(ANSWER);
-    let check = Command::new(alloc, "check").about(CHECK);
-    let named = Command::new(alloc, "rmitrace")
-        .version("0.1.0")
-        .about(ABOUT);
-    let program = named
-        .subcommand_required(true)
-        .disable_help_subcommand(true);
-    program.subcommand(answer)?.subcommand(check)
+    let answer = subcommand_named(alloc, "answer", ANSWER);
+    let check = subcommand_named(alloc, "check", CHECK);
+    program(alloc).subcommand(answer)?.subcommand(check)
+}
+
+// What the command line's reader finds in the words.
+fn parsed<'a>(alloc: Global, words: &'a [String]) -> Result<ArgMatches<'a>, Error>
+    ensures ok { IfOk result (λ m. subcommand_rows_of m ≡ subcommand_of rmitrace (map string_bytes words.now)) }
+    ensures kinds { FailsBy (fault_of rmitrace (map string_bytes words.now)) result }
+{
+    command(alloc)?.try_get_matches_from(words)
 }
 
 impl Asked {
-    ghost use Rattle.std.specs.Prelude.{map, string_bytes};
-    ghost use Rattle.clap.specs.Words.{FailsBy, fault_of, subcommand_of};
     ghost use Rattle.trace_program.specs.Program.{IsAsked};
 
     /// What the words ask for. The first word is the program's name.
@@ -51,8 +72,7 @@ impl Asked {
         // Which kind an error has: one that the definition names, or want of memory.
         ensures kinds { FailsBy (fault_of rmitrace (map string_bytes words.now)) result }
     {
-        let mut program = command(alloc)?;
-        let matches = program.try_get_matches_from_mut(words)?;
+        let matches = parsed(alloc, words)?;
         if matches.subcommand_matches("check").is_some() {
             return Ok(Asked::Check);
         }

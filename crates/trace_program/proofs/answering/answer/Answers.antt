@@ -1,6 +1,6 @@
-use Rattle.std.proofs.Common.{◌≡◌, ◌<◌, [], take, length, arith}
+use Rattle.std.proofs.Common.{arith}
 use Rattle.std.proofs.lemmas.Result.{err_from_is_err_and}
-use Rattle.trace_program.proofs.Underway.{underway_none, underway_more, underway_at_end, stopped_here, stopped_in_part}
+use Rattle.trace_program.proofs.Underway.{underway_none, stopped_here}
 use Rattle.trace_program.proofs.answering.answer.Goals as goal
 use Rattle.told_device.proofs.Read.{keeps_same}
 
@@ -12,35 +12,23 @@ reads-init g c = record {
   underway = rw (c.new.ensures, c.new-2.ensures.items) (underway_none _ _);
 }
 
-pub returns-in_err-n-clause-err : goal.returns-in_err-n-clause-err
-returns-in_err-n-clause-err g c =
+pub returns-in_err-more-clause-err : goal.returns-in_err-more-clause-err
+returns-in_err-more-clause-err g c =
     let told = err_from_is_err_and c.from_residual.result c.from_residual.ensures.1 in
-    rw told.1 (stopped_here _ _ _ _ _ _ _ _ c.reads.invariant.underway c.in_err-n.ensures.bytes (keeps_same _))
+    rw told.1 (c.in_err-more.ensures.err _ _ c.reads.invariant.underway)
 
-pub returns-in_err-end-clause-err : goal.returns-in_err-end-clause-err
-returns-in_err-end-clause-err g c =
-    let told = err_from_is_err_and c.from_residual-in_err-end.result c.from_residual-in_err-end.ensures.1 in
-    let none : take c.in_ok-n.n c.read.new.buf ≡ [] = rw c.if-n-eq0.true in
-    rw told.1 (c.in_err-end.ensures.err _ _ _ (underway_at_end _ _ _ _ _ _ _ _ c.reads.invariant.underway none c.in_ok-n.ensures.bytes.0))
-
-pub returns-then-n-eq0-clause-ok : goal.returns-then-n-eq0-clause-ok
-returns-then-n-eq0-clause-ok g c =
-    let none : take c.in_ok-n.n c.read.new.buf ≡ [] = rw c.if-n-eq0.true in
-    let some : 0 < length c.read.new.buf = omega (arith, c.read.auto.buf) in
-    c.in_ok-end.ensures.ok _ _ _ (underway_at_end _ _ _ _ _ _ _ _ c.reads.invariant.underway none c.in_ok-n.ensures.bytes.0) (c.in_ok-n.ensures.bytes.1 c.if-n-eq0.true some)
-
-pub returns-in_err-take_bytes-clause-err : goal.returns-in_err-take_bytes-clause-err
-returns-in_err-take_bytes-clause-err g c =
-    let told = err_from_is_err_and c.from_residual-in_err-take_bytes.result c.from_residual-in_err-take_bytes.ensures.1 in
-    rw told.1 (stopped_in_part _ _ _ _ _ _ _ _ _ c.reads.invariant.underway c.in_ok-n.ensures.bytes.0 c.in_err-take_bytes.ensures.err)
+pub returns-then-not-more-clause-ok : goal.returns-then-not-more-clause-ok
+returns-then-not-more-clause-ok g c = rw c.if-not-more.true at (c.in_ok-more.ensures.ok _ _ c.reads.invariant.underway)
 
 pub reads-preserved : goal.reads-preserved
-reads-preserved g c = record {
-  readable = c.in_ok-n.ensures.told;
-  writable = c.in_ok-take_bytes.ensures.fine;
-  asked = grind (arith, c.reads.invariant.asked, c.in_ok-n.ensures.counted, c.reads.auto.counter-end, c.reads-test.true);
-  underway = underway_more _ _ _ _ _ _ _ _ _ _ _ c.reads.invariant.underway c.in_ok-n.ensures.bytes.0 c.in_ok-take_bytes.ensures.ok;
-}
+reads-preserved g c =
+    let fine = c.in_ok-more.ensures.fine c.if-not-more.false in
+    record {
+      readable = fine.0;
+      writable = fine.1;
+      asked = grind (arith, c.reads.invariant.asked, c.read_on.ensures.counted, c.reads.auto.counter-end, c.reads-test.true);
+      underway = rw c.if-not-more.false at (c.in_ok-more.ensures.ok _ _ c.reads.invariant.underway);
+    }
 
 pub returns-clause-err : goal.returns-clause-err
 returns-clause-err g c = stopped_here _ _ _ _ _ _ _ _ c.reads.invariant.underway (keeps_same _) (keeps_same _)
