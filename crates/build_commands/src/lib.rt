@@ -16,6 +16,7 @@ mod pages;
 mod picked;
 mod refusal;
 mod reply;
+mod undone;
 
 pub use act::act_of;
 pub use checks::{check_build, check_needs};
@@ -25,3 +26,4 @@ pub use needs::{Needs, Wants};
 pub use picked::Picked;
 pub use refusal::Refusal;
 pub use reply::{Reply, reply_of};
+pub use undone::Undone;

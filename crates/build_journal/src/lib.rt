@@ -2,9 +2,7 @@
 #![tactic(auto)]
 
 mod journal;
-mod kind;
 mod reverse;
 
 pub use journal::{JOURNAL_ROOM, Journal};
-pub use kind::{Kind, kind_of};
 pub use reverse::{reverse_of, takes_back};

@@ -5,7 +5,8 @@ use Rattle.std.proofs.lemmas.List.{drop_all}
 use Rattle.std.proofs.lemmas.Bool.{eqb-true, eq-eqb}
 use Rattle.realm_model.specs.declared.act.Event.{Event}
 use Rattle.builders.specs.Close.{FitsAll}
-use Rattle.builders.specs.Seats.{SeatView, events_of}
+use Rattle.realm_model.specs.History.{events_of}
+use Rattle.builders.specs.Seats.{SeatView}
 
 all_used : (at : ℕ) (trail : List Event) → at ≤ length trail → drop at trail ≡ [] → at ≡ length trail
 all_used at trail inside none =

@@ -5,15 +5,15 @@ use Rattle.std.proofs.lemmas.List.Elements.{filter-append}
 use Rattle.std.specs.Prelude.{nat_lt}
 use Rattle.realm_model.specs.declared.act.Act.{Act}
 use Rattle.realm_model.specs.declared.act.Event.{Event}
-use Rattle.realm_model.specs.History.{open_entries}
+use Rattle.realm_model.specs.History.{open_entries, events_of}
 use Rattle.realm_model.specs.Undoing.{by}
 use Rattle.realm_model.specs.StepLaw.{set_each}
 use Rattle.realm_model.specs.Command.Check.{is_in}
 use Rattle.realm_model.proofs.SetEach.{get_or-set_each}
 use Rattle.build_books.specs.View.{HostView, is_aborting, with_event}
 use Rattle.builders.specs.Kept.{KeptView, IsSound, IsShared, IsCounted, IsKept}
-use Rattle.builders.specs.Lanes.{PassView}
-use Rattle.builders.specs.Seats.{SeatView, events_of, with_noted}
+use Rattle.builders.specs.Passes.{PassView}
+use Rattle.builders.specs.Seats.{SeatView, with_noted}
 use Rattle.builders.specs.Start.{IsOfStart}
 use Rattle.builders.specs.Told.{IsBehind}
 

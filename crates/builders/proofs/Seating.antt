@@ -8,7 +8,7 @@ use Rattle.std.proofs.lemmas.List.{take-replicate, get_or-replicate}
 use Rattle.std.proofs.lemmas.List.FromFn.{map-range_with_len_more, length-map-range_with_len}
 use Rattle.std.proofs.lemmas.Option.{same_Some}
 use Rattle.realm_model.specs.declared.act.Event.{Event}
-use Rattle.builders.specs.Lanes.{PassView, unused}
+use Rattle.builders.specs.Passes.{PassView, unused}
 use Rattle.builders.specs.Seats.{SeatView, new_seat}
 
 first_left : (k : ℕ) → k < 8 → map unused (range_with_len k (8 - k)) ≡ unused k ∷ map unused (range_with_len (k + 1) (8 - (k + 1)))

@@ -2,11 +2,10 @@
 use Rattle.std.proofs.Common.{◌≡◌, ℕ, Bool, true, false, List, [], ◌∷◌, length, get_or, refl, sym, ap, ◌∙◌, arith}
 use Rattle.std.proofs.lemmas.List.{get_or-replicate}
 use Rattle.realm_model.specs.declared.act.Event.{Event}
-use Rattle.realm_model.specs.History.{open_entries}
+use Rattle.realm_model.specs.History.{open_entries, events_of}
 use Rattle.build_books.specs.View.{HostView, is_aborting}
 use Rattle.build_books.proofs.Empty.{none_open}
 use Rattle.builders.specs.Kept.{IsSound, IsKept}
-use Rattle.builders.specs.Seats.{events_of}
 
 -- nothing is open, so no build is in abort
 none_aborts : (host : HostView) → IsSound host → host.history ≡ [] → (build : ℕ) → is_aborting host build ≡ false

@@ -9,8 +9,8 @@ use Rattle.realm_model.specs.Act.{reverse_of}
 use Rattle.realm_model.specs.Undoing.{by}
 use Rattle.realm_model.specs.declared.act.Act.{Act}
 use Rattle.realm_model.specs.declared.act.Event.{Event}
-use Rattle.build_journal.specs.Kind.{act_kind}
-use Rattle.build_journal.specs.declared.kind.Kind.{Kind}
+use Rattle.realm_model.specs.Kind.{act_kind}
+use Rattle.realm_model.specs.declared.kind.Kind.{Kind}
 use Rattle.build_commands.specs.declared.cmd.Cmd.{Cmd}
 use Rattle.build_commands.specs.declared.cmd.Cmd.TheVariants.{Take, Fill, Peek, Delegate, Realm, Rtt, Ripas, Data, Unknown, Rec, Activate, Enter, Exit, Poke}
 use Rattle.build_commands.specs.declared.refusal.Refusal.{Refusal}
@@ -19,7 +19,7 @@ use Rattle.build_books.specs.View.{HostView, open_of}
 use Rattle.realm_host.specs.Answer.{IsActOf}
 use Rattle.realm_host.specs.Call.{Ask, Undo}
 use Rattle.realm_host.specs.declared.reply.Answer.TheVariants.{Replied, Undone as WasUndone}
-use Rattle.realm_host.specs.declared.reply.Undone.{Undone}
+use Rattle.build_commands.specs.declared.undone.Undone.{Undone}
 use Rattle.workers.specs.Exchange.{Exchange, Did, Undid, KeptMark, LookedBack, is_event}
 use Rattle.builders.specs.Answered.{IsAnswered, AreAnswered}
 use Rattle.builders.specs.Seats.{SeatView, new_seat, with_noted}

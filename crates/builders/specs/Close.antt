@@ -4,7 +4,8 @@ use Rattle.std.specs.List.{All}
 use Rattle.realm_model.specs.declared.act.Event.{Event}
 use Rattle.build_books.specs.View.{HostView}
 use Rattle.builders.specs.Kept.{IsShared}
-use Rattle.builders.specs.Seats.{SeatView, events_of}
+use Rattle.realm_model.specs.History.{events_of}
+use Rattle.builders.specs.Seats.{SeatView}
 use Rattle.builders.specs.Start.{IsOfStart}
 
 -- ---- seats

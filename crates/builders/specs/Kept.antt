@@ -2,12 +2,12 @@
 use Rattle.std.specs.Prelude.{◌≡◌, ℕ, ◌+◌, ◌<◌, List, length, false, slice_index, slice_set}
 use Rattle.realm_model.specs.declared.act.Act.{Act}
 use Rattle.realm_model.specs.declared.act.Event.{Event}
-use Rattle.realm_model.specs.History.{IsLegal}
+use Rattle.realm_model.specs.History.{IsLegal, events_of}
 use Rattle.realm_model.specs.Undoing.{by}
 use Rattle.build_books.specs.Kept.{HasRoom, AreOfEach, PointsHold}
 use Rattle.build_books.specs.View.{HostView, is_aborting, with_event}
 use Rattle.realm_host.specs.Host.{IsInRange}
-use Rattle.builders.specs.Seats.{SeatView, events_of, with_noted}
+use Rattle.builders.specs.Seats.{SeatView, with_noted}
 use Rattle.builders.specs.Start.{IsOfStart}
 
 pub record KeptView : Type 0 where

@@ -1,5 +1,6 @@
 pub mod Whole
-pub mod Lanes
+pub mod Passes
+pub mod Names
 pub mod Seats
 pub mod Start
 pub mod Kept

@@ -1,10 +1,6 @@
 -- What a seat shows: its build, how many events of it were counted, and the list of them.
-use Rattle.std.specs.Prelude.{ℕ, ◌+◌, ◌==◌, List, [], ◌∷◌, ◌++◌, filter}
+use Rattle.std.specs.Prelude.{ℕ, ◌+◌, List, [], ◌∷◌, ◌++◌}
 use Rattle.realm_model.specs.declared.act.Event.{Event}
-
--- the events of a build in a history, in their order
-abbrev pub events_of : ℕ → List Event → List Event
-events_of build history = filter (λ event. event.build == build) history
 
 pub record SeatView : Type 0 where
   pub build : ℕ

@@ -13,7 +13,8 @@ use Rattle.realm_host.specs.Marked.{IsMarked, way_back}
 use Rattle.realm_host.specs.declared.reply.Answer.{Answer}
 use Rattle.realm_host.specs.declared.reply.Answer.TheVariants.{Refused}
 use Rattle.builders.specs.Kept.{IsShared}
-use Rattle.builders.specs.Seats.{SeatView, events_of, with_noted}
+use Rattle.realm_model.specs.History.{events_of}
+use Rattle.builders.specs.Seats.{SeatView, with_noted}
 use Rattle.builders.specs.Start.{IsOfStart}
 
 -- A host that can lie behind the lock of builds that were started with `opened`, and has as many events of the seat's build as

@@ -6,8 +6,8 @@ use Rattle.build_commands.specs.Replies.{reply_of}
 use Rattle.build_commands.specs.declared.cmd.Cmd.{Cmd}
 use Rattle.build_commands.specs.declared.cmd.Cmd.TheVariants.{Take}
 use Rattle.build_commands.specs.declared.picked.Picked.{Picked}
-use Rattle.build_journal.specs.Kind.{act_kind}
-use Rattle.build_journal.specs.declared.kind.Kind.{Kind}
+use Rattle.realm_model.specs.Kind.{act_kind}
+use Rattle.realm_model.specs.declared.kind.Kind.{Kind}
 use Rattle.realm_model.specs.Act.{reverse_of}
 use Rattle.realm_model.specs.declared.act.Act.{Act}
 use Rattle.realm_model.specs.declared.act.Act.TheVariants as acts

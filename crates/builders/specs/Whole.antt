@@ -1,9 +1,9 @@
 -- What the whole share of a build's ledger shows.
 use Rattle.std.specs.Prelude.{ℕ}
-use Rattle.builders.specs.declared.lanes.Whole.{Whole}
-use Rattle.builders.specs.declared.lanes.Whole.TheVariants.{Build0, Build1, Build2, Build3, Build4, Build5, Build6, Build7}
+use Rattle.builders.specs.declared.ledgers.Whole.{Whole}
+use Rattle.builders.specs.declared.ledgers.Whole.TheVariants.{Build0, Build1, Build2, Build3, Build4, Build5, Build6, Build7}
 
-abbrev pub build_of : {L0 L1 L2 L3 L4 L5 L6 L7 : Type 0} → Whole L0 L1 L2 L3 L4 L5 L6 L7 → ℕ
+abbrev pub build_of : {L : Type 0} → Whole L → ℕ
 build_of (Build0 share) = 0
 build_of (Build1 share) = 1
 build_of (Build2 share) = 2
@@ -13,7 +13,7 @@ build_of (Build5 share) = 5
 build_of (Build6 share) = 6
 build_of (Build7 share) = 7
 
-abbrev pub parts_of : {L0 L1 L2 L3 L4 L5 L6 L7 : Type 0} → Whole L0 L1 L2 L3 L4 L5 L6 L7 → ℕ
+abbrev pub parts_of : {L : Type 0} → Whole L → ℕ
 parts_of (Build0 share) = share.parts
 parts_of (Build1 share) = share.parts
 parts_of (Build2 share) = share.parts
@@ -23,7 +23,7 @@ parts_of (Build5 share) = share.parts
 parts_of (Build6 share) = share.parts
 parts_of (Build7 share) = share.parts
 
-abbrev pub amount_of : {L0 L1 L2 L3 L4 L5 L6 L7 : Type 0} → Whole L0 L1 L2 L3 L4 L5 L6 L7 → ℕ
+abbrev pub amount_of : {L : Type 0} → Whole L → ℕ
 amount_of (Build0 share) = share.amount
 amount_of (Build1 share) = share.amount
 amount_of (Build2 share) = share.amount

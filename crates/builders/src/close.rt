@@ -2,9 +2,9 @@
 ghost use Rattle.std.specs.Prelude.{◌≡◌, ◌+◌, ◌<◌, ◌≤◌, ◌↔◌, ℕ, [], ◌∷◌, ◌++◌, length, filter, slice_index, true, IsTrue, IfSome, IfNone};
 ghost use Rattle.std.specs.List.{All};
 ghost use Rattle.builders.specs.Close.{seats_of, Fits, IsMissing, IsWhole, Differs, FitsAll};
-ghost use Rattle.builders.specs.Seats.{events_of};
+ghost use Rattle.realm_model.specs.History.{events_of};
 
-use crate::lanes::{Books, Lane};
+use crate::ledgers::{Books, Ledgers};
 use crate::seat::Seat;
 use granule_addr::BuildId;
 use realm_model::Event;
@@ -19,10 +19,7 @@ pub enum CloseFault {
 }
 
 /// Shows that each seat counts what its build's book does. Nothing changes.
-pub fn audit<L0: Lane, L1: Lane, L2: Lane, L3: Lane, L4: Lane, L5: Lane, L6: Lane, L7: Lane>(
-    books: &mut Books<L0, L1, L2, L3, L4, L5, L6, L7>,
-    seats: &mut [Seat<L0, L1, L2, L3, L4, L5, L6, L7>],
-)
+pub fn audit<L: Ledgers>(books: &mut Books<L>, seats: &mut [Seat<L>])
     ensures books { books.new ≡ books.old }
     ensures seats { seats.new ≡ seats.old }
     ensures counted { All (λ seat. (seat.build < 8) × (slice_index books.old seat.build ≡ seat.count)) seats.old }
@@ -34,10 +31,7 @@ pub fn audit<L0: Lane, L1: Lane, L2: Lane, L3: Lane, L4: Lane, L5: Lane, L6: Lan
 
 /// The lowest build of which there is not one seat.
 #[tactic(auto, unfolding(crate::specs::Close::IsWhole))]
-pub fn missing<L0: Lane, L1: Lane, L2: Lane, L3: Lane, L4: Lane, L5: Lane, L6: Lane, L7: Lane>(
-    seats: &[Seat<L0, L1, L2, L3, L4, L5, L6, L7>],
-    builds: u8,
-) -> Option<BuildId>
+pub fn missing<L: Ledgers>(seats: &[Seat<L>], builds: u8) -> Option<BuildId>
     requires { builds ≤ 8 }
     ensures some { IfSome result (λ build. IsMissing builds build seats.now) }
     ensures none { IfNone result (IsWhole builds seats.now) }
@@ -52,10 +46,7 @@ pub fn missing<L0: Lane, L1: Lane, L2: Lane, L3: Lane, L4: Lane, L5: Lane, L6: L
 }
 
 // How many seats are of a build.
-fn seat_count<L0: Lane, L1: Lane, L2: Lane, L3: Lane, L4: Lane, L5: Lane, L6: Lane, L7: Lane>(
-    seats: &[Seat<L0, L1, L2, L3, L4, L5, L6, L7>],
-    build: BuildId,
-) -> usize
+fn seat_count<L: Ledgers>(seats: &[Seat<L>], build: BuildId) -> usize
     ensures { result ≡ seats_of build seats.now }
 {
     seats.iter().filter(|seat| seat.build() == build).count()
@@ -63,10 +54,7 @@ fn seat_count<L0: Lane, L1: Lane, L2: Lane, L3: Lane, L4: Lane, L5: Lane, L6: La
 
 /// The lowest build with a seat whose trail is not what the history has of the build.
 #[tactic(auto, unfolding(crate::specs::Close::FitsAll))]
-pub fn mismatch<L0: Lane, L1: Lane, L2: Lane, L3: Lane, L4: Lane, L5: Lane, L6: Lane, L7: Lane>(
-    seats: &[Seat<L0, L1, L2, L3, L4, L5, L6, L7>],
-    history: &[Event],
-) -> Option<BuildId>
+pub fn mismatch<L: Ledgers>(seats: &[Seat<L>], history: &[Event]) -> Option<BuildId>
     ensures some { IfSome result (λ build. Differs build history.now seats.now) }
     ensures none { IfNone result (FitsAll history.now seats.now) }
 {
@@ -80,21 +68,13 @@ pub fn mismatch<L0: Lane, L1: Lane, L2: Lane, L3: Lane, L4: Lane, L5: Lane, L6: 
 }
 
 // Whether a build's seats have for their trail what a history has of the build.
-fn fits<L0: Lane, L1: Lane, L2: Lane, L3: Lane, L4: Lane, L5: Lane, L6: Lane, L7: Lane>(
-    seats: &[Seat<L0, L1, L2, L3, L4, L5, L6, L7>],
-    history: &[Event],
-    build: BuildId,
-) -> bool
+fn fits<L: Ledgers>(seats: &[Seat<L>], history: &[Event], build: BuildId) -> bool
     ensures { IsTrue result ↔ Fits build history.now seats.now }
 {
     seats.iter().all(|seat| seat_fits(seat, history, build))
 }
 
-fn seat_fits<L0: Lane, L1: Lane, L2: Lane, L3: Lane, L4: Lane, L5: Lane, L6: Lane, L7: Lane>(
-    seat: &Seat<L0, L1, L2, L3, L4, L5, L6, L7>,
-    history: &[Event],
-    build: BuildId,
-) -> bool
+fn seat_fits<L: Ledgers>(seat: &Seat<L>, history: &[Event], build: BuildId) -> bool
     ensures { IsTrue result ↔ (seat.now.build ≡ build → seat.now.trail ≡ events_of build history.now) }
 {
     if seat.build() == build {

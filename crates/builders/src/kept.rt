@@ -10,12 +10,13 @@ ghost use Rattle.realm_host.specs.Marked.{IsMarked, way_back};
 ghost use Rattle.builders.specs.Close.{IsClosed, IsGivenBack};
 ghost use Rattle.builders.specs.Fault.{IsFault};
 ghost use Rattle.builders.specs.Kept.{IsNoted, IsSound};
-ghost use Rattle.builders.specs.Seats.{events_of, with_noted};
+ghost use Rattle.realm_model.specs.History.{events_of};
+ghost use Rattle.builders.specs.Seats.{with_noted};
 ghost use Rattle.builders.specs.Told.{IsBehind};
 
 use crate::close;
 use crate::close::CloseFault;
-use crate::lanes::{Books, Lane};
+use crate::ledgers::{Books, Ledgers};
 use crate::seat::Seat;
 use page_arena::PageStore;
 use realm_host::{Cmd, Host, Mark, Refusal, Reply, Undone};
@@ -24,32 +25,12 @@ use std::marker::Model;
 
 /// A host and the books of its builds. Each book is the number of its build's events in the history, and no build is in abort.
 #[derive(Drop)]
-pub struct Kept<
-    S: PageStore,
-    L0: Lane,
-    L1: Lane,
-    L2: Lane,
-    L3: Lane,
-    L4: Lane,
-    L5: Lane,
-    L6: Lane,
-    L7: Lane,
-> {
+pub struct Kept<S: PageStore, L: Ledgers> {
     pub(crate) host: Host<S>,
-    pub(crate) books: Books<L0, L1, L2, L3, L4, L5, L6, L7>,
+    pub(crate) books: Books<L>,
 }
 
-impl<
-    S: PageStore,
-    L0: Lane,
-    L1: Lane,
-    L2: Lane,
-    L3: Lane,
-    L4: Lane,
-    L5: Lane,
-    L6: Lane,
-    L7: Lane,
-> Model for Kept<S, L0, L1, L2, L3, L4, L5, L6, L7> {
+impl<S: PageStore, L: Ledgers> Model for Kept<S, L> {
     ghost use Rattle.builders.specs.Codes.{kept_code};
     ghost use Rattle.builders.specs.Kept.{KeptView, IsKept};
 
@@ -59,32 +40,18 @@ impl<
 
     ghost view = { λ k. record { host = k.host; books = k.books } };
 
-    ghost invariant = { λ k. IsKept L0.opened (record { host = k.host; books = k.books }) };
+    ghost invariant = { λ k. IsKept L.opened (record { host = k.host; books = k.books }) };
 }
 
-impl<
-    S: PageStore,
-    L0: Lane,
-    L1: Lane,
-    L2: Lane,
-    L3: Lane,
-    L4: Lane,
-    L5: Lane,
-    L6: Lane,
-    L7: Lane,
-> Kept<S, L0, L1, L2, L3, L4, L5, L6, L7> {
+impl<S: PageStore, L: Ledgers> Kept<S, L> {
     /// Asks a command of the seat's build. The answer is the host's, and an accepted command is one event of the build, which
     /// ends the history and the trail. A refusal leaves both as they are. No memory is taken.
-    pub fn call(
-        &mut self,
-        seat: &mut Seat<L0, L1, L2, L3, L4, L5, L6, L7>,
-        cmd: Cmd,
-    ) -> Result<Reply, Refusal>
+    pub fn call(&mut self, seat: &mut Seat<L>, cmd: Cmd) -> Result<Reply, Refusal>
         ensures answer { IsAnswer self.old.host seat.old.build (Ask cmd) (replied result) self.new.host }
         ensures noted { IfOk result (λ _. IsNoted self.old seat.old self.new seat.new) }
         ensures refused { IfErr result (λ _. (self.new ≡ self.old) × (seat.new ≡ seat.old)) }
-        ensures before { IsBehind L0.opened self.old.host seat.old }
-        ensures after { IsBehind L0.opened self.new.host seat.new }
+        ensures before { IsBehind L.opened self.old.host seat.old }
+        ensures after { IsBehind L.opened self.new.host seat.new }
     {
         let build = seat.pass.build();
         self.books.audit(&mut seat.pass);
@@ -95,15 +62,12 @@ impl<
 
     /// Undoes the newest act that the seat's build has open. The answer is the host's, and an accepted undo is one event of the
     /// build, which ends the history and the trail. A refusal leaves both as they are. No memory is taken.
-    pub fn undo(
-        &mut self,
-        seat: &mut Seat<L0, L1, L2, L3, L4, L5, L6, L7>,
-    ) -> Result<Undone, Refusal>
+    pub fn undo(&mut self, seat: &mut Seat<L>) -> Result<Undone, Refusal>
         ensures answer { IsAnswer self.old.host seat.old.build Undo (undone result) self.new.host }
         ensures noted { IfOk result (λ _. IsNoted self.old seat.old self.new seat.new) }
         ensures refused { IfErr result (λ _. (self.new ≡ self.old) × (seat.new ≡ seat.old)) }
-        ensures before { IsBehind L0.opened self.old.host seat.old }
-        ensures after { IsBehind L0.opened self.new.host seat.new }
+        ensures before { IsBehind L.opened self.old.host seat.old }
+        ensures after { IsBehind L.opened self.new.host seat.new }
     {
         let build = seat.pass.build();
         self.books.audit(&mut seat.pass);
@@ -113,12 +77,12 @@ impl<
     }
 
     /// Keeps the point of the seat's build, with the host's answer. This is no event.
-    pub fn mark(&mut self, seat: &mut Seat<L0, L1, L2, L3, L4, L5, L6, L7>) -> Result<Mark, Refusal>
+    pub fn mark(&mut self, seat: &mut Seat<L>) -> Result<Mark, Refusal>
         ensures answer { IsMarked self.old.host seat.old.build result self.new.host }
         ensures books { self.new.books ≡ self.old.books }
         ensures seat { seat.new ≡ seat.old }
-        ensures before { IsBehind L0.opened self.old.host seat.old }
-        ensures after { IsBehind L0.opened self.new.host seat.new }
+        ensures before { IsBehind L.opened self.old.host seat.old }
+        ensures after { IsBehind L.opened self.new.host seat.new }
     {
         let build = seat.pass.build();
         self.books.audit(&mut seat.pass);
@@ -129,15 +93,11 @@ impl<
     }
 
     /// How many acts the seat's build has open above a mark, with the host's answer. Nothing changes.
-    pub fn check_back(
-        &mut self,
-        seat: &mut Seat<L0, L1, L2, L3, L4, L5, L6, L7>,
-        mark: Mark,
-    ) -> Result<u16, Refusal>
+    pub fn check_back(&mut self, seat: &mut Seat<L>, mark: Mark) -> Result<u16, Refusal>
         ensures answer { result ≡ way_back self.old.host seat.old.build mark }
         ensures stands { OnOk result (IsMarkOf self.old.host seat.old.build mark) }
         ensures same { (self.new ≡ self.old) × (seat.new ≡ seat.old) }
-        ensures behind { IsBehind L0.opened self.old.host seat.old }
+        ensures behind { IsBehind L.opened self.old.host seat.old }
     {
         let build = seat.pass.build();
         self.books.audit(&mut seat.pass);
@@ -146,14 +106,11 @@ impl<
 
     /// Gives the host back as it is, for its builds' seats: each has to be there once, with the events that the history has of
     /// its build. At `Err` the host comes back too.
-    pub fn close(
-        self,
-        mut seats: Vec<Seat<L0, L1, L2, L3, L4, L5, L6, L7>>,
-    ) -> Result<Host<S>, (CloseFault, Host<S>)>
+    pub fn close(self, mut seats: Vec<Seat<L>>) -> Result<Host<S>, (CloseFault, Host<S>)>
         ensures closed { IfOk result (λ host. IsClosed host seats.items) }
         ensures fault { IfErr result (λ e. IsFault e.0 e.1 seats.items) }
         ensures host { MatchResult result (λ host. host ≡ self.host) (λ e. e.1 ≡ self.host) }
-        ensures given_back { MatchResult result (λ host. IsGivenBack L0.opened host seats.items) (λ e. IsGivenBack L0.opened e.1 seats.items) }
+        ensures given_back { MatchResult result (λ host. IsGivenBack L.opened host seats.items) (λ e. IsGivenBack L.opened e.1 seats.items) }
     {
         let Kept { host, mut books } = self;
         close::audit(&mut books, seats.as_mut_slice());
@@ -168,24 +125,10 @@ impl<
 }
 
 // The event that ends the history of a host is noted: it ends the trail, and the book and the count of its build rise by one.
-fn note<
-    S: PageStore,
-    L0: Lane,
-    L1: Lane,
-    L2: Lane,
-    L3: Lane,
-    L4: Lane,
-    L5: Lane,
-    L6: Lane,
-    L7: Lane,
->(
-    host: &Host<S>,
-    books: &mut Books<L0, L1, L2, L3, L4, L5, L6, L7>,
-    seat: &mut Seat<L0, L1, L2, L3, L4, L5, L6, L7>,
-)
+fn note<S: PageStore, L: Ledgers>(host: &Host<S>, books: &mut Books<L>, seat: &mut Seat<L>)
     requires some { 0 < length host.now.history }
     requires counted { length (events_of seat.old.build host.now.history) ≡ seat.old.count + 1 }
-    requires fits { host.now.capacity ≡ L0.opened.capacity }
+    requires fits { host.now.capacity ≡ L.opened.capacity }
     ensures sound { IsSound host.now }
     ensures books { books.new ≡ slice_set books.old seat.old.build (seat.old.count + 1) }
     ensures seat { (before : List Event) (event : Event) → host.now.history ≡ before ++ event ∷ [] → seat.new ≡ with_noted seat.old event }

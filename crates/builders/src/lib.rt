@@ -6,18 +6,20 @@
 //! history, once and in its order. `Shared::close` gives the host back, and compares the lists with the history.
 #![tactic(auto)]
 
+mod blanks;
 mod close;
 mod kept;
-mod lanes;
+mod ledgers;
 mod run;
 mod seat;
 mod shared;
 mod teller;
 mod worker;
 
+pub use blanks::Blanks;
 pub use close::CloseFault;
 pub use kept::Kept;
-pub use lanes::{Blanks, Lane};
+pub use ledgers::Ledgers;
 pub use run::run_builds;
 pub use seat::Seat;
 pub use shared::Shared;

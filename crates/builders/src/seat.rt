@@ -1,7 +1,7 @@
 //! Seats: one build's pass, and the list of its accepted events.
 ghost use Rattle.std.specs.Prelude.{◌≡◌, ◌+◌, ◌<◌, ◌≤◌, [], ◌∷◌, ◌++◌, length, vec_capacity, replicate, IfOk};
 
-use crate::lanes::{Lane, Pass};
+use crate::ledgers::{Ledgers, Pass};
 use granule_addr::BuildId;
 use realm_model::Event;
 use std::alloc::{AllocError, Global};
@@ -9,12 +9,12 @@ use std::marker::{Model, PhantomData};
 
 /// The accepted events of one build, in their order. There is room for as many as the history has room for.
 #[derive(Drop)]
-pub struct Trail<L0: Lane> {
+pub struct Trail<L: Ledgers> {
     events: Vec<Event>,
-    room: PhantomData<L0>,
+    room: PhantomData<L>,
 }
 
-impl<L0: Lane> Model for Trail<L0> {
+impl<L: Ledgers> Model for Trail<L> {
     ghost use Rattle.std.specs.Prelude.{◌≡◌, List, vec_capacity};
     ghost use Rattle.realm_model.specs.declared.act.Event.{Event};
 
@@ -22,13 +22,13 @@ impl<L0: Lane> Model for Trail<L0> {
 
     ghost view = { λ t. t.events.items };
 
-    ghost invariant = { λ t. vec_capacity t.events ≡ L0.opened.capacity };
+    ghost invariant = { λ t. vec_capacity t.events ≡ L.opened.capacity };
 }
 
-impl<L0: Lane> Trail<L0> {
+impl<L: Ledgers> Trail<L> {
     /// A trail without an event.
-    pub fn build(alloc: Global, room: u16) -> Result<Trail<L0>, AllocError>
-        requires { room ≡ L0.opened.capacity }
+    pub fn build(alloc: Global, room: u16) -> Result<Trail<L>, AllocError>
+        requires { room ≡ L.opened.capacity }
         ensures { IfOk result (λ trail. trail ≡ []) }
     {
         let events = Vec::with_capacity(alloc, room as usize)?;
@@ -40,7 +40,7 @@ impl<L0: Lane> Trail<L0> {
 
     /// Adds an event. No memory is taken.
     pub fn add(&mut self, event: Event)
-        requires { length self.old < L0.opened.capacity }
+        requires { length self.old < L.opened.capacity }
         ensures { self.new ≡ self.old ++ event ∷ [] }
     {
         self.events.push_reserved(event);
@@ -55,12 +55,12 @@ impl<L0: Lane> Trail<L0> {
 }
 
 /// So many trails without an event.
-pub(crate) fn new_trails<L0: Lane>(
+pub(crate) fn new_trails<L: Ledgers>(
     alloc: Global,
     count: u8,
     room: u16,
-) -> Result<Vec<Trail<L0>>, AllocError>
-    requires { room ≡ L0.opened.capacity }
+) -> Result<Vec<Trail<L>>, AllocError>
+    requires { room ≡ L.opened.capacity }
     ensures { IfOk result (λ trails. trails.items ≡ replicate count []) }
 {
     let mut trails = Vec::with_capacity(alloc, count as usize)?;
@@ -73,13 +73,12 @@ pub(crate) fn new_trails<L0: Lane>(
 /// What one thread holds of a shared host: its build's pass, which counts the build's events in the history, and the list of
 /// these events.
 #[derive(Drop)]
-pub struct Seat<L0: Lane, L1: Lane, L2: Lane, L3: Lane, L4: Lane, L5: Lane, L6: Lane, L7: Lane> {
-    pub(crate) pass: Pass<L0, L1, L2, L3, L4, L5, L6, L7>,
-    pub(crate) trail: Trail<L0>,
+pub struct Seat<L: Ledgers> {
+    pub(crate) pass: Pass<L>,
+    pub(crate) trail: Trail<L>,
 }
 
-impl<L0: Lane, L1: Lane, L2: Lane, L3: Lane, L4: Lane, L5: Lane, L6: Lane, L7: Lane> Model
-    for Seat<L0, L1, L2, L3, L4, L5, L6, L7> {
+impl<L: Ledgers> Model for Seat<L> {
     ghost use Rattle.std.specs.Prelude.{◌≡◌, length};
     ghost use Rattle.builders.specs.Seats.{SeatView};
 
@@ -90,16 +89,7 @@ impl<L0: Lane, L1: Lane, L2: Lane, L3: Lane, L4: Lane, L5: Lane, L6: Lane, L7: L
     ghost invariant = { λ s. s.pass.count ≡ length s.trail };
 }
 
-impl<L0: Lane, L1: Lane, L2: Lane, L3: Lane, L4: Lane, L5: Lane, L6: Lane, L7: Lane> Seat<
-    L0,
-    L1,
-    L2,
-    L3,
-    L4,
-    L5,
-    L6,
-    L7,
-> {
+impl<L: Ledgers> Seat<L> {
     /// The build whose seat it is.
     pub fn build(&self) -> BuildId
         ensures build { result ≡ self.now.build }

@@ -5,13 +5,15 @@ ghost use Rattle.realm_host.specs.Call.{Ask, Undo};
 ghost use Rattle.realm_host.specs.declared.reply.Answer.TheVariants.{Replied, Undone as WasUndone};
 ghost use Rattle.builders.specs.Close.{IsClosed, IsGivenBack};
 ghost use Rattle.builders.specs.Fault.{IsFault};
-ghost use Rattle.builders.specs.Lanes.{unused};
+ghost use Rattle.builders.specs.Passes.{unused};
 ghost use Rattle.builders.specs.Seats.{new_seat};
 ghost use Rattle.builders.specs.Told.{IsTold, IsRefused, IsMarkTold, IsBackTold};
+ghost use Rattle.builders.specs.Names.{AreNamed};
 
+use crate::blanks::Blanks;
 use crate::close::CloseFault;
 use crate::kept::Kept;
-use crate::lanes::{Blanks, Lane, Opened, Pass};
+use crate::ledgers::{Ledgers, Opened, Pass};
 use crate::seat::{Seat, Trail, new_trails};
 use page_arena::PageStore;
 use realm_host::{Cmd, Host, Mark, Refusal, Reply, Undone};
@@ -20,54 +22,21 @@ use std::sync::{Mutex, Wait};
 
 /// A host that threads share. Each call takes the lock once.
 #[derive(Drop)]
-pub struct Shared<
-    S: PageStore,
-    L0: Lane,
-    L1: Lane,
-    L2: Lane,
-    L3: Lane,
-    L4: Lane,
-    L5: Lane,
-    L6: Lane,
-    L7: Lane,
-> {
-    kept: Mutex<Kept<S, L0, L1, L2, L3, L4, L5, L6, L7>>,
+pub struct Shared<S: PageStore, L: Ledgers> {
+    kept: Mutex<Kept<S, L>>,
 }
 
-impl<
-    S: PageStore,
-    L0: Lane,
-    L1: Lane,
-    L2: Lane,
-    L3: Lane,
-    L4: Lane,
-    L5: Lane,
-    L6: Lane,
-    L7: Lane,
-> Shared<S, L0, L1, L2, L3, L4, L5, L6, L7> {
+impl<S: PageStore, L: Ledgers> Shared<S, L> {
     /// Shares a host that has no history, with a seat for each of its builds in their order. All memory for their events is
     /// taken here. Where there is none, blanks and host come back.
     pub fn start(
         alloc: Global,
         blanks: Blanks,
         host: Host<S>,
-    ) -> Result<
-        (
-            Shared<S, L0, L1, L2, L3, L4, L5, L6, L7>,
-            Vec<Seat<L0, L1, L2, L3, L4, L5, L6, L7>>,
-        ),
-        (AllocError, Blanks, Host<S>),
-    >
+    ) -> Result<(Shared<S, L>, Vec<Seat<L>>), (AllocError, Blanks, Host<S>)>
         requires empty { host.history ≡ [] }
-        requires opened { host ≡ L0.opened }
-        requires name0 { blanks.blank0.name ≡ L0.name }
-        requires name1 { blanks.blank1.name ≡ L1.name }
-        requires name2 { blanks.blank2.name ≡ L2.name }
-        requires name3 { blanks.blank3.name ≡ L3.name }
-        requires name4 { blanks.blank4.name ≡ L4.name }
-        requires name5 { blanks.blank5.name ≡ L5.name }
-        requires name6 { blanks.blank6.name ≡ L6.name }
-        requires name7 { blanks.blank7.name ≡ L7.name }
+        requires opened { host ≡ L.opened }
+        requires named { AreNamed L.names blanks }
         ensures seats { IfOk result (λ r. r.1.items ≡ map new_seat (range_with_len 0 host.limits.builds)) }
         ensures back { IfErr result (λ e. (e.1 ≡ blanks) × (e.2 ≡ host)) }
     {
@@ -87,50 +56,32 @@ impl<
     }
 
     /// Asks a command of the seat's build.
-    pub fn call(
-        &self,
-        rt: &impl Wait,
-        seat: &mut Seat<L0, L1, L2, L3, L4, L5, L6, L7>,
-        cmd: Cmd,
-    ) -> Result<Reply, Refusal>
-        ensures told { IfOk result (λ reply. IsTold L0.opened (Ask cmd) (Replied reply) seat.old seat.new) }
-        ensures refused { IfErr result (λ refusal. IsRefused L0.opened (Ask cmd) refusal seat.old × (seat.new ≡ seat.old)) }
+    pub fn call(&self, rt: &impl Wait, seat: &mut Seat<L>, cmd: Cmd) -> Result<Reply, Refusal>
+        ensures told { IfOk result (λ reply. IsTold L.opened (Ask cmd) (Replied reply) seat.old seat.new) }
+        ensures refused { IfErr result (λ refusal. IsRefused L.opened (Ask cmd) refusal seat.old × (seat.new ≡ seat.old)) }
     {
         self.kept.lock(rt).call(seat, cmd)
     }
 
     /// Undoes the newest act that the seat's build has open.
-    pub fn undo(
-        &self,
-        rt: &impl Wait,
-        seat: &mut Seat<L0, L1, L2, L3, L4, L5, L6, L7>,
-    ) -> Result<Undone, Refusal>
-        ensures told { IfOk result (λ done. IsTold L0.opened Undo (WasUndone done) seat.old seat.new) }
-        ensures refused { IfErr result (λ refusal. IsRefused L0.opened Undo refusal seat.old × (seat.new ≡ seat.old)) }
+    pub fn undo(&self, rt: &impl Wait, seat: &mut Seat<L>) -> Result<Undone, Refusal>
+        ensures told { IfOk result (λ done. IsTold L.opened Undo (WasUndone done) seat.old seat.new) }
+        ensures refused { IfErr result (λ refusal. IsRefused L.opened Undo refusal seat.old × (seat.new ≡ seat.old)) }
     {
         self.kept.lock(rt).undo(seat)
     }
 
     /// Keeps the point of the seat's build, which it can go back to by undos.
-    pub fn mark(
-        &self,
-        rt: &impl Wait,
-        seat: &mut Seat<L0, L1, L2, L3, L4, L5, L6, L7>,
-    ) -> Result<Mark, Refusal>
-        ensures told { IsMarkTold L0.opened seat.old result }
+    pub fn mark(&self, rt: &impl Wait, seat: &mut Seat<L>) -> Result<Mark, Refusal>
+        ensures told { IsMarkTold L.opened seat.old result }
         ensures seat { seat.new ≡ seat.old }
     {
         self.kept.lock(rt).mark(seat)
     }
 
     /// How many acts the seat's build has open above a mark.
-    pub fn check_back(
-        &self,
-        rt: &impl Wait,
-        seat: &mut Seat<L0, L1, L2, L3, L4, L5, L6, L7>,
-        mark: Mark,
-    ) -> Result<u16, Refusal>
-        ensures told { IsBackTold L0.opened seat.old mark result }
+    pub fn check_back(&self, rt: &impl Wait, seat: &mut Seat<L>, mark: Mark) -> Result<u16, Refusal>
+        ensures told { IsBackTold L.opened seat.old mark result }
         ensures seat { seat.new ≡ seat.old }
     {
         self.kept.lock(rt).check_back(seat, mark)
@@ -138,24 +89,21 @@ impl<
 
     /// Gives the host back, for its builds' seats: each has to be there once, with the events that the history has of its
     /// build. At `Err` the host comes back too. Its machine is that of the start.
-    pub fn close(
-        self,
-        seats: Vec<Seat<L0, L1, L2, L3, L4, L5, L6, L7>>,
-    ) -> Result<Host<S>, (CloseFault, Host<S>)>
+    pub fn close(self, seats: Vec<Seat<L>>) -> Result<Host<S>, (CloseFault, Host<S>)>
         ensures closed { IfOk result (λ host. IsClosed host seats.items) }
         ensures fault { IfErr result (λ e. IsFault e.0 e.1 seats.items) }
-        ensures host { MatchResult result (λ host. IsGivenBack L0.opened host seats.items) (λ e. IsGivenBack L0.opened e.1 seats.items) }
+        ensures host { MatchResult result (λ host. IsGivenBack L.opened host seats.items) (λ e. IsGivenBack L.opened e.1 seats.items) }
     {
         self.kept.into_inner().close(seats)
     }
 }
 
 // A seat for each trail, with the passes in their order. The other passes are dropped.
-fn seated<L0: Lane, L1: Lane, L2: Lane, L3: Lane, L4: Lane, L5: Lane, L6: Lane, L7: Lane>(
-    mut seats: Vec<Seat<L0, L1, L2, L3, L4, L5, L6, L7>>,
-    passes: [Pass<L0, L1, L2, L3, L4, L5, L6, L7>; 8],
-    mut trails: Vec<Trail<L0>>,
-) -> Vec<Seat<L0, L1, L2, L3, L4, L5, L6, L7>>
+fn seated<L: Ledgers>(
+    mut seats: Vec<Seat<L>>,
+    passes: [Pass<L>; 8],
+    mut trails: Vec<Trail<L>>,
+) -> Vec<Seat<L>>
     requires none { seats.items ≡ [] }
     requires passes { passes ≡ map unused (range_with_len 0 8) }
     requires few { vec_len trails ≤ 8 }

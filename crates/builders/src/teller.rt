@@ -3,7 +3,7 @@ ghost use Rattle.std.specs.Prelude.{◌+◌, ◌*◌};
 ghost use Rattle.builders.specs.Answered.{AreAnswered};
 ghost use Rattle.builders.specs.Seats.{new_seat};
 
-use crate::lanes::Lane;
+use crate::ledgers::Ledgers;
 use crate::seat::Seat;
 use crate::shared::Shared;
 use granule_addr::BuildId;
@@ -15,39 +15,15 @@ use workers::{Gate, Stuck, Teller};
 /// A seat, and the host that its build's worker asks. Each question is answered by the host; the accepted ones
 /// are the events of the seat's trail.
 #[derive(Drop)]
-pub struct SeatTeller<
-    'a,
-    R: Wait,
-    S: PageStore,
-    L0: Lane,
-    L1: Lane,
-    L2: Lane,
-    L3: Lane,
-    L4: Lane,
-    L5: Lane,
-    L6: Lane,
-    L7: Lane,
-> {
+pub struct SeatTeller<'a, R: Wait, S: PageStore, L: Ledgers> {
     pub rt: &'a R,
-    pub shared: &'a Shared<S, L0, L1, L2, L3, L4, L5, L6, L7>,
-    pub seat: &'a mut Seat<L0, L1, L2, L3, L4, L5, L6, L7>,
+    pub shared: &'a Shared<S, L>,
+    pub seat: &'a mut Seat<L>,
 }
 
-impl<
-    'a,
-    R: Wait,
-    S: PageStore,
-    L0: Lane,
-    L1: Lane,
-    L2: Lane,
-    L3: Lane,
-    L4: Lane,
-    L5: Lane,
-    L6: Lane,
-    L7: Lane,
-> Teller for SeatTeller<'a, R, S, L0, L1, L2, L3, L4, L5, L6, L7> {
+impl<'a, R: Wait, S: PageStore, L: Ledgers> Teller for SeatTeller<'a, R, S, L> {
     // those that the seat was answered since it was new
-    ghost tells = { λ teller exchanges. AreAnswered L0.opened (new_seat teller.seat.now.build) exchanges teller.seat.now };
+    ghost tells = { λ teller exchanges. AreAnswered L.opened (new_seat teller.seat.now.build) exchanges teller.seat.now };
 
     // the seat's, and its build, so that both stay
     ghost loan = { λ teller. 8 * teller.seat.ghost_name + teller.seat.now.build };

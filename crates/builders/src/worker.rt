@@ -2,7 +2,7 @@
 ghost use Rattle.std.specs.Prelude.{◌≡◌, ◌+◌, ◌*◌, ◌<◌, ◌≤◌, ℕ, [], false, length, vec_len, vec_capacity, IfOk, IfErr};
 ghost use Rattle.builders.specs.Workers.{IsFaithful, IsRun};
 
-use crate::lanes::Lane;
+use crate::ledgers::Ledgers;
 use crate::seat::Seat;
 use crate::shared::Shared;
 use crate::teller::SeatTeller;
@@ -16,15 +16,14 @@ use workers::{Gate, Report, work};
 
 /// The worker of a build: its seat, its steps, and what it was answered.
 #[derive(Drop)]
-pub struct Worker<L0: Lane, L1: Lane, L2: Lane, L3: Lane, L4: Lane, L5: Lane, L6: Lane, L7: Lane> {
-    seat: Seat<L0, L1, L2, L3, L4, L5, L6, L7>,
+pub struct Worker<L: Ledgers> {
+    seat: Seat<L>,
     steps: Vec<Step>,
     report: Report,
     ended: bool,
 }
 
-impl<L0: Lane, L1: Lane, L2: Lane, L3: Lane, L4: Lane, L5: Lane, L6: Lane, L7: Lane> Model
-    for Worker<L0, L1, L2, L3, L4, L5, L6, L7> {
+impl<L: Ledgers> Model for Worker<L> {
     ghost use Rattle.std.specs.Prelude.{◌≡◌, ◌≤◌, ◌+◌, ◌*◌, vec_len, vec_capacity};
     ghost use Rattle.builders.specs.Workers.{WorkerView, IsFaithful};
 
@@ -32,29 +31,17 @@ impl<L0: Lane, L1: Lane, L2: Lane, L3: Lane, L4: Lane, L5: Lane, L6: Lane, L7: L
 
     ghost view = { λ w. record { seat = w.seat; steps = w.steps.items; lines = w.report.lines.items; ended = w.ended } };
 
-    ghost invariant = { λ w. IsFaithful L0.opened (record { seat = w.seat; steps = w.steps.items; lines = w.report.lines.items; ended = w.ended }) × (w.report.build ≡ w.seat.build) × (vec_len w.steps ≤ 1024) × (2 * vec_len w.steps + 1 ≤ vec_capacity w.report.lines) };
+    ghost invariant = { λ w. IsFaithful L.opened (record { seat = w.seat; steps = w.steps.items; lines = w.report.lines.items; ended = w.ended }) × (w.report.build ≡ w.seat.build) × (vec_len w.steps ≤ 1024) × (2 * vec_len w.steps + 1 ≤ vec_capacity w.report.lines) };
 }
 
-impl<L0: Lane, L1: Lane, L2: Lane, L3: Lane, L4: Lane, L5: Lane, L6: Lane, L7: Lane> Worker<
-    L0,
-    L1,
-    L2,
-    L3,
-    L4,
-    L5,
-    L6,
-    L7,
-> {
+impl<L: Ledgers> Worker<L> {
     /// The worker of a seat's build, which has asked nothing. Where there is no memory for its report, seat and steps come
     /// back.
     pub fn build(
         alloc: Global,
-        seat: Seat<L0, L1, L2, L3, L4, L5, L6, L7>,
+        seat: Seat<L>,
         steps: Vec<Step>,
-    ) -> Result<
-        Worker<L0, L1, L2, L3, L4, L5, L6, L7>,
-        (AllocError, Seat<L0, L1, L2, L3, L4, L5, L6, L7>, Vec<Step>),
-    >
+    ) -> Result<Worker<L>, (AllocError, Seat<L>, Vec<Step>)>
         requires trail { seat.trail ≡ [] }
         requires few { vec_len steps ≤ 1024 }
         ensures ok { IfOk result (λ worker. worker ≡ record { seat = seat; steps = steps.items; lines = []; ended = false }) }
@@ -90,14 +77,9 @@ impl<L0: Lane, L1: Lane, L2: Lane, L3: Lane, L4: Lane, L5: Lane, L6: Lane, L7: L
     }
 
     /// Takes its steps, with its turns from the gate.
-    pub fn run<R: Wait, S: PageStore, G: Gate>(
-        &mut self,
-        rt: &R,
-        shared: &Shared<S, L0, L1, L2, L3, L4, L5, L6, L7>,
-        gate: &G,
-    )
+    pub fn run<R: Wait, S: PageStore, G: Gate>(&mut self, rt: &R, shared: &Shared<S, L>, gate: &G)
         requires { self.old.lines ≡ [] }
-        ensures { IsRun L0.opened (G.passes gate.now self.old.seat.build) (G.stops gate.now self.old.seat.build) self.old self.new }
+        ensures { IsRun L.opened (G.passes gate.now self.old.seat.build) (G.stops gate.now self.old.seat.build) self.old self.new }
     {
         let Worker {
             seat,
@@ -109,10 +91,10 @@ impl<L0: Lane, L1: Lane, L2: Lane, L3: Lane, L4: Lane, L5: Lane, L6: Lane, L7: L
     }
 
     /// Its seat, its steps and its report.
-    pub fn end(self) -> (Seat<L0, L1, L2, L3, L4, L5, L6, L7>, Vec<Step>, Report)
+    pub fn end(self) -> (Seat<L>, Vec<Step>, Report)
         ensures parts { (result.0 ≡ self.seat) × (result.1.items ≡ self.steps) × (result.2.lines.items ≡ self.lines) }
         ensures build { result.2.build ≡ self.seat.build }
-        ensures faithful { IsFaithful L0.opened self }
+        ensures faithful { IsFaithful L.opened self }
     {
         let Worker {
             seat,
@@ -125,22 +107,10 @@ impl<L0: Lane, L1: Lane, L2: Lane, L3: Lane, L4: Lane, L5: Lane, L6: Lane, L7: L
 }
 
 // Takes steps for a seat, and says whether that came to its end.
-fn work_at<
-    R: Wait,
-    S: PageStore,
-    G: Gate,
-    L0: Lane,
-    L1: Lane,
-    L2: Lane,
-    L3: Lane,
-    L4: Lane,
-    L5: Lane,
-    L6: Lane,
-    L7: Lane,
->(
+fn work_at<R: Wait, S: PageStore, G: Gate, L: Ledgers>(
     rt: &R,
-    shared: &Shared<S, L0, L1, L2, L3, L4, L5, L6, L7>,
-    seat: &mut Seat<L0, L1, L2, L3, L4, L5, L6, L7>,
+    shared: &Shared<S, L>,
+    seat: &mut Seat<L>,
     steps: &[Step],
     report: &mut Report,
     gate: &G,
@@ -150,7 +120,7 @@ fn work_at<
     requires few { length steps.now ≤ 1024 }
     requires room { 2 * length steps.now + 1 ≤ vec_capacity report.old.lines }
     requires build { report.old.build ≡ seat.old.build }
-    ensures run { IsRun L0.opened (G.passes gate.now seat.old.build) (G.stops gate.now seat.old.build)
+    ensures run { IsRun L.opened (G.passes gate.now seat.old.build) (G.stops gate.now seat.old.build)
         (record { seat = seat.old; steps = steps.now; lines = []; ended = false })
         (record { seat = seat.new; steps = steps.now; lines = report.new.lines.items; ended = result }) }
     ensures same { (report.new.build ≡ report.old.build) × (vec_capacity report.new.lines ≡ vec_capacity report.old.lines) }

@@ -15,7 +15,7 @@ use Rattle.realm_host.specs.Answer.{IsAnswer, replied, undone}
 use Rattle.realm_host.specs.Call as call
 use Rattle.realm_host.specs.Marked.{IsMarked}
 use Rattle.realm_host.specs.Recorded.{fresh_like}
-use Rattle.realm_host.specs.declared.reply.Undone.{Undone}
+use Rattle.build_commands.specs.declared.undone.Undone.{Undone}
 use Rattle.plan_steps.specs.Asked.{asked}
 use Rattle.plan_steps.specs.declared.step.PlanStep.{PlanStep}
 use Rattle.realm_plan.specs.Plan.{Plan}

@@ -13,7 +13,7 @@ use Rattle.realm_host.specs.Abort.{IsBegun}
 use Rattle.realm_host.specs.Answer.{IsAnswer, replied, undone}
 use Rattle.realm_host.specs.Call as call
 use Rattle.realm_host.specs.Marked.{IsMarked, way_back}
-use Rattle.realm_host.specs.declared.reply.Undone.{Undone}
+use Rattle.build_commands.specs.declared.undone.Undone.{Undone}
 use Rattle.plan_runs.specs.declared.answer.TurnAnswer.{TurnAnswer}
 use Rattle.plan_runs.specs.declared.answer.TurnAnswer.TheVariants as tells
 use Rattle.plan_runs.specs.declared.place.Place.{Place}

@@ -1,6 +1,7 @@
 -- Lines of an output that tell no answer.
 use Rattle.std.specs.Prelude.{ℕ, List, [], ◌∷◌, ◌++◌, codes}
 use Rattle.std.specs.Fmt.{decimal}
+use Rattle.number_text.specs.Numbers.{spelled_numbers}
 use Rattle.realm_model.specs.declared.states.GranuleState.{GranuleState}
 use Rattle.realm_model.specs.declared.states.GranuleState.TheVariants as state
 use Rattle.realm_model.specs.declared.states.RealmState.{RealmState}
@@ -20,20 +21,16 @@ state_word state.RecAux = codes "REC_AUX"
 state_word state.Data = codes "DATA"
 state_word state.Rtt = codes "RTT"
 
--- the sum of the bytes is told of a page that the host can read, and of a realm's data
-abbrev pub sum_text : GranuleState → ℕ → List ℕ
-sum_text state.Undelegated sum = then_number sum
-sum_text state.Delegated sum = []
-sum_text state.Rd sum = []
-sum_text state.Rec sum = []
-sum_text state.RecAux sum = []
-sum_text state.Data sum = then_number sum
-sum_text state.Rtt sum = []
+-- the sum of the bytes, which is told of a page that the host can read, and of a realm's data
+abbrev pub sum_numbers : GranuleState → ℕ → List ℕ
+sum_numbers state.Undelegated sum = sum ∷ []
+sum_numbers state.Data sum = sum ∷ []
+sum_numbers _ sum = []
 
 -- the build, its number of the page, the state, and the sum of the page's bytes where it is told
 abbrev pub page_line : ℕ → ℕ → GranuleState → ℕ → List ℕ
 page_line build page state sum =
-    decimal build ++ (codes " page" ++ (then_number page ++ (32 ∷ state_word state ++ (sum_text state sum ++ 10 ∷ []))))
+    decimal build ++ (codes " page" ++ (then_number page ++ (32 ∷ state_word state ++ (spelled_numbers (sum_numbers state sum) ++ 10 ∷ []))))
 
 abbrev pub realm_word : RealmState → List ℕ
 realm_word realm.New = codes "NEW"

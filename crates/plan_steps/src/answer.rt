@@ -1,7 +1,26 @@
 //! How a turn line tells what was answered.
+ghost use Rattle.std.specs.Prelude.{◌≡◌};
+ghost use Rattle.plan_steps.specs.Answers.{kind_word, refusal_name, refusal_numbers, reply_numbers};
+
+use crate::numbers::{MOST_NUMBERS, NumbersText, one, two};
+use arrayvec::ArrayVec;
 use build_commands::{Refusal, Reply};
-use build_journal::Kind;
+use realm_model::Kind;
 use std::fmt;
+
+fn kind_word(kind: Kind) -> &'static str
+    ensures { result.now ≡ kind_word kind }
+{
+    match kind {
+        Kind::Take => "take",
+        Kind::Delegate => "delegate",
+        Kind::Realm => "realm",
+        Kind::Rtt => "rtt",
+        Kind::Data => "data",
+        Kind::Unknown => "unknown",
+        Kind::Rec => "rec",
+    }
+}
 
 /// The word for an act that was undone.
 #[derive(Clone, Copy)]
@@ -14,15 +33,40 @@ impl fmt::Display for KindWord {
     ghost output = { λ k. Some (kind_word k.0) };
 
     fn fmt<W: fmt::Write>(&self, f: &mut fmt::Formatter<W>) -> fmt::Result {
-        match self.0 {
-            Kind::Take => write!(f, "take"),
-            Kind::Delegate => write!(f, "delegate"),
-            Kind::Realm => write!(f, "realm"),
-            Kind::Rtt => write!(f, "rtt"),
-            Kind::Data => write!(f, "data"),
-            Kind::Unknown => write!(f, "unknown"),
-            Kind::Rec => write!(f, "rec"),
-        }
+        f.write_str(kind_word(self.0))
+    }
+}
+
+// The number and the name of a refusal.
+fn refusal_name(refusal: Refusal) -> &'static str
+    ensures { result.now ≡ refusal_name refusal }
+{
+    match refusal {
+        Refusal::NoBuild => "1 NoBuild",
+        Refusal::Aborting => "2 Aborting",
+        Refusal::BadOrder => "3 BadOrder",
+        Refusal::NotLeased(_) => "4 NotLeased",
+        Refusal::RealmThere => "5 RealmThere",
+        Refusal::NoRealm => "6 NoRealm",
+        Refusal::NothingToUndo => "7 NothingToUndo",
+        Refusal::RecRunning => "8 RecRunning",
+        Refusal::JournalFull => "9 JournalFull",
+        Refusal::HistoryFull => "10 HistoryFull",
+        Refusal::NoBlock(_) => "11 NoBlock",
+        Refusal::NoVmid => "12 NoVmid",
+        Refusal::Rmi(_) => "13 Rmi",
+    }
+}
+
+// What a refusal is about.
+fn refusal_numbers(refusal: Refusal) -> ArrayVec<u32, MOST_NUMBERS>
+    ensures { result.items ≡ refusal_numbers refusal }
+{
+    match refusal {
+        Refusal::NotLeased(page) => one(page as u32),
+        Refusal::NoBlock(order) => one(order.number() as u32),
+        Refusal::Rmi(rmi) => two(rmi.status.code() as u32, rmi.index as u32),
+        _ => ArrayVec::new(),
     }
 }
 
@@ -37,21 +81,25 @@ impl fmt::Display for RefusalText {
     ghost output = { λ r. Some (refusal_text r.0) };
 
     fn fmt<W: fmt::Write>(&self, f: &mut fmt::Formatter<W>) -> fmt::Result {
-        match self.0 {
-            Refusal::NoBuild => write!(f, "1 NoBuild"),
-            Refusal::Aborting => write!(f, "2 Aborting"),
-            Refusal::BadOrder => write!(f, "3 BadOrder"),
-            Refusal::NotLeased(page) => write!(f, "4 NotLeased {page}"),
-            Refusal::RealmThere => write!(f, "5 RealmThere"),
-            Refusal::NoRealm => write!(f, "6 NoRealm"),
-            Refusal::NothingToUndo => write!(f, "7 NothingToUndo"),
-            Refusal::RecRunning => write!(f, "8 RecRunning"),
-            Refusal::JournalFull => write!(f, "9 JournalFull"),
-            Refusal::HistoryFull => write!(f, "10 HistoryFull"),
-            Refusal::NoBlock(order) => write!(f, "11 NoBlock {}", order.number()),
-            Refusal::NoVmid => write!(f, "12 NoVmid"),
-            Refusal::Rmi(rmi) => write!(f, "13 Rmi {} {}", rmi.status.code(), rmi.index),
-        }
+        let numbers = refusal_numbers(self.0);
+        write!(
+            f,
+            "{}{}",
+            refusal_name(self.0),
+            NumbersText(numbers.as_slice())
+        )
+    }
+}
+
+fn reply_numbers(reply: Reply) -> ArrayVec<u32, MOST_NUMBERS>
+    ensures { result.items ≡ reply_numbers reply }
+{
+    match reply {
+        Reply::Done => ArrayVec::new(),
+        Reply::FirstPage(page) => one(page as u32),
+        Reply::Byte(byte) => one(byte as u32),
+        Reply::Vmid(vmid) => one(vmid.number() as u32),
+        Reply::Number(number) => one(number.number() as u32),
     }
 }
 
@@ -66,12 +114,7 @@ impl fmt::Display for ReplyText {
     ghost output = { λ r. Some (reply_text r.0) };
 
     fn fmt<W: fmt::Write>(&self, f: &mut fmt::Formatter<W>) -> fmt::Result {
-        match self.0 {
-            Reply::Done => write!(f, "ok"),
-            Reply::FirstPage(page) => write!(f, "ok {page}"),
-            Reply::Byte(byte) => write!(f, "ok {byte}"),
-            Reply::Vmid(vmid) => write!(f, "ok {}", vmid.number()),
-            Reply::Number(number) => write!(f, "ok {}", number.number()),
-        }
+        let numbers = reply_numbers(self.0);
+        write!(f, "ok{}", NumbersText(numbers.as_slice()))
     }
 }

@@ -1,24 +1,14 @@
 //! The step that a word and its numbers are.
-ghost use Rattle.std.specs.Prelude.{◌≡◌, ◌≤◌, Some};
+ghost use Rattle.std.specs.Prelude.{◌≡◌, Some, codes};
 ghost use Rattle.number_text.specs.Rows.{none};
 ghost use Rattle.plan_steps.specs.declared.step.PlanStep.TheVariants.{Whole};
 ghost use Rattle.plan_steps.specs.Steps.{whole, page_step_at, short_realm_at, whole_realm_at, realm_at, realm_step_at, table_step_at, rec_at, rec_step_at, way_back_step_at, step_at};
 
+use crate::operands::{MOST_PAGE, Offset, Page};
 use crate::step::PlanStep;
 use build_commands::{Cmd, Step};
-use granule_addr::{PageOff, RecNo};
-use number_text::{at_most, up_to};
-
-// The greatest number of each operand.
-const PAGE: u32 = 4095;
-
-const OFFSET: u32 = 4095;
-
-const U8: u32 = 255;
-
-const U16: u32 = 65_535;
-
-const U32: u32 = 4_294_967_295;
+use granule_addr::RecNo;
+use number_text::{Operand, four_operands, one_operand, three_operands, two_operands, up_to};
 
 /// The most auxiliary pages of a REC.
 const MOST_AUXILIARIES: usize = 16;
@@ -29,39 +19,42 @@ fn whole(cmd: Cmd) -> Option<PlanStep>
     Some(PlanStep::Whole(Step::Ask(cmd)))
 }
 
-fn offset_of(number: u32) -> PageOff
-    requires { number ≤ 4095 }
-    ensures { result ≡ number }
+fn take(numbers: &[u32]) -> Option<PlanStep>
+    ensures { result ≡ page_step_at (codes "take") numbers.now }
 {
-    PageOff::new(number as u16).unwrap()
+    let order = one_operand(numbers)?;
+    whole(Cmd::Take { order })
+}
+
+fn fill(numbers: &[u32]) -> Option<PlanStep>
+    ensures { result ≡ page_step_at (codes "fill") numbers.now }
+{
+    let (Page(page), value) = two_operands(numbers)?;
+    whole(Cmd::Fill { page, value })
+}
+
+fn peek(numbers: &[u32]) -> Option<PlanStep>
+    ensures { result ≡ page_step_at (codes "peek") numbers.now }
+{
+    let (Page(page), Offset(offset)) = two_operands(numbers)?;
+    whole(Cmd::Peek { page, offset })
+}
+
+fn delegate(numbers: &[u32]) -> Option<PlanStep>
+    ensures { result ≡ page_step_at (codes "delegate") numbers.now }
+{
+    let Page(page) = one_operand(numbers)?;
+    whole(Cmd::Delegate { page })
 }
 
 fn page_step(word: &str, numbers: &[u32]) -> Option<PlanStep>
     ensures { result ≡ page_step_at word.now numbers.now }
 {
     match word {
-        "take" => {
-            let [order] = at_most(numbers, [U8])?;
-            whole(Cmd::Take { order: order as u8 })
-        }
-        "fill" => {
-            let [page, value] = at_most(numbers, [PAGE, U8])?;
-            whole(Cmd::Fill {
-                page: page as u16,
-                value: value as u8,
-            })
-        }
-        "peek" => {
-            let [page, offset] = at_most(numbers, [PAGE, OFFSET])?;
-            whole(Cmd::Peek {
-                page: page as u16,
-                offset: offset_of(offset),
-            })
-        }
-        "delegate" => {
-            let [page] = at_most(numbers, [PAGE])?;
-            whole(Cmd::Delegate { page: page as u16 })
-        }
+        "take" => take(numbers),
+        "fill" => fill(numbers),
+        "peek" => peek(numbers),
+        "delegate" => delegate(numbers),
         _ => None,
     }
 }
@@ -70,22 +63,15 @@ fn page_step(word: &str, numbers: &[u32]) -> Option<PlanStep>
 fn short_realm(numbers: &[u32]) -> Option<PlanStep>
     ensures { result ≡ short_realm_at numbers.now }
 {
-    let [rd, root] = at_most(numbers, [PAGE, PAGE])?;
-    Some(PlanStep::WidthLeftOut {
-        rd: rd as u16,
-        root: root as u16,
-    })
+    let (Page(rd), Page(root)) = two_operands(numbers)?;
+    Some(PlanStep::WidthLeftOut { rd, root })
 }
 
 fn whole_realm(numbers: &[u32]) -> Option<PlanStep>
     ensures { result ≡ whole_realm_at numbers.now }
 {
-    let [rd, root, width] = at_most(numbers, [PAGE, PAGE, U8])?;
-    whole(Cmd::Realm {
-        rd: rd as u16,
-        root: root as u16,
-        width: width as u8,
-    })
+    let (Page(rd), Page(root), width) = three_operands(numbers)?;
+    whole(Cmd::Realm { rd, root, width })
 }
 
 fn realm(numbers: &[u32]) -> Option<PlanStep>
@@ -102,48 +88,47 @@ fn realm_step(word: &str, numbers: &[u32]) -> Option<PlanStep>
 {
     match word {
         "realm" => realm(numbers),
-        "activate" => {
-            let [] = at_most(numbers, [])?;
-            whole(Cmd::Activate)
-        }
+        "activate" => word_alone(Step::Ask(Cmd::Activate), numbers),
         _ => None,
     }
+}
+
+fn rtt(numbers: &[u32]) -> Option<PlanStep>
+    ensures { result ≡ table_step_at (codes "rtt") numbers.now }
+{
+    let (Page(page), ipa, level) = three_operands(numbers)?;
+    whole(Cmd::Rtt { page, ipa, level })
+}
+
+fn ripas(numbers: &[u32]) -> Option<PlanStep>
+    ensures { result ≡ table_step_at (codes "ripas") numbers.now }
+{
+    let (ipa, count) = two_operands(numbers)?;
+    whole(Cmd::Ripas { ipa, count })
+}
+
+fn data_page(numbers: &[u32]) -> Option<PlanStep>
+    ensures { result ≡ table_step_at (codes "data") numbers.now }
+{
+    let (Page(page), ipa, Page(source)) = three_operands(numbers)?;
+    whole(Cmd::Data { page, ipa, source })
+}
+
+fn unknown_page(numbers: &[u32]) -> Option<PlanStep>
+    ensures { result ≡ table_step_at (codes "unknown") numbers.now }
+{
+    let (Page(page), ipa) = two_operands(numbers)?;
+    whole(Cmd::Unknown { page, ipa })
 }
 
 fn table_step(word: &str, numbers: &[u32]) -> Option<PlanStep>
     ensures { result ≡ table_step_at word.now numbers.now }
 {
     match word {
-        "rtt" => {
-            let [page, ipa, level] = at_most(numbers, [PAGE, U32, U8])?;
-            whole(Cmd::Rtt {
-                page: page as u16,
-                ipa,
-                level: level as u8,
-            })
-        }
-        "ripas" => {
-            let [ipa, count] = at_most(numbers, [U32, U16])?;
-            whole(Cmd::Ripas {
-                ipa,
-                count: count as u16,
-            })
-        }
-        "data" => {
-            let [page, ipa, source] = at_most(numbers, [PAGE, U32, PAGE])?;
-            whole(Cmd::Data {
-                page: page as u16,
-                ipa,
-                source: source as u16,
-            })
-        }
-        "unknown" => {
-            let [page, ipa] = at_most(numbers, [PAGE, U32])?;
-            whole(Cmd::Unknown {
-                page: page as u16,
-                ipa,
-            })
-        }
+        "rtt" => rtt(numbers),
+        "ripas" => ripas(numbers),
+        "data" => data_page(numbers),
+        "unknown" => unknown_page(numbers),
         _ => None,
     }
 }
@@ -155,11 +140,38 @@ fn rec(numbers: &[u32]) -> Option<PlanStep>
     let [page, more @ ..] = numbers else {
         return None;
     };
-    let [page] = at_most(&[*page], [PAGE])?;
-    let auxiliaries = up_to::<MOST_AUXILIARIES>(more, PAGE as u16)?;
-    whole(Cmd::Rec {
-        page: page as u16,
-        auxiliaries,
+    let Page(page) = Page::from_number(*page)?;
+    let auxiliaries = up_to::<MOST_AUXILIARIES>(more, MOST_PAGE)?;
+    whole(Cmd::Rec { page, auxiliaries })
+}
+
+fn enter(numbers: &[u32]) -> Option<PlanStep>
+    ensures { result ≡ rec_step_at (codes "enter") numbers.now }
+{
+    let number = one_operand(numbers)?;
+    whole(Cmd::Enter {
+        number: RecNo::new(number),
+    })
+}
+
+fn exit(numbers: &[u32]) -> Option<PlanStep>
+    ensures { result ≡ rec_step_at (codes "exit") numbers.now }
+{
+    let number = one_operand(numbers)?;
+    whole(Cmd::Exit {
+        number: RecNo::new(number),
+    })
+}
+
+fn poke(numbers: &[u32]) -> Option<PlanStep>
+    ensures { result ≡ rec_step_at (codes "poke") numbers.now }
+{
+    let (number, ipa, Offset(offset), value) = four_operands(numbers)?;
+    whole(Cmd::Poke {
+        number: RecNo::new(number),
+        ipa,
+        offset,
+        value,
     })
 }
 
@@ -168,27 +180,9 @@ fn rec_step(word: &str, numbers: &[u32]) -> Option<PlanStep>
 {
     match word {
         "rec" => rec(numbers),
-        "enter" => {
-            let [number] = at_most(numbers, [U16])?;
-            whole(Cmd::Enter {
-                number: RecNo::new(number as u16),
-            })
-        }
-        "exit" => {
-            let [number] = at_most(numbers, [U16])?;
-            whole(Cmd::Exit {
-                number: RecNo::new(number as u16),
-            })
-        }
-        "poke" => {
-            let [number, ipa, offset, value] = at_most(numbers, [U16, U32, OFFSET, U8])?;
-            whole(Cmd::Poke {
-                number: RecNo::new(number as u16),
-                ipa,
-                offset: offset_of(offset),
-                value: value as u8,
-            })
-        }
+        "enter" => enter(numbers),
+        "exit" => exit(numbers),
+        "poke" => poke(numbers),
         _ => None,
     }
 }
@@ -197,8 +191,10 @@ fn rec_step(word: &str, numbers: &[u32]) -> Option<PlanStep>
 fn word_alone(step: Step, numbers: &[u32]) -> Option<PlanStep>
     ensures { result ≡ none (Whole step) numbers.now }
 {
-    let [] = at_most(numbers, [])?;
-    Some(PlanStep::Whole(step))
+    match numbers {
+        [] => Some(PlanStep::Whole(step)),
+        _ => None,
+    }
 }
 
 fn way_back_step(word: &str, numbers: &[u32]) -> Option<PlanStep>

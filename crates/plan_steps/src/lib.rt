@@ -10,6 +10,8 @@ mod answer;
 mod command;
 mod law;
 mod lines;
+mod numbers;
+mod operands;
 mod spelling;
 mod step;
 mod text;

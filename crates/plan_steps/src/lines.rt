@@ -1,50 +1,45 @@
 //! Lines of an output that tell no answer. Each is appended whole; at an `Err` the text may have got a part of it.
 ghost use Rattle.std.specs.Prelude.{◌≡◌, ◌++◌, OnOk, string_bytes};
-ghost use Rattle.plan_steps.specs.Lines.{idle_line, page_line, realm_line, free_line};
+ghost use Rattle.plan_steps.specs.Lines.{state_word, sum_numbers, realm_word, idle_line, page_line, realm_line, free_line};
 
+use crate::numbers::{MOST_NUMBERS, NumbersText, one};
+use arrayvec::ArrayVec;
 use granule_addr::{BuildId, Vmid};
 use realm_model::{GranuleState, RealmState};
 use std::alloc::AllocError;
-use std::fmt;
 
-/// The name of a granule's state.
-#[derive(Clone, Copy)]
-struct StateWord(GranuleState);
-
-impl fmt::Display for StateWord {
-    ghost use Rattle.std.specs.Prelude.{Some};
-    ghost use Rattle.plan_steps.specs.Lines.{state_word};
-
-    ghost output = { λ s. Some (state_word s.0) };
-
-    fn fmt<W: fmt::Write>(&self, f: &mut fmt::Formatter<W>) -> fmt::Result {
-        match self.0 {
-            GranuleState::Undelegated => write!(f, "UNDELEGATED"),
-            GranuleState::Delegated => write!(f, "DELEGATED"),
-            GranuleState::Rd => write!(f, "RD"),
-            GranuleState::Rec => write!(f, "REC"),
-            GranuleState::RecAux => write!(f, "REC_AUX"),
-            GranuleState::Data => write!(f, "DATA"),
-            GranuleState::Rtt => write!(f, "RTT"),
-        }
+// The name of a granule's state.
+fn state_word(state: GranuleState) -> &'static str
+    ensures { result.now ≡ state_word state }
+{
+    match state {
+        GranuleState::Undelegated => "UNDELEGATED",
+        GranuleState::Delegated => "DELEGATED",
+        GranuleState::Rd => "RD",
+        GranuleState::Rec => "REC",
+        GranuleState::RecAux => "REC_AUX",
+        GranuleState::Data => "DATA",
+        GranuleState::Rtt => "RTT",
     }
 }
 
-/// The name of a realm's state.
-#[derive(Clone, Copy)]
-struct RealmWord(RealmState);
+// The sum of a granule's bytes, where it is told.
+fn sum_numbers(state: GranuleState, sum: u32) -> ArrayVec<u32, MOST_NUMBERS>
+    ensures { result.items ≡ sum_numbers state sum }
+{
+    match state {
+        GranuleState::Undelegated | GranuleState::Data => one(sum),
+        _ => ArrayVec::new(),
+    }
+}
 
-impl fmt::Display for RealmWord {
-    ghost use Rattle.std.specs.Prelude.{Some};
-    ghost use Rattle.plan_steps.specs.Lines.{realm_word};
-
-    ghost output = { λ s. Some (realm_word s.0) };
-
-    fn fmt<W: fmt::Write>(&self, f: &mut fmt::Formatter<W>) -> fmt::Result {
-        match self.0 {
-            RealmState::New => write!(f, "NEW"),
-            RealmState::Active => write!(f, "ACTIVE"),
-        }
+// The name of a realm's state.
+fn realm_word(state: RealmState) -> &'static str
+    ensures { result.now ≡ realm_word state }
+{
+    match state {
+        RealmState::New => "NEW",
+        RealmState::Active => "ACTIVE",
     }
 }
 
@@ -66,13 +61,13 @@ pub fn push_page(
     ensures { OnOk result (string_bytes text.new ≡ string_bytes text.old ++ page_line build page state sum) }
 {
     let build = build.number();
-    let word = StateWord(state);
-    match state {
-        GranuleState::Undelegated | GranuleState::Data => {
-            writeln!(text, "{build} page {page} {word} {sum}")
-        }
-        _ => writeln!(text, "{build} page {page} {word}"),
-    }
+    let word = state_word(state);
+    let numbers = sum_numbers(state, sum);
+    writeln!(
+        text,
+        "{build} page {page} {word}{}",
+        NumbersText(numbers.as_slice())
+    )
 }
 
 /// Appends the line of a build's realm in the map.
@@ -85,7 +80,7 @@ pub fn push_realm(
     ensures { OnOk result (string_bytes text.new ≡ string_bytes text.old ++ realm_line build state vmid) }
 {
     let build = build.number();
-    let word = RealmWord(state);
+    let word = realm_word(state);
     writeln!(text, "{build} realm {word} vmid {}", vmid.number())
 }
 

@@ -1,15 +1,12 @@
 //! Steps as plans and turn lines spell them.
 ghost use Rattle.std.specs.Prelude.{◌≡◌, ◌∷◌, ◌≤◌, length};
-ghost use Rattle.arrayvec.specs.ArrayVec.{array_vec_len};
-ghost use Rattle.plan_steps.specs.Written.{written_cmd};
+ghost use Rattle.plan_steps.specs.Written.{written_cmd, written_step};
 
+use crate::numbers::{MOST_NUMBERS, NumbersText, four, one, three, two};
 use crate::step::PlanStep;
 use arrayvec::ArrayVec;
 use build_commands::{Cmd, Step};
 use std::fmt;
-
-/// As many numbers as a command can have: the page of a REC, and 16 auxiliaries.
-const MOST_NUMBERS: usize = 17;
 
 // The word of a command.
 fn word_of(cmd: &Cmd) -> &'static str
@@ -33,23 +30,14 @@ fn word_of(cmd: &Cmd) -> &'static str
     }
 }
 
-fn numbers(values: &[u32]) -> ArrayVec<u32, MOST_NUMBERS>
-    requires { length values.now ≤ 17 }
-    ensures { result.items ≡ values.now }
-{
-    let mut numbers = ArrayVec::new();
-    numbers.try_extend_from_slice(values).unwrap();
-    numbers
-}
-
 // The page of a REC, and its auxiliaries.
 fn rec_numbers(page: u16, auxiliaries: &[u16]) -> ArrayVec<u32, MOST_NUMBERS>
     requires { length auxiliaries.now ≤ 16 }
     ensures { result.items ≡ page ∷ auxiliaries.now }
 {
-    let mut numbers = numbers(&[page as u32]);
+    let mut numbers = one(u32::from(page));
     for auxiliary in auxiliaries {
-        numbers.push(*auxiliary as u32);
+        numbers.push(u32::from(*auxiliary));
     }
     numbers
 }
@@ -59,18 +47,18 @@ fn numbers_of(cmd: &Cmd) -> ArrayVec<u32, MOST_NUMBERS>
     ensures { result.items ≡ (written_cmd cmd.now).numbers }
 {
     match cmd {
-        Cmd::Take { order } => numbers(&[*order as u32]),
-        Cmd::Fill { page, value } => numbers(&[*page as u32, *value as u32]),
-        Cmd::Peek { page, offset } => numbers(&[*page as u32, offset.number() as u32]),
-        Cmd::Delegate { page } => numbers(&[*page as u32]),
-        Cmd::Realm { rd, root, width } => numbers(&[*rd as u32, *root as u32, *width as u32]),
-        Cmd::Rtt { page, ipa, level } => numbers(&[*page as u32, *ipa, *level as u32]),
-        Cmd::Ripas { ipa, count } => numbers(&[*ipa, *count as u32]),
-        Cmd::Data { page, ipa, source } => numbers(&[*page as u32, *ipa, *source as u32]),
-        Cmd::Unknown { page, ipa } => numbers(&[*page as u32, *ipa]),
+        Cmd::Take { order } => one(*order as u32),
+        Cmd::Fill { page, value } => two(*page as u32, *value as u32),
+        Cmd::Peek { page, offset } => two(*page as u32, offset.number() as u32),
+        Cmd::Delegate { page } => one(*page as u32),
+        Cmd::Realm { rd, root, width } => three(*rd as u32, *root as u32, *width as u32),
+        Cmd::Rtt { page, ipa, level } => three(*page as u32, *ipa, *level as u32),
+        Cmd::Ripas { ipa, count } => two(*ipa, *count as u32),
+        Cmd::Data { page, ipa, source } => three(*page as u32, *ipa, *source as u32),
+        Cmd::Unknown { page, ipa } => two(*page as u32, *ipa),
         Cmd::Rec { page, auxiliaries } => rec_numbers(*page, auxiliaries.as_slice()),
         Cmd::Activate => ArrayVec::new(),
-        Cmd::Enter { number } | Cmd::Exit { number } => numbers(&[number.number() as u32]),
+        Cmd::Enter { number } | Cmd::Exit { number } => one(number.number() as u32),
         Cmd::Poke {
             number,
             ipa,
@@ -78,42 +66,33 @@ fn numbers_of(cmd: &Cmd) -> ArrayVec<u32, MOST_NUMBERS>
             value,
         } => {
             let (number, offset) = (number.number() as u32, offset.number() as u32);
-            numbers(&[number, *ipa, offset, *value as u32])
+            four(number, *ipa, offset, *value as u32)
         }
     }
 }
 
-/// Each number in decimal behind one space.
-#[derive(Clone, Copy)]
-struct NumbersText<'a>(&'a [u32]);
-
-impl fmt::Display for NumbersText<'_> {
-    ghost use Rattle.std.specs.Prelude.{Some};
-    ghost use Rattle.number_text.specs.Numbers.{spelled_numbers};
-
-    ghost output = { λ n. Some (spelled_numbers n.0.now) };
-
-    fn fmt<W: fmt::Write>(&self, f: &mut fmt::Formatter<W>) -> fmt::Result {
-        for number in self.0 {
-            write!(f, " {number}")?;
-        }
-        Ok(())
+// The word of a step.
+fn word_of_step(step: &PlanStep) -> &'static str
+    ensures { result.now ≡ (written_step step.now).word }
+{
+    match step {
+        PlanStep::Whole(Step::Ask(cmd)) => word_of(cmd),
+        PlanStep::Whole(Step::Undo) => "undo",
+        PlanStep::Whole(Step::Abort) => "abort",
+        PlanStep::Whole(Step::Mark) => "mark",
+        PlanStep::Whole(Step::Back) => "back",
+        PlanStep::WidthLeftOut { .. } => "realm",
     }
 }
 
-/// A command as a plan spells it, with all of its numbers.
-#[derive(Clone, Copy)]
-struct CmdText<'a>(&'a Cmd);
-
-impl fmt::Display for CmdText<'_> {
-    ghost use Rattle.std.specs.Prelude.{Some};
-    ghost use Rattle.plan_steps.specs.Written.{written_cmd, spelling_of};
-
-    ghost output = { λ c. Some (spelling_of (written_cmd c.0.now)) };
-
-    fn fmt<W: fmt::Write>(&self, f: &mut fmt::Formatter<W>) -> fmt::Result {
-        let numbers = numbers_of(self.0);
-        write!(f, "{}{}", word_of(self.0), NumbersText(numbers.as_slice()))
+// The numbers of a step, in the order of its text.
+fn numbers_of_step(step: &PlanStep) -> ArrayVec<u32, MOST_NUMBERS>
+    ensures { result.items ≡ (written_step step.now).numbers }
+{
+    match step {
+        PlanStep::Whole(Step::Ask(cmd)) => numbers_of(cmd),
+        PlanStep::WidthLeftOut { rd, root } => two(*rd as u32, *root as u32),
+        _ => ArrayVec::new(),
     }
 }
 
@@ -128,13 +107,12 @@ impl fmt::Display for StepText<'_> {
     ghost output = { λ s. Some (spelling s.0.now) };
 
     fn fmt<W: fmt::Write>(&self, f: &mut fmt::Formatter<W>) -> fmt::Result {
-        match self.0 {
-            PlanStep::Whole(Step::Ask(cmd)) => write!(f, "{}", CmdText(cmd)),
-            PlanStep::Whole(Step::Undo) => write!(f, "undo"),
-            PlanStep::Whole(Step::Abort) => write!(f, "abort"),
-            PlanStep::Whole(Step::Mark) => write!(f, "mark"),
-            PlanStep::Whole(Step::Back) => write!(f, "back"),
-            PlanStep::WidthLeftOut { rd, root } => write!(f, "realm {rd} {root}"),
-        }
+        let numbers = numbers_of_step(self.0);
+        write!(
+            f,
+            "{}{}",
+            word_of_step(self.0),
+            NumbersText(numbers.as_slice())
+        )
     }
 }

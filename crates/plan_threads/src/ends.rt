@@ -4,31 +4,22 @@ ghost use Rattle.std.specs.List.{AllZip};
 ghost use Rattle.plan_threads.specs.Threads.{seats_of, IsReportOf};
 
 use build_commands::Step;
-use builders::{Lane, Seat, Worker};
+use builders::{Ledgers, Seat, Worker};
 use std::alloc::{AllocError, Global};
 use workers::Report;
 
 /// What workers leave: the seats, and the reports, each with the steps that it is of.
 #[derive(Drop)]
-pub struct Ends<L0: Lane, L1: Lane, L2: Lane, L3: Lane, L4: Lane, L5: Lane, L6: Lane, L7: Lane> {
-    pub seats: Vec<Seat<L0, L1, L2, L3, L4, L5, L6, L7>>,
+pub struct Ends<L: Ledgers> {
+    pub seats: Vec<Seat<L>>,
     pub reports: Vec<(Report, Vec<Step>)>,
 }
 
 /// The seat and the report of each worker, in their order.
-pub(crate) fn ends_of<
-    L0: Lane,
-    L1: Lane,
-    L2: Lane,
-    L3: Lane,
-    L4: Lane,
-    L5: Lane,
-    L6: Lane,
-    L7: Lane,
->(
+pub(crate) fn ends_of<L: Ledgers>(
     alloc: Global,
-    workers: Vec<Worker<L0, L1, L2, L3, L4, L5, L6, L7>>,
-) -> Result<Ends<L0, L1, L2, L3, L4, L5, L6, L7>, AllocError>
+    workers: Vec<Worker<L>>,
+) -> Result<Ends<L>, AllocError>
     ensures seats { IfOk result (λ ends. ends.seats.items ≡ seats_of workers.items) }
     ensures reports { IfOk result (λ ends. AllZip IsReportOf workers.items ends.reports.items) }
 {

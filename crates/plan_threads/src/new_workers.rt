@@ -7,7 +7,7 @@ ghost use Rattle.builders.specs.Seats.{new_seat};
 ghost use Rattle.plan_threads.specs.Threads.{new_worker, new_workers};
 
 use build_commands::Step;
-use builders::{Lane, Seat, Worker};
+use builders::{Ledgers, Seat, Worker};
 use plan_steps::PlanStep;
 use realm_plan::Plan;
 use std::alloc::{AllocError, Global};
@@ -24,12 +24,12 @@ fn asked_of(alloc: Global, steps: &[PlanStep]) -> Result<Vec<Step>, AllocError>
 }
 
 // The worker of a new seat, with the steps of its build.
-fn worker_of<L0: Lane, L1: Lane, L2: Lane, L3: Lane, L4: Lane, L5: Lane, L6: Lane, L7: Lane>(
+fn worker_of<L: Ledgers>(
     alloc: Global,
     plan: &Plan,
     build: usize,
-    seat: Seat<L0, L1, L2, L3, L4, L5, L6, L7>,
-) -> Result<Worker<L0, L1, L2, L3, L4, L5, L6, L7>, AllocError>
+    seat: Seat<L>,
+) -> Result<Worker<L>, AllocError>
     requires there { build < vec_len plan.now.builds }
     requires seat { seat ≡ new_seat build }
     ensures { IfOk result (λ worker. worker ≡ new_worker (plan_view plan.now) build) }
@@ -42,11 +42,11 @@ fn worker_of<L0: Lane, L1: Lane, L2: Lane, L3: Lane, L4: Lane, L5: Lane, L6: Lan
 }
 
 /// The worker of each build, which has asked nothing, in their order.
-pub fn workers_of<L0: Lane, L1: Lane, L2: Lane, L3: Lane, L4: Lane, L5: Lane, L6: Lane, L7: Lane>(
+pub fn workers_of<L: Ledgers>(
     alloc: Global,
     plan: &Plan,
-    seats: Vec<Seat<L0, L1, L2, L3, L4, L5, L6, L7>>,
-) -> Result<Vec<Worker<L0, L1, L2, L3, L4, L5, L6, L7>>, AllocError>
+    seats: Vec<Seat<L>>,
+) -> Result<Vec<Worker<L>>, AllocError>
     requires { seats.items ≡ map new_seat (range_with_len 0 (vec_len plan.now.builds)) }
     ensures { IfOk result (λ workers. workers.items ≡ new_workers (plan_view plan.now)) }
 {

@@ -2,12 +2,13 @@
 ghost use Rattle.std.specs.Prelude.{◌≡◌, [], vec_len, string_bytes, IfOk, IfErr};
 ghost use Rattle.realm_plan.specs.PlanView.{plan_view};
 ghost use Rattle.plan_threads.specs.Threads.{IsWithoutText, IsText};
+ghost use Rattle.builders.specs.Names.{AreNamed};
 
 use crate::ends::{Ends, ends_of};
 use crate::fault::RunFault;
 use crate::new_workers::workers_of;
 use crate::text::text_of;
-use builders::{Blanks, Lane, Shared, run_builds};
+use builders::{Blanks, Ledgers, Shared, run_builds};
 use page_arena::PageStore;
 use realm_host::Host;
 use realm_plan::Plan;
@@ -23,14 +24,7 @@ fn run_with<
     R: Threads + Wait + Sync,
     S: PageStore + Drop + Send,
     G: Gate + Sync,
-    L0: Lane + Send + Sync,
-    L1: Lane + Send + Sync,
-    L2: Lane + Send + Sync,
-    L3: Lane + Send + Sync,
-    L4: Lane + Send + Sync,
-    L5: Lane + Send + Sync,
-    L6: Lane + Send + Sync,
-    L7: Lane + Send + Sync,
+    L: Ledgers + Send + Sync,
 >(
     rt: &R,
     alloc: Global,
@@ -41,21 +35,12 @@ fn run_with<
 ) -> Result<String, RunFault>
     requires empty { host.history ≡ [] }
     requires builds { host.limits.builds ≡ vec_len plan.now.builds }
-    requires opened { host ≡ L0.opened }
-    requires name0 { blanks.blank0.name ≡ L0.name }
-    requires name1 { blanks.blank1.name ≡ L1.name }
-    requires name2 { blanks.blank2.name ≡ L2.name }
-    requires name3 { blanks.blank3.name ≡ L3.name }
-    requires name4 { blanks.blank4.name ≡ L4.name }
-    requires name5 { blanks.blank5.name ≡ L5.name }
-    requires name6 { blanks.blank6.name ≡ L6.name }
-    requires name7 { blanks.blank7.name ≡ L7.name }
+    requires opened { host ≡ L.opened }
+    requires named { AreNamed L.names blanks }
     ensures ok { IfOk result (λ text. IsText (plan_view plan.now) (G.passes gate.now) (G.stops gate.now) host (string_bytes text)) }
     ensures err { IfErr result (IsWithoutText (plan_view plan.now) (G.passes gate.now) (G.stops gate.now) host) }
 {
-    let (shared, seats) = match Shared::<S, L0, L1, L2, L3, L4, L5, L6, L7>::start(
-        alloc, blanks, host,
-    ) {
+    let (shared, seats) = match Shared::<S, L>::start(alloc, blanks, host) {
         Ok(started) => started,
         Err((error, _blanks, _host)) => return Err(error.into()),
     };
@@ -90,12 +75,5 @@ pub fn run_text<R: Threads + Wait + Sync, S: PageStore + Drop + Send, G: Gate + 
     ensures ok { IfOk result (λ text. IsText (plan_view plan.now) (G.passes gate.now) (G.stops gate.now) host (string_bytes text)) }
     ensures err { IfErr result (IsWithoutText (plan_view plan.now) (G.passes gate.now) (G.stops gate.now) host) }
 {
-    run_with::<R, S, G, Brand, Brand, Brand, Brand, Brand, Brand, Brand, Brand>(
-        rt,
-        alloc,
-        plan,
-        Blanks::new(),
-        host,
-        gate,
-    )
+    run_with::<R, S, G, Brand>(rt, alloc, plan, Blanks::new(), host, gate)
 }

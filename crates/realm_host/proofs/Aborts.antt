@@ -28,7 +28,7 @@ use Rattle.build_books.specs.Marks.{mark_while}
 use Rattle.build_books.specs.View.{HostView, world_of, open_of, is_aborting, mark_of, with_event}
 use Rattle.build_books.proofs.Worlds.{world_is, world_of-replay}
 use Rattle.build_commands.specs.declared.refusal.Refusal.{Refusal}
-use Rattle.realm_host.specs.declared.reply.Undone.{Undone}
+use Rattle.build_commands.specs.declared.undone.Undone.{Undone}
 use Rattle.realm_host.specs.Abort.{GoesOn, LeavesNothing, undone_to, IsDown}
 use Rattle.realm_host.specs.Acting.{IsRecorded}
 use Rattle.realm_host.specs.Answer.{IsUndone}

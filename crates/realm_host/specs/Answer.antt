@@ -1,7 +1,7 @@
 -- Which answer a call gets, and which event is recorded.
 use Rattle.std.specs.Prelude.{◌≡◌, ℕ, ◌-◌, [], ◌∷◌, ◌++◌, length, Some, None, Result, Ok, Err, option_and_then}
 use Rattle.std.specs.List.{last_or}
-use Rattle.build_journal.specs.Kind.{act_kind}
+use Rattle.realm_model.specs.Kind.{act_kind}
 use Rattle.realm_model.specs.declared.act.Act.{Act}
 use Rattle.realm_model.specs.declared.act.Act.TheVariants as acts
 use Rattle.realm_model.specs.Act.{reverse_of}
@@ -15,7 +15,7 @@ use Rattle.build_commands.specs.Replies.{reply_of}
 use Rattle.build_books.specs.View.{HostView, open_of, pages_of_build, with_event}
 use Rattle.realm_host.specs.declared.reply.Answer.{Answer}
 use Rattle.realm_host.specs.declared.reply.Answer.TheVariants.{Replied, Undone as WasUndone, Refused}
-use Rattle.realm_host.specs.declared.reply.Undone.{Undone}
+use Rattle.build_commands.specs.declared.undone.Undone.{Undone}
 use Rattle.realm_host.specs.Call.{Call, Ask, Undo}
 use Rattle.realm_host.specs.Picks.{act_asked}
 use Rattle.realm_host.specs.Refusals.{refusal_of}

@@ -20,9 +20,9 @@ mod undo;
 mod without;
 
 pub use build_books::Mark;
-pub use build_commands::{Cmd, Refusal, Reply};
-pub use build_journal::Kind;
+pub use build_commands::{Cmd, Refusal, Reply, Undone};
 pub use host::Host;
-pub use reply::{Answer, Undone};
+pub use realm_model::Kind;
+pub use reply::Answer;
 pub use settings::Settings;
 pub use without::apply_without;

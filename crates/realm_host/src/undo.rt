@@ -12,7 +12,7 @@ ghost use Rattle.realm_host.specs.Answer.{IsAnswer, undone};
 ghost use Rattle.realm_host.specs.PairLaw.{LeadsBack};
 
 use crate::{Host, Refusal, Undone};
-use build_journal::{kind_of, reverse_of};
+use build_journal::reverse_of;
 use granule_addr::BuildId;
 use page_arena::PageStore;
 use realm_model::Act;

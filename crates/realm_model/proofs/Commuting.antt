@@ -15,10 +15,10 @@ use Rattle.realm_model.specs.Act.{block, named, is_paired, is_reverse, reverse_o
 use Rattle.realm_model.specs.World.{World}
 use Rattle.realm_model.specs.Step.{step, used_vmids}
 use Rattle.realm_model.specs.StepLaw.{set_each, leases_after}
-use Rattle.realm_model.specs.History.{after, replay, open_entries, IsInTurn, IsLegal}
+use Rattle.realm_model.specs.History.{events_of, after, replay, open_entries, IsInTurn, IsLegal}
 use Rattle.realm_model.specs.OpenRealm.{uses_vmid}
 use Rattle.realm_model.specs.Undoing.{by}
-use Rattle.realm_model.specs.Interleaving.{events_of, granules_taken, granules_given_back, vmids_taken, vmids_given_back, GivesTo, EventsCommute}
+use Rattle.realm_model.specs.Interleaving.{granules_taken, granules_given_back, vmids_taken, vmids_given_back, GivesTo, EventsCommute}
 use Rattle.realm_model.specs.Command.Check.{is_in}
 use Rattle.realm_model.proofs.Booleans.{or_parts, or_none, or_true, true_false, false_from, some_is}
 use Rattle.realm_model.proofs.Lists.{slice_get_set_other, Contains-from_in, in_from_Contains}

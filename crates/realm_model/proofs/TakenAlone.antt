@@ -11,8 +11,8 @@ use Rattle.realm_model.specs.Machine.{Cell, Machine, Limits, blank}
 use Rattle.realm_model.specs.Act.{reverse_of}
 use Rattle.realm_model.specs.World.{World, each, hidden, unleased, is_of_other, opening, part_of}
 use Rattle.realm_model.specs.Step.{step}
-use Rattle.realm_model.specs.History.{acts_of, open_entries, unmatched, IsInTurn, AllInTurn, after, replay, IsLegal}
-use Rattle.realm_model.specs.Interleaving.{events_of, StandsAlone, HasSameEvents}
+use Rattle.realm_model.specs.History.{events_of, acts_of, open_entries, unmatched, IsInTurn, AllInTurn, after, replay, IsLegal}
+use Rattle.realm_model.specs.Interleaving.{StandsAlone, HasSameEvents}
 use Rattle.realm_model.proofs.Clean.{IsClean, scrubbed}
 use Rattle.realm_model.proofs.HiddenSteps.{step-part_of, part_of-other_step, IsClean-step}
 use Rattle.realm_model.proofs.LeftOut.{each-replicate, map-replicate, IsClean-opening}

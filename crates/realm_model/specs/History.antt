@@ -13,9 +13,13 @@ use Rattle.realm_model.specs.Step.{step}
 abbrev pub erase : ℕ → List Event → List Event
 erase build history = filter (λ event. not (event.build == build)) history
 
--- the acts of a build, in order
+-- the events of a build, in their order
+abbrev pub events_of : ℕ → List Event → List Event
+events_of build history = filter (λ event. event.build == build) history
+
+-- the acts of a build, in their order
 abbrev pub acts_of : ℕ → List Event → List Act
-acts_of build history = map (λ event. event.act) (filter (λ event. event.build == build) history)
+acts_of build history = map (λ event. event.act) (events_of build history)
 
 -- ---- what is open: a reverse act matches the latest paired act before it such that between the two there are as many
 -- ---- paired as reverse acts

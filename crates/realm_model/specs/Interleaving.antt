@@ -1,6 +1,6 @@
 -- What the order of events can change: a build's events alone, two histories with the same events of each build, and two
 -- events of different builds.
-use Rattle.std.specs.Prelude.{◌≡◌, ◌≢◌, ◌↔◌, ◌⊎◌, ◌==◌, ℕ, List, [], ◌∷◌, ◌++◌, filter, option_map}
+use Rattle.std.specs.Prelude.{◌≡◌, ◌≢◌, ◌↔◌, ◌⊎◌, ℕ, List, [], ◌∷◌, ◌++◌, option_map}
 use Rattle.std.specs.List.{Contains}
 use Rattle.realm_model.specs.declared.act.Act.{Act}
 use Rattle.realm_model.specs.declared.act.Act.TheVariants.{Take, UnTake, Realm, UnRealm}
@@ -8,11 +8,7 @@ use Rattle.realm_model.specs.declared.act.Event.{Event}
 use Rattle.realm_model.specs.Machine.{Limits}
 use Rattle.realm_model.specs.Act.{block}
 use Rattle.realm_model.specs.World.{part_of}
-use Rattle.realm_model.specs.History.{replay, IsLegal}
-
--- the events of a build, in their order
-abbrev pub events_of : ℕ → List Event → List Event
-events_of build history = filter (λ event. event.build == build) history
+use Rattle.realm_model.specs.History.{events_of, replay, IsLegal}
 
 -- The events of a build alone are a legal history, and lead to the build's part of the world.
 abbrev pub StandsAlone : Limits → List Event → ℕ → Type 0

@@ -5,6 +5,7 @@ pub mod Machine
 pub mod Update
 pub mod Command
 pub mod Act
+pub mod Kind
 pub mod Outcome
 pub mod World
 pub mod Step

@@ -6,10 +6,12 @@
 #![tactic(auto)]
 
 mod act;
+mod kind;
 pub mod law;
 mod rmi;
 mod states;
 
 pub use act::{Act, Event, granules_again};
+pub use kind::{Kind, kind_of};
 pub use rmi::{Rmi, Status};
 pub use states::{EntryState, GranuleState, RealmState, RecState, Ripas};

@@ -1,4 +1,3 @@
-pub mod Words
 pub mod Kept
 pub mod KeptPlan
-mod Ends
+pub mod Ends

@@ -1,7 +1,5 @@
 -- Faults, and the exit status of each.
 use Rattle.std.specs.Prelude.{ℕ}
-use Rattle.plan_threads.specs.declared.fault.RunFault.{RunFault}
-use Rattle.plan_threads.specs.declared.fault.RunFault.TheVariants as run_fault
 use Rattle.realm_plan.specs.declared.fault.PlanError.{PlanError}
 use Rattle.realm_plan.specs.declared.fault.PlanError.TheVariants as plan_error
 use Rattle.realm_program.specs.declared.fault.Fault.{Fault}
@@ -24,8 +22,3 @@ fault_of_plan (plan_error.Fault fault) = Plan fault
 abbrev pub fault_of_read : ReadError → Fault
 fault_of_read read_error.Memory = Memory
 fault_of_read read_error.Device = Device
-
-abbrev pub fault_of_run : RunFault → Fault
-fault_of_run run_fault.Memory = Memory
-fault_of_run (run_fault.Stuck build) = Stuck build
-fault_of_run run_fault.Mismatch = Mismatch

@@ -5,7 +5,6 @@ ghost use Rattle.realm_program.specs.declared.fault.Fault.TheVariants.{Memory, D
 use crate::input::ReadError;
 use command_line::Reason;
 use granule_addr::BuildId;
-use plan_threads::RunFault;
 use realm_plan::{PlanError, PlanFault};
 use std::alloc::AllocError;
 use thiserror::Error;
@@ -98,20 +97,5 @@ impl From<AllocError> for Fault {
 
     fn from(_error: AllocError) -> Fault {
         Fault::Memory
-    }
-}
-
-impl From<RunFault> for Fault {
-    ghost use Rattle.std.specs.Prelude.{◌≡◌};
-    ghost use Rattle.realm_program.specs.Fault.{fault_of_run};
-
-    ghost from_gives = { λ error fault. fault ≡ fault_of_run error };
-
-    fn from(error: RunFault) -> Fault {
-        match error {
-            RunFault::Memory => Fault::Memory,
-            RunFault::Stuck(build) => Fault::Stuck(build),
-            RunFault::Mismatch => Fault::Mismatch,
-        }
     }
 }

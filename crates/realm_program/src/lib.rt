@@ -1,22 +1,20 @@
-//! The parts of the program: its command line, the replay of a plan, its run in threads, and how they end.
+//! The parts of the program that replay a plan, and how the program ends.
 //!
-//! `Line::of` reads the words, `replay` and `run` go from the bytes of a plan to the text of its run, over any reader and any
-//! writer, and `Fault` is each reason not to have printed it, with its exit status. Nothing here looks at the process that
-//! it runs in: a caller hands in the words and the devices.
+//! `replay` goes from the bytes of a plan to the text of its run, over any reader and any writer, and `Fault` is each reason
+//! not to have printed it, with its exit status. Nothing here looks at the process that it runs in: a caller hands in the
+//! devices.
 #![tactic(auto)]
 
 mod boot;
 mod built;
 mod fault;
 mod input;
-mod line;
-mod running;
 mod source;
 mod text;
 
+pub use boot::boot;
 pub use built::Built;
 pub use fault::Fault;
 pub use input::{ReadError, read_whole};
-pub use line::Line;
-pub use running::run;
+pub use source::plan_in;
 pub use text::{replay, text_of};

@@ -9,8 +9,8 @@ use Rattle.build_commands.specs.Needs.{operands}
 use Rattle.build_commands.specs.declared.cmd.Cmd.{Cmd}
 use Rattle.build_commands.specs.declared.cmd.Cmd.TheVariants.{Peek, Realm, Rec}
 use Rattle.build_commands.specs.declared.picked.Picked.{Picked}
-use Rattle.build_journal.specs.Kind.{act_kind}
-use Rattle.realm_host.specs.declared.reply.Undone.{Undone}
+use Rattle.realm_model.specs.Kind.{act_kind}
+use Rattle.build_commands.specs.declared.undone.Undone.{Undone}
 use Rattle.realm_model.specs.Act.{reverse_of}
 use Rattle.realm_model.specs.declared.act.Act.{Act}
 use Rattle.realm_model.specs.declared.act.Act.TheVariants as acts

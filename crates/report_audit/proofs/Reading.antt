@@ -7,7 +7,7 @@ use Rattle.std.proofs.lemmas.List.{drop_more, drop_all, drop-drop, take_more, ta
 use Rattle.std.proofs.lemmas.List.Filters.{length-filter_more}
 use Rattle.std.proofs.lemmas.Option.{slice_get_past, slice_get_within, slice_get_read, slice_get_cases, get_or_from_slice_get, same_Some}
 use Rattle.build_commands.specs.declared.cmd.Step.{Step}
-use Rattle.realm_model.specs.History.{open_entries, pages_held}
+use Rattle.realm_model.specs.History.{open_entries, pages_held, events_of}
 use Rattle.realm_model.specs.Stack.{pushed}
 use Rattle.realm_model.specs.declared.act.Act.{Act}
 use Rattle.realm_model.specs.declared.act.Event.{Event}
@@ -19,7 +19,6 @@ use Rattle.workers.specs.declared.ask.Question.TheVariants as question
 use Rattle.workers.specs.declared.report.Answer.{Answer}
 use Rattle.workers.specs.declared.report.Answer.TheVariants.{Replied, Undone, Marked, Nothing, Refused}
 use Rattle.workers.specs.declared.report.Line.{Line}
-use Rattle.builders.specs.Seats.{events_of}
 use Rattle.report_audit.specs.Fitting.{AnswerFits, LineFits, DoesFit, accepted_count}
 
 -- a line fits what is open and the build's next event

@@ -10,11 +10,10 @@ use Rattle.build_commands.specs.declared.cmd.Cmd.TheVariants.{Take}
 use Rattle.build_commands.specs.declared.cmd.Step.{Step}
 use Rattle.build_commands.specs.declared.picked.Picked.{Picked}
 use Rattle.build_commands.specs.declared.reply.Reply.{Reply}
-use Rattle.build_journal.specs.Kind.{act_kind}
-use Rattle.builders.specs.Seats.{events_of}
-use Rattle.realm_host.specs.declared.reply.Undone.{Undone}
+use Rattle.realm_model.specs.Kind.{act_kind}
+use Rattle.realm_model.specs.History.{events_of, open_entries, pages_of}
+use Rattle.build_commands.specs.declared.undone.Undone.{Undone}
 use Rattle.realm_model.specs.Act.{reverse_of}
-use Rattle.realm_model.specs.History.{open_entries, pages_of}
 use Rattle.realm_model.specs.declared.act.Act.{Act}
 use Rattle.realm_model.specs.declared.act.Act.TheVariants as acts
 use Rattle.realm_model.specs.declared.act.Event.{Event}

@@ -2,7 +2,7 @@
 ghost use Rattle.std.specs.Prelude.{◌≡◌, ◌↔◌, ◌≤◌, length, drop, slice_get, true, IfOk, IfSome, OnOk};
 ghost use Rattle.std.specs.List.{All};
 ghost use Rattle.realm_model.specs.Stack.{pushed};
-ghost use Rattle.builders.specs.Seats.{events_of};
+ghost use Rattle.realm_model.specs.History.{events_of};
 ghost use Rattle.report_audit.specs.Fitting.{DoesFit, ReportFits};
 
 use crate::line::{is_done, line_fits};

@@ -4,7 +4,7 @@ ghost use Rattle.build_books.specs.View.{HostView};
 ghost use Rattle.build_books.specs.declared.mark.Mark.{Mark};
 ghost use Rattle.build_commands.specs.declared.cmd.Cmd.{Cmd};
 ghost use Rattle.build_commands.specs.declared.reply.Reply.{Reply};
-ghost use Rattle.realm_host.specs.declared.reply.Undone.{Undone};
+ghost use Rattle.build_commands.specs.declared.undone.Undone.{Undone};
 ghost use Rattle.report_audit.specs.Hosts.{HostReplyFits, HostUndoFits, HostMarkFits};
 
 /// What a host answers to an accepted command or undo fits the one event that ends its history then, by what the build had

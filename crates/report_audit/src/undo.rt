@@ -1,11 +1,11 @@
 //! What an undo did, and what was told of it.
 ghost use Rattle.std.specs.Prelude.{◌≡◌, ◌↔◌, Some, IsTrue};
-ghost use Rattle.build_journal.specs.Kind.{act_kind};
+ghost use Rattle.realm_model.specs.Kind.{act_kind};
 ghost use Rattle.report_audit.specs.Fitting.{IsUndone};
 
-use build_journal::{Kind, kind_of, takes_back};
-use realm_host::Undone;
-use realm_model::Act;
+use build_commands::Undone;
+use build_journal::takes_back;
+use realm_model::{Act, Kind, kind_of};
 
 fn is_of_kind(act: &Act, kind: Kind) -> bool
     ensures { IsTrue result ↔ (act_kind act.now ≡ Some kind) }

@@ -1,12 +1,13 @@
 //! A host that builds share: calls through its lock, and workers.
-ghost use Rattle.std.specs.Prelude.{◌≡◌, [], IfOk};
+ghost use Rattle.std.specs.Prelude.{◌≡◌, ◌≤◌, [], All, IfOk, vec_len};
+ghost use Rattle.builders.specs.Names.{AreNamed};
 
 use crate::boot::booted;
 use crate::calls::{TURNS, Tally, command};
 use crate::{Fault, tell, tell_try};
 use buddy::BuddyArena;
 use build_commands::Step;
-use builders::{Blanks, Lane, OpenGate, Seat, Shared, Worker, run_builds};
+use builders::{Blanks, Ledgers, OpenGate, Seat, Shared, Worker, run_builds};
 use realm_host::{Cmd, Host};
 use std::alloc::{AllocError, Global};
 use std::marker::{Brand, Send, Sync};
@@ -14,10 +15,10 @@ use std::sync::Wait;
 use std::thread::Threads;
 
 // Every call through the lock. The answers are counted.
-fn ask_all<R: Wait, L0: Lane, L1: Lane, L2: Lane, L3: Lane, L4: Lane, L5: Lane, L6: Lane, L7: Lane>(
+fn ask_all<R: Wait, L: Ledgers>(
     rt: &R,
-    shared: &Shared<BuddyArena, L0, L1, L2, L3, L4, L5, L6, L7>,
-    seat: &mut Seat<L0, L1, L2, L3, L4, L5, L6, L7>,
+    shared: &Shared<BuddyArena, L>,
+    seat: &mut Seat<L>,
     tally: &mut Tally,
 ) {
     for turn in 0..TURNS {
@@ -45,109 +46,151 @@ fn few_steps(alloc: Global) -> Result<Vec<Step>, AllocError> {
     Ok(steps)
 }
 
+// A worker of what came back where there was no memory for one.
+fn built_again<L: Ledgers>(
+    alloc: Global,
+    back: (AllocError, Seat<L>, Vec<Step>),
+) -> Result<Worker<L>, Fault>
+    requires trail { back.1.trail ≡ [] }
+    requires few { vec_len back.2 ≤ 1024 }
+    ensures { IfOk result (λ worker. worker.lines ≡ []) }
+{
+    let (_, seat, steps) = back;
+    match Worker::build(alloc, seat, steps) {
+        Ok(worker) => Ok(worker),
+        Err(_) => Err(Fault::Memory),
+    }
+}
+
 // The worker of a seat that has asked nothing, built once more of what came back where there was no memory.
-fn worker_of<L0: Lane, L1: Lane, L2: Lane, L3: Lane, L4: Lane, L5: Lane, L6: Lane, L7: Lane>(
+fn worker_of<L: Ledgers>(
     rt: &impl Print,
     alloc: Global,
-    seat: Seat<L0, L1, L2, L3, L4, L5, L6, L7>,
-) -> Result<Worker<L0, L1, L2, L3, L4, L5, L6, L7>, Fault>
+    seat: Seat<L>,
+    steps: Vec<Step>,
+) -> Result<Worker<L>, Fault>
+    requires trail { seat.trail ≡ [] }
+    requires few { vec_len steps ≤ 1024 }
+    ensures { IfOk result (λ worker. worker.lines ≡ []) }
+{
+    match Worker::build(alloc, seat, steps) {
+        Ok(worker) => {
+            tell_try(rt, "built", false);
+            Ok(worker)
+        }
+        Err(back) => {
+            let worker = built_again(alloc, back)?;
+            tell_try(rt, "built", true);
+            Ok(worker)
+        }
+    }
+}
+
+// A worker for the last of the seats.
+fn last_worker<L: Ledgers>(
+    rt: &impl Print,
+    alloc: Global,
+    seats: &mut Vec<Seat<L>>,
+) -> Result<Worker<L>, Fault>
     ensures { IfOk result (λ worker. worker.lines ≡ []) }
 {
     let steps = few_steps(alloc)?;
+    let seat = seats.pop().ok_or(Fault::Other)?;
     if seat.count() > 0 || steps.len() > 1024 {
         return Err(Fault::Other);
     }
-    let (worker, is_second) = match Worker::build(alloc, seat, steps) {
-        Ok(worker) => (worker, false),
-        Err((_, seat, steps)) => match Worker::build(alloc, seat, steps) {
-            Ok(worker) => (worker, true),
-            Err(_) => return Err(Fault::Memory),
-        },
-    };
-    tell_try(rt, "built", is_second);
-    Ok(worker)
+    worker_of(rt, alloc, seat, steps)
+}
+
+// One build asks through its seat, and the others' workers run. The answers are told.
+fn in_quiet<R: Print + Threads + Wait + Sync, L: Ledgers + Send + Sync>(
+    rt: &R,
+    shared: &Shared<BuddyArena, L>,
+    seat: &mut Seat<L>,
+    workers: &mut [Worker<L>],
+) -> bool
+    requires { All (λ worker. worker.lines ≡ []) workers.old }
+{
+    let mut tally = Tally::new();
+    tell(rt, "quiet");
+    ask_all(rt, shared, seat, &mut tally);
+    let has_ended = run_builds(rt, shared, workers, &OpenGate).is_ok();
+    tally.tell(rt);
+    has_ended
 }
 
 // Two builds on a shared host: the one asks through its seat, the other has a worker.
-fn ask_and_work<
-    R: Print + Threads + Wait + Sync,
-    L0: Lane + Send + Sync,
-    L1: Lane + Send + Sync,
-    L2: Lane + Send + Sync,
-    L3: Lane + Send + Sync,
-    L4: Lane + Send + Sync,
-    L5: Lane + Send + Sync,
-    L6: Lane + Send + Sync,
-    L7: Lane + Send + Sync,
->(
+fn ask_and_work<R: Print + Threads + Wait + Sync, L: Ledgers + Send + Sync>(
     rt: &R,
     alloc: Global,
-    shared: &Shared<BuddyArena, L0, L1, L2, L3, L4, L5, L6, L7>,
-    seats: &mut Vec<Seat<L0, L1, L2, L3, L4, L5, L6, L7>>,
+    shared: &Shared<BuddyArena, L>,
+    seats: &mut Vec<Seat<L>>,
 ) -> Result<(), Fault> {
-    let last = seats.pop().ok_or(Fault::Other)?;
-    let mut seat = seats.pop().ok_or(Fault::Other)?;
-    let mut workers = Vec::new(alloc);
-    workers.push(worker_of(rt, alloc, last)?)?;
-    let mut tally = Tally::new();
-    tell(rt, "quiet");
-    ask_all(rt, shared, &mut seat, &mut tally);
-    let has_ended = run_builds(rt, shared, workers.as_mut_slice(), &OpenGate).is_ok();
-    tally.tell(rt);
-    seats.push(seat)?;
-    let (seat, _steps, report) = workers.pop().ok_or(Fault::Other)?.end();
-    seats.push(seat)?;
+    let mut workers = [last_worker(rt, alloc, seats)?];
+    let seat = seats.last_mut().ok_or(Fault::Other)?;
+    let has_ended = in_quiet(rt, shared, seat, &mut workers);
+    let [worker] = workers;
+    let (seat, _steps, report) = worker.end();
     let _told = println!(rt;
         "a report of {} lines, whole: {has_ended}",
         report.lines.len()
     );
+    seats.push(seat)?;
     Ok(())
 }
 
-// Shares a host, and once more where there was no memory. It is closed in the end.
-fn share<
-    R: Print + Threads + Wait + Sync,
-    L0: Lane + Send + Sync,
-    L1: Lane + Send + Sync,
-    L2: Lane + Send + Sync,
-    L3: Lane + Send + Sync,
-    L4: Lane + Send + Sync,
-    L5: Lane + Send + Sync,
-    L6: Lane + Send + Sync,
-    L7: Lane + Send + Sync,
->(rt: &R, alloc: Global, blanks: Blanks, host: Host<BuddyArena>) -> Result<(), Fault>
-    requires empty { host.history ≡ [] }
-    requires opened { host ≡ L0.opened }
-    requires name0 { blanks.blank0.name ≡ L0.name }
-    requires name1 { blanks.blank1.name ≡ L1.name }
-    requires name2 { blanks.blank2.name ≡ L2.name }
-    requires name3 { blanks.blank3.name ≡ L3.name }
-    requires name4 { blanks.blank4.name ≡ L4.name }
-    requires name5 { blanks.blank5.name ≡ L5.name }
-    requires name6 { blanks.blank6.name ≡ L6.name }
-    requires name7 { blanks.blank7.name ≡ L7.name }
+// Such a host of what came back where there was no memory to share it.
+fn shared_again<L: Ledgers>(
+    alloc: Global,
+    back: (AllocError, Blanks, Host<BuddyArena>),
+) -> Result<(Shared<BuddyArena, L>, Vec<Seat<L>>), Fault>
+    requires empty { back.2.history ≡ [] }
+    requires opened { back.2 ≡ L.opened }
+    requires named { AreNamed L.names back.1 }
 {
-    let (shared, mut seats, is_second) = match Shared::<
-        BuddyArena,
-        L0,
-        L1,
-        L2,
-        L3,
-        L4,
-        L5,
-        L6,
-        L7,
-    >::start(alloc, blanks, host)
-    {
-        Ok((shared, seats)) => (shared, seats, false),
-        Err((_, blanks, host)) => match Shared::<BuddyArena, L0, L1, L2, L3, L4, L5, L6, L7>::start(
-            alloc, blanks, host,
-        ) {
-            Ok((shared, seats)) => (shared, seats, true),
-            Err(_) => return Err(Fault::Memory),
-        },
-    };
-    tell_try(rt, "shared", is_second);
+    let (_, blanks, host) = back;
+    match Shared::start(alloc, blanks, host) {
+        Ok(started) => Ok(started),
+        Err(_) => Err(Fault::Memory),
+    }
+}
+
+// A shared host and its seats, started once more where there was no memory.
+fn started<L: Ledgers>(
+    rt: &impl Print,
+    alloc: Global,
+    blanks: Blanks,
+    host: Host<BuddyArena>,
+) -> Result<(Shared<BuddyArena, L>, Vec<Seat<L>>), Fault>
+    requires empty { host.history ≡ [] }
+    requires opened { host ≡ L.opened }
+    requires named { AreNamed L.names blanks }
+{
+    match Shared::start(alloc, blanks, host) {
+        Ok(started) => {
+            tell_try(rt, "shared", false);
+            Ok(started)
+        }
+        Err(back) => {
+            let started = shared_again(alloc, back)?;
+            tell_try(rt, "shared", true);
+            Ok(started)
+        }
+    }
+}
+
+// Shares a host, and once more where there was no memory. It is closed in the end.
+fn share<R: Print + Threads + Wait + Sync, L: Ledgers + Send + Sync>(
+    rt: &R,
+    alloc: Global,
+    blanks: Blanks,
+    host: Host<BuddyArena>,
+) -> Result<(), Fault>
+    requires empty { host.history ≡ [] }
+    requires opened { host ≡ L.opened }
+    requires named { AreNamed L.names blanks }
+{
+    let (shared, mut seats) = started::<L>(rt, alloc, blanks, host)?;
     ask_and_work(rt, alloc, &shared, &mut seats)?;
     match shared.close(seats) {
         Ok(host) => {
@@ -161,10 +204,5 @@ fn share<
 /// A shared host is started, worked on and closed.
 pub(crate) fn work<R: Print + Threads + Wait + Sync>(rt: &R, alloc: Global) -> Result<(), Fault> {
     let host = booted(rt, alloc)?;
-    share::<R, Brand, Brand, Brand, Brand, Brand, Brand, Brand, Brand>(
-        rt,
-        alloc,
-        Blanks::new(),
-        host,
-    )
+    share::<R, Brand>(rt, alloc, Blanks::new(), host)
 }

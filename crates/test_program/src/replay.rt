@@ -1,10 +1,9 @@
 //! A plan and the text of its run, over bytes in memory and over devices that fail.
-use crate::devices::{told_sink, told_source};
-use crate::wanted::{equal, holds};
 use granule_addr::BuildId;
 use realm_plan::PlanFault;
 use realm_program::{Fault, replay};
 use std::test::Fail;
+use test_devices::{equal, holds, told_sink, told_source};
 
 const PLAN: &[u8] = br#"pages = 1
 order = [0, 0, 0, 0]

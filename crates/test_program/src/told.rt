@@ -1,9 +1,8 @@
 //! A device is asked as often as is told, never again where it has failed, and flushed once.
-use crate::devices::{Sink, Source, told_sink, told_source};
-use crate::wanted::{equal, holds};
 use realm_program::{ReadError, read_whole};
 use std::process::Abort;
 use std::test::Fail;
+use test_devices::{Sink, Source, equal, holds, told_sink, told_source};
 use told_device::Told;
 
 // A reader was asked so often, and that is told.

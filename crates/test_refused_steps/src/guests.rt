@@ -2,7 +2,7 @@
 use crate::steps::{STEPS, steps_of};
 use crate::tellers::Refusing;
 use build_commands::Step;
-use builders::{Lane, Seat, SeatTeller, Shared};
+use builders::{Ledgers, Seat, SeatTeller, Shared};
 use page_arena::PageStore;
 use std::alloc::Global;
 use std::sync::Wait;
@@ -11,30 +11,21 @@ use workers::{Gate, Report, work};
 
 /// A build's seat and its steps, which of them is refused, and what came of them.
 #[derive(Drop)]
-pub struct Guest<L0: Lane, L1: Lane, L2: Lane, L3: Lane, L4: Lane, L5: Lane, L6: Lane, L7: Lane> {
-    pub seat: Seat<L0, L1, L2, L3, L4, L5, L6, L7>,
+pub struct Guest<L: Ledgers> {
+    pub seat: Seat<L>,
     pub steps: [Step; STEPS],
     pub refused: Option<usize>,
     pub report: Option<Report>,
     pub has_ended: bool,
 }
 
-impl<L0: Lane, L1: Lane, L2: Lane, L3: Lane, L4: Lane, L5: Lane, L6: Lane, L7: Lane> Guest<
-    L0,
-    L1,
-    L2,
-    L3,
-    L4,
-    L5,
-    L6,
-    L7,
-> {
+impl<L: Ledgers> Guest<L> {
     /// Takes its steps. Where there is no memory for a report, it has none and has not ended.
     pub(crate) fn run<R: Wait, S: PageStore, G: Gate>(
         &mut self,
         rt: &R,
         alloc: Global,
-        shared: &Shared<S, L0, L1, L2, L3, L4, L5, L6, L7>,
+        shared: &Shared<S, L>,
         gate: &G,
     ) {
         let Ok(lines) = Vec::with_capacity(alloc, 2 * STEPS + 1) else {
@@ -57,20 +48,11 @@ impl<L0: Lane, L1: Lane, L2: Lane, L3: Lane, L4: Lane, L5: Lane, L6: Lane, L7: L
 }
 
 /// A guest at each seat. Build 1 is refused that step.
-pub(crate) fn guests_of<
-    L0: Lane,
-    L1: Lane,
-    L2: Lane,
-    L3: Lane,
-    L4: Lane,
-    L5: Lane,
-    L6: Lane,
-    L7: Lane,
->(
+pub(crate) fn guests_of<L: Ledgers>(
     alloc: Global,
-    seats: Vec<Seat<L0, L1, L2, L3, L4, L5, L6, L7>>,
+    seats: Vec<Seat<L>>,
     refused: usize,
-) -> Result<Vec<Guest<L0, L1, L2, L3, L4, L5, L6, L7>>, Fail> {
+) -> Result<Vec<Guest<L>>, Fail> {
     let mut guests = Vec::new(alloc);
     for seat in seats {
         let number = seat.build().number();

@@ -1,12 +1,13 @@
 //! Each command of a build is refused once, while two other builds go on.
 ghost use Rattle.std.specs.Prelude.{◌≡◌, []};
+ghost use Rattle.builders.specs.Names.{AreNamed};
 
 use crate::gates::{Turns, Waiting};
 use crate::guests::{Guest, guests_of};
 use crate::hosts::{booted, has_two_guests, is_without_build_1};
 use crate::reports::{is_accepted, is_refused};
 use crate::steps::STEPS;
-use builders::{Blanks, Lane, Seat, Shared};
+use builders::{Blanks, Ledgers, Seat, Shared};
 use page_arena::{PageStore, PlainStore};
 use realm_host::Host;
 use std::alloc::Global;
@@ -20,11 +21,7 @@ use std::time::Clock;
 use workers::Gate;
 
 // A guest has ended, and its report is as it has to be. Its seat comes back.
-fn ended<L0: Lane, L1: Lane, L2: Lane, L3: Lane, L4: Lane, L5: Lane, L6: Lane, L7: Lane>(
-    rt: &impl Abort,
-    alloc: Global,
-    guest: Guest<L0, L1, L2, L3, L4, L5, L6, L7>,
-) -> Result<Seat<L0, L1, L2, L3, L4, L5, L6, L7>, Fail> {
+fn ended<L: Ledgers>(rt: &impl Abort, alloc: Global, guest: Guest<L>) -> Result<Seat<L>, Fail> {
     let Guest {
         seat,
         steps: _,
@@ -46,14 +43,7 @@ fn work_together<
     R: Threads + Wait + Abort + Sync,
     S: PageStore + Drop + Send,
     G: Gate + Sync,
-    L0: Lane + Send + Sync,
-    L1: Lane + Send + Sync,
-    L2: Lane + Send + Sync,
-    L3: Lane + Send + Sync,
-    L4: Lane + Send + Sync,
-    L5: Lane + Send + Sync,
-    L6: Lane + Send + Sync,
-    L7: Lane + Send + Sync,
+    L: Ledgers + Send + Sync,
 >(
     rt: &R,
     alloc: Global,
@@ -63,19 +53,10 @@ fn work_together<
     refused: usize,
 ) -> Result<Host<S>, Fail>
     requires empty { host.history ≡ [] }
-    requires opened { host ≡ L0.opened }
-    requires name0 { blanks.blank0.name ≡ L0.name }
-    requires name1 { blanks.blank1.name ≡ L1.name }
-    requires name2 { blanks.blank2.name ≡ L2.name }
-    requires name3 { blanks.blank3.name ≡ L3.name }
-    requires name4 { blanks.blank4.name ≡ L4.name }
-    requires name5 { blanks.blank5.name ≡ L5.name }
-    requires name6 { blanks.blank6.name ≡ L6.name }
-    requires name7 { blanks.blank7.name ≡ L7.name }
+    requires opened { host ≡ L.opened }
+    requires named { AreNamed L.names blanks }
 {
-    let (shared, seats) = match Shared::<S, L0, L1, L2, L3, L4, L5, L6, L7>::start(
-        alloc, blanks, host,
-    ) {
+    let (shared, seats) = match Shared::<S, L>::start(alloc, blanks, host) {
         Ok(started) => started,
         Err((error, _, _)) => return Err(error.into()),
     };
@@ -84,9 +65,7 @@ fn work_together<
         rt,
         guests.as_mut_slice(),
         3,
-        &|_, guest: &mut Guest<L0, L1, L2, L3, L4, L5, L6, L7>| {
-            guest.run(rt, alloc, &shared, gate)
-        },
+        &|_, guest: &mut Guest<L>| { guest.run(rt, alloc, &shared, gate) },
     );
     let mut seats = Vec::new(alloc);
     for guest in guests {
@@ -107,19 +86,14 @@ fn refused_at<R: Threads + Wait + Abort + Clock + Sync>(
 ) -> Result<(), Fail> {
     let host = booted(alloc)?;
     let gate = Turns::new(rt, waiting, refused);
-    let host = work_together::<
-        R,
-        PlainStore,
-        Turns<R>,
-        Brand,
-        Brand,
-        Brand,
-        Brand,
-        Brand,
-        Brand,
-        Brand,
-        Brand,
-    >(rt, alloc, Blanks::new(), host, &gate, refused)?;
+    let host = work_together::<R, PlainStore, Turns<R>, Brand>(
+        rt,
+        alloc,
+        Blanks::new(),
+        host,
+        &gate,
+        refused,
+    )?;
     has_two_guests(rt, alloc, &host)?;
     is_without_build_1(rt, alloc, &host, &mut booted(alloc)?)
 }

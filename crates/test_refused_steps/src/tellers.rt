@@ -1,7 +1,7 @@
 //! A seat whose build is refused one question.
 ghost use Rattle.std.specs.Prelude.{◌+◌, ◌*◌};
 
-use builders::{Lane, SeatTeller};
+use builders::{Ledgers, SeatTeller};
 use page_arena::PageStore;
 use realm_host::{Cmd, Mark, Refusal, Reply, Undone};
 use realm_model::Rmi;
@@ -10,20 +10,8 @@ use workers::Teller;
 
 /// Passes each question on to a seat, but refuses one, counted from 0, without asking the host.
 #[derive(Drop)]
-pub struct Refusing<
-    'a,
-    R: Wait,
-    S: PageStore,
-    L0: Lane,
-    L1: Lane,
-    L2: Lane,
-    L3: Lane,
-    L4: Lane,
-    L5: Lane,
-    L6: Lane,
-    L7: Lane,
-> {
-    pub teller: SeatTeller<'a, R, S, L0, L1, L2, L3, L4, L5, L6, L7>,
+pub struct Refusing<'a, R: Wait, S: PageStore, L: Ledgers> {
+    pub teller: SeatTeller<'a, R, S, L>,
     pub asked: usize,
     pub refused: Option<usize>,
 }
@@ -39,19 +27,7 @@ fn check(asked: &mut usize, refused: Option<usize>) -> Result<(), Refusal> {
     }
 }
 
-impl<
-    'a,
-    R: Wait,
-    S: PageStore,
-    L0: Lane,
-    L1: Lane,
-    L2: Lane,
-    L3: Lane,
-    L4: Lane,
-    L5: Lane,
-    L6: Lane,
-    L7: Lane,
-> Teller for Refusing<'a, R, S, L0, L1, L2, L3, L4, L5, L6, L7> {
+impl<'a, R: Wait, S: PageStore, L: Ledgers> Teller for Refusing<'a, R, S, L> {
     ghost tells = { λ refusing exchanges. Unit {0} };
 
     // that of the seat

@@ -1,9 +1,10 @@
 //! A host that builds share: what their seats are told, and how it is closed.
 ghost use Rattle.std.specs.Prelude.{◌≡◌, []};
+ghost use Rattle.builders.specs.Names.{AreNamed};
 
 use crate::hosts::booted;
 use crate::wanted::equal;
-use builders::{Blanks, CloseFault, Lane, Seat, Shared};
+use builders::{Blanks, CloseFault, Ledgers, Seat, Shared};
 use granule_addr::{BuildId, PageOff};
 use page_arena::PlainStore;
 use realm_host::{Cmd, Host, Kind, Refusal, Reply, Undone};
@@ -14,20 +15,10 @@ use std::sync::Wait;
 use std::test::Fail;
 
 // A seat asks for a command, and is answered so.
-fn asks<
-    R: Wait + Abort,
-    L0: Lane,
-    L1: Lane,
-    L2: Lane,
-    L3: Lane,
-    L4: Lane,
-    L5: Lane,
-    L6: Lane,
-    L7: Lane,
->(
+fn asks<R: Wait + Abort, L: Ledgers>(
     rt: &R,
-    shared: &Shared<PlainStore, L0, L1, L2, L3, L4, L5, L6, L7>,
-    seat: &mut Seat<L0, L1, L2, L3, L4, L5, L6, L7>,
+    shared: &Shared<PlainStore, L>,
+    seat: &mut Seat<L>,
     cmd: Cmd,
     want: Result<Reply, Refusal>,
 ) {
@@ -36,20 +27,10 @@ fn asks<
 }
 
 // A seat takes a page, fills it, reads what it filled, goes back to its mark, and is refused another's page.
-fn works<
-    R: Wait + Abort,
-    L0: Lane,
-    L1: Lane,
-    L2: Lane,
-    L3: Lane,
-    L4: Lane,
-    L5: Lane,
-    L6: Lane,
-    L7: Lane,
->(
+fn works<R: Wait + Abort, L: Ledgers>(
     rt: &R,
-    shared: &Shared<PlainStore, L0, L1, L2, L3, L4, L5, L6, L7>,
-    seat: &mut Seat<L0, L1, L2, L3, L4, L5, L6, L7>,
+    shared: &Shared<PlainStore, L>,
+    seat: &mut Seat<L>,
     value: u8,
 ) -> Result<(), Fail> {
     asks(
@@ -93,17 +74,7 @@ fn works<
 
 // Two builds work on a shared host. It is closed with the seats of both, or with that of build 0 alone; at `Some` is what
 // was wrong then.
-fn closed<
-    R: Wait + Abort,
-    L0: Lane,
-    L1: Lane,
-    L2: Lane,
-    L3: Lane,
-    L4: Lane,
-    L5: Lane,
-    L6: Lane,
-    L7: Lane,
->(
+fn closed<R: Wait + Abort, L: Ledgers>(
     rt: &R,
     alloc: Global,
     blanks: Blanks,
@@ -111,19 +82,10 @@ fn closed<
     with_both: bool,
 ) -> Result<Option<CloseFault>, Fail>
     requires empty { host.history ≡ [] }
-    requires opened { host ≡ L0.opened }
-    requires name0 { blanks.blank0.name ≡ L0.name }
-    requires name1 { blanks.blank1.name ≡ L1.name }
-    requires name2 { blanks.blank2.name ≡ L2.name }
-    requires name3 { blanks.blank3.name ≡ L3.name }
-    requires name4 { blanks.blank4.name ≡ L4.name }
-    requires name5 { blanks.blank5.name ≡ L5.name }
-    requires name6 { blanks.blank6.name ≡ L6.name }
-    requires name7 { blanks.blank7.name ≡ L7.name }
+    requires opened { host ≡ L.opened }
+    requires named { AreNamed L.names blanks }
 {
-    let (shared, mut seats) = match Shared::<PlainStore, L0, L1, L2, L3, L4, L5, L6, L7>::start(
-        alloc, blanks, host,
-    ) {
+    let (shared, mut seats) = match Shared::<PlainStore, L>::start(alloc, blanks, host) {
         Ok(started) => started,
         Err((error, _, _)) => return Err(error.into()),
     };
@@ -150,13 +112,7 @@ fn booted_and_closed<R: Wait + Abort>(
     with_both: bool,
 ) -> Result<Option<CloseFault>, Fail> {
     let host = booted(alloc, 4, 2)?;
-    closed::<R, Brand, Brand, Brand, Brand, Brand, Brand, Brand, Brand>(
-        rt,
-        alloc,
-        Blanks::new(),
-        host,
-        with_both,
-    )
+    closed::<R, Brand>(rt, alloc, Blanks::new(), host, with_both)
 }
 
 #[test]

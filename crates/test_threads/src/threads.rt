@@ -1,9 +1,10 @@
 //! Workers of a shared host in threads of their own: what they are answered, and which build is told that has not ended.
 ghost use Rattle.std.specs.Prelude.{◌≡◌, [], All, IfOk};
+ghost use Rattle.builders.specs.Names.{AreNamed};
 
 use crate::hosts::booted;
 use build_commands::Step;
-use builders::{Blanks, Lane, OpenGate, Seat, Shared, Worker, run_builds};
+use builders::{Blanks, Ledgers, OpenGate, Seat, Shared, Worker, run_builds};
 use granule_addr::{BuildId, PageOff};
 use page_arena::PlainStore;
 use plan_runs::map_text;
@@ -91,11 +92,7 @@ fn has_lines(rt: &impl Abort, outcome: &Outcome, number: u8, want: &[Line]) -> R
 }
 
 // The worker of a seat that has asked nothing.
-fn worker_of<L0: Lane, L1: Lane, L2: Lane, L3: Lane, L4: Lane, L5: Lane, L6: Lane, L7: Lane>(
-    alloc: Global,
-    seat: Seat<L0, L1, L2, L3, L4, L5, L6, L7>,
-    steps: Vec<Step>,
-) -> Result<Worker<L0, L1, L2, L3, L4, L5, L6, L7>, Fail>
+fn worker_of<L: Ledgers>(alloc: Global, seat: Seat<L>, steps: Vec<Step>) -> Result<Worker<L>, Fail>
     ensures { IfOk result (λ worker. worker.lines ≡ []) }
 {
     if seat.count() > 0 || steps.len() > 1024 {
@@ -108,11 +105,11 @@ fn worker_of<L0: Lane, L1: Lane, L2: Lane, L3: Lane, L4: Lane, L5: Lane, L6: Lan
 }
 
 // The workers of all seats, the last one first.
-fn workers_of<L0: Lane, L1: Lane, L2: Lane, L3: Lane, L4: Lane, L5: Lane, L6: Lane, L7: Lane>(
+fn workers_of<L: Ledgers>(
     alloc: Global,
-    mut seats: Vec<Seat<L0, L1, L2, L3, L4, L5, L6, L7>>,
+    mut seats: Vec<Seat<L>>,
     mut plans: Vec<Vec<Step>>,
-) -> Result<Vec<Worker<L0, L1, L2, L3, L4, L5, L6, L7>>, Fail>
+) -> Result<Vec<Worker<L>>, Fail>
     ensures { IfOk result (λ workers. All (λ worker. worker.lines ≡ []) workers.items) }
 {
     let mut workers = Vec::new(alloc);
@@ -125,18 +122,7 @@ fn workers_of<L0: Lane, L1: Lane, L2: Lane, L3: Lane, L4: Lane, L5: Lane, L6: La
 }
 
 // Builds work side by side, each by its plan.
-fn work_together<
-    R: Threads + Wait + Abort + Sync,
-    G: Gate + Sync,
-    L0: Lane + Send + Sync,
-    L1: Lane + Send + Sync,
-    L2: Lane + Send + Sync,
-    L3: Lane + Send + Sync,
-    L4: Lane + Send + Sync,
-    L5: Lane + Send + Sync,
-    L6: Lane + Send + Sync,
-    L7: Lane + Send + Sync,
->(
+fn work_together<R: Threads + Wait + Abort + Sync, G: Gate + Sync, L: Ledgers + Send + Sync>(
     rt: &R,
     alloc: Global,
     blanks: Blanks,
@@ -145,19 +131,10 @@ fn work_together<
     plans: Vec<Vec<Step>>,
 ) -> Result<Outcome, Fail>
     requires empty { host.history ≡ [] }
-    requires opened { host ≡ L0.opened }
-    requires name0 { blanks.blank0.name ≡ L0.name }
-    requires name1 { blanks.blank1.name ≡ L1.name }
-    requires name2 { blanks.blank2.name ≡ L2.name }
-    requires name3 { blanks.blank3.name ≡ L3.name }
-    requires name4 { blanks.blank4.name ≡ L4.name }
-    requires name5 { blanks.blank5.name ≡ L5.name }
-    requires name6 { blanks.blank6.name ≡ L6.name }
-    requires name7 { blanks.blank7.name ≡ L7.name }
+    requires opened { host ≡ L.opened }
+    requires named { AreNamed L.names blanks }
 {
-    let (shared, seats) = match Shared::<PlainStore, L0, L1, L2, L3, L4, L5, L6, L7>::start(
-        alloc, blanks, host,
-    ) {
+    let (shared, seats) = match Shared::<PlainStore, L>::start(alloc, blanks, host) {
         Ok(started) => started,
         Err((error, _, _)) => return Err(error.into()),
     };
@@ -191,14 +168,7 @@ fn boot_and_work<R: Threads + Wait + Abort + Sync, G: Gate + Sync>(
 ) -> Result<Outcome, Fail> {
     let builds = u8::try_from(plans.len()).ok().ok_or("few builds")?;
     let host = booted(alloc, pages, builds)?;
-    work_together::<R, G, Brand, Brand, Brand, Brand, Brand, Brand, Brand, Brand>(
-        rt,
-        alloc,
-        Blanks::new(),
-        host,
-        gate,
-        plans,
-    )
+    work_together::<R, G, Brand>(rt, alloc, Blanks::new(), host, gate, plans)
 }
 
 #[test]

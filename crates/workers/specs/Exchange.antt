@@ -4,7 +4,7 @@ use Rattle.build_books.specs.declared.mark.Mark.{Mark}
 use Rattle.build_commands.specs.declared.cmd.Cmd.{Cmd}
 use Rattle.build_commands.specs.declared.refusal.Refusal.{Refusal}
 use Rattle.build_commands.specs.declared.reply.Reply.{Reply}
-use Rattle.realm_host.specs.declared.reply.Undone.{Undone}
+use Rattle.build_commands.specs.declared.undone.Undone.{Undone}
 
 -- A question with the teller's answer: a command, an undo, a mark, or how many acts are above a mark.
 pub data Exchange : Type 0 where

@@ -1,7 +1,6 @@
 //! What a worker reports.
-use build_commands::{Refusal, Reply};
+use build_commands::{Refusal, Reply, Undone};
 use granule_addr::{BuildId, RecNo};
-use realm_host::Undone;
 
 /// What a line of a report is about.
 #[derive(Clone, Copy, Debug, PartialEq, Eq)]

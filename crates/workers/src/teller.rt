@@ -4,9 +4,8 @@ ghost use Rattle.workers.specs.Exchange.{Exchange, Did, Undid, KeptMark, LookedB
 
 use crate::report::Stuck;
 use build_books::Mark;
-use build_commands::{Cmd, Refusal, Reply};
+use build_commands::{Cmd, Refusal, Reply, Undone};
 use granule_addr::BuildId;
-use realm_host::Undone;
 
 /// Who answers the worker of a build: a build's pass to a host, or what stands for one.
 pub trait Teller {

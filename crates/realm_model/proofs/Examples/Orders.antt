@@ -8,9 +8,9 @@ use Rattle.realm_model.specs.Command.Check.{check}
 use Rattle.realm_model.specs.Outcome.{outcome_of, fits}
 use Rattle.realm_model.specs.World.{World, updated_all}
 use Rattle.realm_model.specs.Step.{step}
-use Rattle.realm_model.specs.History.{after, replay, open_entries, IsLegal}
+use Rattle.realm_model.specs.History.{events_of, after, replay, open_entries, IsLegal}
 use Rattle.realm_model.specs.Undoing.{by}
-use Rattle.realm_model.specs.Interleaving.{events_of, HasSameEvents, GivesTo}
+use Rattle.realm_model.specs.Interleaving.{HasSameEvents, GivesTo}
 use Rattle.realm_model.proofs.Lists.{Contains-from_in}
 use Rattle.realm_model.proofs.TakenAlone.{none_there}
 use Rattle.realm_model.proofs.Examples.Worlds.{machine_of, page, delegated, start}

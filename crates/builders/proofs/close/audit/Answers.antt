@@ -2,7 +2,7 @@ use Rattle.std.proofs.Common.{◌≡◌, ◌<◌, get_or, set, ap, ◌∙◌, ru
 use Rattle.std.proofs.lemmas.List.Elements.{All-more}
 use Rattle.std.proofs.lemmas.List.{take_all, set-get_or}
 use Rattle.std.specs.List.{All}
-use Rattle.builders.specs.Lanes.{PassView}
+use Rattle.builders.specs.Passes.{PassView}
 use Rattle.builders.specs.Seats.{SeatView}
 use Rattle.builders.proofs.close.audit.Goals as goal
 

@@ -1,5 +1,5 @@
 use Rattle.std.specs.Prelude.{◌≡◌, ◌≤◌, ◌↔◌, drop, length}
-use Rattle.builders.specs.Seats.{events_of}
+use Rattle.realm_model.specs.History.{events_of}
 use Rattle.builders.proofs.close.is_trail.Given as goal
 
 -- what is left of both agrees exactly where the whole does

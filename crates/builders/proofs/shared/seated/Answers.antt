@@ -1,6 +1,6 @@
 use Rattle.std.proofs.Common.{◌≡◌, ℕ, ◌-◌, ◌<◌, map, length, sym, ap, ◌∙◌, arith, vec_len, rules, Some}
 use Rattle.std.specs.List.{range_with_len}
-use Rattle.builders.specs.Lanes.{PassView, unused}
+use Rattle.builders.specs.Passes.{PassView, unused}
 use Rattle.builders.specs.Seats.{new_seat}
 use Rattle.builders.proofs.Seating.{some_pass, pass_is, passes_left, trail_is, trails_left, seats_grow}
 use Rattle.builders.proofs.shared.seated.Goals as goal

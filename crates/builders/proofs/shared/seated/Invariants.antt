@@ -1,7 +1,7 @@
 use Rattle.std.specs.Prelude.{◌≡◌, ◌≤◌, ◌+◌, ◌-◌, [], map, replicate, vec_len, vec_capacity}
 use Rattle.std.specs.Array.Iter.{array_into_iter_items}
 use Rattle.std.specs.List.{range_with_len}
-use Rattle.builders.specs.Lanes.{unused}
+use Rattle.builders.specs.Passes.{unused}
 use Rattle.builders.specs.Seats.{new_seat}
 use Rattle.builders.proofs.shared.seated.Given as goal
 

@@ -1,5 +1,4 @@
-use Rattle.std.proofs.Common.{◌≡◌, ◌∷◌, ◌+◌, take}
-use Rattle.arrayvec.specs.ArrayVec.{array_vec_len}
+use Rattle.std.proofs.Common.{◌≡◌, ◌∷◌, take}
 use Rattle.plan_steps.proofs.spelling.rec_numbers.Given as goal
 
 abbrev pub invariant-loop-auxiliary : goal.invariant-loop-auxiliary

@@ -20,7 +20,7 @@ run_builds-requires-after_bounds g c κs within =
 
 pub returns-in-Err-run_builds-clause-err : goal.returns-in-Err-run_builds-clause-err
 returns-in-Err-run_builds-clause-err g c =
-    is_stuck (plan_view c.args.plan.now) (g.G.Gate.passes c.args.gate.now) (g.G.Gate.stops c.args.gate.now) g.L0.Lane.opened c.args.host c.requires.opened
+    is_stuck (plan_view c.args.plan.now) (g.G.Gate.passes c.args.gate.now) (g.G.Gate.stops c.args.gate.now) g.L.Ledgers.opened c.args.host c.requires.opened
     c.as_mut_slice.result.now c.run_builds.new.workers (c.as_mut_slice.ensures.value ∙ c.in_ok-workers.ensures) c.run_builds.ensures.run c.in-Err-run_builds.build c.in-Err-run_builds.ensures.told
 
 pub returns-in_default-close-clause-err : goal.returns-in_default-close-clause-err
@@ -31,10 +31,10 @@ returns-in_default-close-clause-err g c =
     let old = c.as_mut_slice.result.now in
     let new = c.run_builds.new.workers in
     let ran = c.run_builds.ensures.run in
-    let count = same_length g.L0.Lane.opened passes stops old new ran ∙ ap (λ ws. length ws) c.as_mut_slice.ensures.value ∙ sym c.in_ok-workers.workers.ok.0 in
+    let count = same_length g.L.Ledgers.opened passes stops old new ran ∙ ap (λ ws. length ws) c.as_mut_slice.ensures.value ∙ sym c.in_ok-workers.workers.ok.0 in
     let back = take_at new _ c.in_ok-workers.workers.len count in
     let seats_are = c.in_ok-seats.ensures.seats ∙ ap (λ ws. seats_of ws) back in
-    not_closed plan passes stops g.L0.Lane.opened c.args.host c.requires.opened old new (c.as_mut_slice.ensures.value ∙ c.in_ok-workers.ensures) ran c.in_default.ensures.told
+    not_closed plan passes stops g.L.Ledgers.opened c.args.host c.requires.opened old new (c.as_mut_slice.ensures.value ∙ c.in_ok-workers.ensures) ran c.in_default.ensures.told
     c.in_default-close.field-0.1 c.in_ok-seats.field-0.seats.items seats_are
     c.in_default-close.field-0.0 c.in_default-close.ensures.host c.in_default-close.ensures.fault
 
@@ -46,11 +46,11 @@ returns-then-not-branch-clause-err g c =
     let old = c.as_mut_slice.result.now in
     let new = c.run_builds.new.workers in
     let ran = c.run_builds.ensures.run in
-    let count = same_length g.L0.Lane.opened passes stops old new ran ∙ ap (λ ws. length ws) c.as_mut_slice.ensures.value ∙ sym c.in_ok-workers.workers.ok.0 in
+    let count = same_length g.L.Ledgers.opened passes stops old new ran ∙ ap (λ ws. length ws) c.as_mut_slice.ensures.value ∙ sym c.in_ok-workers.workers.ok.0 in
     let back = take_at new _ c.in_ok-workers.workers.len count in
     let seats_are = c.in_ok-seats.ensures.seats ∙ ap (λ ws. seats_of ws) back in
     let reports = subst (λ ws. AllZip IsReportOf ws c.in_ok-seats.field-0.reports.items) back c.in_ok-seats.ensures.reports in
-    misfit plan passes stops g.L0.Lane.opened c.args.host c.requires.opened old new (c.as_mut_slice.ensures.value ∙ c.in_ok-workers.ensures) ran c.in_default.ensures.told
+    misfit plan passes stops g.L.Ledgers.opened c.args.host c.requires.opened old new (c.as_mut_slice.ensures.value ∙ c.in_ok-workers.ensures) ran c.in_default.ensures.told
     c.in-Ok-close.host c.in_ok-seats.field-0.seats.items seats_are
     c.in_ok-seats.field-0.reports.items reports c.in-Ok-close.ensures.host
     (λ fit. false≢true (sym c.if-not-branch.true ∙ c.in_ok-fit_all.ensures.1
@@ -64,11 +64,11 @@ returns-clause-ok g c =
     let old = c.as_mut_slice.result.now in
     let new = c.run_builds.new.workers in
     let ran = c.run_builds.ensures.run in
-    let count = same_length g.L0.Lane.opened passes stops old new ran ∙ ap (λ ws. length ws) c.as_mut_slice.ensures.value ∙ sym c.in_ok-workers.workers.ok.0 in
+    let count = same_length g.L.Ledgers.opened passes stops old new ran ∙ ap (λ ws. length ws) c.as_mut_slice.ensures.value ∙ sym c.in_ok-workers.workers.ok.0 in
     let back = take_at new _ c.in_ok-workers.workers.len count in
     let seats_are = c.in_ok-seats.ensures.seats ∙ ap (λ ws. seats_of ws) back in
     let reports = subst (λ ws. AllZip IsReportOf ws c.in_ok-seats.field-0.reports.items) back c.in_ok-seats.ensures.reports in
-    is_text plan passes stops g.L0.Lane.opened c.args.host c.requires.opened old new (c.as_mut_slice.ensures.value ∙ c.in_ok-workers.ensures) ran c.in_default.ensures.told
+    is_text plan passes stops g.L.Ledgers.opened c.args.host c.requires.opened old new (c.as_mut_slice.ensures.value ∙ c.in_ok-workers.ensures) ran c.in_default.ensures.told
     c.in-Ok-close.host c.in_ok-seats.field-0.seats.items seats_are
     c.in_ok-seats.field-0.reports.items reports c.in-Ok-close.ensures.host (string_bytes c.in_ok-text_of.field-0) c.in-Ok-close.ensures.closed
     (subst (λ h. All (ReportFits h) c.in_ok-seats.field-0.reports.items) c.history.ensures.events (subst (λ rs. All (ReportFits c.history.result.now) rs) c.as_slice.ensures.value (c.in_ok-fit_all.ensures.0 c.if-not-branch.false)))

@@ -1,5 +1,5 @@
 use Rattle.std.proofs.Common.{◌≡◌, drop}
-use Rattle.builders.specs.Seats.{events_of}
+use Rattle.realm_model.specs.History.{events_of}
 use Rattle.report_audit.proofs.audit.next_of.Given as goal
 
 -- no event of the build was passed

@@ -5,4 +5,4 @@ use Rattle.builders.proofs.teller.SeatTellerTeller.check_back.Goals as goal
 
 pub returns-clause-told : goal.returns-clause-told
 returns-clause-told g c =
-    answer_more g.L0.Lane.opened _ _ _ (ap (λ (s : SeatView). s.build) c.check_back.ensures.seat) (c.check_back.ensures.told, c.check_back.ensures.seat)
+    answer_more g.L.Ledgers.opened _ _ _ (ap (λ (s : SeatView). s.build) c.check_back.ensures.seat) (c.check_back.ensures.told, c.check_back.ensures.seat)

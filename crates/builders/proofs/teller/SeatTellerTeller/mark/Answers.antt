@@ -5,4 +5,4 @@ use Rattle.builders.proofs.teller.SeatTellerTeller.mark.Goals as goal
 
 pub returns-clause-told : goal.returns-clause-told
 returns-clause-told g c =
-    answer_more g.L0.Lane.opened _ _ _ (ap (λ (s : SeatView). s.build) c.mark.ensures.seat) (c.mark.ensures.told, c.mark.ensures.seat)
+    answer_more g.L.Ledgers.opened _ _ _ (ap (λ (s : SeatView). s.build) c.mark.ensures.seat) (c.mark.ensures.told, c.mark.ensures.seat)

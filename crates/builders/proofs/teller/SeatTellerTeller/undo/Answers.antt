@@ -3,4 +3,4 @@ use Rattle.builders.proofs.teller.SeatTellerTeller.undo.Goals as goal
 
 pub returns-clause-told : goal.returns-clause-told
 returns-clause-told g c =
-    answer_more g.L0.Lane.opened _ _ _ (undone_build g.L0.Lane.opened _ _ _ c.undo.ensures.told c.undo.ensures.refused) (undone g.L0.Lane.opened _ _ _ c.undo.ensures.told c.undo.ensures.refused)
+    answer_more g.L.Ledgers.opened _ _ _ (undone_build g.L.Ledgers.opened _ _ _ c.undo.ensures.told c.undo.ensures.refused) (undone g.L.Ledgers.opened _ _ _ c.undo.ensures.told c.undo.ensures.refused)

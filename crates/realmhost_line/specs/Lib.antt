@@ -1,0 +1,2 @@
+pub mod Program
+pub mod Line

@@ -1,0 +1,10 @@
+-- Why nothing is printed of a run in threads.
+use Rattle.plan_threads.specs.declared.fault.RunFault.{RunFault}
+use Rattle.plan_threads.specs.declared.fault.RunFault.TheVariants as run_fault
+use Rattle.realm_program.specs.declared.fault.Fault.{Fault}
+use Rattle.realm_program.specs.declared.fault.Fault.TheVariants.{Memory, Stuck, Mismatch}
+
+abbrev pub fault_of_run : RunFault → Fault
+fault_of_run run_fault.Memory = Memory
+fault_of_run (run_fault.Stuck build) = Stuck build
+fault_of_run run_fault.Mismatch = Mismatch

@@ -1,0 +1,71 @@
+//! A plan in, the text of its run in threads out.
+ghost use Rattle.std.specs.Prelude.{◌≡◌, ◌+◌, ◌≤◌, ◌↔◌, ◌⊎◌, false, true, Err, IfOk, IfErr, string_bytes};
+ghost use Rattle.realm_plan.specs.PlanView.{plan_view};
+ghost use Rattle.realm_program.specs.Printed.{IsEnd};
+ghost use Rattle.run_program.specs.Threads.{IsThreadsText, IsWithoutThreadsText};
+ghost use Rattle.run_program.specs.Fault.{fault_of_run};
+ghost use Rattle.realm_program.specs.declared.fault.Fault.TheVariants.{Device};
+
+use buddy::BuddyArena;
+use plan_threads::{RunFault, run_text};
+use realm_plan::Plan;
+use realm_program::{Fault, boot, plan_in};
+use std::alloc::Global;
+use std::io::{Read, Write};
+use std::marker::Sync;
+use std::sync::Wait;
+use std::thread::Threads;
+use told_device::Told;
+use workers::Gate;
+
+// The program's word for why there is no text.
+fn fault_of(fault: RunFault) -> Fault
+    ensures { result ≡ fault_of_run fault }
+{
+    match fault {
+        RunFault::Memory => Fault::Memory,
+        RunFault::Stuck(build) => Fault::Stuck(build),
+        RunFault::Mismatch => Fault::Mismatch,
+    }
+}
+
+// The text of a run of the plan in threads.
+fn threads_text_of<H: Threads + Wait + Sync, G: Gate + Sync>(
+    rt: &H,
+    alloc: Global,
+    plan: &Plan,
+    gate: &G,
+) -> Result<String, Fault>
+    ensures ok { IfOk result (λ text. IsThreadsText (G.passes gate.now) (G.stops gate.now) (plan_view plan.now) (string_bytes text)) }
+    ensures err { IfErr result (IsWithoutThreadsText (G.passes gate.now) (G.stops gate.now) (plan_view plan.now)) }
+{
+    let host = boot::<BuddyArena>(alloc, plan)?;
+    run_text(rt, alloc, plan, host, gate).map_err(fault_of)
+}
+
+/// Reads a plan, runs each of its builds by a worker in a thread of its own, with its turns from the gate, and writes the text
+/// of the run. The plan's order of turns plays no part.
+///
+/// The text is made whole before any of it is written. Errors: the fault of a plan; Stuck, with the lowest build whose worker
+/// waited in vain for a turn; Mismatch, where the events of a build's seat are not what the history has of the build, or a
+/// report does not fit it; Memory, where a growth was refused; Device, where a read failed, and then nothing is written, or a
+/// write, and then a front of the text is.
+pub fn run<H: Threads + Wait + Sync, R: Read, W: Write, G: Gate + Sync>(
+    rt: &H,
+    alloc: Global,
+    input: &mut Told<R>,
+    output: &mut Told<W>,
+    gate: &G,
+) -> Result<(), Fault>
+    requires readable { input.old.failed ≡ false }
+    requires writable { output.old.failed ≡ false }
+    ensures end { IsEnd (IsThreadsText (G.passes gate.now) (G.stops gate.now)) (IsWithoutThreadsText (G.passes gate.now) (G.stops gate.now)) input.new.failed
+        (R.remaining input.old.device) (W.contents output.old.device) (W.contents output.new.device) result }
+    ensures device { ((input.new.failed ≡ true) ⊎ (output.new.failed ≡ true)) ↔ (result ≡ Err Device) }
+    ensures asked { input.new.reads ≤ input.old.reads + 1048578 }
+{
+    let plan = plan_in(alloc, input)?;
+    let text = threads_text_of(rt, alloc, &plan, gate)?;
+    output.write_whole(text.as_bytes())?;
+    Ok(())
+}

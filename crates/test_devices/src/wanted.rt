@@ -1,0 +1,15 @@
+//! What is seen, compared with what is wanted.
+//!
+//! A test is proved before it runs, and each comparison in its body branches: written out there, a row of them costs far
+//! more than a row of these calls.
+use std::process::Abort;
+
+/// What is seen is what is wanted.
+pub fn equal(rt: &impl Abort, what: &str, seen: u64, want: u64) {
+    assert_eq!(rt; seen, want, "{what}");
+}
+
+/// It holds: 1, and not 0.
+pub fn holds(rt: &impl Abort, what: &str, is_so: bool) {
+    equal(rt, what, u64::from(is_so), 1);
+}
