@@ -19,3 +19,4 @@ pub mod Calls
 pub mod Applied
 pub mod LeftOut
 pub mod There
+pub mod Interleaved

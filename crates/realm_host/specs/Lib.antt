@@ -11,3 +11,4 @@ pub mod Served
 pub mod Abort
 pub mod Marked
 pub mod Recorded
+pub mod Interleaving

@@ -11,6 +11,7 @@ mod apply;
 mod block;
 mod command;
 mod host;
+pub mod law;
 mod marks;
 mod picks;
 mod reply;

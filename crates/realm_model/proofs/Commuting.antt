@@ -53,13 +53,15 @@ is_taken limits b (Take order first) w v g stepped i =
 is_taken limits b act w v g stepped i = cc
 
 -- what is given back was the build's
-was_held : (limits : Limits) (b : ℕ) (act : Act) (w v : World) (g : ℕ) → step limits w (by b act) ≡ Some v → is_in g (granules_given_back act) ≡ true → slice_get w.leases g ≡ Some (Some b)
+was_held : (limits : Limits) (b : ℕ) (act : Act) (w v : World) (g : ℕ) → step limits w (by b act) ≡ Some v → is_in g (granules_given_back act) ≡ true
+    → slice_get w.leases g ≡ Some (Some b)
 unfolding named
 was_held limits b (UnTake order first) w v g stepped i = named_lease limits w v (by b (UnTake order first)) g stepped i
 was_held limits b act w v g stepped i = cc
 
 -- a lease that changes is of a granule that is taken or given back
-changed : (b : ℕ) (act : Act) (leases : List (Option ℕ)) (g : ℕ) → is_in g (granules_taken act) ≡ false → is_in g (granules_given_back act) ≡ false → slice_get (leases_after b act leases) g ≡ slice_get leases g
+changed : (b : ℕ) (act : Act) (leases : List (Option ℕ)) (g : ℕ) → is_in g (granules_taken act) ≡ false → is_in g (granules_given_back act) ≡ false
+    → slice_get (leases_after b act leases) g ≡ slice_get leases g
 changed b (Take order first) leases g taken given = set_elsewhere (Some b) (block order first) leases g taken
 changed b (UnTake order first) leases g taken given = set_elsewhere None (block order first) leases g given
 changed b act leases g taken given = refl
@@ -68,7 +70,8 @@ same_lease_of : (a b : Option ℕ) (o : Option (Option ℕ)) → o ≡ Some a �
 same_lease_of a b o e f = same_Some _ _ (sym e ∙ f)
 
 -- the build's before, and nobody's then, so it is given back
-is_given_back : (limits : Limits) (b : ℕ) (act : Act) (w v : World) (g : ℕ) → step limits w (by b act) ≡ Some v → slice_get w.leases g ≡ Some (Some b) → slice_get v.leases g ≡ Some None → is_in g (granules_given_back act) ≡ true
+is_given_back : (limits : Limits) (b : ℕ) (act : Act) (w v : World) (g : ℕ) → step limits w (by b act) ≡ Some v → slice_get w.leases g ≡ Some (Some b)
+    → slice_get v.leases g ≡ Some None → is_in g (granules_given_back act) ≡ true
 is_given_back limits b act w v g stepped before then = by_test (is_in g (granules_given_back act)) refl
   where
     not_taken : is_in g (granules_taken act) ≡ false
@@ -81,7 +84,8 @@ is_given_back limits b act w v g stepped before then = by_test (is_in g (granule
         let e = same_lease_of (Some b) None _ (kept ∙ before) then in cc
 
 -- nobody's before, and the build's then, so it is taken
-is_newly_taken : (limits : Limits) (b : ℕ) (act : Act) (w v : World) (g : ℕ) → step limits w (by b act) ≡ Some v → slice_get w.leases g ≡ Some None → slice_get v.leases g ≡ Some (Some b) → is_in g (granules_taken act) ≡ true
+is_newly_taken : (limits : Limits) (b : ℕ) (act : Act) (w v : World) (g : ℕ) → step limits w (by b act) ≡ Some v → slice_get w.leases g ≡ Some None
+    → slice_get v.leases g ≡ Some (Some b) → is_in g (granules_taken act) ≡ true
 is_newly_taken limits b act w v g stepped before then = by_test (is_in g (granules_taken act)) refl
   where
     not_given : is_in g (granules_given_back act) ≡ false
@@ -283,7 +287,8 @@ module _ (limits : Limits) (history : List Event) (one other : Event) (apart : o
         free : (g : ℕ) → is_in g (granules_taken one.act) ≡ true → slice_get v.leases g ≡ Some (Some other.build) → ⊥
         free g i held =
             let taken = is_newly_taken limits other.build other.act run.base v g first (was_free limits one.build one.act run.base run.middle g run.one_goes i) held in
-            let e = same_lease_of (Some one.build) None _ (is_taken limits one.build one.act run.base run.middle g run.one_goes i) (was_free limits other.build other.act run.middle run.end g run.other_goes taken) in cc
+            let e = same_lease_of (Some one.build) None _ (is_taken limits one.build one.act run.base run.middle g run.one_goes i)
+            (was_free limits other.build other.act run.middle run.end g run.other_goes taken) in cc
 
         unused : (n : ℕ) → is_in n (vmids_taken one.act) ≡ true → is_in n (used_vmids v.machine) ≡ false
         unused n i = false_from _ (λ used.
@@ -292,7 +297,8 @@ module _ (limits : Limits) (history : List Event) (one other : Event) (apart : o
             false_from _ (λ taken. true_false _
             (used_if_open limits (history ++ one ∷ []) run.middle after_one.legal after_one.world_is n one.build (is_open history one.build one.act run.turn_one n i))
             (vmid_unused limits run.middle run.end other run.other_goes n taken)) in
-            true_false _ (used_if_open limits history run.base run.legal run.base_is n user.0 (open_before history other.build other.act (turn_before history one other apart run.turn_other) n user.0 user.1 old))
+            true_false _ (used_if_open limits history run.base run.legal run.base_is n user.0
+            (open_before history other.build other.act (turn_before history one other apart run.turn_other) n user.0 user.1 old))
             (vmid_unused limits run.base run.middle one run.one_goes n i))
 
     swapped : IsLegal limits (history ++ other ∷ one ∷ [])
@@ -307,7 +313,8 @@ module _ (limits : Limits) (history : List Event) (one other : Event) (apart : o
       let first : step limits run.base other ≡ Some turned.middle = ap (λ w. step limits w other) (sym same) ∙ turned.one_goes in
       elim gives [
         | inl granule ↦
-            let e = same_lease_of (Some one.build) None _ (was_held limits one.build one.act run.base run.middle granule.0 run.one_goes (in_from_Contains (granules_given_back one.act) granule.0 granule.1))
+            let e = same_lease_of (Some one.build) None _
+            (was_held limits one.build one.act run.base run.middle granule.0 run.one_goes (in_from_Contains (granules_given_back one.act) granule.0 granule.1))
             (was_free limits other.build other.act run.base turned.middle granule.0 first (in_from_Contains (granules_taken other.act) granule.0 granule.2)) in cc
         | inr vmid ↦
             true_false _ (used_if_open limits history run.base run.legal run.base_is vmid.0 one.build
@@ -322,7 +329,8 @@ module _ (limits : Limits) (history : List Event) (one other : Event) (apart : o
       ∙ ap (λ es. events_of c history ++ es) (by_tests (one.build == c) (other.build == c) refl refl)
       ∙ sym (filter-append (λ x. x.build == c) history (one ∷ other ∷ []))
     where
-      by_tests : (p q : Bool) → (one.build == c) ≡ p → (other.build == c) ≡ q → cond q (other ∷ cond p (one ∷ []) []) (cond p (one ∷ []) []) ≡ cond p (one ∷ cond q (other ∷ []) []) (cond q (other ∷ []) [])
+      by_tests : (p q : Bool) → (one.build == c) ≡ p → (other.build == c) ≡ q
+          → cond q (other ∷ cond p (one ∷ []) []) (cond p (one ∷ []) []) ≡ cond p (one ∷ cond q (other ∷ []) []) (cond q (other ∷ []) [])
       by_tests true true e f = absurd (apart (eqb-true one.build c e ∙ sym (eqb-true other.build c f)))
       by_tests true false e f = refl
       by_tests false true e f = refl

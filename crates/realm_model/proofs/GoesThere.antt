@@ -28,8 +28,8 @@ use Rattle.realm_model.proofs.StepSays.{step_is}
 -- ---- VMIDs
 
 -- what is no refusal is none where the VMID that is taken is not in use
-outcome_of-taken : (limits : Limits) (used others : List ℕ) (act : Act) → ((v : ℕ) → is_in v (vmids_taken act) ≡ true → is_in v others ≡ false) → (realm : Option Seen) (gs : List Seen) (us : List Update)
-    → outcome_of limits.vmids limits.aux used act realm gs ≡ Ok us → outcome_of limits.vmids limits.aux others act realm gs ≡ Ok us
+outcome_of-taken : (limits : Limits) (used others : List ℕ) (act : Act) → ((v : ℕ) → is_in v (vmids_taken act) ≡ true → is_in v others ≡ false)
+    → (realm : Option Seen) (gs : List Seen) (us : List Update) → outcome_of limits.vmids limits.aux used act realm gs ≡ Ok us → outcome_of limits.vmids limits.aux others act realm gs ≡ Ok us
 unfolding outcome_of
 outcome_of-taken limits used others (Realm rd root v) free realm [] us e = e
 outcome_of-taken limits used others (Realm rd root v) free realm (g ∷ gs) us e =

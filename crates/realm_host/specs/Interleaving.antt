@@ -1,0 +1,52 @@
+-- Two hosts that differ in the order of their builds' events alone, and that no call tells apart.
+use Rattle.std.specs.Prelude.{◌≡◌, ℕ, List, map, Option, option_map, Result}
+use Rattle.realm_model.specs.History.{IsLegal}
+use Rattle.realm_model.specs.Interleaving.{HasSameEvents}
+use Rattle.build_books.specs.declared.mark.Mark.{Mark}
+use Rattle.build_books.specs.View.{HostView, world_of, open_of, pages_of_build, used}
+use Rattle.build_commands.specs.declared.refusal.Refusal.{Refusal}
+use Rattle.realm_host.specs.Abort.{IsBegun, IsAbortAnswer}
+use Rattle.realm_host.specs.Answer.{IsAnswer}
+use Rattle.realm_host.specs.Call.{Call}
+use Rattle.realm_host.specs.declared.reply.Answer.{Answer}
+
+-- how many acts were open at the mark of each build
+abbrev pub depths_of : HostView → List (Option ℕ)
+depths_of host = map (λ mark. option_map (λ (m : Mark). m.length) mark) host.marks
+
+-- Both are legal, of the same machine, and have the same events of each build, each build's in the same order.
+pub record DidTheSame (host twin : HostView) : Type 0 where
+  pub legal : IsLegal host.limits host.history
+  pub twin_legal : IsLegal twin.limits twin.history
+  pub limits : twin.limits ≡ host.limits
+  pub events : HasSameEvents host.history twin.history
+
+-- They have the same world, and of each build the same acts open, the same pages, and as much of its room used.
+pub record LookTheSame (host twin : HostView) : Type 0 where
+  pub world : world_of twin ≡ world_of host
+  pub opened : (build : ℕ) → open_of twin build ≡ open_of host build
+  pub pages : (build : ℕ) → pages_of_build twin build ≡ pages_of_build host build
+  pub room : (build : ℕ) → used twin build ≡ used host build
+
+-- Besides, there is as much room in both, the same builds are in abort, and their marks are as deep.
+pub record DifferInOrder (host twin : HostView) : Type 0 where
+  pub same : DidTheSame host twin
+  pub capacity : twin.capacity ≡ host.capacity
+  pub aborting : twin.aborting ≡ host.aborting
+  pub depths : depths_of twin ≡ depths_of host
+
+-- What can be answered to one can be answered to the other, and after it they differ in the order alone again.
+pub record IsAlsoAnswered (IsAnswered : HostView → Type 0) (new : HostView) : Type 0 where
+  pub then : HostView
+  pub answered : IsAnswered then
+  pub differ : DifferInOrder new then
+
+-- to a command or an undo, to the begin of an abort, and to a whole abort
+abbrev pub CallTellsNothing : HostView → HostView → ℕ → Call → Answer → HostView → Type 0
+CallTellsNothing host twin build call answer new = IsAnswer host build call answer new → IsAlsoAnswered (IsAnswer twin build call answer) new
+
+abbrev pub BeginTellsNothing : HostView → HostView → ℕ → Result ℕ Refusal → HostView → Type 0
+BeginTellsNothing host twin build result new = IsBegun host build result new → IsAlsoAnswered (IsBegun twin build result) new
+
+abbrev pub AbortTellsNothing : HostView → HostView → ℕ → Result ℕ Refusal → HostView → Type 0
+AbortTellsNothing host twin build result new = IsAbortAnswer host build result new → IsAlsoAnswered (IsAbortAnswer twin build result) new
