@@ -1,0 +1,15 @@
+-- Events as they are written.
+use Rattle.std.specs.Prelude.{◌≡◌, ℕ, ◌<◌, List, ◌∷◌, ◌++◌}
+use Rattle.std.specs.Fmt.{decimal}
+use Rattle.realm_model.specs.declared.act.Event.{Event}
+use Rattle.history_text.specs.Written.{act_text, IsInRange}
+
+-- the build, a space, and what it did
+abbrev pub event_text : Event → List ℕ
+event_text event = decimal event.build ++ (32 ∷ act_text event.act)
+
+-- the text is that of the event, whose numbers are in their ranges
+pub record IsEventText (text : List ℕ) (event : Event) : Type 0 where
+  pub is_written : text ≡ event_text event
+  pub build : event.build < 8
+  pub act : IsInRange event.act

@@ -1,0 +1,48 @@
+-- Histories as they are written: the size of the machine, and an event a line.
+use Rattle.std.specs.Prelude.{◌≡◌, ℕ, ◌≤◌, List, [], ◌∷◌, ◌++◌, codes, Option, Some, None}
+use Rattle.std.specs.List.{flat_map}
+use Rattle.number_text.specs.Grammar.{spelled}
+use Rattle.number_text.specs.Ranges.{AreAtMost}
+use Rattle.realm_model.specs.declared.act.Event.{Event}
+use Rattle.realm_model.specs.History.{erase}
+use Rattle.history_text.specs.declared.opening.Opening.{Opening}
+use Rattle.history_text.specs.Events.{event_text}
+
+-- pages, VMIDs, auxiliary granules of a REC, the room of each build in the history, and builds
+abbrev pub opening_numbers : Opening → List ℕ
+opening_numbers o = o.pages ∷ o.vmids ∷ o.aux ∷ o.history ∷ o.builds ∷ []
+
+abbrev pub opening_maxima : List ℕ
+opening_maxima = 4096 ∷ 255 ∷ 16 ∷ 16384 ∷ 8 ∷ []
+
+-- the first line: that this is a history, as they are written by version 1, and the size of the machine
+abbrev pub opening_text : Opening → List ℕ
+opening_text o = spelled (codes "history 1") (opening_numbers o)
+
+-- no number is too low
+pub record HasEnough (o : Opening) : Type 0 where
+  pub pages : 1 ≤ o.pages
+  pub vmids : 1 ≤ o.vmids
+  pub history : 16 ≤ o.history
+  pub builds : 1 ≤ o.builds
+
+-- there is a machine of this size
+pub record IsSize (o : Opening) : Type 0 where
+  pub at_most : AreAtMost (opening_numbers o) opening_maxima
+  pub enough : HasEnough o
+
+pub record IsOpeningText (text : List ℕ) (o : Opening) : Type 0 where
+  pub is_written : text ≡ opening_text o
+  pub size : IsSize o
+
+-- each event with its line feed
+abbrev pub events_text : List Event → List ℕ
+events_text events = flat_map (λ event. event_text event ++ 10 ∷ []) events
+
+abbrev pub history_text : Opening → List Event → List ℕ
+history_text o events = opening_text o ++ (10 ∷ events_text events)
+
+-- the events that are shown: all, or all but those of a build
+abbrev pub shown : Option ℕ → List Event → List Event
+shown None events = events
+shown (Some build) events = erase build events

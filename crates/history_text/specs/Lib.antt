@@ -1,0 +1,4 @@
+pub mod Written
+pub mod Acts
+pub mod Events
+pub mod Histories

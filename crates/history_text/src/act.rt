@@ -1,0 +1,314 @@
+//! The act that a word and its numbers are.
+ghost use Rattle.std.specs.Prelude.{◌≡◌, ◌≤◌, codes, IfSome, IfNone};
+ghost use Rattle.history_text.specs.Acts.{realm_row, table_row, rec_row, page_act_at, realm_act_at, table_act_at, data_act_at, rec_act_at, act_at, act_of};
+
+use crate::granules::{GRANULE, IPA, granule_of, granules_of, ipa_of};
+use arrayvec::ArrayVec;
+use granule_addr::{Gran, IpaGran, IpaWidth, Level, Order, PageOff, RecNo, Root, Vmid};
+use number_text::{at_most, cut_at_space, numbers_of};
+use realm_model::Act;
+
+// The greatest number of each operand.
+const ORDER: u32 = 9;
+
+const OFFSET: u32 = 4095;
+
+const WIDTH: u32 = 43;
+
+const LEVEL: u32 = 3;
+
+const U8: u32 = 255;
+
+const U16: u32 = 65_535;
+
+/// The most numbers that an act has: a REC's granule, its number, and its auxiliary granules.
+const MOST_NUMBERS: usize = 18;
+
+fn order_of(number: u32) -> Order
+    requires { number ≤ 9 }
+    ensures { result ≡ number }
+{
+    Order::new(number as u8).unwrap()
+}
+
+fn offset_of(number: u32) -> PageOff
+    requires { number ≤ 4095 }
+    ensures { result ≡ number }
+{
+    PageOff::new(number as u16).unwrap()
+}
+
+fn take(numbers: &[u32]) -> Option<Act>
+    ensures { result ≡ page_act_at (codes "take") numbers.now }
+{
+    let [order, first] = at_most(numbers, [ORDER, GRANULE])?;
+    Some(Act::Take {
+        order: order_of(order),
+        first: granule_of(first),
+    })
+}
+
+fn untake(numbers: &[u32]) -> Option<Act>
+    ensures { result ≡ page_act_at (codes "untake") numbers.now }
+{
+    let [order, first] = at_most(numbers, [ORDER, GRANULE])?;
+    Some(Act::UnTake {
+        order: order_of(order),
+        first: granule_of(first),
+    })
+}
+
+fn fill(numbers: &[u32]) -> Option<Act>
+    ensures { result ≡ page_act_at (codes "fill") numbers.now }
+{
+    let [granule, value] = at_most(numbers, [GRANULE, U8])?;
+    Some(Act::Fill {
+        granule: granule_of(granule),
+        value: value as u8,
+    })
+}
+
+fn peek(numbers: &[u32]) -> Option<Act>
+    ensures { result ≡ page_act_at (codes "peek") numbers.now }
+{
+    let [granule, offset, byte] = at_most(numbers, [GRANULE, OFFSET, U8])?;
+    Some(Act::Peek {
+        granule: granule_of(granule),
+        offset: offset_of(offset),
+        byte: byte as u8,
+    })
+}
+
+fn delegate(numbers: &[u32]) -> Option<Act>
+    ensures { result ≡ page_act_at (codes "delegate") numbers.now }
+{
+    let [granule] = at_most(numbers, [GRANULE])?;
+    Some(Act::Delegate {
+        granule: granule_of(granule),
+    })
+}
+
+fn undelegate(numbers: &[u32]) -> Option<Act>
+    ensures { result ≡ page_act_at (codes "undelegate") numbers.now }
+{
+    let [granule] = at_most(numbers, [GRANULE])?;
+    Some(Act::Undelegate {
+        granule: granule_of(granule),
+    })
+}
+
+fn page_act(word: &str, numbers: &[u32]) -> Option<Act>
+    ensures { result ≡ page_act_at word.now numbers.now }
+{
+    match word {
+        "take" => take(numbers),
+        "untake" => untake(numbers),
+        "fill" => fill(numbers),
+        "peek" => peek(numbers),
+        "delegate" => delegate(numbers),
+        "undelegate" => undelegate(numbers),
+        _ => None,
+    }
+}
+
+// The RD of a realm, its starting tables and its VMID.
+fn realm(numbers: &[u32]) -> Option<(Gran, Root, Vmid)>
+    ensures { result ≡ realm_row (λ rd root vmid. (rd, root, vmid)) numbers.now }
+{
+    let [rd, first, width, vmid] = at_most(numbers, [GRANULE, GRANULE, WIDTH, U8])?;
+    let width = IpaWidth::new(width as u8)?;
+    let vmid = Vmid::new(vmid as u8)?;
+    let root = Root {
+        first: granule_of(first),
+        width,
+    };
+    Some((granule_of(rd), root, vmid))
+}
+
+fn realm_act(word: &str, numbers: &[u32]) -> Option<Act>
+    ensures { result ≡ realm_act_at word.now numbers.now }
+{
+    match word {
+        "realm" => {
+            let (rd, root, vmid) = realm(numbers)?;
+            Some(Act::Realm { rd, root, vmid })
+        }
+        "unrealm" => {
+            let (rd, root, vmid) = realm(numbers)?;
+            Some(Act::UnRealm { rd, root, vmid })
+        }
+        "activate" => {
+            let [] = at_most(numbers, [])?;
+            Some(Act::Activate)
+        }
+        _ => None,
+    }
+}
+
+// The granule of a table, an IPA granule, and the level.
+fn table(numbers: &[u32]) -> Option<(Gran, IpaGran, Level)>
+    ensures { result ≡ table_row (λ g i l. (g, i, l)) numbers.now }
+{
+    let [granule, ipa, level] = at_most(numbers, [GRANULE, IPA, LEVEL])?;
+    let level = Level::new(level as u8)?;
+    Some((granule_of(granule), ipa_of(ipa), level))
+}
+
+fn table_act(word: &str, numbers: &[u32]) -> Option<Act>
+    ensures { result ≡ table_act_at word.now numbers.now }
+{
+    match word {
+        "rtt" => {
+            let (granule, ipa, level) = table(numbers)?;
+            Some(Act::Rtt {
+                granule,
+                ipa,
+                level,
+            })
+        }
+        "unrtt" => {
+            let (granule, ipa, level) = table(numbers)?;
+            Some(Act::UnRtt {
+                granule,
+                ipa,
+                level,
+            })
+        }
+        "ripas" => {
+            let [ipa, count] = at_most(numbers, [IPA, U16])?;
+            Some(Act::Ripas {
+                ipa: ipa_of(ipa),
+                count: count as u16,
+            })
+        }
+        _ => None,
+    }
+}
+
+fn data_act(word: &str, numbers: &[u32]) -> Option<Act>
+    ensures { result ≡ data_act_at word.now numbers.now }
+{
+    match word {
+        "data" => {
+            let [granule, ipa, source] = at_most(numbers, [GRANULE, IPA, GRANULE])?;
+            Some(Act::Data {
+                granule: granule_of(granule),
+                ipa: ipa_of(ipa),
+                source: granule_of(source),
+            })
+        }
+        "unknown" => {
+            let [granule, ipa] = at_most(numbers, [GRANULE, IPA])?;
+            Some(Act::Unknown {
+                granule: granule_of(granule),
+                ipa: ipa_of(ipa),
+            })
+        }
+        "undata" => {
+            let [granule, ipa] = at_most(numbers, [GRANULE, IPA])?;
+            Some(Act::UnData {
+                granule: granule_of(granule),
+                ipa: ipa_of(ipa),
+            })
+        }
+        _ => None,
+    }
+}
+
+// The granule of a REC, its auxiliary granules, and its number.
+fn rec(numbers: &[u32]) -> Option<(Gran, ArrayVec<Gran, 16>, RecNo)>
+    ensures { result ≡ rec_row (λ g auxiliaries number. (g, auxiliaries, number)) numbers.now }
+{
+    let [granule, number, more @ ..] = numbers else {
+        return None;
+    };
+    let [granule, number] = at_most(&[*granule, *number], [GRANULE, U16])?;
+    let auxiliaries = granules_of(more)?;
+    Some((granule_of(granule), auxiliaries, RecNo::new(number as u16)))
+}
+
+fn enter(numbers: &[u32]) -> Option<Act>
+    ensures { result ≡ rec_act_at (codes "enter") numbers.now }
+{
+    let [number] = at_most(numbers, [U16])?;
+    Some(Act::Enter {
+        number: RecNo::new(number as u16),
+    })
+}
+
+fn exit(numbers: &[u32]) -> Option<Act>
+    ensures { result ≡ rec_act_at (codes "exit") numbers.now }
+{
+    let [number] = at_most(numbers, [U16])?;
+    Some(Act::Exit {
+        number: RecNo::new(number as u16),
+    })
+}
+
+fn poke(numbers: &[u32]) -> Option<Act>
+    ensures { result ≡ rec_act_at (codes "poke") numbers.now }
+{
+    let [number, ipa, offset, value] = at_most(numbers, [U16, IPA, OFFSET, U8])?;
+    Some(Act::Poke {
+        number: RecNo::new(number as u16),
+        ipa: ipa_of(ipa),
+        offset: offset_of(offset),
+        value: value as u8,
+    })
+}
+
+fn rec_act(word: &str, numbers: &[u32]) -> Option<Act>
+    ensures { result ≡ rec_act_at word.now numbers.now }
+{
+    match word {
+        "rec" => {
+            let (granule, auxiliaries, number) = rec(numbers)?;
+            Some(Act::Rec {
+                granule,
+                auxiliaries,
+                number,
+            })
+        }
+        "unrec" => {
+            let (granule, auxiliaries, number) = rec(numbers)?;
+            Some(Act::UnRec {
+                granule,
+                auxiliaries,
+                number,
+            })
+        }
+        "enter" => enter(numbers),
+        "exit" => exit(numbers),
+        "poke" => poke(numbers),
+        _ => None,
+    }
+}
+
+// The act that the word and its numbers are.
+fn act(word: &str, numbers: &[u32]) -> Option<Act>
+    ensures { result ≡ act_at word.now numbers.now }
+{
+    if let Some(found) = page_act(word, numbers) {
+        return Some(found);
+    }
+    if let Some(found) = realm_act(word, numbers) {
+        return Some(found);
+    }
+    if let Some(found) = table_act(word, numbers) {
+        return Some(found);
+    }
+    if let Some(found) = data_act(word, numbers) {
+        return Some(found);
+    }
+    rec_act(word, numbers)
+}
+
+/// The act that the text is: a word and its numbers, one space before each number and nothing else; the numbers in decimal,
+/// without a sign and without leading zeros, and each in its range. It takes no memory.
+pub fn act_from_text(text: &str) -> Option<Act>
+    ensures { result ≡ act_of text.now }
+{
+    let (word, rest) = cut_at_space(text);
+    let numbers = numbers_of::<MOST_NUMBERS>(rest)?;
+    act(word, numbers.as_slice())
+}

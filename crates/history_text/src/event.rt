@@ -1,0 +1,61 @@
+//! Events as lines, without the line feed that ends them.
+ghost use Rattle.std.specs.Prelude.{◌≡◌, ◌≢◌, ℕ, ◌<◌, [], ◌∷◌, IfSome, IfNone};
+ghost use Rattle.std.specs.Fmt.{decimal};
+ghost use Rattle.realm_model.specs.declared.act.Event.{Event};
+ghost use Rattle.history_text.specs.Events.{IsEventText};
+
+use crate::act::act_from_text;
+use crate::spelling::{NumbersText, numbers_of, word_of};
+use granule_addr::BuildId;
+use realm_model::Event;
+use std::fmt;
+
+/// An event as a history writes it.
+#[derive(Clone, Copy)]
+pub struct EventText<'a>(pub &'a Event);
+
+impl fmt::Display for EventText<'_> {
+    ghost use Rattle.std.specs.Prelude.{Some};
+    ghost use Rattle.history_text.specs.Events.{event_text};
+
+    ghost output = { λ e. Some (event_text e.0.now) };
+
+    fn fmt<W: fmt::Write>(&self, f: &mut fmt::Formatter<W>) -> fmt::Result {
+        let build = self.0.build.number();
+        let word = word_of(&self.0.act);
+        let numbers = numbers_of(&self.0.act);
+        write!(f, "{build} {word}{}", NumbersText(numbers.as_slice()))
+    }
+}
+
+// The build whose number is the digit.
+fn build_of(digit: u8) -> Option<BuildId>
+    ensures found { IfSome result (λ build. (build < 8) × (decimal build ≡ digit ∷ [])) }
+    ensures none { IfNone result ((build : ℕ) → build < 8 → decimal build ≢ digit ∷ []) }
+{
+    if digit < b'0' {
+        return None;
+    }
+    BuildId::new(digit - b'0')
+}
+
+/// The event that the line is, if it is one. It takes no memory.
+pub fn parse_event(line: &[u8]) -> Option<Event>
+    // What is found is the event with this text.
+    ensures found { IfSome result (λ event. IsEventText line.now event) }
+    // Where none is found, no event has this text.
+    ensures none { IfNone result ((event : Event) → IsEventText line.now event → ⊥) }
+{
+    let Some((digit, rest)) = line.split_first() else {
+        return None;
+    };
+    let Some(act) = rest.strip_prefix(b" ") else {
+        return None;
+    };
+    let build = build_of(*digit)?;
+    let Ok(text) = str::from_utf8(act) else {
+        return None;
+    };
+    let act = act_from_text(text)?;
+    Some(Event { build, act })
+}

@@ -1,0 +1,50 @@
+//! Numbers of granules and of IPA granules.
+ghost use Rattle.std.specs.Prelude.{◌≡◌, ◌≤◌};
+ghost use Rattle.number_text.specs.Rows.{up_to};
+ghost use Rattle.history_text.specs.Written.{granule, ipa};
+
+use arrayvec::ArrayVec;
+use granule_addr::{Gran, IpaGran, MOST_PAGES};
+
+/// The greatest number of a granule.
+pub const GRANULE: u32 = 4095;
+
+/// The greatest IPA granule.
+pub const IPA: u32 = 2_147_483_647;
+
+/// The most auxiliary granules of a REC.
+const MOST_AUXILIARIES: usize = 16;
+
+/// The widest address space.
+const WIDEST: u8 = 43;
+
+pub fn granule_of(number: u32) -> Gran
+    requires { number ≤ granule }
+    ensures { result ≡ number }
+{
+    Gran::new(number as u16, MOST_PAGES).unwrap()
+}
+
+pub fn ipa_of(number: u32) -> IpaGran
+    requires { number ≤ ipa }
+    ensures { result ≡ number }
+{
+    IpaGran::new(number, WIDEST).unwrap()
+}
+
+/// The granules, where there are no more than 16.
+pub fn granules_of(numbers: &[u32]) -> Option<ArrayVec<Gran, MOST_AUXILIARIES>>
+    ensures { result ≡ up_to 16 granule numbers.now }
+{
+    if numbers.len() > MOST_AUXILIARIES {
+        return None;
+    }
+    let mut found = ArrayVec::new();
+    for number in numbers {
+        if *number > GRANULE {
+            return None;
+        }
+        found.push(granule_of(*number));
+    }
+    Some(found)
+}

@@ -1,0 +1,121 @@
+//! Laws of events as text.
+ghost use Rattle.std.specs.Prelude.{◌≡◌, ℕ, ◌≤◌, List, length, replicate};
+ghost use Rattle.number_text.specs.Ranges.{AreAtMost};
+ghost use Rattle.realm_model.specs.declared.act.Event.{Event};
+ghost use Rattle.history_text.specs.declared.opening.Opening.{Opening};
+ghost use Rattle.history_text.specs.Written.{granule, IsInRange};
+ghost use Rattle.history_text.specs.Events.{event_text, IsEventText};
+ghost use Rattle.history_text.specs.Histories.{IsOpeningText};
+
+use granule_addr::{Gran, RecNo, Root, Vmid};
+use realm_model::{Act, Event};
+
+/// The most bytes of a line, without its line feed.
+pub const MOST_LINE: u16 = 256;
+
+/// No two events have one text.
+pub fn events_are_told_apart()
+    ensures { (text : List ℕ) (a b : Event) → IsEventText text a → IsEventText text b → a ≡ b }
+{}
+
+/// No line of a history is longer than 256 bytes.
+pub fn lines_are_short()
+    ensures events { (text : List ℕ) (event : Event) → IsEventText text event → length text ≤ 256 }
+    ensures openings { (text : List ℕ) (opening : Opening) → IsOpeningText text opening → length text ≤ 256 }
+{}
+
+// Granules have numbers below 4,096.
+fn granules_in_range(granules: &[Gran])
+    ensures { AreAtMost granules.now (replicate (length granules.now) granule) }
+{
+    for granule in granules {
+        let _number = granule.number();
+    }
+}
+
+// What is read of a number shows the range of its type.
+fn act_in_range(act: &Act)
+    ensures { IsInRange act.now }
+{
+    match act {
+        Act::Take { order, first } | Act::UnTake { order, first } => {
+            let (_order, _first) = (order.number(), first.number());
+        }
+        Act::Fill { granule, value } => {
+            let (_granule, _value) = (granule.number(), *value);
+        }
+        Act::Peek {
+            granule,
+            offset,
+            byte,
+        } => {
+            let (_granule, _offset, _byte) = (granule.number(), offset.number(), *byte);
+        }
+        Act::Delegate { granule } | Act::Undelegate { granule } => {
+            let _granule = granule.number();
+        }
+        Act::Realm { rd, root, vmid } | Act::UnRealm { rd, root, vmid } => {
+            let (_rd, _first) = (rd.number(), root.first.number());
+            let (_width, _vmid) = (root.width.number(), vmid.number());
+        }
+        Act::Activate => {}
+        Act::Rtt {
+            granule,
+            ipa,
+            level,
+        }
+        | Act::UnRtt {
+            granule,
+            ipa,
+            level,
+        } => {
+            let (_granule, _ipa, _level) = (granule.number(), ipa.number(), level.number());
+        }
+        Act::Ripas { ipa, count } => {
+            let (_ipa, _count) = (ipa.number(), *count);
+        }
+        Act::Data {
+            granule,
+            ipa,
+            source,
+        } => {
+            let (_granule, _ipa, _source) = (granule.number(), ipa.number(), source.number());
+        }
+        Act::Unknown { granule, ipa } | Act::UnData { granule, ipa } => {
+            let (_granule, _ipa) = (granule.number(), ipa.number());
+        }
+        Act::Rec {
+            granule,
+            auxiliaries,
+            number,
+        }
+        | Act::UnRec {
+            granule,
+            auxiliaries,
+            number,
+        } => {
+            let (_granule, _number) = (granule.number(), number.number());
+            granules_in_range(auxiliaries.as_slice());
+        }
+        Act::Enter { number } | Act::Exit { number } => {
+            let _number = number.number();
+        }
+        Act::Poke {
+            number,
+            ipa,
+            offset,
+            value,
+        } => {
+            let (_number, _ipa) = (number.number(), ipa.number());
+            let (_offset, _value) = (offset.number(), *value);
+        }
+    }
+}
+
+/// Each event has a text: its numbers are in their ranges.
+pub fn events_have_texts(event: &Event)
+    ensures { IsEventText (event_text event.now) event.now }
+{
+    let _build = event.build.number();
+    act_in_range(&event.act);
+}

@@ -1,0 +1,19 @@
+//! Histories as text: a line for the size of the machine, and a line for each event.
+//!
+//! A line is an event exactly where it is the event's own text (`specs/Events.antt`): the build, a word and its numbers, with
+//! nothing before or after. Each event has one text, no two have the same, and what is read of an event's text is the event.
+//! Whether a history is legal is for a host to say. Memory is taken for a written text alone.
+#![tactic(auto)]
+
+mod act;
+mod event;
+mod granules;
+mod law;
+mod opening;
+mod spelling;
+mod text;
+
+pub use event::{EventText, parse_event};
+pub use law::{MOST_LINE, events_are_told_apart, events_have_texts, lines_are_short};
+pub use opening::{Opening, parse_opening};
+pub use text::push_history;

@@ -1,0 +1,83 @@
+//! The first line of a history.
+ghost use Rattle.std.specs.Prelude.{◌≡◌, ◌↔◌, true, IfSome, IfNone};
+ghost use Rattle.number_text.specs.Ranges.{AreAtMost};
+ghost use Rattle.history_text.specs.declared.opening.Opening.{Opening};
+ghost use Rattle.history_text.specs.Histories.{opening_numbers, opening_maxima, HasEnough, IsOpeningText};
+
+use number_text::{at_most, numbers_of};
+use std::fmt;
+
+/// The greatest number of each: pages, VMIDs, auxiliary granules of a REC, events of a build, builds.
+const MAXIMA: [u32; 5] = [4096, 255, 16, 16_384, 8];
+
+/// The size of the machine that a history is of: its pages, its VMIDs, the auxiliary granules of each REC, the room of each
+/// build in the history, and the builds.
+#[derive(Clone, Copy, Debug, PartialEq, Eq)]
+pub struct Opening {
+    pub pages: u16,
+    pub vmids: u8,
+    pub aux: u8,
+    pub history: u16,
+    pub builds: u8,
+}
+
+impl fmt::Display for Opening {
+    ghost use Rattle.std.specs.Prelude.{Some};
+    ghost use Rattle.history_text.specs.Histories.{opening_text};
+
+    ghost output = { λ o. Some (opening_text o) };
+
+    fn fmt<W: fmt::Write>(&self, f: &mut fmt::Formatter<W>) -> fmt::Result {
+        let (pages, vmids, aux) = (self.pages, self.vmids, self.aux);
+        let (history, builds) = (self.history, self.builds);
+        write!(f, "history 1 {pages} {vmids} {aux} {history} {builds}")
+    }
+}
+
+impl Opening {
+    // The opening with these numbers.
+    fn of(numbers: [u32; 5]) -> Opening
+        requires { AreAtMost numbers opening_maxima }
+        ensures { opening_numbers result ≡ numbers }
+    {
+        let [pages, vmids, aux, history, builds] = numbers;
+        Opening {
+            pages: pages as u16,
+            vmids: vmids as u8,
+            aux: aux as u8,
+            history: history as u16,
+            builds: builds as u8,
+        }
+    }
+
+    // Whether no number is too low.
+    fn has_enough(&self) -> bool
+        ensures { (result ≡ true) ↔ HasEnough self.now }
+    {
+        self.pages >= 1 && self.vmids >= 1 && self.history >= 16 && self.builds >= 1
+    }
+}
+
+/// The opening that the line is, if it is one, and there is a machine of that size: of 1 to 4,096 pages, 1 to 255 VMIDs, up
+/// to 16 auxiliary granules, a room of 16 to 16,384, and 1 to 8 builds. It takes no memory.
+pub fn parse_opening(line: &[u8]) -> Option<Opening>
+    // What is found is the opening with this text.
+    ensures found { IfSome result (λ opening. IsOpeningText line.now opening) }
+    // Where none is found, no opening has this text.
+    ensures none { IfNone result ((opening : Opening) → IsOpeningText line.now opening → ⊥) }
+{
+    let Some(rest) = line.strip_prefix(b"history 1") else {
+        return None;
+    };
+    let Ok(text) = str::from_utf8(rest) else {
+        return None;
+    };
+    let numbers = numbers_of::<5>(text)?;
+    let numbers = at_most(numbers.as_slice(), MAXIMA)?;
+    let opening = Opening::of(numbers);
+    if opening.has_enough() {
+        Some(opening)
+    } else {
+        None
+    }
+}

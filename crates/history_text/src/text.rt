@@ -1,0 +1,29 @@
+//! A history as a text.
+ghost use Rattle.std.specs.Prelude.{◌≡◌, ◌++◌, OnOk, string_bytes};
+ghost use Rattle.history_text.specs.Histories.{history_text, shown};
+
+use crate::event::EventText;
+use crate::opening::Opening;
+use granule_addr::BuildId;
+use realm_model::Event;
+use std::alloc::AllocError;
+
+/// Appends a history: the line of its opening and a line for each event, but for those of a build that is left out. At an
+/// `Err` a growth was refused, and the text may have got a part of it.
+pub fn push_history(
+    text: &mut String,
+    opening: &Opening,
+    events: &[Event],
+    erase: Option<BuildId>,
+) -> Result<(), AllocError>
+    ensures { OnOk result (string_bytes text.new ≡ string_bytes text.old ++ history_text opening.now (shown erase events.now)) }
+{
+    writeln!(text, "{opening}")?;
+    for event in events {
+        if erase == Some(event.build) {
+            continue;
+        }
+        writeln!(text, "{}", EventText(event))?;
+    }
+    Ok(())
+}
