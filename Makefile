@@ -14,8 +14,9 @@ DESTDIR ?=
 
 PROGRAMS = realmhost rmitrace
 SHARE = $(DESTDIR)$(PREFIX)/share
+LIB = $(DESTDIR)$(PREFIX)/lib
 
-.PHONY: allocations bench build fuzz help install memcheck planted test try try-trace wrong-bodies
+.PHONY: allocations bench build c-library c-test fuzz help install install-c-library memcheck planted test try try-trace wrong-bodies
 
 help: ## lists the targets
 	@grep -E '^[a-z-]+:.*## ' $(MAKEFILE_LIST) | sed 's/:.*## /\t/' | expand -t 16
@@ -29,7 +30,14 @@ try-trace: ## a minute: builds rmitrace with nothing proved, and checks TRACE
 build: ## proves both programs and all that they stand on, and puts them into bin/
 	@tools/build
 
-install: ## copies what `make build` has built, the documents, plans and traces below PREFIX
+c-library: ## proves the bench for C, and puts its libraries into build/
+	@tools/c-library
+
+c-test: c-library ## tries the bench from C, C++ and Python, over 1,000 random traces too (needs a C compiler)
+	@test -x bin/rmitrace || tools/build rmitrace
+	@tests/c-library --all
+
+install: ## copies what `make build` and `make c-library` have built, the documents, plans and traces below PREFIX
 	@for it in $(PROGRAMS); do test -x bin/$$it || { echo "install: there is no bin/$$it yet: make build" >&2; exit 1; }; done
 	install -d $(DESTDIR)$(PREFIX)/bin $(SHARE)/doc/realmhost/docs/pictures $(SHARE)/realmhost/plans $(SHARE)/realmhost/traces
 	install -m 755 $(PROGRAMS:%=bin/%) $(DESTDIR)$(PREFIX)/bin
@@ -38,12 +46,24 @@ install: ## copies what `make build` has built, the documents, plans and traces 
 	install -m 644 docs/pictures/*.svg $(SHARE)/doc/realmhost/docs/pictures
 	install -m 644 plans/* $(SHARE)/realmhost/plans
 	install -m 644 traces/* $(SHARE)/realmhost/traces
+	@if test -f build/librmi_bench.a; then $(MAKE) --no-print-directory install-c-library; \
+	  else echo "install: there is no build/librmi_bench.a, and the bench for C is left out: make c-library"; fi
+
+install-c-library:
+	install -d $(DESTDIR)$(PREFIX)/include $(LIB)/pkgconfig $(SHARE)/realmhost/python $(SHARE)/realmhost/examples/c
+	install -m 644 include/rmi_bench.h $(DESTDIR)$(PREFIX)/include
+	install -m 644 build/librmi_bench.a $(LIB)
+	if test -f build/librmi_bench.so.0; then install -m 755 build/librmi_bench.so.0 $(LIB) && ln -sf librmi_bench.so.0 $(LIB)/librmi_bench.so; fi
+	sed 's|^libdir=.*|libdir=$${pcfiledir}/..|; s|^includedir=.*|includedir=$${pcfiledir}/../../include|' include/rmi_bench.pc > $(LIB)/pkgconfig/rmi_bench.pc
+	install -m 644 python/rmi_bench.py $(SHARE)/realmhost/python
+	install -m 644 examples/c/* $(SHARE)/realmhost/examples/c
 
 test: ## the whole gate from nothing: proofs, tests, what the built programs print, and the documents
 	rt ci
 	@mkdir -p bin
 	@for it in $(PROGRAMS) test_memory; do install -m 755 crates/$$it/out/$$it bin/$$it || exit 1; done
-	@tools/at_once tests/commands tests/program tests/traces tests/allocations tests/documents "tools/pictures --check"
+	@! command -v $(CC) > /dev/null || tools/c-library
+	@tools/at_once tests/commands tests/program tests/traces tests/allocations tests/c-library tests/documents "tools/pictures --check"
 
 wrong-bodies: ## tries bodies that do something else, of CRATE or all: the prover has to refuse each
 	@tests/wrong-bodies $(if $(JOBS),--jobs $(JOBS)) $(if $(SINCE),--since $(SINCE)) $(CRATE)

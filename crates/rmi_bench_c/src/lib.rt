@@ -1,0 +1,24 @@
+//! The bench for C: each function of `include/rmi_bench.h` is exported here, and its contract says what it answers and does.
+//!
+//! C keeps a handle, and this library what the handle has. Operands have 64 bits, as the registers of the standard's calls
+//! have: one that its field cannot hold is an input error, and is never cut.
+#![tactic(auto)]
+
+mod data;
+mod granule;
+mod handle;
+mod held;
+mod made;
+mod open;
+mod parts;
+mod peek;
+mod reading;
+mod realm;
+mod rec;
+mod table;
+mod told;
+mod word;
+
+pub use handle::Handle;
+pub use held::Held;
+pub use told::{Realm, Rec};

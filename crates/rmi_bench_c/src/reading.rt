@@ -1,0 +1,151 @@
+//! What is read of granules. A reading answers whether there was something to read; where there was not, what it was to write
+//! stays as it is.
+ghost use Rattle.std.specs.Prelude.{◌≡◌, ◌&&◌, true, false, sum, option_map, IfSome};
+ghost use Rattle.rmi_bench.specs.Readings.{reading, rec_reading, IsWordOf};
+ghost use Rattle.rmi_bench_c.specs.Answers.{fits_u16, has_word, Reads};
+ghost use Rattle.rmi_bench_c.specs.Told.{granule_state_code, realm_reading, realm_told, rec_told};
+
+use crate::Handle;
+use crate::told::{Realm, Rec, granule_state_code, read_realm, read_rec};
+use crate::word::MOST_U16;
+use std::alloc::Global;
+
+/// The state of a granule, by its number, into `state`. RMM 1.0, Granule state.
+///
+/// False exactly where the machine has not got the granule, or the handle is closed.
+#[unsafe(no_mangle)]
+pub extern "C" fn rmi_read_state(
+    alloc: Global,
+    handle: &mut Handle,
+    granule: u64,
+    state: &mut u64,
+) -> bool
+    ensures read { Reads (fits_u16 granule) (λ m. option_map granule_state_code (reading (λ cell. cell.state) m granule))
+        handle.old.held.bench state.old result state.new }
+    ensures same { handle.new.held.bench ≡ handle.old.held.bench }
+{
+    if granule > MOST_U16 {
+        return false;
+    }
+    let Some(bench) = handle.take(alloc) else {
+        return false;
+    };
+    let read = bench.state(granule as u16);
+    handle.give(bench);
+    match read {
+        Some(it) => {
+            *state = granule_state_code(it);
+            true
+        }
+        None => false,
+    }
+}
+
+/// The sum of a granule's bytes, of a table 0, into `total`.
+///
+/// False exactly where the machine has not got the granule, or the handle is closed.
+#[unsafe(no_mangle)]
+pub extern "C" fn rmi_read_sum(
+    alloc: Global,
+    handle: &mut Handle,
+    granule: u64,
+    total: &mut u64,
+) -> bool
+    ensures read { Reads (fits_u16 granule) (λ m. reading (λ cell. sum cell.bytes) m granule) handle.old.held.bench total.old result total.new }
+    ensures same { handle.new.held.bench ≡ handle.old.held.bench }
+{
+    if granule > MOST_U16 {
+        return false;
+    }
+    let Some(bench) = handle.take(alloc) else {
+        return false;
+    };
+    let read = bench.sum(granule as u16);
+    handle.give(bench);
+    match read {
+        Some(it) => {
+            *total = it as u64;
+            true
+        }
+        None => false,
+    }
+}
+
+/// The word at 8 * `index` of a granule's page, little endian, into `word`: of a table, the entry word.
+///
+/// False exactly where the machine has not got the granule, for an index above 511, and on a closed handle.
+#[unsafe(no_mangle)]
+pub extern "C" fn rmi_read_word(
+    alloc: Global,
+    handle: &mut Handle,
+    granule: u64,
+    index: u64,
+    word: &mut u64,
+) -> bool
+    ensures told { result ≡ (fits_u16 granule && has_word handle.old.held.bench granule index) }
+    ensures word { result ≡ true → IfSome handle.old.held.bench (λ m. IsWordOf m granule index word.new) }
+    ensures kept { result ≡ false → word.new ≡ word.old }
+    ensures same { handle.new.held.bench ≡ handle.old.held.bench }
+{
+    if granule > MOST_U16 || index > MOST_U16 {
+        return false;
+    }
+    let Some(bench) = handle.take(alloc) else {
+        return false;
+    };
+    let read = bench.word(granule as u16, index as u16);
+    handle.give(bench);
+    match read {
+        Some(it) => {
+            *word = it;
+            true
+        }
+        None => false,
+    }
+}
+
+/// The realm whose RD a granule is, into `realm`. False exactly where it is no RD, and on a closed handle.
+#[unsafe(no_mangle)]
+pub extern "C" fn rmi_read_realm(
+    alloc: Global,
+    handle: &mut Handle,
+    granule: u64,
+    realm: &mut Realm,
+) -> bool
+    ensures read { Reads (fits_u16 granule) (λ m. option_map realm_told (realm_reading m granule))
+        handle.old.held.bench realm.old result realm.new }
+    ensures same { handle.new.held.bench ≡ handle.old.held.bench }
+{
+    if granule > MOST_U16 {
+        return false;
+    }
+    let Some(bench) = handle.take(alloc) else {
+        return false;
+    };
+    let read = read_realm(&bench, granule as u16, realm);
+    handle.give(bench);
+    read
+}
+
+/// The REC that a granule is, into `rec`. False exactly where it is no REC, and on a closed handle.
+#[unsafe(no_mangle)]
+pub extern "C" fn rmi_read_rec(
+    alloc: Global,
+    handle: &mut Handle,
+    granule: u64,
+    rec: &mut Rec,
+) -> bool
+    ensures read { Reads (fits_u16 granule) (λ m. option_map rec_told (rec_reading m granule))
+        handle.old.held.bench rec.old result rec.new }
+    ensures same { handle.new.held.bench ≡ handle.old.held.bench }
+{
+    if granule > MOST_U16 {
+        return false;
+    }
+    let Some(bench) = handle.take(alloc) else {
+        return false;
+    };
+    let read = read_rec(&bench, granule as u16, rec);
+    handle.give(bench);
+    read
+}

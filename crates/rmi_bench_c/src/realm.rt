@@ -1,0 +1,68 @@
+//! Commands on realms.
+ghost use Rattle.std.specs.Prelude.{[], ◌∷◌, ◌&&◌};
+ghost use Rattle.realm_model.specs.Command.Realm as command;
+ghost use Rattle.rmi_monitor.specs.View.{seen_in, make_realm};
+ghost use Rattle.rmi_bench.specs.Calls.{naming};
+ghost use Rattle.rmi_bench_c.specs.Answers.{fits_u8, fits_u16, Serves};
+
+use crate::Handle;
+use crate::word::{CLOSED, MOST_U8, MOST_U16, word};
+use std::alloc::Global;
+
+/// RMI_REALM_CREATE. `root` is the first of 2^(width - 39) starting tables.
+#[unsafe(no_mangle)]
+pub extern "C" fn rmi_realm_create(
+    alloc: Global,
+    handle: &mut Handle,
+    rd: u64,
+    root: u64,
+    vmid: u64,
+    width: u64,
+) -> u64
+    ensures { Serves (fits_u16 rd && fits_u16 root && fits_u8 vmid && fits_u8 width) (λ m. naming (rd ∷ root ∷ []) m
+        (make_realm m rd (record { first = root; width = width }) vmid)) handle.old.held.bench result handle.new.held.bench }
+{
+    if rd > MOST_U16 || root > MOST_U16 || vmid > MOST_U8 || width > MOST_U8 {
+        return handle.refuse();
+    }
+    let Some(mut bench) = handle.take(alloc) else {
+        return CLOSED;
+    };
+    let call = bench.realm_create(rd as u16, root as u16, vmid as u8, width as u8);
+    handle.give(bench);
+    word(call)
+}
+
+/// RMI_REALM_ACTIVATE.
+#[unsafe(no_mangle)]
+pub extern "C" fn rmi_realm_activate(alloc: Global, handle: &mut Handle, rd: u64) -> u64
+    ensures { Serves (fits_u16 rd) (λ m. naming (rd ∷ []) m (command.realm_activate (seen_in m rd)))
+        handle.old.held.bench result handle.new.held.bench }
+{
+    if rd > MOST_U16 {
+        return handle.refuse();
+    }
+    let Some(mut bench) = handle.take(alloc) else {
+        return CLOSED;
+    };
+    let call = bench.realm_activate(rd as u16);
+    handle.give(bench);
+    word(call)
+}
+
+/// RMI_REALM_DESTROY.
+#[unsafe(no_mangle)]
+pub extern "C" fn rmi_realm_destroy(alloc: Global, handle: &mut Handle, rd: u64) -> u64
+    ensures { Serves (fits_u16 rd) (λ m. naming (rd ∷ []) m (command.realm_destroy (seen_in m rd)))
+        handle.old.held.bench result handle.new.held.bench }
+{
+    if rd > MOST_U16 {
+        return handle.refuse();
+    }
+    let Some(mut bench) = handle.take(alloc) else {
+        return CLOSED;
+    };
+    let call = bench.realm_destroy(rd as u16);
+    handle.give(bench);
+    word(call)
+}
