@@ -26,50 +26,80 @@ fn asks<R: Wait + Abort, L: Ledgers>(
     assert_eq!(rt; answer, want);
 }
 
-// A seat takes a page, fills it, reads what it filled, goes back to its mark, and is refused another's page.
+// A seat takes a page, fills it, and reads what it filled.
+fn fills<R: Wait + Abort, L: Ledgers>(
+    rt: &R,
+    shared: &Shared<PlainStore, L>,
+    seat: &mut Seat<L>,
+    value: u8,
+) -> Result<(), Fail> {
+    let offset = PageOff::new(7).ok_or("an offset")?;
+    let (take, fill) = (Cmd::Take { order: 0 }, Cmd::Fill { page: 0, value });
+    asks(rt, shared, seat, take, Ok(Reply::FirstPage(0)));
+    asks(rt, shared, seat, fill, Ok(Reply::Done));
+    let peek = Cmd::Peek { page: 0, offset };
+    asks(rt, shared, seat, peek, Ok(Reply::Byte(value)));
+    Ok(())
+}
+
+// A seat keeps a mark, delegates its page, and goes back.
+fn goes_back<R: Wait + Abort, L: Ledgers>(
+    rt: &R,
+    shared: &Shared<PlainStore, L>,
+    seat: &mut Seat<L>,
+) -> Result<(), Fail> {
+    let mark = shared.mark(rt, seat).ok().ok_or("a mark")?;
+    asks(rt, shared, seat, Cmd::Delegate { page: 0 }, Ok(Reply::Done));
+    assert_eq!(rt; shared.check_back(rt, seat, mark), Ok(1));
+    let undone = Undone {
+        kind: Kind::Delegate,
+        left: 1,
+    };
+    assert_eq!(rt; shared.undo(rt, seat), Ok(undone));
+    Ok(())
+}
+
+// A seat works on its page, and is refused another's.
 fn works<R: Wait + Abort, L: Ledgers>(
     rt: &R,
     shared: &Shared<PlainStore, L>,
     seat: &mut Seat<L>,
     value: u8,
 ) -> Result<(), Fail> {
-    asks(
-        rt,
-        shared,
-        seat,
-        Cmd::Take { order: 0 },
-        Ok(Reply::FirstPage(0)),
-    );
-    asks(
-        rt,
-        shared,
-        seat,
-        Cmd::Fill { page: 0, value },
-        Ok(Reply::Done),
-    );
-    let offset = PageOff::new(7).ok_or("an offset")?;
-    asks(
-        rt,
-        shared,
-        seat,
-        Cmd::Peek { page: 0, offset },
-        Ok(Reply::Byte(value)),
-    );
-    let mark = shared.mark(rt, seat).ok().ok_or("a mark")?;
-    asks(rt, shared, seat, Cmd::Delegate { page: 0 }, Ok(Reply::Done));
-    assert_eq!(rt; shared.check_back(rt, seat, mark), Ok(1));
-    let back = shared.undo(rt, seat);
-    assert_eq!(rt;
-        back,
-        Ok(Undone {
-            kind: Kind::Delegate,
-            left: 1
-        })
-    );
+    fills(rt, shared, seat, value)?;
+    goes_back(rt, shared, seat)?;
     let fill = Cmd::Fill { page: 1, value };
     asks(rt, shared, seat, fill, Err(Refusal::NotLeased(1)));
     equal(rt, "events", seat.count() as u64, 5);
     Ok(())
+}
+
+// The seats of two builds work, one after the other.
+fn all_work<R: Wait + Abort, L: Ledgers>(
+    rt: &R,
+    shared: &Shared<PlainStore, L>,
+    seats: &mut [Seat<L>],
+) -> Result<(), Fail> {
+    equal(rt, "seats", seats.len() as u64, 2);
+    for seat in seats {
+        let value = 10 + seat.build().number();
+        works(rt, shared, seat, value)?;
+    }
+    Ok(())
+}
+
+// Closes a host that has ten events. At `Some` is what was wrong.
+fn fault_of_close<L: Ledgers>(
+    rt: &impl Abort,
+    shared: Shared<PlainStore, L>,
+    seats: Vec<Seat<L>>,
+) -> Option<CloseFault> {
+    let (fault, host) = match shared.close(seats) {
+        Ok(host) => (None, host),
+        Err((fault, host)) => (Some(fault), host),
+    };
+    equal(rt, "events", host.history().len() as u64, 10);
+    fault
 }
 
 // Two builds work on a shared host. It is closed with the seats of both, or with that of build 0 alone; at `Some` is what
@@ -89,20 +119,11 @@ fn closed<R: Wait + Abort, L: Ledgers>(
         Ok(started) => started,
         Err((error, _, _)) => return Err(error.into()),
     };
-    equal(rt, "seats", seats.len() as u64, 2);
-    for seat in seats.iter_mut() {
-        let value = 10 + seat.build().number();
-        works(rt, &shared, seat, value)?;
-    }
+    all_work(rt, &shared, seats.as_mut_slice())?;
     if !with_both {
         seats.pop();
     }
-    let (fault, host) = match shared.close(seats) {
-        Ok(host) => (None, host),
-        Err((fault, host)) => (Some(fault), host),
-    };
-    equal(rt, "events", host.history().len() as u64, 10);
-    Ok(fault)
+    Ok(fault_of_close(rt, shared, seats))
 }
 
 // As `closed`, on a host of four pages and two builds.
