@@ -7,23 +7,25 @@ use granule_addr::{BuildId, RecNo};
 use realm_host::{Kind, Undone};
 use std::alloc::Global;
 use std::process::Abort;
+use std::sync::atomic::{AtomicU64, Ordering};
 use std::test::Fail;
 use workers::{Answer, Asked, Gate, Line, Report, Stuck, Teller, work};
 
 // Accepts all questions but those two, counted from 0. An undo always leaves 1.
 #[derive(Drop)]
-struct Fake {
-    asked: usize,
-    refused: usize,
-    refused_later: usize,
+struct Fake<'a> {
+    asked: &'a AtomicU64,
+    refused: u64,
+    refused_later: u64,
     mark: Mark,
     above: u16,
 }
 
-impl Fake {
+impl Fake<'_> {
     fn answer(&mut self) -> Result<(), Refusal> {
-        let question = self.asked;
-        self.asked = question.saturating_add(1);
+        let question = self.asked.load(Ordering::SeqCst);
+        self.asked
+            .store(question.saturating_add(1), Ordering::SeqCst);
         if question == self.refused || question == self.refused_later {
             return Err(Refusal::HistoryFull);
         }
@@ -31,7 +33,7 @@ impl Fake {
     }
 }
 
-impl Teller for Fake {
+impl Teller for Fake<'_> {
     ghost tells = { λ fake exchanges. Unit {0} };
 
     ghost loan = { λ fake. 0 };
@@ -62,31 +64,41 @@ impl Teller for Fake {
     }
 }
 
-// Lets so many turns pass.
+// Lets so many turns pass, each of them once, and only when as many questions were asked: right before its own.
 #[derive(Drop)]
-struct Turns(usize);
+struct Turns<'a> {
+    most: u64,
+    asked: &'a AtomicU64,
+    passed: AtomicU64,
+}
 
-impl Gate for Turns {
+impl Gate for Turns<'_> {
     ghost passes = { λ gate build turn. Unit {0} };
 
     ghost stops = { λ gate build turn. Unit {0} };
 
     fn pass(&self, build: BuildId, turn: usize) -> Result<(), Stuck> {
-        let _build = build;
-        if turn < self.0 { Ok(()) } else { Err(Stuck) }
+        let (_build, turn) = (build, turn as u64);
+        let passed = self.passed.load(Ordering::SeqCst);
+        if turn >= self.most || turn != passed || turn != self.asked.load(Ordering::SeqCst) {
+            return Err(Stuck);
+        }
+        self.passed
+            .store(passed.saturating_add(1), Ordering::SeqCst);
+        Ok(())
     }
 }
 
 // What is refused, how many acts are above the mark, and how many turns come.
 #[derive(Clone, Copy)]
 struct Case {
-    refused: usize,
-    refused_later: usize,
+    refused: u64,
+    refused_later: u64,
     above: u16,
-    turns: usize,
+    turns: u64,
 }
 
-const NEVER: usize = 10_000;
+const NEVER: u64 = 10_000;
 
 const ALL: Case = Case {
     refused: NEVER,
@@ -142,8 +154,9 @@ fn works(
 ) -> Result<(), Fail> {
     let build = BuildId::new(0).unwrap();
     let books = Books::build(alloc, 1, 1, 0, 1, 16)?;
+    let asked = AtomicU64::new(0);
     let mut fake = Fake {
-        asked: 0,
+        asked: &asked,
         refused: case.refused,
         refused_later: case.refused_later,
         mark: books.mark_now(build),
@@ -152,7 +165,12 @@ fn works(
     assert!(rt; steps.len() <= 16);
     let lines = Vec::with_capacity(alloc, 2 * steps.len() + 1)?;
     let mut report = Report { build, lines };
-    let told = work(&mut report, steps, &mut fake, &Turns(case.turns));
+    let gate = Turns {
+        most: case.turns,
+        asked: &asked,
+        passed: AtomicU64::new(0),
+    };
+    let told = work(&mut report, steps, &mut fake, &gate);
     assert_eq!(rt; told.is_ok(), ended);
     assert_eq!(rt; report.lines.as_slice(), want);
     Ok(())
