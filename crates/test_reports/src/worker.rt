@@ -80,11 +80,17 @@ impl Gate for Turns<'_> {
     fn pass(&self, build: BuildId, turn: usize) -> Result<(), Stuck> {
         let (_build, turn) = (build, turn as u64);
         let passed = self.passed.load(Ordering::SeqCst);
-        if turn >= self.most || turn != passed || turn != self.asked.load(Ordering::SeqCst) {
+        let is_next = turn == passed && turn == self.asked.load(Ordering::SeqCst);
+        // Once a turn was asked for that is not the next, none passes.
+        let after = if is_next {
+            passed.saturating_add(1)
+        } else {
+            NEVER
+        };
+        self.passed.store(after, Ordering::SeqCst);
+        if !is_next || turn >= self.most {
             return Err(Stuck);
         }
-        self.passed
-            .store(passed.saturating_add(1), Ordering::SeqCst);
         Ok(())
     }
 }
