@@ -51,6 +51,19 @@ pub seen_unmoved : (monitor : MonitorView) (fields : Fields) → seen_as fields 
 seen_unmoved monitor fields view_is granules pages free a b c number x y read is =
     ap seen_as (nothing_moved fields granules pages free (set fields.realms number y) a b c (put_back fields.realms number x y (sym read ∙ is))) ∙ view_is
 
+-- and what always holds does then too
+pub whole_unmoved : (fields : Fields) → IsWhole fields
+    → (granules : List Granule) (pages : List (List ℕ)) (free : List Bool) → granules ≡ fields.granules → pages ≡ fields.pages → free ≡ fields.free
+    → (number : ℕ) (x y : Option RealmAttributes) → x ≡ get_or fields.realms number x → x ≡ y
+    → IsWhole (with_call fields granules pages free (set fields.realms number y))
+whole_unmoved fields whole granules pages free a b c number x y read is =
+    subst IsWhole (sym (nothing_moved fields granules pages free (set fields.realms number y) a b c (put_back fields.realms number x y (sym read ∙ is)))) whole
+
+pub whole_refused : (fields : Fields) → IsWhole fields
+    → (granules : List Granule) (pages : List (List ℕ)) (free : List Bool) → granules ≡ fields.granules → pages ≡ fields.pages → free ≡ fields.free
+    → IsWhole (with_call fields granules pages free fields.realms)
+whole_refused fields whole granules pages free a b c = subst IsWhole (sym (nothing_moved fields granules pages free fields.realms a b c refl)) whole
+
 module _ (monitor : MonitorView) (fields : Fields) (view_is : seen_as fields ≡ monitor) (whole : IsWhole fields) (rd : ℕ) (taken : IsTaken monitor rd) where
   -- a command that puts the realm's row
   pub after_put : (outcome : Outcome) (new : Fields) → new.vmids ≡ fields.vmids → new.aux ≡ fields.aux → new.free ≡ fields.free → (made row : RealmRow) → made ≡ row

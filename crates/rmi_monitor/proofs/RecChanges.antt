@@ -1,5 +1,5 @@
 -- A REC that changes and keeps its number and its auxiliaries: the machine has another row of it, and nothing else changes.
-use Rattle.std.proofs.Common.{◌≡◌, ◌≢◌, ℕ, ◌<◌, false, List, [], ◌∷◌, length, set, Ok, Option, Some, None, option_map, refl, sym, ap, ◌∙◌, subst, ⊎_elim}
+use Rattle.std.proofs.Common.{◌≡◌, ◌≢◌, ℕ, ◌<◌, false, List, [], ◌∷◌, length, set, get_or, Ok, Option, Some, None, option_map, refl, sym, ap, ◌∙◌, subst, ⊎_elim}
 use Rattle.std.specs.Prelude.{is_some, slice_get, if◌then◌else◌}
 use Rattle.std.specs.FinMap.{insert, len}
 use Rattle.std.proofs.lemmas.Bool.{cases_eq}
@@ -18,6 +18,7 @@ use Rattle.rmi_monitor.proofs.Machines.{one_put, cell_stays, descriptor_stays}
 use Rattle.rmi_monitor.proofs.Granules.{machine_is, cell_is, after_by, in_machine}
 use Rattle.rmi_monitor.proofs.RecFound.{IsKept, rec_inside, row_found}
 use Rattle.rmi_monitor.proofs.RealmFound.{row_of}
+use Rattle.rmi_monitor.proofs.Listed.{put_back}
 use Rattle.rmi_monitor.proofs.RealmPlaces.{realm_inside}
 use Rattle.rmi_monitor.proofs.RecEntries.{rec_of-other, rec_of-some, rec_of-number, realm_of, of_realm, numbered_recs}
 
@@ -182,3 +183,9 @@ module _ (old : Fields) (whole : IsWhole old) (granule : ℕ) (rec : RecAttribut
         ∙ ap (λ (c : Cell). set (machine_of old) rd (record c { descriptor = Some (record row { recs = insert row.recs rec.number (rec_row granule now) }) }))
         (sym (cell_is monitor old view_is whole rd (in_machine monitor old view_is whole rd (realm_inside old whole rd realm kept.there))))
         ∙ ap (λ m. set m rd (record (seen_in monitor rd).cell { descriptor = Some (record row { recs = insert row.recs rec.number (rec_row granule now) }) })) (machine_is monitor old view_is whole))
+
+-- the REC's place is written as it was
+pub whole_rec_unmoved : (fields : Fields) → IsWhole fields → (number : ℕ) (x y : Option RecAttributes) → x ≡ get_or fields.recs number x → x ≡ y
+    → IsWhole (with_recs fields (set fields.recs number y))
+whole_rec_unmoved fields whole number x y read is =
+    subst (λ (recs : List (Option RecAttributes)). IsWhole (with_recs fields recs)) (sym (put_back fields.recs number x y (sym read ∙ is))) whole

@@ -8,7 +8,7 @@ use Rattle.rmi_monitor.proofs.DataMaps.{still_inside, written_inside}
 use Rattle.rmi_monitor.proofs.Granules.{in_granules, in_delegated}
 use Rattle.rmi_monitor.proofs.Located.{located, unprotected, located_tables, located_inside}
 use Rattle.rmi_monitor.proofs.Outcomes.{answers_err, answers_refused, after_err}
-use Rattle.rmi_monitor.proofs.RealmCommands.{Done, seen_unmoved}
+use Rattle.rmi_monitor.proofs.RealmCommands.{Done, seen_unmoved, whole_unmoved}
 use Rattle.rmi_monitor.proofs.RealmFound.{realm_place, realm_read}
 use Rattle.rmi_monitor.proofs.monitor.Monitor.data_create.Given.{Over}
 use Rattle.rmi_monitor.proofs.monitor.Monitor.data_create.Goals as goal
@@ -20,6 +20,10 @@ index_mut-requires g c =
 
 -- ---- what is refused
 
+pub invariant_of-self : goal.invariant_of-self
+invariant_of-self g c =
+    whole_unmoved _ c.self.invariant _ _ _ refl refl refl c.number.result c.index_mut.result.now _ c.index_mut.ensures.value refl
+
 pub returns-in_default : goal.returns-in_default
 returns-in_default g c =
     let none = create_no_realm c.args.self.now _ c.self.view_is c.self.invariant c.args.rd c.requires.rd_taken c.args.page c.requires.page_taken c.args.source c.requires.source_taken c.args.ipa (realm_read c.args.self.now _ c.self.view_is c.self.invariant c.args.rd c.requires.rd_taken.inside c.number.result c.index_mut.result.now None c.number.ensures.value c.index_mut.ensures.value c.in_default.is) in
@@ -27,6 +31,10 @@ returns-in_default g c =
       answer = answers_err (Unit {0}) error_input _ none;
       machine = seen_unmoved c.args.self.now _ c.self.view_is _ _ _ refl refl refl c.number.result c.index_mut.result.now _ c.index_mut.ensures.value refl ∙ after_err c.args.self.now error_input _ none;
     }
+
+pub invariant_of-self-in_default-protected : goal.invariant_of-self-in_default-protected
+invariant_of-self-in_default-protected g c =
+    whole_unmoved _ c.self.invariant _ _ _ refl refl refl c.number.result c.index_mut.result.now _ c.index_mut.ensures.value c.in-Some.is
 
 pub returns-in_default-protected : goal.returns-in_default-protected
 returns-in_default-protected g c =
@@ -42,6 +50,10 @@ returns-in_default-protected g c =
 pub is_delegated-requires : goal.is_delegated-requires
 is_delegated-requires g c = in_granules c.args.self.now _ c.self.view_is c.self.invariant c.args.page c.requires.page_taken
 
+pub invariant_of-self-then-not-is_delegated : goal.invariant_of-self-then-not-is_delegated
+invariant_of-self-then-not-is_delegated g c =
+    whole_unmoved _ c.self.invariant _ _ _ refl refl refl c.number.result c.index_mut.result.now _ c.index_mut.ensures.value c.in-Some.is
+
 pub returns-then-not-is_delegated : goal.returns-then-not-is_delegated
 returns-then-not-is_delegated g c =
     let taken =
@@ -55,6 +67,10 @@ returns-then-not-is_delegated g c =
 
 pub is_undelegated-requires : goal.is_undelegated-requires
 is_undelegated-requires g c = in_granules c.args.self.now _ c.self.view_is c.self.invariant c.args.source c.requires.source_taken
+
+pub invariant_of-self-then-not-is_undelegated : goal.invariant_of-self-then-not-is_undelegated
+invariant_of-self-then-not-is_undelegated g c =
+    whole_unmoved _ c.self.invariant _ _ _ refl refl refl c.number.result c.index_mut.result.now _ c.index_mut.ensures.value c.in-Some.is
 
 pub returns-then-not-is_undelegated : goal.returns-then-not-is_undelegated
 returns-then-not-is_undelegated g c =
@@ -75,6 +91,10 @@ not_new g c =
     (located c.in-Some.realm c.args.ipa c.root.result c.root.ensures c.protected.result c.protected.ensures c.args.rd _ refl c.in-Some-protected.ipa c.in-Some-protected.is)
     (sym c.is_delegated.ensures ∙ c.if-not-is_delegated.false) (sym c.is_undelegated.ensures ∙ c.if-not-is_undelegated.false) (sym c.is_new.ensures ∙ c.if-not-is_new.true)
 
+pub invariant_of-self-then-not-is_new : goal.invariant_of-self-then-not-is_new
+invariant_of-self-then-not-is_new g c =
+    whole_unmoved _ c.self.invariant _ _ _ refl refl refl c.number.result c.index_mut.result.now _ c.index_mut.ensures.value c.in-Some.is
+
 pub returns-then-not-is_new : goal.returns-then-not-is_new
 returns-then-not-is_new g c =
     record {
@@ -83,6 +103,9 @@ returns-then-not-is_new g c =
     }
 
 -- ---- the call
+
+pub map-requires-clause-backed : goal.map-requires-clause-backed
+map-requires-clause-backed g c = c.self.invariant.backed
 
 pub map-requires-clause-tables : goal.map-requires-clause-tables
 map-requires-clause-tables g c =
@@ -106,6 +129,10 @@ refused g c =
     (located c.in-Some.realm c.args.ipa c.root.result c.root.ensures c.protected.result c.protected.ensures c.args.rd c.tables_of.result c.tables_of.ensures c.in-Some-protected.ipa c.in-Some-protected.is)
     (sym c.is_delegated.ensures ∙ c.if-not-is_delegated.false) (sym c.is_undelegated.ensures ∙ c.if-not-is_undelegated.false) (sym c.is_new.ensures ∙ c.if-not-is_new.false)
     c.in_err-map.field-0.0.level c.in_err-map.ensures.answer
+
+pub invariant_of-self-in_err-map : goal.invariant_of-self-in_err-map
+invariant_of-self-in_err-map g c =
+    whole_unmoved _ c.self.invariant _ _ _ c.in_err-map.ensures.unchanged.1 c.in_err-map.ensures.unchanged.0 c.in_err-map.ensures.keeps.rest.flags c.number.result c.index_mut.result.now _ c.index_mut.ensures.value c.in-Some.is
 
 pub returns-in_err-map : goal.returns-in_err-map
 returns-in_err-map g c = record {

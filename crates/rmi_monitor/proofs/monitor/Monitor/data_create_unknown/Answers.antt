@@ -7,7 +7,7 @@ use Rattle.rmi_monitor.proofs.DataUnknown.{unknown_no_realm, unknown_unprotected
 use Rattle.rmi_monitor.proofs.Granules.{in_granules}
 use Rattle.rmi_monitor.proofs.Located.{located, unprotected, located_tables, located_inside}
 use Rattle.rmi_monitor.proofs.Outcomes.{answers_err, answers_refused, after_err}
-use Rattle.rmi_monitor.proofs.RealmCommands.{Done, seen_refused}
+use Rattle.rmi_monitor.proofs.RealmCommands.{Done, seen_refused, whole_refused}
 use Rattle.rmi_monitor.proofs.RealmFound.{realm_place, realm_read}
 use Rattle.rmi_monitor.proofs.monitor.Monitor.data_create_unknown.Given.{Over}
 use Rattle.rmi_monitor.proofs.monitor.Monitor.data_create_unknown.Goals as goal
@@ -45,6 +45,9 @@ returns-then-not-is_delegated g c =
 
 -- ---- the call
 
+pub map-requires-clause-backed : goal.map-requires-clause-backed
+map-requires-clause-backed g c = c.self.invariant.backed
+
 pub map-requires-clause-tables : goal.map-requires-clause-tables
 map-requires-clause-tables g c =
     located_tables c.in-Some.realm c.args.rd c.args.ipa c.tables_of.result c.in-Some-protected.ipa
@@ -63,6 +66,9 @@ refused g c =
     c.tables_of.result c.in-Some-protected.ipa
     (located c.in-Some.realm c.args.ipa c.root.result c.root.ensures c.protected.result c.protected.ensures c.args.rd c.tables_of.result c.tables_of.ensures c.in-Some-protected.ipa c.in-Some-protected.is) (sym c.is_delegated.ensures ∙ c.if-not-is_delegated.false)
     c.in_err-map.field-0.0.level c.in_err-map.ensures.answer
+
+pub invariant_of-self : goal.invariant_of-self
+invariant_of-self g c = whole_refused _ c.self.invariant _ _ _ c.in_err-map.ensures.unchanged.1 c.in_err-map.ensures.unchanged.0 c.in_err-map.ensures.keeps.rest.flags
 
 pub returns-in_err-map : goal.returns-in_err-map
 returns-in_err-map g c = record {

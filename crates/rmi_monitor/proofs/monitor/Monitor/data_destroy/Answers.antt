@@ -6,7 +6,7 @@ use Rattle.rmi_monitor.specs.Inside.{fields_of}
 use Rattle.rmi_monitor.proofs.DataDestroys.{destroy_no_realm, destroy_unprotected, destroy_refused, destroy_done}
 use Rattle.rmi_monitor.proofs.Located.{located, unprotected, located_tables, located_inside}
 use Rattle.rmi_monitor.proofs.Outcomes.{answers_err, answers_refused, after_err}
-use Rattle.rmi_monitor.proofs.RealmCommands.{Done, seen_refused}
+use Rattle.rmi_monitor.proofs.RealmCommands.{Done, seen_refused, whole_refused}
 use Rattle.rmi_monitor.proofs.RealmFound.{realm_place, realm_read}
 use Rattle.rmi_monitor.proofs.monitor.Monitor.data_destroy.Given.{Over}
 use Rattle.rmi_monitor.proofs.monitor.Monitor.data_destroy.Goals as goal
@@ -33,6 +33,9 @@ returns-in_default-protected g c =
 
 -- ---- the call
 
+pub unmap-requires-clause-backed : goal.unmap-requires-clause-backed
+unmap-requires-clause-backed g c = c.self.invariant.backed
+
 pub unmap-requires-clause-tables : goal.unmap-requires-clause-tables
 unmap-requires-clause-tables g c =
     located_tables c.in-Some.realm c.args.rd c.args.ipa c.tables_of.result c.in-Some-protected.ipa
@@ -51,6 +54,9 @@ refused g c =
     c.tables_of.result c.in-Some-protected.ipa
     (located c.in-Some.realm c.args.ipa c.root.result c.root.ensures c.protected.result c.protected.ensures c.args.rd c.tables_of.result c.tables_of.ensures c.in-Some-protected.ipa c.in-Some-protected.is)
     c.in_err-unmap.field-0.0.level c.in_err-unmap.ensures.answer
+
+pub invariant_of-self : goal.invariant_of-self
+invariant_of-self g c = whole_refused _ c.self.invariant _ _ _ c.in_err-unmap.ensures.unchanged.1 c.in_err-unmap.ensures.unchanged.0 c.in_err-unmap.ensures.keeps.rest.flags
 
 pub returns-in_err-unmap : goal.returns-in_err-unmap
 returns-in_err-unmap g c = record {

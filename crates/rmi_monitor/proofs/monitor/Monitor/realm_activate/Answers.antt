@@ -1,4 +1,4 @@
-use Rattle.std.proofs.Common.{◌<◌, List, Option, sym, ap, subst, ◌∙◌}
+use Rattle.std.proofs.Common.{◌<◌, List, Option, refl, sym, ap, subst, ◌∙◌}
 use Rattle.std.specs.Prelude.{slice_set}
 use Rattle.realm_model.specs.Command.Check.{error_input, error_realm}
 use Rattle.realm_objects.specs.Attributes.{RealmAttributes}
@@ -7,10 +7,14 @@ use Rattle.rmi_monitor.proofs.Activates.{activate_none, activate_late, activate_
 use Rattle.rmi_monitor.proofs.Outcomes.{answers_err, answers_ok, after_err}
 use Rattle.rmi_monitor.proofs.RealmFound.{realm_place, realm_read}
 use Rattle.rmi_monitor.proofs.Listed.{put_back}
+use Rattle.rmi_monitor.proofs.RealmCommands.{whole_unmoved}
 use Rattle.rmi_monitor.proofs.monitor.Monitor.realm_activate.Goals as goal
 
 pub index_mut-requires : goal.index_mut-requires
 index_mut-requires g c = subst (λ n. c.number.result < n) (sym c.self.inside.realms.ok.0) (realm_place c.args.self.now _ c.self.view_is c.self.invariant c.args.rd c.requires.inside c.number.result c.number.ensures.value)
+
+pub invariant_of-self : goal.invariant_of-self
+invariant_of-self g c = whole_unmoved _ c.self.invariant _ _ _ refl refl refl c.number.result c.index_mut.result.now _ c.index_mut.ensures.value refl
 
 pub returns-in_default-clause-answer : goal.returns-in_default-clause-answer
 returns-in_default-clause-answer g c = answers_err (Unit {0}) error_input _ (activate_none c.args.self.now _ c.self.view_is c.self.invariant c.args.rd c.requires (realm_read c.args.self.now _ c.self.view_is c.self.invariant c.args.rd c.requires.inside c.number.result c.index_mut.result.now _ c.number.ensures.value c.index_mut.ensures.value c.in_default.is))
@@ -20,6 +24,9 @@ returns-in_default-clause-machine g c =
     ap (λ (realms : List (Option RealmAttributes)). seen_as (fields_of c.self.inside.vmids c.self.inside.aux c.self.inside.used c.self.inside.granules (g.S.PageStore.page_bytes c.self.inside.store) (g.S.PageStore.free_flags c.self.inside.store) realms c.self.inside.rec_counts.items c.self.inside.recs.items)) (put_back c.self.inside.realms.items c.number.result c.index_mut.result.now c.index_mut.result.now (sym c.index_mut.ensures.value))
     ∙ c.self.view_is
     ∙ after_err c.args.self.now error_input _ (activate_none c.args.self.now _ c.self.view_is c.self.invariant c.args.rd c.requires (realm_read c.args.self.now _ c.self.view_is c.self.invariant c.args.rd c.requires.inside c.number.result c.index_mut.result.now _ c.number.ensures.value c.index_mut.ensures.value c.in_default.is))
+
+pub invariant_of-self-then-not-is_new : goal.invariant_of-self-then-not-is_new
+invariant_of-self-then-not-is_new g c = whole_unmoved _ c.self.invariant _ _ _ refl refl refl c.number.result c.index_mut.result.now _ c.index_mut.ensures.value c.in-Some.is
 
 pub returns-then-not-is_new-clause-answer : goal.returns-then-not-is_new-clause-answer
 returns-then-not-is_new-clause-answer g c =

@@ -8,6 +8,7 @@ use Rattle.rmi_monitor.proofs.Granules.{in_granules}
 use Rattle.rmi_monitor.proofs.RecReads.{count_place}
 use Rattle.rmi_monitor.proofs.Outcomes.{answers_err, answers_ok, after_err}
 use Rattle.rmi_monitor.proofs.RealmFound.{realm_place, realm_read}
+use Rattle.rmi_monitor.proofs.RealmCommands.{whole_refused}
 use Rattle.rmi_monitor.proofs.monitor.Monitor.realm_destroy.Goals as goal
 
 pub index-requires : goal.index-requires
@@ -31,10 +32,16 @@ returns-then-recs-gt0-clause-answer g c = answers_err (Unit {0}) error_realm _ (
 pub returns-then-recs-gt0-clause-machine : goal.returns-then-recs-gt0-clause-machine
 returns-then-recs-gt0-clause-machine g c = after_err c.args.self.now error_realm _ (destroy_with_rec c.args.self.now _ c.self.view_is c.self.invariant c.args.rd c.requires c.in-Some.realm (realm_read c.args.self.now _ c.self.view_is c.self.invariant c.args.rd c.requires.inside c.number.result c.index.result.now _ c.number.ensures.value c.index.ensures c.in-Some.is) c.number-2.result c.index-recs.result.now c.number-2.ensures.value c.index-recs.ensures c.if-recs-gt0.true)
 
+pub close_root-requires-clause-backed : goal.close_root-requires-clause-backed
+close_root-requires-clause-backed g c = c.self.invariant.backed
+
 pub close_root-requires-clause-tables : goal.close_root-requires-clause-tables
 close_root-requires-clause-tables g c =
     subst (λ (t : Tables). HasTables (g.S.PageStore.page_bytes c.self.inside.store) c.self.inside.granules t.rd t.root) (sym c.tables_of.ensures)
     (c.self.invariant.tables c.args.rd c.in-Some.realm (realm_read c.args.self.now _ c.self.view_is c.self.invariant c.args.rd c.requires.inside c.number.result c.index.result.now _ c.number.ensures.value c.index.ensures c.in-Some.is))
+
+pub invariant_of-self : goal.invariant_of-self
+invariant_of-self g c = whole_refused _ c.self.invariant _ _ _ c.if-not-close_root.ensures.unchanged.1 c.if-not-close_root.ensures.unchanged.0 c.if-not-close_root.ensures.keeps.flags
 
 pub returns-then-not-close_root-clause-answer : goal.returns-then-not-close_root-clause-answer
 returns-then-not-close_root-clause-answer g c =

@@ -7,12 +7,16 @@ use Rattle.rmi_monitor.proofs.RecCreates.{inside_by, fit_by, new_by, shifted_by,
 use Rattle.rmi_monitor.proofs.Outcomes.{answers_ok, answers_err}
 use Rattle.rmi_monitor.proofs.RecReads.{count_place, count_read, few_recs}
 use Rattle.rmi_monitor.proofs.RealmFound.{realm_place, realm_read}
+use Rattle.rmi_monitor.proofs.RealmCommands.{whole_unmoved}
 use Rattle.rmi_monitor.proofs.monitor.Monitor.rec_create.Goals as goal
 
 pub index_mut-requires : goal.index_mut-requires
 index_mut-requires g c =
     let inside : c.number.result < length c.self.inside.realms.items = realm_place c.args.self.now _ c.self.view_is c.self.invariant c.args.rd c.requires.rd_taken.inside c.number.result c.number.ensures.value in
     omega (arith, inside)
+
+pub invariant_of-self : goal.invariant_of-self
+invariant_of-self g c = whole_unmoved _ c.self.invariant _ _ _ refl refl refl c.number.result c.index_mut.result.now _ c.index_mut.ensures.value refl
 
 pub returns-in_default-clause-answer : goal.returns-in_default-clause-answer
 returns-in_default-clause-answer g c =
@@ -31,6 +35,9 @@ can_be_rec-requires-clause-first g c = in_granules c.args.self.now _ c.self.view
 pub can_be_rec-requires-clause-others : goal.can_be_rec-requires-clause-others
 can_be_rec-requires-clause-others g c = inside_by c.args.self.now _ c.self.view_is c.self.invariant c.args.rd c.args.rec c.args.auxiliaries.items c.requires.rd_taken c.requires.rec_taken c.requires.auxiliaries_taken c.as_slice.result.now c.as_slice.ensures.value
 
+pub invariant_of-self-then-not-can_be_rec : goal.invariant_of-self-then-not-can_be_rec
+invariant_of-self-then-not-can_be_rec g c = whole_unmoved _ c.self.invariant _ _ _ refl refl refl c.number.result c.index_mut.result.now _ c.index_mut.ensures.value c.in-Some.is
+
 pub returns-then-not-can_be_rec-clause-answer : goal.returns-then-not-can_be_rec-clause-answer
 returns-then-not-can_be_rec-clause-answer g c =
     let there = realm_read c.args.self.now _ c.self.view_is c.self.invariant c.args.rd c.requires.rd_taken.inside c.number.result c.index_mut.result.now _ c.number.ensures.value c.index_mut.ensures.value c.in-Some.is in
@@ -43,6 +50,9 @@ returns-then-not-can_be_rec-clause-machine g c =
     let fit = fit_by c.args.self.now _ c.self.view_is c.self.invariant c.args.rd c.args.rec c.args.auxiliaries.items c.requires.rd_taken c.requires.rec_taken c.requires.auxiliaries_taken c.as_slice.result.now c.can_be_rec.result _ c.as_slice.ensures.value c.can_be_rec.ensures c.if-not-can_be_rec.true in
     refused_after c.args.self.now _ c.self.view_is c.self.invariant c.args.rd c.args.rec c.args.auxiliaries.items c.requires.rd_taken c.requires.rec_taken c.requires.auxiliaries_taken c.number.result (Some c.in-Some.realm) error_input c.number.ensures.value there
     (refuses_unfit c.args.self.now _ c.self.view_is c.self.invariant c.args.rd c.args.rec c.args.auxiliaries.items c.requires.rd_taken c.requires.rec_taken c.requires.auxiliaries_taken c.in-Some.realm there fit)
+
+pub invariant_of-self-then-not-is_new : goal.invariant_of-self-then-not-is_new
+invariant_of-self-then-not-is_new g c = whole_unmoved _ c.self.invariant _ _ _ refl refl refl c.number.result c.index_mut.result.now _ c.index_mut.ensures.value c.in-Some.is
 
 pub returns-then-not-is_new-clause-answer : goal.returns-then-not-is_new-clause-answer
 returns-then-not-is_new-clause-answer g c =

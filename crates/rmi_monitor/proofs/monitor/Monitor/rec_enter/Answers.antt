@@ -3,7 +3,7 @@ use Rattle.realm_model.specs.declared.states.RecState.TheVariants.{Running}
 use Rattle.realm_model.specs.Command.Rec.{rec_enter}
 use Rattle.rmi_monitor.proofs.Granules.{in_granules}
 use Rattle.rmi_monitor.proofs.RecReads.{rec_place, rec_read, no_rd, no_realm, realm_place, realm_read, kept_there}
-use Rattle.rmi_monitor.proofs.RecChanges.{whole_recs}
+use Rattle.rmi_monitor.proofs.RecChanges.{whole_recs, whole_rec_unmoved}
 use Rattle.rmi_monitor.proofs.RecRuns.{refused_none, enter_new, enter_running, enter_done}
 use Rattle.rmi_monitor.proofs.monitor.Monitor.rec_enter.Goals as goal
 
@@ -11,6 +11,9 @@ pub index_mut-requires : goal.index_mut-requires
 index_mut-requires g c =
     let place = rec_place c.args.self.now _ c.self.view_is c.self.invariant c.args.rec c.requires c.number.result c.number.ensures.value in
     omega arith
+
+pub invariant_of-self : goal.invariant_of-self
+invariant_of-self g c = whole_rec_unmoved _ c.self.invariant c.number.result c.index_mut.result.now _ c.index_mut.ensures.value refl
 
 pub returns-in_default : goal.returns-in_default
 returns-in_default g c =
@@ -39,6 +42,9 @@ unreachable-requires-in_default-index g c =
     no_realm _ c.self.invariant c.args.rec c.in-Some.kept at c.in-Some-realm_of.rd of
     (realm_read _ c.self.invariant c.args.rec c.in-Some.kept at c.in-Some-realm_of.rd of c.number-2.result c.number-2.ensures.value _ None c.index.ensures c.in_default-index.is)
 
+pub invariant_of-self-then-is_new : goal.invariant_of-self-then-is_new
+invariant_of-self-then-is_new g c = whole_rec_unmoved _ c.self.invariant c.number.result c.index_mut.result.now _ c.index_mut.ensures.value c.in-Some.is
+
 pub returns-then-is_new : goal.returns-then-is_new
 returns-then-is_new g c =
     let at = rec_read c.args.self.now _ c.self.view_is c.self.invariant c.args.rec c.requires c.number.result c.number.ensures.value _ (Some c.in-Some.kept) c.index_mut.ensures.value c.in-Some.is in
@@ -47,6 +53,9 @@ returns-then-is_new g c =
     enter_new c.args.self.now _ c.self.view_is c.self.invariant c.args.rec _ c.in-Some.kept c.in-Some-realm_of.rd c.in-Some-index.realm kept
     c.is_new.result c.is_new.ensures c.if-is_new.true
     (λ i. slice_set c.self.inside.recs.items (c.number.ensures.value i) (Some c.in-Some.kept))
+
+pub invariant_of-self-then-not-is_ready : goal.invariant_of-self-then-not-is_ready
+invariant_of-self-then-not-is_ready g c = whole_rec_unmoved _ c.self.invariant c.number.result c.index_mut.result.now _ c.index_mut.ensures.value c.in-Some.is
 
 pub returns-then-not-is_ready : goal.returns-then-not-is_ready
 returns-then-not-is_ready g c =

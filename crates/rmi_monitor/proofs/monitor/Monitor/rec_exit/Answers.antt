@@ -2,7 +2,7 @@ use Rattle.std.proofs.Common.{Some, None, refl, sym, ◌∙◌, slice_set, arith
 use Rattle.realm_model.specs.declared.states.RecState.TheVariants.{Ready}
 use Rattle.realm_model.specs.Command.Rec.{rec_exit}
 use Rattle.rmi_monitor.proofs.RecReads.{rec_place, rec_read}
-use Rattle.rmi_monitor.proofs.RecChanges.{whole_recs}
+use Rattle.rmi_monitor.proofs.RecChanges.{whole_recs, whole_rec_unmoved}
 use Rattle.rmi_monitor.proofs.RecRuns.{refused_none, exit_ready, exit_done}
 use Rattle.rmi_monitor.proofs.RecFound.{kept_at}
 use Rattle.rmi_monitor.proofs.monitor.Monitor.rec_exit.Goals as goal
@@ -12,11 +12,17 @@ index_mut-requires g c =
     let place = rec_place c.args.self.now _ c.self.view_is c.self.invariant c.args.rec c.requires c.number.result c.number.ensures.value in
     omega arith
 
+pub invariant_of-self : goal.invariant_of-self
+invariant_of-self g c = whole_rec_unmoved _ c.self.invariant c.number.result c.index_mut.result.now _ c.index_mut.ensures.value refl
+
 pub returns-in_default : goal.returns-in_default
 returns-in_default g c =
     refused_none c.args.self.now _ c.self.view_is c.self.invariant c.args.rec _ rec_exit
     (rec_read c.args.self.now _ c.self.view_is c.self.invariant c.args.rec c.requires c.number.result c.number.ensures.value _ None c.index_mut.ensures.value c.in_default.is)
     (λ i. slice_set c.self.inside.recs.items (c.number.ensures.value i) (c.in_default.is i))
+
+pub invariant_of-self-then-is_ready : goal.invariant_of-self-then-is_ready
+invariant_of-self-then-is_ready g c = whole_rec_unmoved _ c.self.invariant c.number.result c.index_mut.result.now _ c.index_mut.ensures.value c.in-Some.is
 
 pub returns-then-is_ready : goal.returns-then-is_ready
 returns-then-is_ready g c =

@@ -8,7 +8,7 @@ use Rattle.rmi_monitor.proofs.Comparisons.{test_held, test_failed}
 use Rattle.rmi_monitor.proofs.Granules.{in_granules}
 use Rattle.rmi_monitor.proofs.Located.{located, unprotected, located_tables, located_inside}
 use Rattle.rmi_monitor.proofs.Outcomes.{answers_err, answers_refused, after_err}
-use Rattle.rmi_monitor.proofs.RealmCommands.{Done, seen_refused}
+use Rattle.rmi_monitor.proofs.RealmCommands.{Done, seen_refused, whole_refused}
 use Rattle.rmi_monitor.proofs.RealmFound.{realm_place, realm_read}
 use Rattle.rmi_monitor.proofs.TableCreates.{create_nowhere, create_misplaced, create_unprotected, create_undelegated, create_refused, create_done}
 use Rattle.rmi_monitor.proofs.monitor.Monitor.rtt_create.Given.{Over}
@@ -63,6 +63,9 @@ returns-then-not-is_delegated g c =
 
 -- ---- the call
 
+pub create_table-requires-clause-backed : goal.create_table-requires-clause-backed
+create_table-requires-clause-backed g c = c.self.invariant.backed
+
 pub create_table-requires-clause-tables : goal.create_table-requires-clause-tables
 create_table-requires-clause-tables g c =
     located_tables c.in-Some.realm c.args.rd c.args.ipa c.tables_of.result c.in-Some-Some.ipa
@@ -84,6 +87,9 @@ refused g c =
     (located c.in-Some.realm c.args.ipa c.root.result c.root.ensures c.protected.result c.protected.ensures c.args.rd c.tables_of.result c.tables_of.ensures c.in-Some-Some.ipa c.in-Some-Some.is-1)
     level.1 level.0 (sym c.is_delegated.ensures ∙ c.if-not-is_delegated.false)
     c.in_err-create_table.field-0.0.level c.in_err-create_table.ensures.answer
+
+pub invariant_of-self : goal.invariant_of-self
+invariant_of-self g c = whole_refused _ c.self.invariant _ _ _ c.in_err-create_table.ensures.unchanged.1 c.in_err-create_table.ensures.unchanged.0 c.in_err-create_table.ensures.keeps.rest.flags
 
 pub returns-in_err-create_table : goal.returns-in_err-create_table
 returns-in_err-create_table g c = record {

@@ -7,7 +7,7 @@ use Rattle.rmi_monitor.specs.Inside.{fields_of}
 use Rattle.rmi_monitor.proofs.Comparisons.{test_held, test_failed}
 use Rattle.rmi_monitor.proofs.Located.{located, unprotected, located_tables, located_inside}
 use Rattle.rmi_monitor.proofs.Outcomes.{answers_err, answers_refused, after_err}
-use Rattle.rmi_monitor.proofs.RealmCommands.{Done, seen_refused}
+use Rattle.rmi_monitor.proofs.RealmCommands.{Done, seen_refused, whole_refused}
 use Rattle.rmi_monitor.proofs.RealmFound.{realm_place, realm_read}
 use Rattle.rmi_monitor.proofs.TableDestroys.{destroy_nowhere, destroy_misplaced, destroy_unprotected, destroy_refused, destroy_done}
 use Rattle.rmi_monitor.proofs.monitor.Monitor.rtt_destroy.Given.{Over}
@@ -45,6 +45,9 @@ returns-in_default-2 g c = record { answer = answers_err (Unit {0}) error_input 
 
 -- ---- the call
 
+pub destroy_table-requires-clause-backed : goal.destroy_table-requires-clause-backed
+destroy_table-requires-clause-backed g c = c.self.invariant.backed
+
 pub destroy_table-requires-clause-tables : goal.destroy_table-requires-clause-tables
 destroy_table-requires-clause-tables g c =
     located_tables c.in-Some.realm c.args.rd c.args.ipa c.tables_of.result c.in-Some-Some.ipa
@@ -64,6 +67,9 @@ refused g c =
     c.tables_of.result c.in-Some-Some.ipa c.in-Some-Some.level
     (located c.in-Some.realm c.args.ipa c.root.result c.root.ensures c.protected.result c.protected.ensures c.args.rd c.tables_of.result c.tables_of.ensures c.in-Some-Some.ipa c.in-Some-Some.is-1) level.1 level.0
     c.in_err-destroy_table.field-0.0.level c.in_err-destroy_table.ensures.answer
+
+pub invariant_of-self : goal.invariant_of-self
+invariant_of-self g c = whole_refused _ c.self.invariant _ _ _ c.in_err-destroy_table.ensures.unchanged.1 c.in_err-destroy_table.ensures.unchanged.0 c.in_err-destroy_table.ensures.keeps.rest.flags
 
 pub returns-in_err-destroy_table : goal.returns-in_err-destroy_table
 returns-in_err-destroy_table g c = record {

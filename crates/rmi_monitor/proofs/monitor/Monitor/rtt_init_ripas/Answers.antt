@@ -5,7 +5,7 @@ use Rattle.rmi_monitor.specs.View.{seen_in}
 use Rattle.rmi_monitor.specs.Inside.{fields_of}
 use Rattle.rmi_monitor.proofs.Located.{located_tables, located_inside}
 use Rattle.rmi_monitor.proofs.Outcomes.{answers_err, answers_refused, after_err}
-use Rattle.rmi_monitor.proofs.RealmCommands.{Done, seen_unmoved}
+use Rattle.rmi_monitor.proofs.RealmCommands.{Done, seen_unmoved, whole_unmoved}
 use Rattle.rmi_monitor.proofs.RealmFound.{realm_place, realm_read}
 use Rattle.rmi_monitor.proofs.TableRipas.{no_run, is_run_there, run_located, ripas_nowhere, ripas_no_run, ripas_not_new, ripas_refused, ripas_done}
 use Rattle.rmi_monitor.proofs.monitor.Monitor.rtt_init_ripas.Given.{Over}
@@ -18,6 +18,9 @@ index_mut-requires g c =
 
 -- ---- what is refused
 
+pub invariant_of-self : goal.invariant_of-self
+invariant_of-self g c = whole_unmoved _ c.self.invariant _ _ _ refl refl refl c.number.result c.index_mut.result.now _ c.index_mut.ensures.value refl
+
 pub returns-in_default : goal.returns-in_default
 returns-in_default g c =
     let none = ripas_nowhere c.args.self.now _ c.self.view_is c.self.invariant c.args.rd c.args.ipa c.args.count c.requires (realm_read c.args.self.now _ c.self.view_is c.self.invariant c.args.rd c.requires.inside c.number.result c.index_mut.result.now None c.number.ensures.value c.index_mut.ensures.value c.in_default.is) in
@@ -25,6 +28,9 @@ returns-in_default g c =
       answer = answers_err (Unit {0}) error_input _ none;
       machine = seen_unmoved c.args.self.now _ c.self.view_is _ _ _ refl refl refl c.number.result c.index_mut.result.now _ c.index_mut.ensures.value refl ∙ after_err c.args.self.now error_input _ none;
     }
+
+pub invariant_of-self-in_default-protected_run : goal.invariant_of-self-in_default-protected_run
+invariant_of-self-in_default-protected_run g c = whole_unmoved _ c.self.invariant _ _ _ refl refl refl c.number.result c.index_mut.result.now _ c.index_mut.ensures.value c.in-Some.is
 
 pub returns-in_default-protected_run : goal.returns-in_default-protected_run
 returns-in_default-protected_run g c =
@@ -36,6 +42,9 @@ returns-in_default-protected_run g c =
       answer = answers_err (Unit {0}) error_input _ outside;
       machine = seen_unmoved c.args.self.now _ c.self.view_is _ _ _ refl refl refl c.number.result c.index_mut.result.now _ c.index_mut.ensures.value c.in-Some.is ∙ after_err c.args.self.now error_input _ outside;
     }
+
+pub invariant_of-self-then-not-is_new : goal.invariant_of-self-then-not-is_new
+invariant_of-self-then-not-is_new g c = whole_unmoved _ c.self.invariant _ _ _ refl refl refl c.number.result c.index_mut.result.now _ c.index_mut.ensures.value c.in-Some.is
 
 pub returns-then-not-is_new : goal.returns-then-not-is_new
 returns-then-not-is_new g c =
@@ -49,6 +58,9 @@ returns-then-not-is_new g c =
     }
 
 -- ---- the call
+
+pub init_ripas-requires-clause-backed : goal.init_ripas-requires-clause-backed
+init_ripas-requires-clause-backed g c = c.self.invariant.backed
 
 pub init_ripas-requires-clause-tables : goal.init_ripas-requires-clause-tables
 init_ripas-requires-clause-tables g c =
@@ -68,6 +80,9 @@ refused g c =
     (is_run_there c.in-Some.realm c.args.ipa c.args.count c.root.result c.root.ensures c.protected_run.result c.protected_run.ensures c.in-Some-protected_run.first c.in-Some-protected_run.is) (sym c.is_new.ensures ∙ c.if-not-is_new.false) c.tables_of.result c.in-Some-protected_run.first
     (run_located c.in-Some.realm c.args.ipa c.args.count c.root.result c.root.ensures c.protected_run.result c.protected_run.ensures c.args.rd c.tables_of.result c.tables_of.ensures c.in-Some-protected_run.first c.in-Some-protected_run.is)
     c.in_err-init_ripas.field-0.0.level c.in_err-init_ripas.ensures.answer
+
+pub invariant_of-self-in_err-init_ripas : goal.invariant_of-self-in_err-init_ripas
+invariant_of-self-in_err-init_ripas g c = whole_unmoved _ c.self.invariant _ _ _ refl c.in_err-init_ripas.ensures.unchanged c.in_err-init_ripas.ensures.keeps.rest.flags c.number.result c.index_mut.result.now _ c.index_mut.ensures.value c.in-Some.is
 
 pub returns-in_err-init_ripas : goal.returns-in_err-init_ripas
 returns-in_err-init_ripas g c = record {
