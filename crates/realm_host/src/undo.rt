@@ -15,7 +15,7 @@ use crate::{Host, Refusal, Undone};
 use build_journal::reverse_of;
 use granule_addr::BuildId;
 use page_arena::PageStore;
-use realm_model::Act;
+use realm_model::{Act, kind_of};
 
 impl<S: PageStore> Host<S> {
     /// Reverses the newest act that a build has open, whatever other builds did since.
