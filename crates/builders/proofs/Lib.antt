@@ -6,3 +6,4 @@ pub mod Telling
 pub mod Working
 pub mod Running
 pub mod Waiting
+pub mod Orders

@@ -12,3 +12,4 @@ pub mod Fault
 pub mod Trails
 pub mod Workers
 pub mod Runs
+pub mod Order

@@ -9,6 +9,7 @@ ghost use Rattle.builders.specs.Passes.{unused};
 ghost use Rattle.builders.specs.Seats.{new_seat};
 ghost use Rattle.builders.specs.Told.{IsTold, IsRefused, IsMarkTold, IsBackTold};
 ghost use Rattle.builders.specs.Names.{AreNamed};
+ghost use Rattle.builders.specs.Order.{IsWorldOfSeats};
 
 use crate::blanks::Blanks;
 use crate::close::CloseFault;
@@ -88,9 +89,11 @@ impl<S: PageStore, L: Ledgers> Shared<S, L> {
     }
 
     /// Gives the host back, for its builds' seats: each has to be there once, with the events that the history has of its
-    /// build. At `Err` the host comes back too. Its machine is that of the start.
+    /// build. At `Err` the host comes back too. Its machine is that of the start. Its world is a function of the seats' lists
+    /// alone: in which order the builds came through the lock leaves no trace.
     pub fn close(self, seats: Vec<Seat<L>>) -> Result<Host<S>, (CloseFault, Host<S>)>
         ensures closed { IfOk result (λ host. IsClosed host seats.items) }
+        ensures order { IfOk result (λ host. IsWorldOfSeats host seats.items) }
         ensures fault { IfErr result (λ e. IsFault e.0 e.1 seats.items) }
         ensures host { MatchResult result (λ host. IsGivenBack L.opened host seats.items) (λ e. IsGivenBack L.opened e.1 seats.items) }
     {

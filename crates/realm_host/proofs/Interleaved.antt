@@ -11,8 +11,7 @@ use Rattle.realm_model.specs.declared.act.Act.{Act}
 use Rattle.realm_model.specs.declared.act.Event.{Event}
 use Rattle.realm_model.specs.Act.{reverse_of}
 use Rattle.realm_model.specs.Machine.{cell_at, seen}
-use Rattle.realm_model.specs.History.{acts_of, open_entries, unmatched, pages_held, replay, IsInTurn, IsLegal}
-use Rattle.realm_model.specs.Interleaving.{events_of}
+use Rattle.realm_model.specs.History.{events_of, acts_of, open_entries, unmatched, pages_held, replay, IsInTurn, IsLegal}
 use Rattle.realm_model.specs.Running.{next_number, running_count, is_running}
 use Rattle.realm_model.specs.Step.{used_vmids}
 use Rattle.realm_model.specs.Undoing.{by, reverses, undoing}
@@ -31,7 +30,7 @@ use Rattle.build_commands.specs.Checks.{build_checks, checks_of, first_that_hold
 use Rattle.build_commands.specs.Laws.{outcome_of_act}
 use Rattle.build_commands.specs.Needs.{operands}
 use Rattle.build_commands.specs.Replies.{reply_of}
-use Rattle.build_journal.specs.Kind.{act_kind}
+use Rattle.realm_model.specs.Kind.{act_kind}
 use Rattle.build_books.specs.declared.mark.Mark.{Mark}
 use Rattle.build_books.specs.Desk.{desk_of}
 use Rattle.build_books.specs.Marks.{mark_while}

@@ -1,0 +1,14 @@
+-- That the order in which builds came through the lock leaves no trace.
+use Rattle.std.specs.Prelude.{◌≡◌, List, Some}
+use Rattle.std.specs.List.{All}
+use Rattle.build_books.specs.View.{HostView, world_of}
+use Rattle.realm_model.specs.declared.act.Event.{Event}
+use Rattle.realm_model.specs.History.{events_of, replay, IsLegal}
+use Rattle.builders.specs.Seats.{SeatView}
+
+-- The world of a host is that of each legal history of its machine in which the events of each seat's build are those of the
+-- seat's list, in whatever order the builds' events follow one another.
+abbrev pub IsWorldOfSeats : HostView → List SeatView → Type 0
+IsWorldOfSeats host seats =
+    (history : List Event) → IsLegal host.limits history → All (λ seat. seat.trail ≡ events_of seat.build history) seats
+    → replay host.limits history ≡ Some (world_of host)
