@@ -1,6 +1,5 @@
 use Rattle.std.proofs.Common.{◌≡◌, ◌<◌, ◌==◌, length, false, arith}
 use Rattle.std.proofs.lemmas.Bool.{ne_eqb}
-use Rattle.std.specs.Io.KnownBytes.{prepend_known}
 use Rattle.input_lines.proofs.Nexts.{line_with_feed, line_at_end, too_long, ahead_taken, consumes_same}
 use Rattle.input_lines.proofs.lines.Lines.next_line.Goals as goal
 
