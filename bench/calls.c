@@ -35,6 +35,8 @@ static uint64_t delegated(void) { return rmi_granule_delegate(&bench, 9) | rmi_g
 static uint64_t entered(void) { return rmi_rec_enter(&bench, 2) | rmi_rec_exit(&bench, 2); }
 static uint64_t mapped(void) { return rmi_data_create_unknown(&bench, 0, 6, 0) | rmi_data_destroy(&bench, 0, 0); }
 
+static uint64_t measured_page(void) { return rmi_data_create(&bench, 0, 6, 0, 9) | rmi_data_destroy(&bench, 0, 0); }
+
 static uint64_t opened(void)
 {
     rmi_bench other = RMI_BENCH_CLOSED;
@@ -67,8 +69,8 @@ int main(void)
     for (uint64_t granule = 0; granule < 7; granule++)
         word |= rmi_granule_delegate(&bench, granule);
     word |= rmi_realm_create(&bench, 0, 1, 1, 39) | rmi_rtt_create(&bench, 0, 4, 0, 2) | rmi_rtt_create(&bench, 0, 5, 0, 3);
-    word |= rmi_rec_create(&bench, 0, 2, auxiliaries, 1, &number) | rmi_realm_activate(&bench, 0);
-    if (word != 0)
+    word |= rmi_rec_create(&bench, 0, 2, auxiliaries, 1, &number);
+    if (word != 0 || measured("a page of data, made and destroyed, each", measured_page, 2000, 2) != 0 || rmi_realm_activate(&bench, 0) != 0)
         return 1;
     return measured("a state", read_state, 1000000, 1) | measured("a realm with its measurement", read_realm, 1000000, 1) |
         measured("a command that is refused", refused, 1000000, 1) | measured("delegate and undelegate, each", delegated, 200000, 2) |

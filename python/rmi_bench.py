@@ -53,6 +53,9 @@ class Word(int):
     def __repr__(self):
         return f"Word({int(self)})"
 
+    def __str__(self):
+        return str(int(self))
+
 
 class Refused(Exception):
     """A command was refused: `word` is its result word."""
