@@ -10,4 +10,4 @@ mod range;
 
 pub use number::{cut_at_space, numbers_of};
 pub use operands::{Operand, four_operands, one_operand, three_operands, two_operands};
-pub use range::up_to;
+pub use range::{at_most, up_to};
