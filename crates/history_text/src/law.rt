@@ -34,29 +34,25 @@ fn granules_in_range(granules: &[Gran])
 }
 
 // What is read of a number shows the range of its type.
+fn read<T: Copy>(_numbers: T) {}
+
 fn act_in_range(act: &Act)
     ensures { IsInRange act.now }
 {
     match act {
         Act::Take { order, first } | Act::UnTake { order, first } => {
-            let (_order, _first) = (order.number(), first.number());
+            read((order.number(), first.number()))
         }
-        Act::Fill { granule, value } => {
-            let (_granule, _value) = (granule.number(), *value);
-        }
+        Act::Fill { granule, value } => read((granule.number(), *value)),
         Act::Peek {
             granule,
             offset,
             byte,
-        } => {
-            let (_granule, _offset, _byte) = (granule.number(), offset.number(), *byte);
-        }
-        Act::Delegate { granule } | Act::Undelegate { granule } => {
-            let _granule = granule.number();
-        }
+        } => read((granule.number(), offset.number(), *byte)),
+        Act::Delegate { granule } | Act::Undelegate { granule } => read(granule.number()),
         Act::Realm { rd, root, vmid } | Act::UnRealm { rd, root, vmid } => {
-            let (_rd, _first) = (rd.number(), root.first.number());
-            let (_width, _vmid) = (root.width.number(), vmid.number());
+            read((rd.number(), root.first.number()));
+            read((root.width.number(), vmid.number()))
         }
         Act::Activate => {}
         Act::Rtt {
@@ -68,21 +64,15 @@ fn act_in_range(act: &Act)
             granule,
             ipa,
             level,
-        } => {
-            let (_granule, _ipa, _level) = (granule.number(), ipa.number(), level.number());
-        }
-        Act::Ripas { ipa, count } => {
-            let (_ipa, _count) = (ipa.number(), *count);
-        }
+        } => read((granule.number(), ipa.number(), level.number())),
+        Act::Ripas { ipa, count } => read((ipa.number(), *count)),
         Act::Data {
             granule,
             ipa,
             source,
-        } => {
-            let (_granule, _ipa, _source) = (granule.number(), ipa.number(), source.number());
-        }
+        } => read((granule.number(), ipa.number(), source.number())),
         Act::Unknown { granule, ipa } | Act::UnData { granule, ipa } => {
-            let (_granule, _ipa) = (granule.number(), ipa.number());
+            read((granule.number(), ipa.number()))
         }
         Act::Rec {
             granule,
@@ -94,21 +84,16 @@ fn act_in_range(act: &Act)
             auxiliaries,
             number,
         } => {
-            let (_granule, _number) = (granule.number(), number.number());
-            granules_in_range(auxiliaries.as_slice());
+            read((granule.number(), number.number()));
+            granules_in_range(auxiliaries.as_slice())
         }
-        Act::Enter { number } | Act::Exit { number } => {
-            let _number = number.number();
-        }
+        Act::Enter { number } | Act::Exit { number } => read(number.number()),
         Act::Poke {
             number,
             ipa,
             offset,
             value,
-        } => {
-            let (_number, _ipa) = (number.number(), ipa.number());
-            let (_offset, _value) = (offset.number(), *value);
-        }
+        } => read((number.number(), ipa.number(), offset.number(), *value)),
     }
 }
 

@@ -3,7 +3,7 @@ ghost use Rattle.std.specs.Prelude.{◌≡◌, [], ◌∷◌, ◌≤◌, length}
 ghost use Rattle.history_text.specs.Written.{written_act};
 
 use arrayvec::ArrayVec;
-use granule_addr::{Gran, RecNo, Root, Vmid};
+use granule_addr::{Gran, IpaGran, PageOff, RecNo, Root, Vmid};
 use realm_model::Act;
 use std::fmt;
 
@@ -47,6 +47,32 @@ fn numbers(values: &[u32]) -> ArrayVec<u32, MOST_NUMBERS>
     numbers
 }
 
+fn peek_numbers(granule: Gran, offset: PageOff, byte: u8) -> ArrayVec<u32, MOST_NUMBERS>
+    ensures { result.items ≡ granule ∷ offset ∷ byte ∷ [] }
+{
+    let (granule, offset) = (granule.number() as u32, offset.number() as u32);
+    numbers(&[granule, offset, byte as u32])
+}
+
+fn data_numbers(granule: Gran, ipa: IpaGran, source: Gran) -> ArrayVec<u32, MOST_NUMBERS>
+    ensures { result.items ≡ granule ∷ ipa ∷ source ∷ [] }
+{
+    let (granule, source) = (granule.number() as u32, source.number() as u32);
+    numbers(&[granule, ipa.number(), source])
+}
+
+fn poke_numbers(
+    number: RecNo,
+    ipa: IpaGran,
+    offset: PageOff,
+    value: u8,
+) -> ArrayVec<u32, MOST_NUMBERS>
+    ensures { result.items ≡ number ∷ ipa ∷ offset ∷ value ∷ [] }
+{
+    let (number, offset) = (number.number() as u32, offset.number() as u32);
+    numbers(&[number, ipa.number(), offset, value as u32])
+}
+
 fn realm_numbers(rd: Gran, root: Root, vmid: Vmid) -> ArrayVec<u32, MOST_NUMBERS>
     ensures { result.items ≡ rd ∷ root.first ∷ root.width ∷ vmid ∷ [] }
 {
@@ -80,10 +106,7 @@ pub fn numbers_of(act: &Act) -> ArrayVec<u32, MOST_NUMBERS>
             granule,
             offset,
             byte,
-        } => {
-            let (granule, offset) = (granule.number() as u32, offset.number() as u32);
-            numbers(&[granule, offset, *byte as u32])
-        }
+        } => peek_numbers(*granule, *offset, *byte),
         Act::Delegate { granule } | Act::Undelegate { granule } => {
             numbers(&[granule.number() as u32])
         }
@@ -106,11 +129,7 @@ pub fn numbers_of(act: &Act) -> ArrayVec<u32, MOST_NUMBERS>
             granule,
             ipa,
             source,
-        } => numbers(&[
-            granule.number() as u32,
-            ipa.number(),
-            source.number() as u32,
-        ]),
+        } => data_numbers(*granule, *ipa, *source),
         Act::Unknown { granule, ipa } | Act::UnData { granule, ipa } => {
             numbers(&[granule.number() as u32, ipa.number()])
         }
@@ -130,10 +149,7 @@ pub fn numbers_of(act: &Act) -> ArrayVec<u32, MOST_NUMBERS>
             ipa,
             offset,
             value,
-        } => {
-            let (number, offset) = (number.number() as u32, offset.number() as u32);
-            numbers(&[number, ipa.number(), offset, *value as u32])
-        }
+        } => poke_numbers(*number, *ipa, *offset, *value),
     }
 }
 
