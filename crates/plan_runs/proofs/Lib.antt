@@ -2,3 +2,4 @@ pub mod Turns
 pub mod Runs
 pub mod Settings
 pub mod MapLines
+pub mod Maps

@@ -8,6 +8,7 @@
 
 mod answer;
 mod build_id;
+pub mod law;
 mod lines;
 mod map;
 mod place;
