@@ -65,7 +65,7 @@ test: ## the whole gate from nothing: proofs, tests, what the built programs pri
 	tests/program
 	tests/traces
 	tests/allocations
-	@! command -v $(CC) > /dev/null || tools/c-library
+	@! command -v $(CC) > /dev/null || tools/c-library --after-ci
 	tests/c-library
 	tests/documents
 	tests/commands
