@@ -103,7 +103,8 @@ uint64_t rmi_data_destroy(rmi_bench *bench, uint64_t rd, uint64_t ipa) RMI_NO_NU
 /* RMI_REC_CREATE, with `count` auxiliary granules; `number` becomes the REC's number in its realm.
  * Owed: handle; `auxiliaries` points to `count` numbers, and is not NULL even where `count` is 0; `number` is not NULL, and may
  * be written to. */
-uint64_t rmi_rec_create(rmi_bench *bench, uint64_t rd, uint64_t rec, const uint64_t *auxiliaries, size_t count, uint64_t *number) RMI_NO_NULL;
+uint64_t rmi_rec_create(rmi_bench *bench, uint64_t rd, uint64_t rec, const uint64_t *auxiliaries, size_t count,
+                        uint64_t *number) RMI_NO_NULL;
 /* RMI_REC_ENTER.   Owed: handle. */
 uint64_t rmi_rec_enter(rmi_bench *bench, uint64_t rec) RMI_NO_NULL;
 /* REC exit: what ends RMI_REC_ENTER, here a command of its own.   Owed: handle. */

@@ -96,7 +96,8 @@ class _Handle(ctypes.Structure):
 
 
 class _Realm(ctypes.Structure):
-    _fields_ = [(name, ctypes.c_uint64) for name in ("state", "vmid", "width", "root", "next")] + [("measurement", ctypes.c_uint8 * 32)]
+    _fields_ = [(name, ctypes.c_uint64) for name in ("state", "vmid", "width", "root", "next")]
+    _fields_ += [("measurement", ctypes.c_uint8 * 32)]
 
 
 class _Rec(ctypes.Structure):
