@@ -62,7 +62,7 @@ test: ## the whole gate from nothing: proofs, tests, what the built programs pri
 	rt ci
 	@mkdir -p bin
 	@for it in $(PROGRAMS) test_memory; do install -m 755 crates/$$it/out/$$it bin/$$it || exit 1; done
-	@! command -v $(CC) > /dev/null || tools/c-library
+	@! command -v $(CC) > /dev/null || tools/c-library --after-ci
 	@tools/at_once tests/commands tests/program tests/traces tests/allocations tests/c-library tests/documents "tools/pictures --check"
 
 wrong-bodies: ## tries bodies that do something else, of CRATE or all: the prover has to refuse each

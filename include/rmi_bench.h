@@ -11,6 +11,7 @@
  * The caller owes what stands at each function behind `Owed:`, and nothing checks it. Where it says `handle`, that is:
  *   - a pointer to an rmi_bench, and not NULL;
  *   - all bytes of it are 0, or it came from rmi_bench_open and was neither copied, moved nor written to since;
+ *   - no other pointer of the call leads into it;
  *   - one call with it at a time, and none from a signal handler, nor from the forked child of a process with threads.
  * Two handles have nothing in common: each may be in a thread of its own. A closed handle is no mistake, in any call.
  */
@@ -101,9 +102,10 @@ uint64_t rmi_data_create_unknown(rmi_bench *bench, uint64_t rd, uint64_t page, u
 uint64_t rmi_data_destroy(rmi_bench *bench, uint64_t rd, uint64_t ipa) RMI_NO_NULL;
 
 /* RMI_REC_CREATE, with `count` auxiliary granules; `number` becomes the REC's number in its realm.
- * Owed: handle; `auxiliaries` points to `count` numbers, and is not NULL even where `count` is 0; `number` is not NULL, and may
- * be written to. */
-uint64_t rmi_rec_create(rmi_bench *bench, uint64_t rd, uint64_t rec, const uint64_t *auxiliaries, size_t count, uint64_t *number) RMI_NO_NULL;
+ * Owed: handle; `auxiliaries` points to `count` numbers, and is not NULL even where `count` is 0; `number` is not NULL, may be
+ * written to, and is none of these numbers. */
+uint64_t rmi_rec_create(rmi_bench *bench, uint64_t rd, uint64_t rec, const uint64_t *auxiliaries, size_t count,
+                        uint64_t *number) RMI_NO_NULL;
 /* RMI_REC_ENTER.   Owed: handle. */
 uint64_t rmi_rec_enter(rmi_bench *bench, uint64_t rec) RMI_NO_NULL;
 /* REC exit: what ends RMI_REC_ENTER, here a command of its own.   Owed: handle. */

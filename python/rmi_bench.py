@@ -96,7 +96,8 @@ class _Handle(ctypes.Structure):
 
 
 class _Realm(ctypes.Structure):
-    _fields_ = [(name, ctypes.c_uint64) for name in ("state", "vmid", "width", "root", "next")] + [("measurement", ctypes.c_uint8 * 32)]
+    _fields_ = [(name, ctypes.c_uint64) for name in ("state", "vmid", "width", "root", "next")]
+    _fields_ += [("measurement", ctypes.c_uint8 * 32)]
 
 
 class _Rec(ctypes.Structure):
@@ -125,7 +126,7 @@ def _places():
 
 
 def load(path=None):
-    """The library, at this path or where it is looked for. A call keeps the interpreter's lock, so that no two come at once."""
+    """The library, at this path or where it is looked for. A call keeps the interpreter's lock, where there is one: no two come at once."""
     library = ctypes.PyDLL(path or _places()[0])
     takes = lambda name, result, count, *more: _declare(library, name, result, [_U64] * count + list(more))
     takes("rmi_bench_open", _U64, 3)

@@ -141,7 +141,8 @@ static void closed(void)
         expect(rmi_bench_open(&b, 1, 1, more) == RMI_NO_MACHINE, "a machine of too many auxiliary granules");
     }
     expect(rmi_bench_open(&b, 0, 1, 0) == RMI_NO_MACHINE && rmi_bench_open(&b, 4097, 1, 0) == RMI_NO_MACHINE &&
-           rmi_bench_open(&b, 1, 0, 0) == RMI_NO_MACHINE && rmi_bench_open(&b, 1, 1, 17) == RMI_NO_MACHINE, "a machine that is none");
+           rmi_bench_open(&b, 1, 0, 0) == RMI_NO_MACHINE && rmi_bench_open(&b, 1, 1, 17) == RMI_NO_MACHINE,
+           "a machine that is none");
     expect(!b.is_open && b.bench == NULL, "a handle is open");
 }
 
@@ -158,7 +159,8 @@ int main(void)
     for (size_t i = 1; i < 4; i++)
         unread(&b, past[i], past[i]);
     unread(&b, 16, 512);
-    expect(rmi_read_state(&b, 7, &value) && value == RMI_DELEGATED && rmi_read_sum(&b, 9, &value) && value == 0, "something has changed");
+    expect(rmi_read_state(&b, 7, &value) && value == RMI_DELEGATED && rmi_read_sum(&b, 9, &value) && value == 0,
+           "something has changed");
     rmi_bench_close(&b);
     printf("%d operands are refused\n", refused - failed);
     return failed != 0;
