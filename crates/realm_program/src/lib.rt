@@ -5,14 +5,14 @@
 //! devices.
 #![tactic(auto)]
 
-mod boot;
+mod booting;
 mod built;
 mod fault;
 mod input;
 mod source;
 mod text;
 
-pub use boot::boot;
+pub use booting::boot;
 pub use built::Built;
 pub use fault::Fault;
 pub use input::{ReadError, read_whole};

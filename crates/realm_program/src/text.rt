@@ -6,7 +6,7 @@ ghost use Rattle.realm_program.specs.Printed.{IsEnd};
 ghost use Rattle.realm_program.specs.Replay.{opening_host, IsText, IsErasedText, IsAskedText, IsWithoutText};
 ghost use Rattle.realm_program.specs.declared.fault.Fault.TheVariants.{Device, Mismatch};
 
-use crate::boot::boot;
+use crate::booting::boot;
 use crate::built::Built;
 use crate::fault::Fault;
 use crate::source::plan_in;
