@@ -1,3 +1,4 @@
 pub mod Reports
 pub mod Seating
 pub mod Ended
+pub mod Orders

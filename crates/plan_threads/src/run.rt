@@ -2,6 +2,7 @@
 ghost use Rattle.std.specs.Prelude.{◌≡◌, [], vec_len, string_bytes, IfOk, IfErr};
 ghost use Rattle.realm_plan.specs.PlanView.{plan_view};
 ghost use Rattle.plan_threads.specs.Threads.{IsWithoutText, IsText};
+ghost use Rattle.plan_threads.specs.Order.{OrderIsNotTold};
 ghost use Rattle.builders.specs.Names.{AreNamed};
 
 use crate::ends::{Ends, ends_of};
@@ -59,7 +60,8 @@ fn run_with<
 }
 
 /// Runs each build of a plan by a worker in a thread of its own, on a host that has no history, and gives the text of the
-/// run, made whole in memory: the lines of the reports by build, the host's map, and `audit ok`.
+/// run, made whole in memory: the lines of the reports by build, the host's map, and `audit ok`. Runs in which each build got
+/// the same have the same map, in whatever order the builds came through the lock.
 ///
 /// Errors: Stuck, with the lowest build whose worker waited in vain for a turn of the gate; Mismatch, where the host is not
 /// closed, or a report does not fit its history; Memory, where a growth was refused.
@@ -74,6 +76,7 @@ pub fn run_text<R: Threads + Wait + Sync, S: PageStore + Drop + Send, G: Gate + 
     requires builds { host.limits.builds ≡ vec_len plan.now.builds }
     ensures ok { IfOk result (λ text. IsText (plan_view plan.now) (G.passes gate.now) (G.stops gate.now) host (string_bytes text)) }
     ensures err { IfErr result (IsWithoutText (plan_view plan.now) (G.passes gate.now) (G.stops gate.now) host) }
+    ensures order { OrderIsNotTold (plan_view plan.now) (G.passes gate.now) (G.stops gate.now) host }
 {
     run_with::<R, S, G, Brand>(rt, alloc, plan, Blanks::new(), host, gate)
 }
