@@ -12,6 +12,17 @@ use Rattle.realm_program.specs.declared.fault.Fault.TheVariants.{EraseNamesNoBui
 abbrev pub opening_host : Plan → HostView
 opening_host plan = booted plan.pages plan.vmids plan.aux (length plan.builds) plan.history
 
+-- some run of the plan leads to this host
+pub record LeadsTo (plan : Plan) (last : HostView) : Type 0 where
+  pub lines : List ℕ
+  pub run : IsToldRun plan (opening_host plan) last [] lines
+
+-- the map of a host's history without the build's events
+pub record IsMapWithout (host : HostView) (build : ℕ) (text : List ℕ) : Type 0 where
+  pub fresh : HostView
+  pub without : IsWithout host build fresh
+  pub whole : text ≡ map_text fresh
+
 -- The text of some run of the plan: the lines of its turns, and the map of the world that it ends in.
 pub record IsText (plan : Plan) (text : List ℕ) : Type 0 where
   pub last : HostView

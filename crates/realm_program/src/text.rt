@@ -3,8 +3,9 @@ ghost use Rattle.std.specs.Prelude.{◌≡◌, ◌+◌, ◌≤◌, ◌↔◌, �
 ghost use Rattle.plan_runs.specs.Run.{IsToldRun};
 ghost use Rattle.realm_plan.specs.PlanView.{plan_view};
 ghost use Rattle.realm_program.specs.Printed.{IsEnd};
-ghost use Rattle.realm_program.specs.Replay.{opening_host, IsText, IsErasedText, IsAskedText, IsWithoutText};
-ghost use Rattle.realm_program.specs.declared.fault.Fault.TheVariants.{Device, Mismatch};
+ghost use Rattle.realm_host.specs.Recorded.{fresh_like};
+ghost use Rattle.realm_program.specs.Replay.{opening_host, LeadsTo, IsMapWithout, IsText, IsErasedText, IsAskedText, IsWithoutText};
+ghost use Rattle.realm_program.specs.declared.fault.Fault.TheVariants.{Memory, Device, Mismatch};
 
 use crate::booting::boot;
 use crate::built::Built;
@@ -38,7 +39,33 @@ pub fn text_of<S: Built>(alloc: Global, plan: &Plan) -> Result<String, AllocErro
     Ok(text)
 }
 
-// The map of a run of the plan with a build left out: its history without the build's events is applied to a fresh host.
+// The host after a run of the plan, whose lines are let go.
+fn host_of(alloc: Global, plan: &Plan) -> Result<Host<BuddyArena>, AllocError>
+    ensures { IfOk result (LeadsTo (plan_view plan.now)) }
+{
+    let mut lines = String::new(alloc);
+    run_plan(alloc, plan, &mut lines)
+}
+
+// The map of a host's history without the build's events: it is applied to a fresh host of the plan.
+fn map_without(
+    alloc: Global,
+    plan: &Plan,
+    host: &Host<BuddyArena>,
+    build: BuildId,
+) -> Result<String, Fault>
+    requires { opening_host (plan_view plan.now) ≡ fresh_like host.now }
+    ensures ok { IfOk result (λ text. IsMapWithout host.now build (string_bytes text)) }
+    ensures err { IfErr result (λ fault. fault ≡ Memory) }
+{
+    let mut fresh = boot::<BuddyArena>(alloc, plan)?;
+    if !apply_without(host, build, &mut fresh) {
+        return Err(Fault::Mismatch);
+    }
+    Ok(map_text(alloc, &fresh)?)
+}
+
+// The map of a run of the plan with a build left out.
 fn erased_text_of(alloc: Global, plan: &Plan, build: BuildId) -> Result<String, Fault>
     ensures ok { IfOk result (λ text. IsErasedText (plan_view plan.now) build (string_bytes text)) }
     ensures err { IfErr result (IsWithoutText (Some build) (plan_view plan.now)) }
@@ -46,13 +73,8 @@ fn erased_text_of(alloc: Global, plan: &Plan, build: BuildId) -> Result<String, 
     if build.number() as usize >= plan.builds.len() {
         return Err(Fault::EraseNamesNoBuild);
     }
-    let mut lines = String::new(alloc);
-    let host = run_plan::<BuddyArena>(alloc, plan, &mut lines)?;
-    let mut fresh = boot::<BuddyArena>(alloc, plan)?;
-    if !apply_without(&host, build, &mut fresh) {
-        return Err(Fault::Mismatch);
-    }
-    Ok(map_text(alloc, &fresh)?)
+    let host = host_of(alloc, plan)?;
+    map_without(alloc, plan, &host, build)
 }
 
 // The text that is asked for: a build may be left out.
