@@ -2,7 +2,7 @@
 use Rattle.std.proofs.Common.{◌≡◌, inl, inr, ℕ, ◌++◌, true, List, length, sym, subst, ◌∙◌, ap}
 use Rattle.std.specs.Global.{Vec}
 use Rattle.std.specs.List.{AllZip, flat_map}
-use Rattle.std.specs.Prelude.{All}
+use Rattle.std.specs.Prelude.{All, ◌⊎◌, Result, Ok, Err, IfOk, IfErr}
 use Rattle.std.proofs.lemmas.List.Elements.{length_all_zip}
 use Rattle.build_books.specs.View.{HostView}
 use Rattle.build_commands.specs.declared.cmd.Step.{Step}
@@ -17,7 +17,9 @@ use Rattle.realm_plan.specs.Plan.{Plan}
 use Rattle.report_audit.specs.Fitting.{ReportFits}
 use Rattle.workers.specs.declared.report.Report.{Report}
 use Rattle.plan_threads.specs.Text.{report_lines, audit_line}
-use Rattle.plan_threads.specs.Threads.{new_workers, seats_of, IsReportOf, IsEndedRun, IsText, IsStuck, IsMismatch}
+use Rattle.plan_threads.specs.Threads.{new_workers, seats_of, IsReportOf, IsEndedRun, IsText, IsStuck, IsMismatch, IsWithoutText}
+use Rattle.plan_threads.specs.declared.fault.RunFault.{RunFault}
+use Rattle.plan_threads.specs.declared.fault.RunFault.TheVariants.{Memory, Mismatch}
 use Rattle.plan_threads.proofs.Reports.{workers_fit, reports_fit, text_of_workers}
 
 -- there are as many after it as before
@@ -63,3 +65,15 @@ module _ (plan : Plan) (passes stops : ℕ → ℕ → Type 0) (start opened : H
         fit = workers_fit host.history new reports are_reports fit;
         whole = whole ∙ ap (λ (lines : List ℕ). lines ++ (map_text host ++ audit_line)) (text_of_workers plan new reports are_reports);
       }
+
+-- ---- what a call says of its text, or of why there is none
+
+pub with_both : {A E : Type 0} {P Q R : A → Type 0} (r : Result A E) → ((x : A) → P x → Q x → R x) → IfOk r P → IfOk r Q → IfOk r R
+with_both (Ok x) both p q = both x p q
+with_both (Err e) both p q = tt
+
+pub without_text : {A : Type 0} (plan : Plan) (passes stops : ℕ → ℕ → Type 0) (opened : HostView) (r : Result A RunFault) (bad : Type 0) → (bad → IsMismatch plan passes stops opened)
+    → IfErr r (λ fault. (fault ≡ Memory) ⊎ ((fault ≡ Mismatch) × bad)) → IfErr r (IsWithoutText plan passes stops opened)
+without_text plan passes stops opened (Ok x) bad differs why = tt
+without_text plan passes stops opened (Err fault) bad differs (inl memory) = rw memory tt
+without_text plan passes stops opened (Err fault) bad differs (inr mismatch) = rw mismatch.0 (differs mismatch.1)

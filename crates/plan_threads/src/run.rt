@@ -8,12 +8,11 @@ ghost use Rattle.builders.specs.Names.{AreNamed};
 use crate::ends::{Ends, ends_of};
 use crate::fault::RunFault;
 use crate::new_workers::workers_of;
-use crate::text::text_of;
+use crate::text::audited_text_of;
 use builders::{Blanks, Ledgers, Shared, run_builds};
 use page_arena::PageStore;
 use realm_host::Host;
 use realm_plan::Plan;
-use report_audit::fit_all;
 use std::alloc::Global;
 use std::marker::{Brand, Send, Sync};
 use std::sync::Wait;
@@ -53,10 +52,7 @@ fn run_with<
     let Ok(host) = shared.close(seats) else {
         return Err(RunFault::Mismatch);
     };
-    if !fit_all(alloc, host.history(), reports.as_slice())? {
-        return Err(RunFault::Mismatch);
-    }
-    Ok(text_of(alloc, plan, reports.as_slice(), &host)?)
+    audited_text_of(alloc, plan, reports.as_slice(), &host)
 }
 
 /// Runs each build of a plan by a worker in a thread of its own, on a host that has no history, and gives the text of the

@@ -1,15 +1,19 @@
 //! The text of a run.
-ghost use Rattle.std.specs.Prelude.{◌≡◌, ◌++◌, OnOk, IfOk, string_bytes};
+ghost use Rattle.std.specs.Prelude.{◌≡◌, ◌++◌, ◌⊎◌, OnOk, IfOk, IfErr, All, string_bytes};
 ghost use Rattle.std.specs.List.{flat_map};
 ghost use Rattle.plan_runs.specs.Run.{map_text};
 ghost use Rattle.realm_plan.specs.PlanView.{plan_view};
+ghost use Rattle.report_audit.specs.Fitting.{ReportFits};
 ghost use Rattle.plan_threads.specs.Text.{report_lines, audit_line};
+ghost use Rattle.plan_threads.specs.declared.fault.RunFault.TheVariants.{Memory, Mismatch};
 
+use crate::fault::RunFault;
 use build_commands::Step;
 use page_arena::PageStore;
 use plan_runs::{push_map, push_report};
 use realm_host::Host;
 use realm_plan::Plan;
+use report_audit::fit_all;
 use std::alloc::{AllocError, Global};
 use workers::Report;
 
@@ -31,8 +35,8 @@ fn push_reports(
     Ok(())
 }
 
-/// The lines of the reports, the map of the host, and the line that says that they fit. The one error is want of memory.
-pub fn text_of<S: PageStore>(
+// The lines of the reports, the map of the host, and the line that says that they fit. The one error is want of memory.
+fn text_of<S: PageStore>(
     alloc: Global,
     plan: &Plan,
     reports: &[(Report, Vec<Step>)],
@@ -45,4 +49,22 @@ pub fn text_of<S: PageStore>(
     push_map(&mut text, host)?;
     text.push_str("audit ok\n")?;
     Ok(text)
+}
+
+/// The text, where each report fits the host's history. Errors: Mismatch, where one does not; Memory, where a growth was
+/// refused.
+pub fn audited_text_of<S: PageStore>(
+    alloc: Global,
+    plan: &Plan,
+    reports: &[(Report, Vec<Step>)],
+    host: &Host<S>,
+) -> Result<String, RunFault>
+    ensures fit { IfOk result (λ text. All (ReportFits host.now.history) reports.now) }
+    ensures text { IfOk result (λ text. string_bytes text ≡ flat_map (report_lines (plan_view plan.now)) reports.now ++ (map_text host.now ++ audit_line)) }
+    ensures err { IfErr result (λ fault. (fault ≡ Memory) ⊎ ((fault ≡ Mismatch) × ¬ (All (ReportFits host.now.history) reports.now))) }
+{
+    if !fit_all(alloc, host.history(), reports)? {
+        return Err(RunFault::Mismatch);
+    }
+    Ok(text_of(alloc, plan, reports, host)?)
 }
