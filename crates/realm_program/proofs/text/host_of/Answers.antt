@@ -10,5 +10,5 @@ returns c =
     let plan = plan_view c.args.plan.now in
     let lines = string_bytes c.run_plan.new.lines in
     IfOk-weaker c.run_plan.result _ _
-    (λ host run. record { lines = lines; run = subst (λ (old : List ℕ). IsToldRun plan (opening_host plan) host old lines) c.new-lines.ensures run })
+    (λ host run. record { lines = lines; run = subst (λ (old : List ℕ). IsToldRun plan (opening_host plan) host old lines) c.new-lines.ensures.bytes run })
     c.run_plan.ensures
