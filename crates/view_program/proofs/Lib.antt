@@ -1,5 +1,0 @@
-pub mod Words
-mod Faults
-mod Takings
-mod Legal
-mod ApplyEnds
