@@ -12,7 +12,7 @@ COUNT ?=
 PREFIX ?= /usr/local
 DESTDIR ?=
 
-PROGRAMS = realmhost rmitrace
+PROGRAMS = realmhost rmitrace realmview
 SHARE = $(DESTDIR)$(PREFIX)/share
 
 .PHONY: allocations bench build fuzz help install memcheck planted test try try-trace wrong-bodies
@@ -26,7 +26,7 @@ try: ## a minute: builds realmhost with nothing proved, and replays PLAN
 try-trace: ## a minute: builds rmitrace with nothing proved, and checks TRACE
 	@tools/try rmitrace $(TRACE) -- check
 
-build: ## proves both programs and all that they stand on, and puts them into bin/
+build: ## proves the three programs and all that they stand on, and puts them into bin/
 	@tools/build
 
 install: ## copies what `make build` has built, the documents, plans and traces below PREFIX
@@ -45,6 +45,7 @@ test: ## the whole gate from nothing: proofs, tests, what the built programs pri
 	@for it in $(PROGRAMS) test_memory; do install -m 755 crates/$$it/out/$$it bin/$$it || exit 1; done
 	tests/program
 	tests/traces
+	tests/view
 	tests/allocations
 	tests/documents
 	tests/commands

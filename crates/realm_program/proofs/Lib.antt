@@ -1,4 +1,4 @@
 pub mod Words
 pub mod Kept
 pub mod KeptPlan
-mod Ends
+pub mod Ends

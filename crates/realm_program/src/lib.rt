@@ -19,4 +19,5 @@ pub use fault::Fault;
 pub use input::{ReadError, read_whole};
 pub use line::Line;
 pub use running::run;
-pub use text::{replay, text_of};
+pub use source::plan_in;
+pub use text::{replay, run_plan, text_of};

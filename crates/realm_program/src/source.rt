@@ -12,7 +12,7 @@ use std::io::Read;
 use told_device::Told;
 
 /// Reads a plan. Errors: its fault; Memory, where a growth was refused; Device, where a read failed.
-pub(crate) fn plan_in<R: Read>(alloc: Global, input: &mut Told<R>) -> Result<Plan, Fault>
+pub fn plan_in<R: Read>(alloc: Global, input: &mut Told<R>) -> Result<Plan, Fault>
     requires { input.old.failed ≡ false }
     ensures told { (input.new.failed ≡ true) ↔ (result ≡ Err Device) }
     ensures asked { input.new.reads ≤ input.old.reads + 1048578 }

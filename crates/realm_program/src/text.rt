@@ -19,8 +19,8 @@ use std::alloc::{AllocError, Global};
 use std::io::{Read, Write};
 use told_device::Told;
 
-// The host after a run of the plan. The lines of its turns are appended.
-fn run_plan<S: Built>(alloc: Global, plan: &Plan, lines: &mut String) -> Result<Host<S>, AllocError>
+/// The host after a run of the plan. The lines of its turns are appended. The one error is want of memory.
+pub fn run_plan<S: Built>(alloc: Global, plan: &Plan, lines: &mut String) -> Result<Host<S>, AllocError>
     ensures { IfOk result (λ host. IsToldRun (plan_view plan.now) (opening_host (plan_view plan.now)) host (string_bytes lines.old) (string_bytes lines.new)) }
 {
     let mut host = boot(alloc, plan)?;
