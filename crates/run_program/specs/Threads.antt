@@ -1,6 +1,7 @@
 -- What a run in threads prints.
 use Rattle.std.specs.Prelude.{ℕ, List}
 use Rattle.realm_plan.specs.Plan.{Plan}
+use Rattle.plan_threads.specs.Order.{OrderIsNotTold}
 use Rattle.plan_threads.specs.Threads as threads
 use Rattle.plan_threads.specs.declared.fault.RunFault.TheVariants as why
 use Rattle.realm_program.specs.Replay.{opening_host}
@@ -18,3 +19,7 @@ IsWithoutThreadsText passes stops plan Memory = Unit {0}
 IsWithoutThreadsText passes stops plan (Stuck build) = threads.IsWithoutText plan passes stops (opening_host plan) (why.Stuck build)
 IsWithoutThreadsText passes stops plan Mismatch = threads.IsWithoutText plan passes stops (opening_host plan) why.Mismatch
 IsWithoutThreadsText passes stops plan fault = ⊥
+
+-- The order in which the builds of a run came through the lock is not printed, whatever the plan.
+abbrev pub OrderIsNotPrinted : (ℕ → ℕ → Type 0) → (ℕ → ℕ → Type 0) → Type 0
+OrderIsNotPrinted passes stops = (plan : Plan) → OrderIsNotTold plan passes stops (opening_host plan)

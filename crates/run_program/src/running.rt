@@ -2,7 +2,7 @@
 ghost use Rattle.std.specs.Prelude.{◌≡◌, ◌+◌, ◌≤◌, ◌↔◌, ◌⊎◌, false, true, Err, IfOk, IfErr, string_bytes};
 ghost use Rattle.realm_plan.specs.PlanView.{plan_view};
 ghost use Rattle.realm_program.specs.Printed.{IsEnd};
-ghost use Rattle.run_program.specs.Threads.{IsThreadsText, IsWithoutThreadsText};
+ghost use Rattle.run_program.specs.Threads.{IsThreadsText, IsWithoutThreadsText, OrderIsNotPrinted};
 ghost use Rattle.run_program.specs.Fault.{fault_of_run};
 ghost use Rattle.realm_program.specs.declared.fault.Fault.TheVariants.{Device};
 
@@ -44,7 +44,8 @@ fn threads_text_of<H: Threads + Wait + Sync, G: Gate + Sync>(
 }
 
 /// Reads a plan, runs each of its builds by a worker in a thread of its own, with its turns from the gate, and writes the text
-/// of the run. The plan's order of turns plays no part.
+/// of the run. The plan's order of turns plays no part; and in which order the builds came through the lock is not printed: runs
+/// of a plan in which each build got the same answers, with the same picks, have the same text.
 ///
 /// The text is made whole before any of it is written. Errors: the fault of a plan; Stuck, with the lowest build whose worker
 /// waited in vain for a turn; Mismatch, where the events of a build's seat are not what the history has of the build, or a
@@ -63,6 +64,7 @@ pub fn run<H: Threads + Wait + Sync, R: Read, W: Write, G: Gate + Sync>(
         (R.remaining input.old.device) (W.contents output.old.device) (W.contents output.new.device) result }
     ensures device { ((input.new.failed ≡ true) ⊎ (output.new.failed ≡ true)) ↔ (result ≡ Err Device) }
     ensures asked { input.new.reads ≤ input.old.reads + 1048578 }
+    ensures order { OrderIsNotPrinted (G.passes gate.now) (G.stops gate.now) }
 {
     let plan = plan_in(alloc, input)?;
     let text = threads_text_of(rt, alloc, &plan, gate)?;

@@ -1,7 +1,9 @@
 use Rattle.std.proofs.Common.{Err, ap, sym, ◌∙◌, subst, string_bytes}
 use Rattle.std.specs.Io.KnownBytes.{Appends}
 use Rattle.std.proofs.lemmas.Result.{err_from_is_err_and}
+use Rattle.plan_threads.proofs.Orders.{order_is_not_told}
 use Rattle.realm_plan.specs.PlanView.{plan_view}
+use Rattle.realm_program.specs.Replay.{opening_host}
 use Rattle.told_device.specs.Whole.{AppendsFront}
 use Rattle.realm_program.specs.Printed.{IsEnd}
 use Rattle.run_program.specs.Threads.{IsThreadsText, IsWithoutThreadsText}
@@ -50,3 +52,15 @@ returns-clause-end g c =
     let new = g.W.Write.contents c.write_whole.new.self.device in
     printed (IsThreadsText (g.G.Gate.passes c.args.gate.now) (g.G.Gate.stops c.args.gate.now)) (IsWithoutThreadsText (g.G.Gate.passes c.args.gate.now) (g.G.Gate.stops c.args.gate.now)) c.plan_in.new.input.failed input old new (plan_view c.in_ok-plan.plan) (string_bytes c.in_ok-text.text)
     c.in_ok-plan.ensures.ok c.in_ok-text.ensures.ok (subst (Appends old new) c.as_bytes.ensures.value c.in_ok-write_whole.ensures.ok)
+
+pub returns-in_err-plan-clause-order : goal.returns-in_err-plan-clause-order
+returns-in_err-plan-clause-order g c = λ plan. order_is_not_told plan (g.G.Gate.passes c.args.gate.now) (g.G.Gate.stops c.args.gate.now) (opening_host plan)
+
+pub returns-in_err-text-clause-order : goal.returns-in_err-text-clause-order
+returns-in_err-text-clause-order g c = λ plan. order_is_not_told plan (g.G.Gate.passes c.args.gate.now) (g.G.Gate.stops c.args.gate.now) (opening_host plan)
+
+pub returns-in_err-write_whole-clause-order : goal.returns-in_err-write_whole-clause-order
+returns-in_err-write_whole-clause-order g c = λ plan. order_is_not_told plan (g.G.Gate.passes c.args.gate.now) (g.G.Gate.stops c.args.gate.now) (opening_host plan)
+
+pub returns-clause-order : goal.returns-clause-order
+returns-clause-order g c = λ plan. order_is_not_told plan (g.G.Gate.passes c.args.gate.now) (g.G.Gate.stops c.args.gate.now) (opening_host plan)
