@@ -11,7 +11,7 @@ mod calls;
 mod recorded;
 mod seats;
 
-use std::alloc::{AllocError, AllocFailed};
+use std::alloc::{AllocError, AllocFailed, Global};
 use std::marker::Sync;
 use std::process::ExitCode;
 use std::sync::Wait;
@@ -52,13 +52,21 @@ pub(crate) fn tell_try(rt: &impl Print, what: &str, is_second: bool) {
     };
 }
 
+fn use_hosts(rt: &impl Print, alloc: Global) -> Result<(), Fault> {
+    let first = calls::all_calls(rt, alloc)?;
+    recorded::applies_again(rt, alloc, &first)
+}
+
+fn use_stores(rt: &impl Print, alloc: Global) -> Result<(), Fault> {
+    blocks::come_and_go(rt, alloc, 4096, false)?;
+    blocks::come_and_go(rt, alloc, 512, true)?;
+    blocks::come_and_go(rt, alloc, 4096, true)
+}
+
 fn run<R: Print + AllocGlobal + Threads + Wait + Sync>(rt: &R) -> Result<(), Fault> {
-    let first = calls::all_calls(rt, rt.alloc())?;
-    recorded::applies_again(rt, rt.alloc(), &first)?;
+    use_hosts(rt, rt.alloc())?;
     seats::work(rt, rt.alloc())?;
-    blocks::come_and_go(rt, rt.alloc(), 4096, false)?;
-    blocks::come_and_go(rt, rt.alloc(), 512, true)?;
-    blocks::come_and_go(rt, rt.alloc(), 4096, true)
+    use_stores(rt, rt.alloc())
 }
 
 fn main(rt: HostRuntime) -> ExitCode {

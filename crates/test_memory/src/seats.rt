@@ -179,6 +179,21 @@ fn started<L: Ledgers>(
     }
 }
 
+// Closes a host with all of its seats.
+fn close<L: Ledgers>(
+    rt: &impl Print,
+    shared: Shared<BuddyArena, L>,
+    seats: Vec<Seat<L>>,
+) -> Result<(), Fault> {
+    match shared.close(seats) {
+        Ok(host) => {
+            let _told = println!(rt; "closed with {} events", host.history().len());
+            Ok(())
+        }
+        Err(_) => Err(Fault::Other),
+    }
+}
+
 // Shares a host, and once more where there was no memory. It is closed in the end.
 fn share<R: Print + Threads + Wait + Sync, L: Ledgers + Send + Sync>(
     rt: &R,
@@ -192,13 +207,7 @@ fn share<R: Print + Threads + Wait + Sync, L: Ledgers + Send + Sync>(
 {
     let (shared, mut seats) = started::<L>(rt, alloc, blanks, host)?;
     ask_and_work(rt, alloc, &shared, &mut seats)?;
-    match shared.close(seats) {
-        Ok(host) => {
-            let _told = println!(rt; "closed with {} events", host.history().len());
-            Ok(())
-        }
-        Err(_) => Err(Fault::Other),
-    }
+    close(rt, shared, seats)
 }
 
 /// A shared host is started, worked on and closed.

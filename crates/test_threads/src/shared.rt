@@ -2,7 +2,7 @@
 ghost use Rattle.std.specs.Prelude.{◌≡◌, []};
 ghost use Rattle.builders.specs.Names.{AreNamed};
 
-use crate::hosts::booted;
+use crate::hosts::{booted, started};
 use crate::wanted::equal;
 use builders::{Blanks, CloseFault, Ledgers, Seat, Shared};
 use granule_addr::{BuildId, PageOff};
@@ -115,10 +115,7 @@ fn closed<R: Wait + Abort, L: Ledgers>(
     requires opened { host ≡ L.opened }
     requires named { AreNamed L.names blanks }
 {
-    let (shared, mut seats) = match Shared::<PlainStore, L>::start(alloc, blanks, host) {
-        Ok(started) => started,
-        Err((error, _, _)) => return Err(error.into()),
-    };
+    let (shared, mut seats) = started::<PlainStore, L>(alloc, blanks, host)?;
     all_work(rt, &shared, seats.as_mut_slice())?;
     if !with_both {
         seats.pop();
@@ -132,7 +129,7 @@ fn booted_and_closed<R: Wait + Abort>(
     alloc: Global,
     with_both: bool,
 ) -> Result<Option<CloseFault>, Fail> {
-    let host = booted(alloc, 4, 2)?;
+    let host = booted(alloc, 4, 0, 2)?;
     closed::<R, Brand>(rt, alloc, Blanks::new(), host, with_both)
 }
 

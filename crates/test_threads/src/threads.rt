@@ -2,7 +2,7 @@
 ghost use Rattle.std.specs.Prelude.{◌≡◌, [], All, IfOk};
 ghost use Rattle.builders.specs.Names.{AreNamed};
 
-use crate::hosts::booted;
+use crate::hosts::{booted, closed, started};
 use build_commands::Step;
 use builders::{Blanks, Ledgers, OpenGate, Seat, Shared, Worker, run_builds};
 use granule_addr::{BuildId, PageOff};
@@ -121,7 +121,38 @@ fn workers_of<L: Ledgers>(
     Ok(workers)
 }
 
-// Builds work side by side, each by its plan.
+// The seats and the reports of workers, by build.
+fn ended<L: Ledgers>(
+    alloc: Global,
+    mut workers: Vec<Worker<L>>,
+) -> Result<(Vec<Seat<L>>, Vec<Report>), Fail> {
+    let mut seats = Vec::new(alloc);
+    let mut reports = Vec::new(alloc);
+    for _ in 0..workers.len() {
+        let worker = workers.pop().ok_or("a worker")?;
+        let (seat, _steps, report) = worker.end();
+        seats.push(seat)?;
+        reports.push(report)?;
+    }
+    Ok((seats, reports))
+}
+
+// Builds of a shared host work side by side, each by its plan. Their seats and reports come back.
+fn run_plans<R: Threads + Wait + Abort + Sync, G: Gate + Sync, L: Ledgers + Send + Sync>(
+    rt: &R,
+    alloc: Global,
+    shared: &Shared<PlainStore, L>,
+    seats: Vec<Seat<L>>,
+    gate: &G,
+    plans: Vec<Vec<Step>>,
+) -> Result<(Result<(), BuildId>, Vec<Seat<L>>, Vec<Report>), Fail> {
+    let mut workers = workers_of(alloc, seats, plans)?;
+    let ends = run_builds(rt, shared, workers.as_mut_slice(), gate);
+    let (seats, reports) = ended(alloc, workers)?;
+    Ok((ends, seats, reports))
+}
+
+// Builds of a host work side by side, each by its plan.
 fn work_together<R: Threads + Wait + Abort + Sync, G: Gate + Sync, L: Ledgers + Send + Sync>(
     rt: &R,
     alloc: Global,
@@ -134,28 +165,14 @@ fn work_together<R: Threads + Wait + Abort + Sync, G: Gate + Sync, L: Ledgers + 
     requires opened { host ≡ L.opened }
     requires named { AreNamed L.names blanks }
 {
-    let (shared, seats) = match Shared::<PlainStore, L>::start(alloc, blanks, host) {
-        Ok(started) => started,
-        Err((error, _, _)) => return Err(error.into()),
-    };
-    let mut workers = workers_of(alloc, seats, plans)?;
-    let ends = run_builds(rt, &shared, workers.as_mut_slice(), gate);
-    let mut seats = Vec::new(alloc);
-    let mut reports = Vec::new(alloc);
-    for _ in 0..workers.len() {
-        let worker = workers.pop().ok_or("a worker")?;
-        let (seat, _steps, report) = worker.end();
-        seats.push(seat)?;
-        reports.push(report)?;
-    }
-    match shared.close(seats) {
-        Ok(host) => Ok(Outcome {
-            ends,
-            reports,
-            map: map_text(alloc, &host)?,
-        }),
-        Err((_fault, _host)) => Err("each trail is the history's".into()),
-    }
+    let (shared, seats) = started::<PlainStore, L>(alloc, blanks, host)?;
+    let (ends, seats, reports) = run_plans(rt, alloc, &shared, seats, gate, plans)?;
+    let host = closed(shared, seats)?;
+    Ok(Outcome {
+        ends,
+        reports,
+        map: map_text(alloc, &host)?,
+    })
 }
 
 // As `work_together`, on a host of so many pages, with a build for each plan.
@@ -167,7 +184,7 @@ fn boot_and_work<R: Threads + Wait + Abort + Sync, G: Gate + Sync>(
     plans: Vec<Vec<Step>>,
 ) -> Result<Outcome, Fail> {
     let builds = u8::try_from(plans.len()).ok().ok_or("few builds")?;
-    let host = booted(alloc, pages, builds)?;
+    let host = booted(alloc, pages, 0, builds)?;
     work_together::<R, G, Brand>(rt, alloc, Blanks::new(), host, gate, plans)
 }
 

@@ -2,11 +2,12 @@
 ghost use Rattle.std.specs.Prelude.{◌≡◌, []};
 ghost use Rattle.builders.specs.Names.{AreNamed};
 
-use crate::gates::{Turns, Waiting};
 use crate::guests::{Guest, guests_of};
-use crate::hosts::{booted, has_two_guests, is_without_build_1};
+use crate::hosts::{booted, closed, started};
+use crate::left::{has_two_guests, is_without_build_1};
 use crate::reports::{is_accepted, is_refused};
 use crate::steps::STEPS;
+use crate::turns::{Turns, Waiting};
 use builders::{Blanks, Ledgers, Seat, Shared};
 use page_arena::{PageStore, PlainStore};
 use realm_host::Host;
@@ -38,7 +39,44 @@ fn ended<L: Ledgers>(rt: &impl Abort, alloc: Global, guest: Guest<L>) -> Result<
     Ok(seat)
 }
 
-// Guests work side by side, and build 1 is refused that step. Their reports and the host are as they have to be.
+// Guests have ended, and their seats come back.
+fn all_ended<L: Ledgers>(
+    rt: &impl Abort,
+    alloc: Global,
+    guests: Vec<Guest<L>>,
+) -> Result<Vec<Seat<L>>, Fail> {
+    let mut seats = Vec::new(alloc);
+    for guest in guests {
+        seats.push(ended(rt, alloc, guest)?)?;
+    }
+    Ok(seats)
+}
+
+// Guests work side by side, and build 1 is refused that step. Their reports are as they have to be.
+fn run_guests<
+    R: Threads + Wait + Abort + Sync,
+    S: PageStore + Drop + Send,
+    G: Gate + Sync,
+    L: Ledgers + Send + Sync,
+>(
+    rt: &R,
+    alloc: Global,
+    shared: &Shared<S, L>,
+    seats: Vec<Seat<L>>,
+    gate: &G,
+    refused: usize,
+) -> Result<Vec<Seat<L>>, Fail> {
+    let mut guests = guests_of(alloc, seats, refused)?;
+    thread::for_each_mut(
+        rt,
+        guests.as_mut_slice(),
+        3,
+        &|_, guest: &mut Guest<L>| { guest.run(rt, alloc, shared, gate) },
+    );
+    all_ended(rt, alloc, guests)
+}
+
+// As `run_guests`, on a host that is closed after that.
 fn work_together<
     R: Threads + Wait + Abort + Sync,
     S: PageStore + Drop + Send,
@@ -56,46 +94,41 @@ fn work_together<
     requires opened { host ≡ L.opened }
     requires named { AreNamed L.names blanks }
 {
-    let (shared, seats) = match Shared::<S, L>::start(alloc, blanks, host) {
-        Ok(started) => started,
-        Err((error, _, _)) => return Err(error.into()),
-    };
-    let mut guests = guests_of(alloc, seats, refused)?;
-    thread::for_each_mut(
-        rt,
-        guests.as_mut_slice(),
-        3,
-        &|_, guest: &mut Guest<L>| { guest.run(rt, alloc, &shared, gate) },
-    );
-    let mut seats = Vec::new(alloc);
-    for guest in guests {
-        seats.push(ended(rt, alloc, guest)?)?;
-    }
-    match shared.close(seats) {
-        Ok(host) => Ok(host),
-        Err((_fault, _host)) => Err("each trail is the history's".into()),
-    }
+    let (shared, seats) = started::<S, L>(alloc, blanks, host)?;
+    let seats = run_guests(rt, alloc, &shared, seats, gate, refused)?;
+    closed(shared, seats)
 }
 
-// Build 1 is refused that step, at a gate where they wait so.
-fn refused_at<R: Threads + Wait + Abort + Clock + Sync>(
+// What is left of a host on which build 1 is refused that step, at a gate where they wait so.
+fn host_after<R: Threads + Wait + Abort + Clock + Sync>(
     rt: &R,
     alloc: Global,
     waiting: Waiting,
     refused: usize,
-) -> Result<(), Fail> {
-    let host = booted(alloc)?;
+) -> Result<Host<PlainStore>, Fail> {
+    let host = booted(alloc, 24, 1, 3)?;
     let gate = Turns::new(rt, waiting, refused);
-    let host = work_together::<R, PlainStore, Turns<R>, Brand>(
+    work_together::<R, PlainStore, Turns<R>, Brand>(
         rt,
         alloc,
         Blanks::new(),
         host,
         &gate,
         refused,
-    )?;
+    )
+}
+
+// Of build 1, refused that step, nothing is left, and the others have all that they have built.
+fn refused_at<R: Threads + Wait + Abort + Clock + Sync>(
+    rt: &R,
+    alloc: Global,
+    waiting: Waiting,
+    refused: usize,
+) -> Result<(), Fail> {
+    let host = host_after(rt, alloc, waiting, refused)?;
+    let mut fresh = booted(alloc, 24, 1, 3)?;
     has_two_guests(rt, alloc, &host)?;
-    is_without_build_1(rt, alloc, &host, &mut booted(alloc)?)
+    is_without_build_1(rt, alloc, &host, &mut fresh)
 }
 
 #[test]

@@ -1,25 +1,11 @@
-//! Hosts of three guests, and what is left of them.
-ghost use Rattle.std.specs.Prelude.{◌≡◌, [], IfOk};
-
+//! What is left of a host of three guests.
 use granule_addr::BuildId;
-use page_arena::{PageStore, PlainStore};
+use page_arena::PageStore;
 use plan_runs::map_text;
-use realm_host::{Host, Settings};
+use realm_host::Host;
 use std::alloc::Global;
 use std::process::Abort;
 use std::test::Fail;
-
-/// A host of 24 pages, one auxiliary for each REC and three builds, with the numbers of a plan that names no others.
-pub(crate) fn booted(alloc: Global) -> Result<Host<PlainStore>, Fail>
-    ensures { IfOk result (λ host. host.history ≡ []) }
-{
-    let settings = Settings::new(8, 1, 1024, 3).ok_or("settings")?;
-    let store = PlainStore::build(alloc, 24)?;
-    match Host::boot(alloc, settings, store) {
-        Ok(host) => Ok(host),
-        Err((error, _)) => Err(error.into()),
-    }
-}
 
 // The VMID of a build's realm.
 fn vmid_of<S: PageStore>(host: &Host<S>, number: u8) -> Result<u8, Fail> {
