@@ -53,7 +53,7 @@ enum { RMI_OPENED = 0, RMI_NO_MACHINE = 1, RMI_NO_MEMORY = 2, RMI_ALREADY_OPEN =
 
 /* Opens a closed handle: a fresh machine of 1 to 4096 granules, 1 to 255 VMIDs and at most 16 auxiliary granules of a REC.
  * RMI_OPENED, or nothing has changed: RMI_ALREADY_OPEN exactly where it was open, RMI_NO_MACHINE exactly where it was closed
- * and no machine has these numbers, RMI_NO_MEMORY for want of memory.   Owed: handle. */
+ * and no machine has these numbers, RMI_NO_MEMORY where allocation failed.   Owed: handle. */
 uint64_t rmi_bench_open(rmi_bench *bench, uint64_t granules, uint64_t vmids, uint64_t auxiliaries) RMI_NO_NULL;
 
 /* Closes a handle, and gives its memory back. A closed one stays closed.   Owed: handle. */
@@ -205,7 +205,7 @@ static inline const char *rmi_ripas_name(unsigned ripas)
 
 /* ---- a handle on the heap, for who wants a pointer */
 
-/* NULL for want of memory, and where no machine has these numbers. */
+/* NULL where allocation failed, and where no machine has these numbers. */
 static inline rmi_bench *rmi_bench_new(uint64_t granules, uint64_t vmids, uint64_t auxiliaries)
 {
     rmi_bench *bench = (rmi_bench *)calloc(1, sizeof(rmi_bench));
