@@ -118,6 +118,13 @@ fn host_after<R: Threads + Wait + Abort + Clock + Sync>(
     )
 }
 
+// Nothing is left of build 1, and the others have all that they have built.
+fn is_left_by_two(rt: &impl Abort, alloc: Global, host: &Host<PlainStore>) -> Result<(), Fail> {
+    has_two_guests(rt, alloc, host)?;
+    let mut fresh = booted(alloc, 24, 1, 3)?;
+    is_without_build_1(rt, alloc, host, &mut fresh)
+}
+
 // Of build 1, refused that step, nothing is left, and the others have all that they have built.
 fn refused_at<R: Threads + Wait + Abort + Clock + Sync>(
     rt: &R,
@@ -126,9 +133,7 @@ fn refused_at<R: Threads + Wait + Abort + Clock + Sync>(
     refused: usize,
 ) -> Result<(), Fail> {
     let host = host_after(rt, alloc, waiting, refused)?;
-    let mut fresh = booted(alloc, 24, 1, 3)?;
-    has_two_guests(rt, alloc, &host)?;
-    is_without_build_1(rt, alloc, &host, &mut fresh)
+    is_left_by_two(rt, alloc, &host)
 }
 
 #[test]

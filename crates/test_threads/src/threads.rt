@@ -10,7 +10,7 @@ use page_arena::PlainStore;
 use plan_runs::map_text;
 use realm_host::{Cmd, Host, Kind, Refusal, Reply, Undone};
 use realm_model::Rmi;
-use std::alloc::Global;
+use std::alloc::{AllocError, Global};
 use std::marker::{Brand, Send, Sync};
 use std::process::Abort;
 use std::sync::Wait;
@@ -137,6 +137,11 @@ fn ended<L: Ledgers>(
     Ok((seats, reports))
 }
 
+// The map of a host, which is let go.
+fn map_of(alloc: Global, host: Host<PlainStore>) -> Result<String, AllocError> {
+    map_text(alloc, &host)
+}
+
 // Builds of a shared host work side by side, each by its plan. Their seats and reports come back.
 fn run_plans<R: Threads + Wait + Abort + Sync, G: Gate + Sync, L: Ledgers + Send + Sync>(
     rt: &R,
@@ -167,12 +172,8 @@ fn work_together<R: Threads + Wait + Abort + Sync, G: Gate + Sync, L: Ledgers + 
 {
     let (shared, seats) = started::<PlainStore, L>(alloc, blanks, host)?;
     let (ends, seats, reports) = run_plans(rt, alloc, &shared, seats, gate, plans)?;
-    let host = closed(shared, seats)?;
-    Ok(Outcome {
-        ends,
-        reports,
-        map: map_text(alloc, &host)?,
-    })
+    let map = map_of(alloc, closed(shared, seats)?)?;
+    Ok(Outcome { ends, reports, map })
 }
 
 // As `work_together`, on a host of so many pages, with a build for each plan.
