@@ -108,14 +108,7 @@ fn host_after<R: Threads + Wait + Abort + Clock + Sync>(
 ) -> Result<Host<PlainStore>, Fail> {
     let host = booted(alloc, 24, 1, 3)?;
     let gate = Turns::new(rt, waiting, refused);
-    work_together::<R, PlainStore, Turns<R>, Brand>(
-        rt,
-        alloc,
-        Blanks::new(),
-        host,
-        &gate,
-        refused,
-    )
+    work_together::<R, PlainStore, Turns<R>, Brand>(rt, alloc, Blanks::new(), host, &gate, refused)
 }
 
 // Nothing is left of build 1, and the others have all that they have built.
