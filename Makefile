@@ -19,7 +19,7 @@ LIB = $(DESTDIR)$(PREFIX)/lib
 .PHONY: allocations bench build c-library c-test fuzz help install install-c-library memcheck planted test try try-trace wrong-bodies
 
 help: ## lists the targets
-	@grep -E '^[a-z-]+:.*## ' $(MAKEFILE_LIST) | sed 's/:.*## /\t/' | expand -t 16
+	@grep -E '^[a-z-]+:.*## ' $(MAKEFILE_LIST) | sed 's/:.*## /\t/' | expand -t 20
 
 try: ## a minute: builds realmhost with nothing proved, and replays PLAN
 	@tools/try realmhost $(PLAN) -- replay
@@ -49,7 +49,7 @@ install: ## copies what `make build` and `make c-library` have built, the docume
 	@if test -f build/librmi_bench.a; then $(MAKE) --no-print-directory install-c-library; \
 	  else echo "install: there is no build/librmi_bench.a, and the bench for C is left out: make c-library"; fi
 
-install-c-library:
+install-c-library: ## copies the bench for C and Python alone below PREFIX, after `make c-library`
 	install -d $(DESTDIR)$(PREFIX)/include $(LIB)/pkgconfig $(SHARE)/realmhost/python $(SHARE)/realmhost/examples/c
 	install -m 644 include/rmi_bench.h $(DESTDIR)$(PREFIX)/include
 	install -m 644 build/librmi_bench.a $(LIB)

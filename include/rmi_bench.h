@@ -94,7 +94,8 @@ uint64_t rmi_rtt_destroy(rmi_bench *bench, uint64_t rd, uint64_t ipa, uint64_t l
 /* RMI_RTT_INIT_RIPAS, of `count` pages.   Owed: handle. */
 uint64_t rmi_rtt_init_ripas(rmi_bench *bench, uint64_t rd, uint64_t ipa, uint64_t count) RMI_NO_NULL;
 
-/* RMI_DATA_CREATE. The page gets the bytes of `source`, an UNDELEGATED granule.   Owed: handle. */
+/* RMI_DATA_CREATE. The page gets the bytes of `source`, an UNDELEGATED granule. The IPA may have any RIPAS, and has RAM then.
+ * Owed: handle. */
 uint64_t rmi_data_create(rmi_bench *bench, uint64_t rd, uint64_t page, uint64_t ipa, uint64_t source) RMI_NO_NULL;
 /* RMI_DATA_CREATE_UNKNOWN.   Owed: handle. */
 uint64_t rmi_data_create_unknown(rmi_bench *bench, uint64_t rd, uint64_t page, uint64_t ipa) RMI_NO_NULL;
@@ -166,7 +167,7 @@ typedef struct rmi_rec {
 
 RMI_STATIC_ASSERT(sizeof(rmi_rec) == 152 && offsetof(rmi_rec, auxiliaries) == 24, "rmi_rec has 152 bytes");
 
-/* The REC that a granule is.   Owed: handle; `rec` is not NULL, and may be written to. */
+/* The REC that a granule is.   Owed: handle; `seen` is not NULL, and may be written to. */
 bool rmi_read_rec(rmi_bench *bench, uint64_t rec, rmi_rec *seen) RMI_NO_NULL;
 
 /* ---- names, as the standard and docs/TRACES.md write them; "?" for a number that has none */

@@ -47,8 +47,8 @@ class Word(int):
 
     @property
     def name(self):
-        """The name of the status, as RMI_ERROR_RTT."""
-        return STATUSES[self.status]
+        """The name of the status, as RMI_ERROR_RTT, or "?" where it has none."""
+        return STATUSES[self.status] if self.status < len(STATUSES) else "?"
 
     def __repr__(self):
         return f"Word({int(self)})"
@@ -121,7 +121,9 @@ def _places():
     named = os.environ.get("RMI_BENCH_LIBRARY")
     if named:
         return [named]
-    near = [here / "librmi_bench.so.0", here.parent / "build/librmi_bench.so.0"]
+    # (installed, it lies in PREFIX/share/realmhost/python, and the library in PREFIX/lib)
+    folders = [here, here.parent / "build", here.parent.parent.parent / "lib"]
+    near = [folder / "librmi_bench.so.0" for folder in folders]
     return [str(it) for it in near if it.exists()] + ["librmi_bench.so.0"]
 
 

@@ -21,6 +21,7 @@ def raised(kind, call):
 
 
 def of_words():
+    assert Word(5).name == "?"
     word = Word(516)
     assert (word.status, word.index, word.name, word) == (4, 2, "RMI_ERROR_RTT", 516)
     with Bench(16, 4, 1, raises=True) as bench:
