@@ -12,14 +12,14 @@ pub trait Reason: Display + Drop {
     /// The exit status of each reason.
     ghost status_of: { Self → ℕ };
 
-    /// Allocation failed.
+    /// A growth was refused.
     ghost memory: { Self };
 
     /// The exit status of the program.
     fn status(&self) -> u8
         ensures { result ≡ status_of self.now };
 
-    /// That allocation failed.
+    /// That a growth was refused.
     fn of_memory() -> Self
         ensures { result ≡ memory };
 }

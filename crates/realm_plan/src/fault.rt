@@ -28,7 +28,7 @@ pub enum PlanFault {
 /// Why no plan is given.
 #[derive(Clone, Copy, Debug, Error)]
 pub enum PlanError {
-    /// Allocation failed.
+    /// A growth was refused.
     #[error("memory")]
     Memory,
     #[error(transparent)]
