@@ -1,5 +1,5 @@
 -- Why a program stops, and its exit status then. Each program says which status its own faults have, and which of them is
--- the want of memory.
+-- too little memory.
 use Rattle.std.specs.Prelude.{ℕ}
 use Rattle.clap.specs.Values.{kind_of}
 use Rattle.clap.specs.declared.error.Error.{Error}

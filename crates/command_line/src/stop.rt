@@ -12,14 +12,14 @@ pub trait Reason: Display + Drop {
     /// The exit status of each reason.
     ghost status_of: { Self → ℕ };
 
-    /// A growth was refused.
+    /// Allocation failed.
     ghost memory: { Self };
 
     /// The exit status of the program.
     fn status(&self) -> u8
         ensures { result ≡ status_of self.now };
 
-    /// That a growth was refused.
+    /// That allocation failed.
     fn of_memory() -> Self
         ensures { result ≡ memory };
 }

@@ -9,7 +9,7 @@ use realm_model::Event;
 use std::alloc::AllocError;
 
 /// Appends a history: the line of its opening and a line for each event, but for those of a build that is left out. At an
-/// `Err` a growth was refused, and the text may have got a part of it.
+/// `Err` allocation failed, and the text may have a part of it.
 pub fn push_history(
     text: &mut String,
     opening: &Opening,

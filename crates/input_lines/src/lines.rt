@@ -11,7 +11,7 @@ use told_device::{DeviceFailed, Told};
 /// Why there is no next line.
 #[derive(Clone, Copy, Debug, PartialEq, Eq)]
 pub enum LineError {
-    /// A growth was refused.
+    /// Allocation failed.
     Memory,
     /// A read failed.
     Device,
@@ -95,7 +95,7 @@ impl Lines {
 
     /// Reads the next line, if there is one of no more than `most` bytes. Its line feed is no part of it.
     ///
-    /// `Device` is given exactly where a read failed, and `Memory` only where a growth was refused.
+    /// `Device` is given exactly where a read failed, and `Memory` only where allocation failed.
     pub fn next_line<R: Read>(
         &mut self,
         input: &mut Told<R>,

@@ -58,7 +58,7 @@ IsRun-more plan (b ∷ order) from [] at build turn to run of_build is_turn = el
 IsRun-more plan (b ∷ order) from (t ∷ turns) at build turn to run of_build is_turn =
     (run.0, run.1, run.2, IsRun-more plan order run.1 turns at build turn to run.3 of_build is_turn)
 
--- A front of the turns leads here, and its lines were appended.
+-- A prefix of the turns leads here, and its lines were appended.
 pub record IsToldFront (plan : Plan) (order : List ℕ) (from : HostView) (to : Position) (old new : List ℕ) : Type 0 where
   pub turns : List Turn
   pub is_run : IsRun plan order (start from) turns to

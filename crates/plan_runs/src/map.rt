@@ -51,8 +51,8 @@ pub fn push_map<S: PageStore>(text: &mut String, host: &Host<S>) -> Result<(), A
     push_free(text, host.free_count())
 }
 
-/// The map of a host: the pages of each build and its realm, and how many pages nobody leases. An `Err` comes only where a
-/// growth was refused.
+/// The map of a host: the pages of each build and its realm, and how many pages nobody leases. An `Err` comes only where
+/// allocation failed.
 pub fn map_text<S: PageStore>(alloc: Global, host: &Host<S>) -> Result<String, AllocError>
     ensures { IfOk result (λ text. string_bytes text ≡ map_text host.now) }
 {

@@ -9,7 +9,7 @@ use thiserror::Error;
 /// Why there is no text of a run in threads.
 #[derive(Clone, Copy, Debug, PartialEq, Eq, Error)]
 pub enum RunFault {
-    /// A growth was refused.
+    /// Allocation failed.
     #[error("memory")]
     Memory,
     /// The worker of this build waited in vain for a turn; no worker of a lower build did.

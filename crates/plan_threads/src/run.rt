@@ -60,7 +60,7 @@ fn run_with<
 /// the same have the same map, in whatever order the builds came through the lock.
 ///
 /// Errors: Stuck, with the lowest build whose worker waited in vain for a turn of the gate; Mismatch, where the host is not
-/// closed, or a report does not fit its history; Memory, where a growth was refused.
+/// closed, or a report does not fit its history; Memory, where allocation failed.
 pub fn run_text<R: Threads + Wait + Sync, S: PageStore + Drop + Send, G: Gate + Sync>(
     rt: &R,
     alloc: Global,

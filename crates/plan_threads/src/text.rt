@@ -35,7 +35,7 @@ fn push_reports(
     Ok(())
 }
 
-// The lines of the reports, the map of the host, and the line that says that they fit. The one error is want of memory.
+// The lines of the reports, the map of the host, and the line that says that they fit. The one error is that allocation failed.
 fn text_of<S: PageStore>(
     alloc: Global,
     plan: &Plan,
@@ -51,8 +51,8 @@ fn text_of<S: PageStore>(
     Ok(text)
 }
 
-/// The text, where each report fits the host's history. Errors: Mismatch, where one does not; Memory, where a growth was
-/// refused.
+/// The text, where each report fits the host's history. Errors: Mismatch, where one does not; Memory, where allocation
+/// failed.
 pub fn audited_text_of<S: PageStore>(
     alloc: Global,
     plan: &Plan,

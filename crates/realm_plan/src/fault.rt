@@ -28,7 +28,7 @@ pub enum PlanFault {
 /// Why no plan is given.
 #[derive(Clone, Copy, Debug, Error)]
 pub enum PlanError {
-    /// A growth was refused.
+    /// Allocation failed.
     #[error("memory")]
     Memory,
     #[error(transparent)]

@@ -80,7 +80,7 @@ impl Plan {
         })
     }
 
-    /// The plan that the bytes are, or their one fault. `Memory` is given only where a growth was refused.
+    /// The plan that the bytes are, or their one fault. `Memory` is given only where allocation failed.
     #[tactic(auto, unfolding(crate::specs::Plan::plan_of))]
     pub fn from_bytes(alloc: Global, bytes: &[u8]) -> Result<Plan, PlanError>
         ensures value { Gives plan_view result (plan_of bytes.now) }

@@ -45,7 +45,7 @@ module _ (texts : Plan → List ℕ → Type 0) (without : Plan → Fault → Ty
   no_text output plan Mismatch of_input none no_device no_fault = (record { plan = plan; of_input = of_input; no_text = none }, keeps_same output)
   no_text output plan Device of_input none no_device no_fault = absurd (no_device none)
 
-  -- a front of the text was written
+  -- a prefix of the text was written
   pub cut : (old new : Option (List ℕ)) (plan : Plan) (text : List ℕ) → unread ≡ false → IsPlanOf input plan → texts plan text → AppendsFront old new text
       → IsEnd texts without unread input old new (Err Device)
   cut old new plan text read of_input is_text written = rw read (record { text = text; text_of = record { plan = plan; of_input = of_input; is_text = is_text }; written = written })

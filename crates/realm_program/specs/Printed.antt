@@ -12,7 +12,7 @@ use Rattle.realm_program.specs.declared.fault.Fault.TheVariants.{Plan as PlanIsF
 abbrev pub IsPlanOf : Option (List ℕ) → Plan → Type 0
 IsPlanOf input plan = IfSome input (λ bytes. plan_of bytes ≡ Ok plan)
 
--- Why no plan is read: for want of memory, since a read failed, or for the one fault of the input.
+-- Why no plan is read: allocation failed, a read failed, or the input has this one fault.
 abbrev pub HasNoPlan : Option (List ℕ) → Fault → Type 0
 HasNoPlan input (PlanIsFaulty fault) = IfSome input (λ bytes. plan_of bytes ≡ Err fault)
 HasNoPlan input Memory = Unit {0}
@@ -39,7 +39,7 @@ pub record IsPrinted (texts : Plan → List ℕ → Type 0) (input old new : Opt
   pub text_of : IsTextOf texts input text
   pub written : Appends old new text
 
--- a front of the text was written
+-- a prefix of the text was written
 pub record IsCut (texts : Plan → List ℕ → Type 0) (input old new : Option (List ℕ)) : Type 0 where
   pub text : List ℕ
   pub text_of : IsTextOf texts input text
@@ -47,7 +47,7 @@ pub record IsCut (texts : Plan → List ℕ → Type 0) (input old new : Option 
 
 -- ---- the end
 
--- where a device failed: nothing was written where it was a read, and a front of the text where it was a write
+-- where a device failed: nothing was written where it was a read, and a prefix of the text where it was a write
 abbrev pub IsEndOfDevice : (Plan → List ℕ → Type 0) → Bool → Option (List ℕ) → Option (List ℕ) → Option (List ℕ) → Type 0
 IsEndOfDevice texts true input old new = Keeps old new
 IsEndOfDevice texts false input old new = IsCut texts input old new

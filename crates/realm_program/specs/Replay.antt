@@ -45,7 +45,7 @@ abbrev pub IsAskedText : Option ℕ → Plan → List ℕ → Type 0
 IsAskedText None plan text = IsText plan text
 IsAskedText (Some build) plan text = IsErasedText plan build text
 
--- Why there is no text of a plan: for want of memory, or since the build to be left out is none of the plan's. No recorded
+-- Why there is no text of a plan: allocation failed, or the plan has no such build to leave out. No recorded
 -- event is ever refused.
 abbrev pub IsWithoutText : Option ℕ → Plan → Fault → Type 0
 IsWithoutText erase plan Memory = Unit {0}

@@ -10,7 +10,7 @@ use std::alloc::AllocError;
 use thiserror::Error;
 use told_device::DeviceFailed;
 
-/// Why nothing is printed, or a front of the text alone. Its line goes to standard error.
+/// Why nothing is printed, or a prefix of the text alone. Its line goes to standard error.
 #[derive(Clone, Copy, Debug, PartialEq, Eq, Error)]
 pub enum Fault {
     /// The input is no plan.
@@ -19,7 +19,7 @@ pub enum Fault {
     /// The build to be left out is none of the plan's.
     #[error("erase names no build")]
     EraseNamesNoBuild,
-    /// A growth was refused.
+    /// Allocation failed.
     #[error("memory")]
     Memory,
     /// A build's worker waited in vain for a turn.

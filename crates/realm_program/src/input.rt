@@ -16,7 +16,7 @@ pub const MOST_READS: usize = 1_048_578;
 /// Why an input is not given.
 #[derive(Clone, Copy, Debug, PartialEq, Eq)]
 pub enum ReadError {
-    /// A growth was refused.
+    /// Allocation failed.
     Memory,
     /// A read failed.
     Device,
@@ -24,7 +24,7 @@ pub enum ReadError {
 
 /// All that the reader gives, or its first 1,048,577 bytes where there are more.
 ///
-/// `Device` is given where a read failed, and `Memory` only where a growth was refused.
+/// `Device` is given where a read failed, and `Memory` only where allocation failed.
 pub fn read_whole<R: Read>(alloc: Global, input: &mut Told<R>) -> Result<Vec<u8>, ReadError>
     requires { input.old.failed ≡ false }
     ensures told { (input.new.failed ≡ true) ↔ (result ≡ Err Device) }

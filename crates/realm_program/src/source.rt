@@ -11,7 +11,7 @@ use std::alloc::Global;
 use std::io::Read;
 use told_device::Told;
 
-/// Reads a plan. Errors: its fault; Memory, where a growth was refused; Device, where a read failed.
+/// Reads a plan. Errors: its fault; Memory, where allocation failed; Device, where a read failed.
 pub fn plan_in<R: Read>(alloc: Global, input: &mut Told<R>) -> Result<Plan, Fault>
     requires { input.old.failed ≡ false }
     ensures told { (input.new.failed ≡ true) ↔ (result ≡ Err Device) }

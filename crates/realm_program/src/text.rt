@@ -29,7 +29,7 @@ fn run_plan<S: Built>(alloc: Global, plan: &Plan, lines: &mut String) -> Result<
     Ok(host)
 }
 
-/// The text of a run of the plan, made whole in memory. The one error is want of memory.
+/// The text of a run of the plan, made whole in memory. The one error is that allocation failed.
 pub fn text_of<S: Built>(alloc: Global, plan: &Plan) -> Result<String, AllocError>
     ensures { IfOk result (λ text. IsText (plan_view plan.now) (string_bytes text)) }
 {
@@ -92,8 +92,8 @@ fn asked_text_of(alloc: Global, plan: &Plan, erase: Option<BuildId>) -> Result<S
 /// leads to without the build's events.
 ///
 /// The text is made whole before any of it is written. Errors: the fault of a plan; EraseNamesNoBuild, where the build to be
-/// left out is none of the plan's; Memory, where a growth was refused; Device, where a read failed, and then nothing is
-/// written, or a write, and then a front of the text is.
+/// left out is none of the plan's; Memory, where allocation failed; Device, where a read failed, and then nothing is
+/// written, or a write, and then a prefix of the text is.
 pub fn replay<R: Read, W: Write>(
     alloc: Global,
     input: &mut Told<R>,

@@ -84,7 +84,7 @@ impl Line {
     pub fn of(alloc: Global, words: &[String]) -> Result<Line, Error>
         // What clap's definition of a simple command gives for the words.
         ensures ok { IfOk result (IsLine (subcommand_of realmhost (map string_bytes words.now))) }
-        // Which kind an error has: one that the definition names, or want of memory.
+        // Which kind an error has: one that the definition names, or that allocation failed.
         ensures kinds { FailsBy (fault_of realmhost (map string_bytes words.now)) result }
     {
         let mut program = command(alloc)?;

@@ -13,7 +13,7 @@ use Rattle.realm_program.specs.declared.fault.Fault.TheVariants.{Memory, Stuck, 
 abbrev pub IsThreadsText : (ℕ → ℕ → Type 0) → (ℕ → ℕ → Type 0) → Plan → List ℕ → Type 0
 IsThreadsText passes stops plan text = threads.IsText plan passes stops (opening_host plan) text
 
--- Why there is none: for want of memory, since a worker waited in vain, or since what was told does not fit the history.
+-- Why there is none: allocation failed, a worker waited in vain, or a report does not fit the history.
 abbrev pub IsWithoutThreadsText : (ℕ → ℕ → Type 0) → (ℕ → ℕ → Type 0) → Plan → Fault → Type 0
 IsWithoutThreadsText passes stops plan Memory = Unit {0}
 IsWithoutThreadsText passes stops plan (Stuck build) = threads.IsWithoutText plan passes stops (opening_host plan) (why.Stuck build)

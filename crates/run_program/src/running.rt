@@ -49,8 +49,8 @@ fn threads_text_of<H: Threads + Wait + Sync, G: Gate + Sync>(
 ///
 /// The text is made whole before any of it is written. Errors: the fault of a plan; Stuck, with the lowest build whose worker
 /// waited in vain for a turn; Mismatch, where the events of a build's seat are not what the history has of the build, or a
-/// report does not fit it; Memory, where a growth was refused; Device, where a read failed, and then nothing is written, or a
-/// write, and then a front of the text is.
+/// report does not fit it; Memory, where allocation failed; Device, where a read failed, and then nothing is written, or a
+/// write, and then a prefix of the text is.
 pub fn run<H: Threads + Wait + Sync, R: Read, W: Write, G: Gate + Sync>(
     rt: &H,
     alloc: Global,

@@ -119,7 +119,7 @@ impl<W: Write> Told<W> {
         }
     }
 
-    /// Writes all of the text, and flushes once. At an `Err` a front of the text was written.
+    /// Writes all of the text, and flushes once. At an `Err` a prefix of the text was written.
     pub fn write_whole(&mut self, text: &[u8]) -> Result<(), DeviceFailed>
         requires { self.old.failed ≡ false }
         ensures told { self.new.failed ≡ is_err result }

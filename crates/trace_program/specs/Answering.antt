@@ -21,7 +21,7 @@ pub record Writes (old new : Option (List ℕ)) (before : Now) (line : List ℕ)
   pub is_told : IsTold before line told after
   pub written : Appends old new told
 
--- a front of the answer to a line was written
+-- a prefix of the answer to a line was written
 pub record WritesFront (old new : Option (List ℕ)) (before : Now) (line : List ℕ) : Type 0 where
   pub after : Now
   pub told : List ℕ

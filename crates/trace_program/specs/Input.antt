@@ -36,7 +36,7 @@ pub record AreAnswered (input left old new : Option (List ℕ)) : Type 0 where
   pub session : IsSession None (map kept_of (lines_in bytes)) text last
   pub written : Appends old new text
 
--- A front of the answers was written: to the first lines of a front of what was read, of which the last may be cut.
+-- A prefix of the answers was written: to the first lines of a prefix of what was read, of which the last may be cut.
 pub record IsCutShort (old new : Option (List ℕ)) (read : List ℕ) : Type 0 where
   pub front : List ℕ
   pub ahead : List ℕ

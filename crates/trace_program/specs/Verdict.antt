@@ -120,7 +120,7 @@ pub record IsChecked (input left old new : Option (List ℕ)) (verdict : Verdict
   pub judged : IsJudged input left verdict text
   pub written : Appends old new text
 
--- or a front of it
+-- or a prefix of it
 pub record IsCheckedInPart (input left old new : Option (List ℕ)) : Type 0 where
   pub verdict : Verdict
   pub text : List ℕ

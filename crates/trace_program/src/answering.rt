@@ -141,9 +141,9 @@ impl Answering {
 
 /// Reads the lines of a trace to their end, and writes each with its answer as soon as it has it.
 ///
-/// Memory is taken for a fresh machine and for a line, of which no more than 65,537 bytes are kept. Errors: Memory, where a
-/// growth was refused; Device, where a read or a write failed, or after 2^64 - 1 reads. Then the answers to the first lines were
-/// written, and of the last of them a front at least.
+/// Memory is taken for a fresh machine and for a line, of which no more than 65,537 bytes are kept. Errors: Memory, where
+/// allocation failed; Device, where a read or a write failed, or after 2^64 - 1 reads. Then the answers to the first lines were
+/// written, and of the last of them at least a prefix.
 pub fn answer<R: Read, W: Write>(
     alloc: Global,
     input: &mut Told<R>,

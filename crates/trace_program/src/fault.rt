@@ -10,7 +10,7 @@ use told_device::DeviceFailed;
 /// Why a trace is not taken to its end. Its line goes to standard error.
 #[derive(Clone, Copy, Debug, PartialEq, Eq, Error)]
 pub enum Fault {
-    /// A growth was refused.
+    /// Allocation failed.
     #[error("memory")]
     Memory,
     /// A read or a write failed.
