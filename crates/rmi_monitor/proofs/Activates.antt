@@ -51,13 +51,15 @@ module _ (monitor : MonitorView) (fields : Fields) (view_is : seen_as fields ≡
 
     whole_active : IsWhole (with_realm_at fields rd active)
     whole_active =
-        whole_still fields whole rd realm active there (record { root = refl; vmid = refl; next = omega arith }) fields.granules fields.pages fields.free refl whole.backed (whole.tables rd realm there) others
+        whole_still fields whole rd realm active there (record { root = refl; vmid = refl; next = omega arith }) fields.granules fields.pages fields.free refl whole.backed
+        (whole.tables rd realm there) others
         refl (λ g out. refl)
 
     machine_active : machine_of (with_realm_at fields rd active) ≡ machine_after_all (update ∷ []) monitor.machine
     unfolding machine_after_all
     machine_active =
-        machine_still fields whole rd realm active there (record { root = refl; vmid = refl; next = omega arith }) fields.granules fields.pages fields.free refl whole.backed (whole.tables rd realm there) others
+        machine_still fields whole rd realm active there (record { root = refl; vmid = refl; next = omega arith }) fields.granules fields.pages fields.free refl whole.backed
+        (whole.tables rd realm there) others
         refl (λ g out. refl)
         ∙ ap (λ c. set (machine_of fields) rd (with_row_of c (record row { state = Active }))) (sym (cell_is monitor fields view_is whole rd taken.inside))
         ∙ ap (λ m. set m rd (with_row_of (seen_in monitor rd).cell (record row { state = Active }))) (machine_is monitor fields view_is whole)

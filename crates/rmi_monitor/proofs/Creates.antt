@@ -197,12 +197,16 @@ module _ (monitor : MonitorView) (fields : Fields) (view_is : seen_as fields ≡
             pub whole_after_create : IsWhole (after_create granules n)
             whole_after_create =
                 subst IsWhole (sym written)
-                (whole_created fields whole rd root rd_inside rd_was starts realm realm_root fresh_row pages free kept.rest.flags kept.rest.backed kept.tables translation cleared kept.rest.other_realms used unused_now marked)
+                (whole_created fields whole rd root rd_inside rd_was starts realm realm_root fresh_row pages free kept.rest.flags kept.rest.backed kept.tables translation cleared
+                kept.rest.other_realms used unused_now marked)
 
             machine_after : machine_of (after_create now rd) ≡ machine_after_all updates monitor.machine
             machine_after =
-                machine_created fields whole rd root rd_inside rd_was starts realm realm_root fresh_row pages free kept.rest.flags kept.rest.backed kept.tables translation cleared kept.rest.other_realms used unused_now marked
-                ∙ ap (λ v. machine_after_all (Put rd (record { state = InRd; realm = Some rd; bytes = zero_page; descriptor = Some (new_realm v root) }) ∷ map (λ table. Put table (held InRtt rd)) tables) (machine_of fields)) realm_vmid
+                machine_created fields whole rd root rd_inside rd_was starts realm realm_root fresh_row pages free kept.rest.flags kept.rest.backed kept.tables translation cleared
+                kept.rest.other_realms used unused_now marked
+                ∙ ap (λ v. machine_after_all
+                (Put rd (record { state = InRd; realm = Some rd; bytes = zero_page; descriptor = Some (new_realm v root) }) ∷ map (λ table. Put table (held InRtt rd)) tables)
+                (machine_of fields)) realm_vmid
                 ∙ ap (machine_after_all updates) (machine_is monitor fields view_is whole)
 
             pub seen_after_create : seen_as (after_create granules n) ≡ after_command outcome monitor

@@ -106,5 +106,6 @@ module _ (old : Fields) (whole : IsWhole old) (rd page offset value : ℕ) (is :
           ap seen_as same_fields
           ∙ after_by monitor old view_is whole (Ok (PutByte page offset value ∷ [])) new refl refl refl
           (machine_with_byte
-          ∙ ap (λ (c : Cell). set (machine_of old) page (record c { bytes = set c.bytes offset value })) (sym (cell_is monitor old view_is whole page (in_machine monitor old view_is whole page is.inside)))
+          ∙ ap (λ (c : Cell). set (machine_of old) page (record c { bytes = set c.bytes offset value }))
+          (sym (cell_is monitor old view_is whole page (in_machine monitor old view_is whole page is.inside)))
           ∙ ap (λ m. set m page (record (cell_at monitor.machine page) { bytes = set (cell_at monitor.machine page).bytes offset value })) (machine_is monitor old view_is whole))

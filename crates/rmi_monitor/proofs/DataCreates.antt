@@ -24,12 +24,11 @@ use Rattle.rmi_monitor.specs.View.{MonitorView, IsTaken, seen_in}
 use Rattle.rmi_monitor.specs.Inside.{Fields, realm_at, bytes_of, seen_as, IsWhole}
 use Rattle.rmi_monitor.specs.Places.{is_delegated_at, is_undelegated_at}
 use Rattle.rmi_monitor.proofs.Checks.{delegated_state, undelegated_state}
-use Rattle.rmi_monitor.proofs.Granules.{in_granules, cell_is, seen_delegated, seen_undelegated}
-use Rattle.rmi_monitor.proofs.Outcomes.{answers_ok}
-use Rattle.rmi_monitor.proofs.DataMaps.{MapCall, Mapped, map_call_at, mapped_by, rows_kept, page_written, mapped_written, mapped_whole, mapped_seen}
+use Rattle.rmi_monitor.proofs.Granules.{has_fields, in_granules, cell_is, seen_delegated, seen_undelegated}
+use Rattle.rmi_monitor.proofs.DataMaps.{MapCall, map_call_at, mapped_by, rows_kept, page_written, mapped_written}
 use Rattle.rmi_monitor.proofs.Located.{IsLocated}
 use Rattle.rmi_monitor.proofs.Refusals.{Passes, passed_row, row_passes}
-use Rattle.rmi_monitor.proofs.RealmCommands.{with_call, Done}
+use Rattle.rmi_monitor.proofs.RealmCommands.{with_call, Done, Moves, moves_done}
 use Rattle.rmi_monitor.proofs.RealmAfter.{Keeps}
 use Rattle.rmi_monitor.proofs.RealmPlaces.{no_table}
 use Rattle.rmi_monitor.proofs.RealmFound.{row_of, nowhere, somewhere}
@@ -81,7 +80,9 @@ module _ (monitor : MonitorView) (fields : Fields) (view_is : seen_as fields ≡
       passed : outcome ≡ check (is_new row.state) error_realm (with_free_page old_rows ipa on_row)
       passed =
           somewhere monitor fields view_is whole rd realm there _
-          ∙ check_true inputs error_input _ (and_from _ _ (and_from _ _ (seen_delegated monitor fields view_is whole g page_taken ∙ delegated) (seen_undelegated monitor fields view_is whole source source_taken ∙ undelegated)) located.protected)
+          ∙ check_true inputs error_input _
+          (and_from _ _ (and_from _ _ (seen_delegated monitor fields view_is whole g page_taken ∙ delegated) (seen_undelegated monitor fields view_is whole source source_taken ∙ undelegated))
+          located.protected)
 
       pub create_not_new : is_new row.state ≡ false → outcome ≡ Err error_realm
       create_not_new h = passed ∙ check_false (is_new row.state) error_realm _ h
@@ -121,14 +122,16 @@ module _ (monitor : MonitorView) (fields : Fields) (view_is : seen_as fields ≡
           inside : g < length fields.granules
           inside = in_granules monitor fields view_is whole g page_taken
 
-          map : Mapped fields rd realm.root g granules pages free
-          map = mapped_by call
+          abbrev IsMap : List (List ℕ) → List Bool → Type 0
+          IsMap pages free = Moves fields rd realm.root g (record { state = InData; realm = Some rd }) granules pages free
 
-          map_after : Mapped fields rd realm.root g granules copied kept
+          map : IsMap pages free
+          map = mapped_by call inside was
+
+          map_after : IsMap copied kept
           map_after =
-              subst (λ (flags : List Bool). Mapped fields rd realm.root g granules copied flags) (sym keeps)
-              (subst (λ (ps : List (List ℕ)). Mapped fields rd realm.root g granules ps free) (sym copies)
-              (mapped_written fields rd realm.root g inside granules pages free map (page_at pages source)))
+              subst (λ (to : List (List ℕ) × List Bool). IsMap to.0 to.1) (λ k. (sym copies k, sym keeps k))
+              (mapped_written fields rd realm.root g granules pages free map (page_at pages source))
 
           -- the source is as it was, and its bytes are now those of the page
           source_bytes : page_at pages source ≡ bytes_there
@@ -140,7 +143,7 @@ module _ (monitor : MonitorView) (fields : Fields) (view_is : seen_as fields ≡
           page_is : page_at copied g ≡ bytes_there
           page_is =
               ap (λ (ps : List (List ℕ)). page_at ps g) copies
-              ∙ page_written fields rd realm.root g inside granules pages free map (page_at pages source) ∙ source_bytes
+              ∙ page_written fields rd realm.root g granules pages free map (page_at pages source) ∙ source_bytes
 
           event_there : event ≡ data_event ipa bytes_there
           event_there =
@@ -151,7 +154,7 @@ module _ (monitor : MonitorView) (fields : Fields) (view_is : seen_as fields ≡
           rows_now : rows copied realm.root ≡ put_row old_rows 3 ipa (assigned Ram g)
           rows_now =
               ap (λ (ps : List (List ℕ)). rows ps realm.root) copies
-              ∙ rows_kept fields rd realm.root g inside granules pages free map (page_at pages source) ∙ call.gains found.row found.at
+              ∙ rows_kept fields rd realm.root g granules pages free map (page_at pages source) ∙ call.gains found.row found.at
 
           same_realm : Keeps realm now
           same_realm = subst (Keeps realm) (sym measured) (record { root = refl; vmid = refl; next = omega arith })
@@ -162,10 +165,5 @@ module _ (monitor : MonitorView) (fields : Fields) (view_is : seen_as fields ≡
               ∙ ap (λ (e : List ℕ). record row { rows = put_row old_rows 3 ipa (assigned Ram g); measurement = measurement_after row.measurement e }) event_there
 
           pub create_done : Done monitor outcome (with_call fields granules copied kept realms)
-          create_done = record {
-            whole = mapped_whole monitor fields view_is whole rd taken realm there now same_realm g inside was granules copied kept realms put map_after;
-            seen =
-                mapped_seen monitor fields view_is whole rd taken realm there now same_realm g inside was granules copied kept realms put map_after
-                outcome bytes_there made page_is row_now created;
-            answers = answers_ok {A = Unit {0}} tt _ outcome created;
-          }
+          create_done =
+              moves_done (has_fields view_is whole) taken there map_after same_realm put outcome (λ i. record (held InData rd) { bytes = page_is i }) row_now created

@@ -1,7 +1,6 @@
 -- A page of data leaves its realm, over the fields of a monitor.
-use Rattle.std.proofs.Common.{◌≡◌, ℕ, Bool, false, List, [], ◌∷◌, Some, None, Ok, Err, refl, sym, ap, ◌∙◌, subst, lit≤}
+use Rattle.std.proofs.Common.{◌≡◌, ℕ, Bool, List, [], ◌∷◌, Some, None, Ok, Err, refl, sym, ap, ◌∙◌, subst, lit≤}
 use Rattle.std.proofs.lemmas.Option.{same_Some}
-use Rattle.granule_addr.specs.Ipa.{is_protected_at}
 use Rattle.granule_table.specs.Granules.{IsIn}
 use Rattle.granule_table.specs.declared.granule.Granule.{Granule}
 use Rattle.granule_addr.specs.Page.{zero_page}
@@ -10,29 +9,29 @@ use Rattle.realm_model.specs.declared.states.GranuleState.TheVariants.{Delegated
 use Rattle.realm_model.specs.Rows.{Row, Rows, is_assigned, unassigned, unmapped_ripas, put_row}
 use Rattle.realm_model.specs.Machine.{RealmRow, left}
 use Rattle.realm_model.specs.Update.{Put, Outcome}
-use Rattle.realm_model.specs.Command.Check.{error_input, error_rtt, with_granule, put_realm}
+use Rattle.realm_model.specs.Command.Check.{error_input, error_rtt, is_protected, with_granule, put_realm}
 use Rattle.realm_model.specs.Command.Data.{data_destroy}
-use Rattle.realm_model.proofs.Outcomes.{check_true, granule_there, check_false}
-use Rattle.realm_objects.specs.Attributes.{RealmAttributes}
+use Rattle.realm_model.proofs.Outcomes.{check_true, granule_there}
 use Rattle.rtt.specs.declared.tables.Tables.{Tables}
 use Rattle.rtt.specs.Tables.{rows}
 use Rattle.realm_model.specs.Command.Found.{with_mapped_page}
-use Rattle.rtt.specs.Calls.{with_state, LeadsTo, ChangesTablesAnd, LosesPage, Keeps, KeepsRest}
+use Rattle.rtt.specs.Calls.{with_state, LeadsTo, ChangesTablesAnd, LosesPage, Keeps}
 use Rattle.rmi_monitor.specs.View.{MonitorView, IsTaken, seen_in}
-use Rattle.rmi_monitor.specs.Inside.{Fields, realm_at, seen_as, IsWhole}
-use Rattle.rmi_monitor.proofs.Outcomes.{answers_ok}
+use Rattle.rmi_monitor.specs.Inside.{Fields}
+use Rattle.rmi_monitor.specs.Located.{Locates, IsNowhere}
+use Rattle.rmi_monitor.proofs.Granules.{HasFields}
+use Rattle.rmi_monitor.proofs.Outcomes.{input_refused}
 use Rattle.rmi_monitor.proofs.LedTo.{page_led}
-use Rattle.rmi_monitor.proofs.Located.{IsLocated}
+use Rattle.rmi_monitor.proofs.Located.{Stands, stands}
 use Rattle.rmi_monitor.proofs.Protected.{protected_inside}
 use Rattle.rmi_monitor.proofs.TableMoves.{is_moved_state}
 use Rattle.rmi_monitor.proofs.Refusals.{Passes, passed_row, row_passes}
-use Rattle.rmi_monitor.proofs.RealmCommands.{with_call, Done, whole_after_move, seen_after_move}
-use Rattle.rmi_monitor.proofs.Listed.{put_back}
-use Rattle.rmi_monitor.proofs.RealmAfter.{keeps_all}
-use Rattle.rmi_monitor.proofs.RealmFound.{row_of, nowhere, somewhere}
+use Rattle.rmi_monitor.proofs.RealmCommands.{with_call, Done, rows_done}
+use Rattle.rmi_monitor.proofs.RealmFound.{row_of, somewhere}
 
 -- What the call says where it is not refused.
-pub record UnmapCall (at : Tables) (pages : List (List ℕ)) (free : List Bool) (granules : List Granule) (new_pages : List (List ℕ)) (new_free : List Bool) (new_granules : List Granule) (ipa : ℕ) : Type 0 where
+pub record UnmapCall (at : Tables) (pages : List (List ℕ)) (free : List Bool) (granules : List Granule) (new_pages : List (List ℕ)) (new_free : List Bool) (new_granules : List Granule)
+    (ipa : ℕ) : Type 0 where
   pub answer : (row : Row) × ((f : Row → Outcome) → with_mapped_page (rows pages at.root) ipa f ≡ f row)
   pub loses : LosesPage (rows pages at.root) ipa (rows new_pages at.root)
   pub moved : (page : ℕ) → LeadsTo (rows pages at.root) 3 ipa page → new_granules ≡ with_state granules page Delegated None
@@ -40,83 +39,75 @@ pub record UnmapCall (at : Tables) (pages : List (List ℕ)) (free : List Bool) 
   pub others : ChangesTablesAnd (LeadsTo (rows pages at.root) 3 ipa) at.root pages new_pages
   pub keeps : Keeps at.rd at.root pages free granules new_pages new_free new_granules
 
-module _ (monitor : MonitorView) (fields : Fields) (view_is : seen_as fields ≡ monitor) (whole : IsWhole fields) (rd : ℕ) (taken : IsTaken monitor rd) (ipa : ℕ) where
+module _ (monitor : MonitorView) (rd ipa : ℕ) where
   abbrev outcome : Outcome
   outcome = data_destroy (seen_in monitor rd) ipa
 
-  pub destroy_no_realm : realm_at fields rd ≡ None → outcome ≡ Err error_input
-  destroy_no_realm none = nowhere monitor fields view_is whole rd taken.inside none _
+  pub destroy_nowhere : IsNowhere monitor.machine rd ipa → outcome ≡ Err error_input
+  destroy_nowhere none = input_refused (seen_in monitor rd) (λ row. is_protected row ipa) _ none
 
-  module _ (realm : RealmAttributes) (there : realm_at fields rd ≡ Some realm) where
+  module _ {fields : Fields} (kept : HasFields monitor fields) {at : Tables × ℕ} (here : Locates monitor.machine rd ipa at) where
+    it : Stands fields rd ipa at
+    it = stands kept here
+
     abbrev row : RealmRow
-    row = row_of fields rd realm
+    row = row_of fields rd it.realm
 
     abbrev old_rows : Rows
-    old_rows = rows fields.pages realm.root
+    old_rows = rows fields.pages it.realm.root
 
     abbrev on_row : Row → Outcome
     on_row r =
-        with_granule r (λ granule. Ok (Put granule left ∷ put_realm (seen_in monitor rd) (record row { rows = put_row old_rows 3 ipa (unassigned (unmapped_ripas r.ripas)) }) ∷ []))
+        with_granule r (λ granule.
+        Ok (Put granule left ∷ put_realm (seen_in monitor rd) (record row { rows = put_row old_rows 3 ipa (unassigned (unmapped_ripas r.ripas)) }) ∷ []))
 
-    pub destroy_unprotected : is_protected_at ipa realm.root.width ≡ false → outcome ≡ Err error_input
-    destroy_unprotected h = somewhere monitor fields view_is whole rd realm there _ ∙ check_false (is_protected_at ipa realm.root.width) error_input _ h
+    decided : outcome ≡ with_mapped_page old_rows ipa on_row
+    decided = somewhere monitor fields kept.view_is kept.whole rd it.realm it.there _ ∙ check_true (is_protected row ipa) error_input _ it.located.protected
 
-    module _ (at : Tables) (given : ℕ) (located : IsLocated realm rd ipa at given) where
-      decided : outcome ≡ with_mapped_page old_rows ipa on_row
-      decided = somewhere monitor fields view_is whole rd realm there _ ∙ check_true (is_protected_at ipa realm.root.width) error_input _ located.protected
+    pub destroy_refused : {l : ℕ} → ((f : Row → Outcome) → with_mapped_page (rows fields.pages at.0.root) at.1 f ≡ Err (error_rtt l)) → outcome ≡ Err (error_rtt l)
+    destroy_refused refused = decided ∙ (λ k. with_mapped_page (rows fields.pages (sym it.located.tables k).root) (sym it.located.same k) on_row) ∙ refused on_row
 
-      pub destroy_refused : (l : ℕ) → ((f : Row → Outcome) → with_mapped_page (rows fields.pages at.root) given f ≡ Err (error_rtt l)) → outcome ≡ Err (error_rtt l)
-      destroy_refused l refused = decided ∙ (λ k. with_mapped_page (rows fields.pages (sym located.tables k).root) (sym located.same k) on_row) ∙ refused on_row
+    -- ---- the call is not refused
 
-      -- ---- the call is not refused
+    module _ (taken : IsTaken monitor rd) {granules : List Granule} {pages : List (List ℕ)} {free : List Bool}
+        (given : UnmapCall at.0 fields.pages fields.free fields.granules pages free granules at.1) where
+      call : UnmapCall (record { rd = rd; root = it.realm.root }) fields.pages fields.free fields.granules pages free granules ipa
+      call =
+          subst (λ (to : Tables × ℕ). UnmapCall to.0 fields.pages fields.free fields.granules pages free granules to.1)
+          (λ k. (it.located.tables k, it.located.same k)) given
 
-      module _ (granules : List Granule) (pages : List (List ℕ)) (free : List Bool) (given_call : UnmapCall at fields.pages fields.free fields.granules pages free granules given) where
-        call : UnmapCall (record { rd = rd; root = realm.root }) fields.pages fields.free fields.granules pages free granules ipa
-        call =
-            subst (λ (to : Tables × ℕ). UnmapCall to.0 fields.pages fields.free fields.granules pages free granules to.1) (λ k. (located.tables k, located.same k)) given_call
+      found : Passes old_rows ipa 3 is_assigned
+      found = (passed_row old_rows ipa 3 is_assigned (λ r. Ok []) [] (call.answer.1 (λ r. Ok []))).0
 
-        found : Passes old_rows ipa 3 is_assigned
-        found = (passed_row old_rows ipa 3 is_assigned (λ r. Ok []) [] (call.answer.1 (λ r. Ok []))).0
+      led : (page : ℕ) × (found.row.granule ≡ Some page) × IsIn fields.granules page InData (Some rd)
+      led =
+          page_led fields.pages fields.granules rd it.realm.root (kept.whole.tables rd it.realm it.there) 3 ipa
+          (record { least = lit≤ tt; most = lit≤ tt; below = protected_inside it.realm.root.width ipa it.located.protected }) found.row found.at found.holds
 
-        led : (page : ℕ) × (found.row.granule ≡ Some page) × IsIn fields.granules page InData (Some rd)
-        led =
-            page_led fields.pages fields.granules rd realm.root (whole.tables rd realm there) 3 ipa
-            (record { least = lit≤ tt; most = lit≤ tt; below = protected_inside realm.root.width ipa located.protected }) found.row found.at found.holds
+      abbrev page : ℕ
+      page = led.0
 
-        abbrev page : ℕ
-        page = led.0
+      leads : LeadsTo old_rows 3 ipa page
+      leads = (found.row, found.at, led.1)
 
-        abbrev lost : RealmRow
-        lost = record row { rows = put_row old_rows 3 ipa (unassigned (unmapped_ripas found.row.ripas)) }
+      -- the row leads to no other page
+      leads_once : (g : ℕ) → LeadsTo old_rows 3 ipa g → g ≡ page
+      leads_once g l =
+          let same : l.0 ≡ found.row = same_Some l.0 found.row (sym l.1 ∙ found.at) in
+          same_Some g page (sym l.2 ∙ ap (λ (r : Row). r.granule) same ∙ led.1)
 
-        destroyed : outcome ≡ Ok (Put page left ∷ put_realm (seen_in monitor rd) lost ∷ [])
-        destroyed = decided ∙ row_passes old_rows ipa 3 is_assigned on_row found ∙ granule_there found.row _ page led.1
-
-        leads : LeadsTo old_rows 3 ipa page
-        leads = (found.row, found.at, led.1)
-
-        -- the row leads to no other page
-        leads_once : (g : ℕ) → LeadsTo old_rows 3 ipa g → g ≡ page
-        leads_once g l =
-            let same : l.0 ≡ found.row = same_Some l.0 found.row (sym l.1 ∙ found.at) in
-            same_Some g page (sym l.2 ∙ ap (λ (r : Row). r.granule) same ∙ led.1)
-
-        abbrev rest : KeepsRest rd fields.pages fields.free fields.granules pages free granules
-        rest = call.keeps.rest
-
-        pub destroy_done : Done monitor outcome (with_call fields granules pages free fields.realms)
-        destroy_done = record {
-          whole =
-              whole_after_move monitor fields view_is whole rd taken realm there realm (keeps_all realm) granules pages free fields.realms
-              (sym (put_back fields.realms rd None (Some realm) there)) rest.flags rest.backed call.keeps.tables rest.other_realms page led.2.inside Delegated None (call.moved page leads)
-              (ap (λ (x : Granule). is_moved_state x.state) led.2.is) refl (λ e. refl) (λ e. call.cleared page leads)
-              (λ g differs not_table. call.others g (λ l. differs (leads_once g l)) not_table);
-          seen =
-              seen_after_move monitor fields view_is whole rd taken realm there realm (keeps_all realm) granules pages free fields.realms
-              (sym (put_back fields.realms rd None (Some realm) there)) rest.flags rest.backed call.keeps.tables rest.other_realms page led.2.inside Delegated None (call.moved page leads)
-              (ap (λ (x : Granule). is_moved_state x.state) led.2.is) refl (λ e. refl) (λ e. call.cleared page leads)
-              (λ g differs not_table. call.others g (λ l. differs (leads_once g l)) not_table)
-              outcome left lost (λ i. record left { bytes = call.cleared page leads i })
-              (λ i. record row { rows = call.loses found.row found.at i }) destroyed;
-          answers = answers_ok {A = Unit {0}} tt _ outcome destroyed;
-        }
+      pub destroy_done : Done monitor outcome (with_call fields granules pages free fields.realms)
+      destroy_done =
+          rows_done kept taken it.there {to = record { state = Delegated; realm = None }}
+          (record {
+            inside = led.2.inside;
+            was = ap (λ (x : Granule). is_moved_state x.state) led.2.is;
+            is = refl;
+            moved = call.moved page leads;
+            host = λ e. refl;
+            zero = λ e. call.cleared page leads;
+            others = λ g differs not_table. call.others g (λ l. differs (leads_once g l)) not_table;
+            keeps = call.keeps;
+          })
+          outcome (λ i. record left { bytes = call.cleared page leads i }) (call.loses found.row found.at)
+          (decided ∙ row_passes old_rows ipa 3 is_assigned on_row found ∙ granule_there found.row _ page led.1)

@@ -84,14 +84,16 @@ module _ (monitor : MonitorView) (fields : Fields) (view_is : seen_as fields ≡
             destroy_done = checked true false no_recs (not_true (has_root_table realm.root.width row.rows) (sym (closed ∙ ap (λ r. not (has_root_table r.width (rows fields.pages r))) root_is)))
 
             -- after the root is closed
-            module _ (granules : List Granule) (pages : List (List ℕ)) (moved : granules ≡ with_states fields.granules (starting_tables root) Delegated None) (cleared : pages ≡ set_each zero_page (starting_tables root) fields.pages) where
+            module _ (granules : List Granule) (pages : List (List ℕ)) (moved : granules ≡ with_states fields.granules (starting_tables root) Delegated None)
+                (cleared : pages ≡ set_each zero_page (starting_tables root) fields.pages) where
               rd_in_pages : rd < length pages
               rd_in_pages =
                   subst (λ n. rd < n) (sym (ap length cleared ∙ length-set_each zero_page (starting_tables root) fields.pages)) (in_pages monitor fields view_is whole rd taken)
 
               rd_in_granules : rd < length granules
               rd_in_granules =
-                  subst (λ n. rd < n) (sym (ap length moved ∙ length-set_each (record { state = Delegated; realm = None }) (starting_tables root) fields.granules)) (in_granules monitor fields view_is whole rd taken)
+                  subst (λ n. rd < n) (sym (ap length moved ∙ length-set_each (record { state = Delegated; realm = None }) (starting_tables root) fields.granules))
+                  (in_granules monitor fields view_is whole rd taken)
 
               still_rd : (granule_at granules rd).state ≡ InRd
               still_rd =
@@ -121,7 +123,9 @@ module _ (monitor : MonitorView) (fields : Fields) (view_is : seen_as fields ≡
                 pages_are = fill ∙ ap (λ ps. set ps rd zero_page) (cleared ∙ ap (λ r. set_each zero_page (starting_tables r) fields.pages) root_is)
 
                 abbrev now : Fields
-                now = after_destroy (with_state (with_states fields.granules (starting_tables realm.root) Delegated None) rd Delegated None) (set (set_each zero_page (starting_tables realm.root) fields.pages) rd zero_page) fields.free rd
+                now =
+                    after_destroy (with_state (with_states fields.granules (starting_tables realm.root) Delegated None) rd Delegated None)
+                    (set (set_each zero_page (starting_tables realm.root) fields.pages) rd zero_page) fields.free rd
 
                 written : after_destroy shifted filled free n ≡ now
                 written i = after_destroy (granules_are i) (pages_are i) (flags i) (n_is i)

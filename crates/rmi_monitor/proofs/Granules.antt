@@ -20,6 +20,14 @@ use Rattle.rmi_monitor.proofs.Machines.{length-machine_of, cell_at-machine_of}
 use Rattle.rmi_monitor.proofs.HostMoves.{moved, whole_moved, machine_of-moved, host_cell, cell_of-host}
 use Rattle.rmi_monitor.proofs.Checks.{undelegated_test, delegated_test, not_undelegated, not_delegated, delegated_state}
 
+-- the fields of a monitor
+pub record HasFields (monitor : MonitorView) (fields : Fields) : Type 0 where
+  pub view_is : seen_as fields ≡ monitor
+  pub whole : IsWhole fields
+
+pub has_fields : {monitor : MonitorView} {fields : Fields} → seen_as fields ≡ monitor → IsWhole fields → HasFields monitor fields
+has_fields view_is whole = record { view_is = view_is; whole = whole }
+
 module _ (monitor : MonitorView) (fields : Fields) (view_is : seen_as fields ≡ monitor) (whole : IsWhole fields) where
   pub machine_is : machine_of fields ≡ monitor.machine
   machine_is = ap (λ (m : MonitorView). m.machine) view_is

@@ -1,14 +1,21 @@
 -- What a command on a realm's tables goes on with, where the IPA granule that it is given is protected.
 use Rattle.std.proofs.Common.{◌≡◌, ℕ, ◌<◌, true, false, cond, Option, Some, None, sym, ap, ◌∙◌, subst}
+use Rattle.std.proofs.lemmas.Option.{none-some, same_Some}
 use Rattle.granule_addr.specs.Ipa.{is_protected_at}
 use Rattle.granule_addr.specs.Root.{served_space}
 use Rattle.granule_addr.specs.declared.root.Root.{Root}
+use Rattle.realm_model.specs.Rows.{is_table_place}
+use Rattle.realm_model.specs.Machine.{RealmRow, cell_at}
 use Rattle.realm_objects.specs.Attributes.{RealmAttributes}
 use Rattle.rtt.specs.declared.tables.Tables.{Tables}
 use Rattle.rtt.specs.Realm.{HasTables}
+use Rattle.rmi_monitor.specs.View.{MonitorView}
 use Rattle.rmi_monitor.specs.Inside.{Fields, realm_at, IsWhole}
+use Rattle.rmi_monitor.specs.Located.{Locates, IsNowhere}
 use Rattle.rmi_monitor.proofs.Comparisons.{test_held, test_failed}
+use Rattle.rmi_monitor.proofs.Granules.{HasFields}
 use Rattle.rmi_monitor.proofs.Protected.{protected_inside}
+use Rattle.rmi_monitor.proofs.RealmFound.{row_of, realm_found, descriptor_there}
 
 -- The tables of the realm that stands at an RD, and the IPA granule, as code has them.
 pub record IsLocated (realm : RealmAttributes) (rd ipa : ℕ) (at : Tables) (given : ℕ) : Type 0 where
@@ -35,3 +42,60 @@ module _ (realm : RealmAttributes) (rd ipa : ℕ) (at : Tables) (given : ℕ) (t
   located_inside =
       subst (λ (t : Tables). given < served_space t.root.width) (sym there.tables)
       (subst (λ n. n < served_space realm.root.width) (sym there.same) (protected_inside realm.root.width ipa there.protected))
+
+-- ---- among the fields of a monitor
+
+-- the realm that a command goes on with
+pub record Stands (fields : Fields) (rd ipa : ℕ) (at : Tables × ℕ) : Type 0 where
+  pub realm : RealmAttributes
+  pub there : realm_at fields rd ≡ Some realm
+  pub located : IsLocated realm rd ipa at.0 at.1
+
+module _ {monitor : MonitorView} {fields : Fields} (kept : HasFields monitor fields) where
+  module _ {rd ipa : ℕ} {at : Tables × ℕ} (here : Locates monitor.machine rd ipa at) where
+    pub stands : Stands fields rd ipa at
+    stands =
+        let found = realm_found monitor fields kept.view_is kept.whole rd here.row here.there in
+        let root : here.row.root ≡ found.0.root = ap (λ (r : RealmRow). r.root) (sym found.2) in
+        record {
+          realm = found.0;
+          there = found.1;
+          located = record {
+            tables = here.tables ∙ ap (λ (r : Root). record { rd = rd; root = r }) root;
+            same = here.same;
+            protected = ap (λ (r : Root). is_protected_at ipa r.width) (sym root) ∙ here.protected;
+          };
+        }
+
+    -- what a call on the tables asks
+    pub its_tables : HasTables fields.pages fields.granules at.0.rd at.0.root
+    its_tables = located_tables stands.realm rd ipa at.0 at.1 stands.located fields kept.whole stands.there
+
+    pub its_space : at.1 < served_space at.0.root.width
+    its_space = located_inside stands.realm rd ipa at.0 at.1 stands.located
+
+    pub its_place : {given level : ℕ} → given ≡ level → is_table_place ipa level ≡ true → is_table_place at.1 given ≡ true
+    its_place same place = (λ k. is_table_place (here.same k) (same k)) ∙ place
+
+  -- ---- what code finds
+
+  pub nowhere_empty : (rd ipa : ℕ) → realm_at fields rd ≡ None → IsNowhere monitor.machine rd ipa
+  nowhere_empty rd ipa none row at =
+      let found = realm_found monitor fields kept.view_is kept.whole rd row at in
+      absurd (none-some found.0 (sym none ∙ found.1))
+
+  module _ (rd ipa : ℕ) (realm : RealmAttributes) (there : realm_at fields rd ≡ Some realm) where
+    row_is : (row : RealmRow) → (cell_at monitor.machine rd).descriptor ≡ Some row → row_of fields rd realm ≡ row
+    row_is row at = same_Some _ row (sym (descriptor_there monitor fields kept.view_is kept.whole rd realm there) ∙ at)
+
+    pub nowhere_outside : is_protected_at ipa realm.root.width ≡ false → IsNowhere monitor.machine rd ipa
+    nowhere_outside outside row at = ap (λ (r : RealmRow). is_protected_at ipa r.root.width) (sym (row_is row at)) ∙ outside
+
+    pub locates : (at : Tables) (given : ℕ) → IsLocated realm rd ipa at given → Locates monitor.machine rd ipa (at, given)
+    locates at given located = record {
+      row = row_of fields rd realm;
+      there = descriptor_there monitor fields kept.view_is kept.whole rd realm there;
+      tables = located.tables;
+      same = located.same;
+      protected = located.protected;
+    }

@@ -1,10 +1,11 @@
 -- What a command answers and leaves, by what comes of it.
-use Rattle.std.proofs.Common.{◌≡◌, List, Some, None, Result, Ok, Err, refl, sym, ap, ◌∙◌, subst}
+use Rattle.std.proofs.Common.{◌≡◌, Bool, false, List, Option, Some, None, Result, Ok, Err, refl, sym, ap, ◌∙◌, subst}
 use Rattle.std.specs.Result.{IsErrAnd}
 use Rattle.realm_model.specs.declared.rmi.Rmi.{Rmi}
 use Rattle.realm_model.specs.Machine.{RealmRow, Seen}
 use Rattle.realm_model.specs.Update.{Update, Outcome}
-use Rattle.realm_model.specs.Command.Check.{error_input, with_realm}
+use Rattle.realm_model.specs.Command.Check.{check, error_input, with_realm}
+use Rattle.realm_model.proofs.Outcomes.{check_false}
 use Rattle.rmi_monitor.specs.View.{MonitorView, Answers, after_command}
 
 pub answers_err : (A : Type 0) (rmi : Rmi) (outcome : Outcome) → outcome ≡ Err rmi → Answers {A = A} (Err rmi) outcome
@@ -18,6 +19,10 @@ pub answers_refused : {A : Type 0} (answer : Result A Rmi) (rmi : Rmi) (outcome 
 answers_refused (Ok value) rmi outcome said e = absurd said
 answers_refused {A} (Err refusal) rmi outcome said e = answers_err A refusal outcome (e ∙ ap (λ (r : Rmi). Err r) (sym said))
 
+pub answers_input : {A : Type 0} (answer : Result A Rmi) (rmi : Rmi) (outcome : Outcome) → IsErrAnd answer (λ e. e ≡ rmi) → rmi ≡ error_input → outcome ≡ Err error_input
+    → Answers answer outcome
+answers_input answer rmi outcome said is e = answers_refused answer rmi outcome said (e ∙ ap (λ (r : Rmi). Err r) (sym is))
+
 -- a refusal changes nothing
 pub after_err : (monitor : MonitorView) (rmi : Rmi) (outcome : Outcome) → outcome ≡ Err rmi → monitor ≡ after_command outcome monitor
 after_err monitor rmi outcome e = ap (λ (o : Outcome). after_command o monitor) (sym e)
@@ -28,3 +33,14 @@ after_err monitor rmi outcome e = ap (λ (o : Outcome). after_command o monitor)
 pub realm_absent : (rd : Seen) (f : RealmRow → Outcome) → rd.cell.descriptor ≡ None → with_realm rd f ≡ Err error_input
 unfolding with_realm
 realm_absent rd f e = ap (λ o. elim o [ Some realm ↦ f realm | None ↦ Err error_input ]) e
+
+-- no realm passes the test of what a command is given
+pub input_refused : (rd : Seen) (test : RealmRow → Bool) (f : RealmRow → Outcome) → ((row : RealmRow) → rd.cell.descriptor ≡ Some row → test row ≡ false)
+    → with_realm rd (λ row. check (test row) error_input (f row)) ≡ Err error_input
+unfolding with_realm
+input_refused rd test f fails = of rd.cell.descriptor refl
+  where
+    of : (o : Option RealmRow) → rd.cell.descriptor ≡ o
+        → ◌≡◌ {A = Outcome} (elim o [ Some row ↦ check (test row) error_input (f row) | None ↦ Err error_input ]) (Err error_input)
+    of None is = refl
+    of (Some row) is = check_false (test row) error_input (f row) (fails row is)

@@ -7,17 +7,21 @@ use Rattle.page_arena.specs.Page.{page_at}
 use Rattle.realm_model.specs.declared.states.GranuleState.{GranuleState}
 use Rattle.realm_model.specs.declared.states.GranuleState.TheVariants.{Delegated}
 use Rattle.realm_model.specs.declared.rmi.Rmi.{Rmi}
+use Rattle.realm_model.specs.Rows.{Rows}
 use Rattle.realm_model.specs.Machine.{Cell, RealmRow}
 use Rattle.realm_model.specs.Update.{Outcome, Put, machine_after_all}
 use Rattle.realm_model.specs.Command.Check.{put_realm}
 use Rattle.realm_objects.specs.Attributes.{RealmAttributes, realm_row}
+use Rattle.granule_addr.specs.declared.root.Root.{Root}
+use Rattle.rtt.specs.Calls.{Keeps as KeepsTables}
 use Rattle.rtt.specs.Tables.{rows}
 use Rattle.rtt.specs.Realm.{IsBacked, HasTables, IsTableOf, LeavesOthers}
 use Rattle.rmi_monitor.specs.View.{MonitorView, IsTaken, Answers, seen_in, after_command}
 use Rattle.rmi_monitor.specs.Inside.{Fields, realm_at, recs_of, bytes_of, machine_of, seen_as, IsWhole, cell_of}
-use Rattle.rmi_monitor.proofs.Outcomes.{after_err}
-use Rattle.rmi_monitor.proofs.Granules.{machine_is, cell_is, after_done}
-use Rattle.rmi_monitor.proofs.RealmAfter.{Keeps, with_row_of}
+use Rattle.rmi_monitor.proofs.Outcomes.{answers_ok, after_err}
+use Rattle.rmi_monitor.proofs.Granules.{HasFields, machine_is, cell_is, after_done}
+use Rattle.rmi_monitor.proofs.RealmAfter.{Keeps, keeps_all, with_row_of}
+use Rattle.rmi_monitor.proofs.RealmFound.{row_of}
 use Rattle.rmi_monitor.proofs.TableMoves.{is_moved_state, whole_moved_to, machine_moved_to}
 use Rattle.rmi_monitor.proofs.Listed.{put_back}
 
@@ -105,3 +109,46 @@ module _ (monitor : MonitorView) (fields : Fields) (view_is : seen_as fields ≡
           (ap (λ (rs : List (Option RealmAttributes)). machine_of (with_now rs)) put
           ∙ machine_moved_to fields whole rd realm now there keeps granules pages free flags backed tables alone m inside state owner moved was is host zero page_stays
           ∙ (λ i. set (set (machine_is monitor fields view_is whole i) m (here i)) rd (with_row_of (sym (cell_is monitor fields view_is whole rd taken.inside) i) (there_is i))))
+
+-- ---- a call that moves a granule to or from a realm
+
+-- What it leaves: the granule is in that state, and but for its page and the realm's tables no page is changed.
+pub record Moves (fields : Fields) (rd : ℕ) (root : Root) (g : ℕ) (to : Granule) (granules : List Granule) (pages : List (List ℕ)) (free : List Bool) : Type 0 where
+  pub inside : g < length fields.granules
+  pub was : is_moved_state (granule_at fields.granules g).state ≡ true
+  pub is : is_moved_state to.state ≡ true
+  pub moved : granules ≡ set fields.granules g to
+  pub host : to.state ≡ Delegated → to.realm ≡ None
+  pub zero : to.state ≡ Delegated → page_at pages g ≡ zero_page
+  pub others : (h : ℕ) → (h ≡ g → ⊥) → (IsTableOf fields.pages root h → ⊥) → page_at pages h ≡ page_at fields.pages h
+  pub keeps : KeepsTables rd root fields.pages fields.free fields.granules pages free granules
+
+module _ {monitor : MonitorView} {fields : Fields} (kept : HasFields monitor fields) {rd : ℕ} (taken : IsTaken monitor rd)
+    {realm : RealmAttributes} (there : realm_at fields rd ≡ Some realm)
+    {g : ℕ} {to : Granule} {granules : List Granule} {pages : List (List ℕ)} {free : List Bool} (moves : Moves fields rd realm.root g to granules pages free) where
+  -- a command that puts that granule and the realm's row
+  pub moves_done : {now : RealmAttributes} → Keeps realm now → {realms : List (Option RealmAttributes)} → realms ≡ set fields.realms rd (Some now)
+      → (outcome : Outcome) {cell : Cell} {row : RealmRow}
+      → record { state = to.state; realm = to.realm; bytes = bytes_of to.state (page_at pages g); descriptor = None } ≡ cell
+      → realm_row now (recs_of fields.granules fields.recs rd) (rows pages realm.root) ≡ row
+      → outcome ≡ Ok (Put g cell ∷ put_realm (seen_in monitor rd) row ∷ [])
+      → Done monitor outcome (with_call fields granules pages free realms)
+  moves_done {now} stay {realms} put outcome {cell} {row} here row_is done = record {
+    whole =
+        whole_after_move monitor fields kept.view_is kept.whole rd taken realm there now stay granules pages free realms put
+        moves.keeps.rest.flags moves.keeps.rest.backed moves.keeps.tables moves.keeps.rest.other_realms
+        g moves.inside to.state to.realm moves.moved moves.was moves.is moves.host moves.zero moves.others;
+    seen =
+        seen_after_move monitor fields kept.view_is kept.whole rd taken realm there now stay granules pages free realms put
+        moves.keeps.rest.flags moves.keeps.rest.backed moves.keeps.tables moves.keeps.rest.other_realms
+        g moves.inside to.state to.realm moves.moved moves.was moves.is moves.host moves.zero moves.others outcome cell row here row_is done;
+    answers = answers_ok {A = Unit {0}} tt _ outcome done;
+  }
+
+  -- and one that leaves the realm's attributes
+  pub rows_done : (outcome : Outcome) {cell : Cell} {translation : Rows}
+      → record { state = to.state; realm = to.realm; bytes = bytes_of to.state (page_at pages g); descriptor = None } ≡ cell → rows pages realm.root ≡ translation
+      → outcome ≡ Ok (Put g cell ∷ put_realm (seen_in monitor rd) (record (row_of fields rd realm) { rows = translation }) ∷ [])
+      → Done monitor outcome (with_call fields granules pages free fields.realms)
+  rows_done outcome here rows_are done =
+      moves_done (keeps_all realm) (sym (put_back fields.realms rd None (Some realm) there)) outcome here (λ i. record (row_of fields rd realm) { rows = rows_are i }) done

@@ -127,7 +127,9 @@ module _ (monitor : MonitorView) (fields : Fields) (view_is : seen_as fields ≡
     abbrev rest : Outcome
     rest = check (is_new row.state) error_realm (Ok updates)
 
-    checked : outcome ≡ check (list_all is_delegated (map (seen_in monitor) (g ∷ others)) && are_distinct (numbers_of (map (seen_in monitor) (g ∷ others))) && length (map (seen_in monitor) others) == monitor.aux) error_input rest
+    checked : outcome
+        ≡ check (list_all is_delegated (map (seen_in monitor) (g ∷ others)) && are_distinct (numbers_of (map (seen_in monitor) (g ∷ others)))
+        && length (map (seen_in monitor) others) == monitor.aux) error_input rest
     checked = somewhere monitor fields view_is whole rd realm there _
 
     pub refuses_unfit : fit ≡ false → outcome ≡ Err error_input
@@ -190,7 +192,9 @@ module _ (monitor : MonitorView) (fields : Fields) (view_is : seen_as fields ≡
       created new =
           after_done monitor fields view_is whole (made fields rd g others realm) updates outcome (creates e new) refl refl refl
           (machine_made fields whole rd g others realm can
-          ∙ (λ i. machine_after_all (updates_by (sym (puts_seen monitor (held InRecAux rd) others) i) (sym (numbers_seen monitor others) i) (sym (cell_is monitor fields view_is whole rd rd_taken.inside) i)) (machine_is monitor fields view_is whole i)))
+          ∙ (λ i. machine_after_all
+          (updates_by (sym (puts_seen monitor (held InRecAux rd) others) i) (sym (numbers_seen monitor others) i) (sym (cell_is monitor fields view_is whole rd rd_taken.inside) i))
+          (machine_is monitor fields view_is whole i)))
 
 -- ---- the fields as calls leave them
 
@@ -198,11 +202,19 @@ module _ (fields : Fields) (rd g : ℕ) (others : List ℕ) (realm : RealmAttrib
   abbrev fields_with : List Granule → List (Option RealmAttributes) → List ℕ → List (Option RecAttributes) → Fields
   fields_with granules realms rec_counts recs = record fields { granules = granules; realms = realms; rec_counts = rec_counts; recs = recs }
 
-  pub made_by : (begun granules : List Granule) (list : List ℕ) (rd' g' at count : ℕ) (now : RealmAttributes) (rec : RecAttributes) → begun ≡ set fields.granules g (record { state = InRec; realm = Some rd })
-      → granules ≡ set_each (record { state = InRecAux; realm = Some rd }) list begun → list ≡ others → rd' ≡ rd → g' ≡ g → now ≡ with_rec_more realm → rec ≡ new_rec realm.next others → at ≡ rd → count ≡ rec_count_at fields rd
+  pub made_by : (begun granules : List Granule) (list : List ℕ) (rd' g' at count : ℕ) (now : RealmAttributes) (rec : RecAttributes)
+      → begun ≡ set fields.granules g (record { state = InRec; realm = Some rd })
+      → granules ≡ set_each (record { state = InRecAux; realm = Some rd }) list begun → list ≡ others → rd' ≡ rd → g' ≡ g → now ≡ with_rec_more realm → rec ≡ new_rec realm.next others → at ≡ rd
+      → count ≡ rec_count_at fields rd
       → fields_with granules (set fields.realms rd' (Some now)) (set fields.rec_counts at (count + 1)) (set fields.recs g' (Some rec)) ≡ made fields rd g others realm
   made_by begun granules list rd' g' at count now rec first then same rd_is g_is realm_is rec_is at_is count_is =
-      (λ i. record fields { granules = then i; realms = set fields.realms (rd_is i) (Some (realm_is i)); rec_counts = set fields.rec_counts (at_is i) (count_is i + 1); recs = set fields.recs (g_is i) (Some (rec_is i)) })
+      (λ i. record fields {
+        granules = then i;
+        realms = set fields.realms (rd_is i) (Some (realm_is i));
+        rec_counts = set fields.rec_counts (at_is i) (count_is i + 1);
+        recs = set fields.recs (g_is i)
+            (Some (rec_is i));
+      })
       ∙ (λ i. record fields {
         granules = set_each (record { state = InRecAux; realm = Some rd }) (same i) (first i);
         realms = set fields.realms rd (Some (with_rec_more realm));

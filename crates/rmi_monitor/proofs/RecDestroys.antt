@@ -60,7 +60,9 @@ module _ (fields : Fields) (whole : IsWhole fields) (g : ℕ) (rec : RecAttribut
     pub aux_stand : (then : List Granule) → then ≡ set fields.granules g left_granule → All (IsInState then InRecAux) list
     aux_stand then made = subst (λ gs. All (IsInState gs InRecAux) list) (sym made) (each_listed (IsInState (set fields.granules g left_granule) InRecAux) (λ h e. record {
       inside = subst (λ n. h < n) (sym (length-set fields.granules g left_granule)) (aux_is fields whole rd g rec realm rec_kept h e).inside;
-      is = ap (λ (x : Granule). x.state) (get_or-set_other fields.granules g h left_granule undelegated (not_own fields whole rd g rec realm rec_kept h e)) ∙ aux_state fields whole rd g rec realm rec_kept h e;
+      is =
+          ap (λ (x : Granule). x.state) (get_or-set_other fields.granules g h left_granule undelegated (not_own fields whole rd g rec realm rec_kept h e)) ∙ aux_state fields whole rd g rec realm
+          rec_kept h e;
     }))
 
     pub aux_pages : (then : List (List ℕ)) (flags : List Bool) → then ≡ set fields.pages g zero_page → flags ≡ fields.free → All (HasPage then flags) list

@@ -69,7 +69,9 @@ module _ (old : Fields) (whole : IsWhole old) (rd g : ℕ) (rec : RecAttributes)
   taken_as h state within at used = whole.backed.taken h within (λ e. used (sym at ∙ e))
 
   pub taken_moved : (h : ℕ) → is_in h (g ∷ others) ≡ true → is_free old.free h ≡ false
-  taken_moved = both (λ h. is_free old.free h ≡ false) (taken_as g InRec (rec_inside old whole g rec is.at) (in_rec old g (whole.each g) rec is.at) (λ e. cc)) (λ h e. taken_as h InRecAux (aux_is h e).inside (aux_state h e) (λ k. cc))
+  taken_moved =
+      both (λ h. is_free old.free h ≡ false) (taken_as g InRec (rec_inside old whole g rec is.at) (in_rec old g (whole.each g) rec is.at) (λ e. cc))
+      (λ h e. taken_as h InRecAux (aux_is h e).inside (aux_state h e) (λ k. cc))
 
   -- ---- after
 

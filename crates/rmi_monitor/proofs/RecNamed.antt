@@ -71,7 +71,8 @@ module _ (machine : Machine) (granule rd number : ℕ) where
       at realm there (Some rec) numbered is = record { realm = realm; there = there; rec = rec; numbered = numbered; is = eqb-true rec.granule granule is }
       at realm there None numbered is = cc
 
-      by : (o : Option RealmRow) → (cell_at machine rd).descriptor ≡ o → elim (option_and_then (λ (realm : RealmRow). get realm.recs number) o) [ Some rec ↦ rec.granule == granule | None ↦ false ] ≡ true
+      by : (o : Option RealmRow) → (cell_at machine rd).descriptor ≡ o
+          → elim (option_and_then (λ (realm : RealmRow). get realm.recs number) o) [ Some rec ↦ rec.granule == granule | None ↦ false ] ≡ true
           → IsRec machine rd number granule
       by (Some realm) there is = at realm there (get realm.recs number) refl is
       by None there is = cc

@@ -67,7 +67,8 @@ module _ (monitor : MonitorView) (fields : Fields) (view_is : seen_as fields ≡
     says : (answer is : Bool) → SaysNew answer → answer ≡ is → is_new row.state ≡ is
     says answer is told e = sym told ∙ e
 
-    pub enter_new : (answer : Bool) → SaysNew answer → answer ≡ true → recs ≡ set fields.recs granule (Some rec) → IsOnRec {A = Unit {0}} rec_enter monitor granule (Err error_realm) (seen_as (with_recs fields recs))
+    pub enter_new : (answer : Bool) → SaysNew answer → answer ≡ true → recs ≡ set fields.recs granule (Some rec)
+        → IsOnRec {A = Unit {0}} rec_enter monitor granule (Err error_realm) (seen_as (with_recs fields recs))
     enter_new answer told is back = refused rec_enter error_realm back (enter_is ∙ check_false (not (is_new row.state)) error_realm _ (ap not (says answer true told is)))
 
     enter_active : is_new row.state ≡ false → rec_enter (seen_in monitor rd) rec.number ≡ check (is_ready rec_is.state) error_rec entered

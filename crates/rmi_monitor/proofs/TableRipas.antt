@@ -140,6 +140,7 @@ module _ (monitor : MonitorView) (fields : Fields) (view_is : seen_as fields ≡
                 ap (λ rs. seen_as (after rs)) realms_are
                 ∙ after_put monitor fields view_is whole rd taken outcome (after (set fields.realms rd (Some (measured realm ipa count)))) refl refl rest.flags _ _
                 (λ i. realm_row (measured realm ipa count) (recs_of fields.granules fields.recs rd) (call.gains i)) gives_ram
-                (machine_still fields whole rd realm (measured realm ipa count) there same_realm fields.granules pages free rest.flags rest.backed call.keeps.tables rest.other_realms refl call.others);
+                (machine_still fields whole rd realm (measured realm ipa count) there same_realm fields.granules pages free rest.flags rest.backed call.keeps.tables rest.other_realms refl
+                call.others);
             answers = answers_ok {A = Unit {0}} tt _ outcome gives_ram;
           }

@@ -119,12 +119,14 @@ module _ (realms : List (Option RealmAttributes)) (old new : List Bool) (was : A
   pub used-create : get_or realms rd None ≡ None → is_used old realm.vmid ≡ false → IsMarked old new realm.vmid true → AreUsed (set realms rd (Some realm)) new
   used-create none unused marked vmid = ⊎_elim
       (λ (s : vmid ≡ realm.vmid).
-      let one : count_by (is_realm_with vmid) (set realms rd (Some realm)) + 0 ≡ count_by (is_realm_with vmid) realms + 1 = written ∙ ap (λ t. count_by (is_realm_with vmid) realms + cond t 1 0) (has vmid s) in
+      let one : count_by (is_realm_with vmid) (set realms rd (Some realm)) + 0 ≡ count_by (is_realm_with vmid) realms + 1 =
+      written ∙ ap (λ t. count_by (is_realm_with vmid) realms + cond t 1 0) (has vmid s) in
       let before : count_by (is_realm_with vmid) realms ≡ 0 = was vmid ∙ ap (λ t. cond t 1 0) (ap (is_used old) s ∙ unused) in
       let now : ◌≡◌ {A = ℕ} (cond (is_used new vmid) 1 0) 1 = ap (λ t. cond t 1 0) (ap (is_used new) s ∙ marked.one) in
       omega (arith, one, before, now))
       (λ (ne : vmid ≢ realm.vmid).
-      let same : count_by (is_realm_with vmid) (set realms rd (Some realm)) + 0 ≡ count_by (is_realm_with vmid) realms + 0 = written ∙ ap (λ t. count_by (is_realm_with vmid) realms + cond t 1 0) (has_not vmid ne) in
+      let same : count_by (is_realm_with vmid) (set realms rd (Some realm)) + 0 ≡ count_by (is_realm_with vmid) realms + 0 =
+      written ∙ ap (λ t. count_by (is_realm_with vmid) realms + cond t 1 0) (has_not vmid ne) in
       let before = was vmid in
       let kept : ◌≡◌ {A = ℕ} (cond (is_used new vmid) 1 0) (cond (is_used old vmid) 1 0) = ap (λ t. cond t 1 0) (marked.others vmid ne) in
       omega (arith, same, before, kept))
@@ -139,13 +141,15 @@ module _ (realms : List (Option RealmAttributes)) (old new : List Bool) (was : A
   pub used-destroy : get_or realms rd None ≡ Some realm → IsMarked old new realm.vmid false → AreUsed (set realms rd None) new
   used-destroy there marked vmid = ⊎_elim
       (λ (s : vmid ≡ realm.vmid).
-      let one : count_by (is_realm_with vmid) (set realms rd None) + 1 ≡ count_by (is_realm_with vmid) realms + 0 = ap (λ t. count_by (is_realm_with vmid) (set realms rd None) + cond t 1 0) (sym (has vmid s)) ∙ written in
+      let one : count_by (is_realm_with vmid) (set realms rd None) + 1 ≡ count_by (is_realm_with vmid) realms + 0 =
+      ap (λ t. count_by (is_realm_with vmid) (set realms rd None) + cond t 1 0) (sym (has vmid s)) ∙ written in
       let before = was vmid in
       let few = at_most (is_used old vmid) in
       let now : ◌≡◌ {A = ℕ} (cond (is_used new vmid) 1 0) 0 = ap (λ t. cond t 1 0) (ap (is_used new) s ∙ marked.one) in
       omega (arith, one, before, few, now))
       (λ (ne : vmid ≢ realm.vmid).
-      let same : count_by (is_realm_with vmid) (set realms rd None) + 0 ≡ count_by (is_realm_with vmid) realms + 0 = ap (λ t. count_by (is_realm_with vmid) (set realms rd None) + cond t 1 0) (sym (has_not vmid ne)) ∙ written in
+      let same : count_by (is_realm_with vmid) (set realms rd None) + 0 ≡ count_by (is_realm_with vmid) realms + 0 =
+      ap (λ t. count_by (is_realm_with vmid) (set realms rd None) + cond t 1 0) (sym (has_not vmid ne)) ∙ written in
       let before = was vmid in
       let kept : ◌≡◌ {A = ℕ} (cond (is_used new vmid) 1 0) (cond (is_used old vmid) 1 0) = ap (λ t. cond t 1 0) (marked.others vmid ne) in
       omega (arith, same, before, kept))
@@ -173,7 +177,8 @@ module _ (fields : Fields) (whole : IsWhole fields) (vmid : ℕ) where
   at_granule g = by (realm_at fields g)
     where
       by : (o : Option RealmAttributes)
-          → tests (λ v. vmid == v) (option_map (λ (realm : RealmRow). realm.vmid) (option_map (λ r. realm_row r (recs_of fields.granules fields.recs g) (rows fields.pages r.root)) o)) ≡ is_realm_with vmid o
+          → tests (λ v. vmid == v) (option_map (λ (realm : RealmRow). realm.vmid) (option_map (λ r. realm_row r (recs_of fields.granules fields.recs g) (rows fields.pages r.root)) o))
+          ≡ is_realm_with vmid o
       by (Some r) = eqb-swap vmid r.vmid
       by None = refl
 

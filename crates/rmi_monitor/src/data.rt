@@ -66,16 +66,11 @@ impl<S: PageStore> Monitor<S> {
         ensures machine { self.new
             ≡ after_command (command.data_create_unknown (seen_in self.old rd) (seen_in self.old page) ipa) self.old }
     {
-        let Some(realm) = &self.realms[rd.number() as usize] else {
-            return Err(Rmi::INPUT);
-        };
-        let Some(ipa) = protected(ipa, realm.root().width) else {
-            return Err(Rmi::INPUT);
-        };
+        let (tables, ipa) = self.locate(rd, ipa)?;
         if !is_delegated(&self.granules, page) {
             return Err(Rmi::INPUT);
         }
-        tables_of(rd, realm).map(&mut self.store, &mut self.granules, page, ipa, None)?;
+        tables.map(&mut self.store, &mut self.granules, page, ipa, None)?;
         Ok(())
     }
 
@@ -88,13 +83,8 @@ impl<S: PageStore> Monitor<S> {
         ensures answer { Answers result (command.data_destroy (seen_in self.old rd) ipa) }
         ensures machine { self.new ≡ after_command (command.data_destroy (seen_in self.old rd) ipa) self.old }
     {
-        let Some(realm) = &self.realms[rd.number() as usize] else {
-            return Err(Rmi::INPUT);
-        };
-        let Some(ipa) = protected(ipa, realm.root().width) else {
-            return Err(Rmi::INPUT);
-        };
-        tables_of(rd, realm).unmap(&mut self.store, &mut self.granules, ipa)?;
+        let (tables, ipa) = self.locate(rd, ipa)?;
+        tables.unmap(&mut self.store, &mut self.granules, ipa)?;
         Ok(())
     }
 }

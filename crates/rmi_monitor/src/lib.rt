@@ -9,6 +9,7 @@ mod data;
 mod granule;
 mod guest;
 mod inputs;
+mod locate;
 mod monitor;
 mod places;
 mod reading;

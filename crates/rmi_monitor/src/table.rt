@@ -4,7 +4,7 @@ ghost use Rattle.realm_model.specs.Command.Table as command;
 ghost use Rattle.rmi_monitor.specs.View.{IsTaken, Answers, seen_in, after_command};
 
 use crate::Monitor;
-use crate::inputs::{protected, protected_run, table_level};
+use crate::inputs::{protected_run, table_level};
 use crate::places::{is_delegated, tables_of};
 use granule_addr::Gran;
 use page_arena::PageStore;
@@ -24,17 +24,14 @@ impl<S: PageStore> Monitor<S> {
         ensures machine { self.new
             ≡ after_command (command.rtt_create (seen_in self.old rd) (seen_in self.old table) ipa level) self.old }
     {
-        let Some(realm) = &self.realms[rd.number() as usize] else {
+        let Some(level) = table_level(ipa, level) else {
             return Err(Rmi::INPUT);
         };
-        let (Some(level), Some(ipa)) = (table_level(ipa, level), protected(ipa, realm.root().width))
-        else {
-            return Err(Rmi::INPUT);
-        };
+        let (tables, ipa) = self.locate(rd, ipa)?;
         if !is_delegated(&self.granules, table) {
             return Err(Rmi::INPUT);
         }
-        tables_of(rd, realm).create_table(&mut self.store, &mut self.granules, table, ipa, level)?;
+        tables.create_table(&mut self.store, &mut self.granules, table, ipa, level)?;
         Ok(())
     }
 
@@ -49,14 +46,11 @@ impl<S: PageStore> Monitor<S> {
         ensures answer { Answers result (command.rtt_destroy (seen_in self.old rd) ipa level) }
         ensures machine { self.new ≡ after_command (command.rtt_destroy (seen_in self.old rd) ipa level) self.old }
     {
-        let Some(realm) = &self.realms[rd.number() as usize] else {
+        let Some(level) = table_level(ipa, level) else {
             return Err(Rmi::INPUT);
         };
-        let (Some(level), Some(ipa)) = (table_level(ipa, level), protected(ipa, realm.root().width))
-        else {
-            return Err(Rmi::INPUT);
-        };
-        tables_of(rd, realm).destroy_table(&mut self.store, &mut self.granules, ipa, level)?;
+        let (tables, ipa) = self.locate(rd, ipa)?;
+        tables.destroy_table(&mut self.store, &mut self.granules, ipa, level)?;
         Ok(())
     }
 

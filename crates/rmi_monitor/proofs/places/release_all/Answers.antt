@@ -5,7 +5,8 @@ use Rattle.rmi_monitor.proofs.places.release_all.Goals as goal
 
 pub release-requires-clause-stands : goal.release-requires-clause-stands
 release-requires-clause-stands g c =
-    first_has c.args.all.now c.loop-granule.granule-index c.granule-item.result c.loop-granule-test.true c.granule-item.is (IsInState c.loop-granule.granules c.args.from) c.loop-granule.invariant.stand
+    first_has c.args.all.now c.loop-granule.granule-index c.granule-item.result c.loop-granule-test.true c.granule-item.is (IsInState c.loop-granule.granules c.args.from)
+    c.loop-granule.invariant.stand
 
 pub release-requires-clause-page : goal.release-requires-clause-page
 release-requires-clause-page g c =

@@ -8,7 +8,8 @@ use Rattle.rmi_monitor.proofs.places.shift_all.Goals as goal
 pub shift-requires : goal.shift-requires
 shift-requires c =
     let stood : IsInState c.loop-granule.granules c.args.from c.granule-item.result =
-    first_has c.args.all.now c.loop-granule.granule-index c.granule-item.result c.loop-granule-test.true c.granule-item.is (IsInState c.loop-granule.granules c.args.from) c.loop-granule.invariant.stand in
+    first_has c.args.all.now c.loop-granule.granule-index c.granule-item.result c.loop-granule-test.true c.granule-item.is (IsInState c.loop-granule.granules c.args.from)
+    c.loop-granule.invariant.stand in
     stood.inside
 
 pub loop-granule-preserved : goal.loop-granule-preserved
@@ -23,7 +24,8 @@ loop-granule-preserved c =
     let made : c.shift.new.self ≡ set c.loop-granule.granules x y = OnTrue_at answer c.shift.ensures.shifted in
     record {
       left = set_rest all i x c.loop-granule-test.true c.granule-item.is y c.loop-granule.granules c.shift.new.self _ c.loop-granule.invariant.left made;
-      stand = rest_stand all i x c.loop-granule-test.true c.granule-item.is c.loop-granule.granules c.shift.new.self c.args.from y c.loop-granule.invariant.stand c.loop-granule.invariant.distinct made;
+      stand =
+          rest_stand all i x c.loop-granule-test.true c.granule-item.is c.loop-granule.granules c.shift.new.self c.args.from y c.loop-granule.invariant.stand c.loop-granule.invariant.distinct made;
       distinct = rest_distinct all i x c.loop-granule-test.true c.granule-item.is c.loop-granule.invariant.distinct;
     }
 

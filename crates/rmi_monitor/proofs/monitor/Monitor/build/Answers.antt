@@ -7,7 +7,8 @@ use Rattle.rmi_monitor.proofs.monitor.Monitor.build.Goals as goal
 
 -- the fields as they are built
 built : (g : Over) (c : goal.After-new g)
-    → fields_of c.args.vmids c.args.aux c.new.result c.in-Ok.field-0.granules (g.S.PageStore.page_bytes c.args.store) (g.S.PageStore.free_flags c.args.store) c.in-Ok.field-0.realms.items c.in-Ok.field-0.rec_counts.items c.in-Ok.field-0.recs.items
+    → fields_of c.args.vmids c.args.aux c.new.result c.in-Ok.field-0.granules (g.S.PageStore.page_bytes c.args.store) (g.S.PageStore.free_flags c.args.store)
+    c.in-Ok.field-0.realms.items c.in-Ok.field-0.rec_counts.items c.in-Ok.field-0.recs.items
     ≡ new_fields c.args.vmids c.args.aux c.new.result (length (g.S.PageStore.page_bytes c.args.store))
 built g c =
     let pages : List (List ℕ) = g.S.PageStore.page_bytes c.args.store in

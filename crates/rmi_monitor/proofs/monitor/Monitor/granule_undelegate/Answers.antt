@@ -14,7 +14,10 @@ pub shift-requires : goal.shift-requires
 shift-requires g c = in_granules c.args.self.now _ c.self.view_is c.self.invariant c.args.granule c.requires
 
 pub invariant_of-self : goal.invariant_of-self
-invariant_of-self g c = subst (λ (gs : List Granule). IsWhole (fields_of c.self.inside.vmids c.self.inside.aux c.self.inside.used gs (g.S.PageStore.page_bytes c.self.inside.store) (g.S.PageStore.free_flags c.self.inside.store) c.self.inside.realms.items c.self.inside.rec_counts.items c.self.inside.recs.items)) (sym c.if-not-shift.ensures.unchanged) c.self.invariant
+invariant_of-self g c =
+    subst (λ (gs : List Granule). IsWhole
+    (fields_of c.self.inside.vmids c.self.inside.aux c.self.inside.used gs (g.S.PageStore.page_bytes c.self.inside.store) (g.S.PageStore.free_flags c.self.inside.store) c.self.inside.realms.items
+    c.self.inside.rec_counts.items c.self.inside.recs.items)) (sym c.if-not-shift.ensures.unchanged) c.self.invariant
 
 pub returns-then-not-shift-clause-answer : goal.returns-then-not-shift-clause-answer
 returns-then-not-shift-clause-answer g c =
@@ -23,7 +26,9 @@ returns-then-not-shift-clause-answer g c =
 
 pub returns-then-not-shift-clause-machine : goal.returns-then-not-shift-clause-machine
 returns-then-not-shift-clause-machine g c =
-    ap (λ (gs : List Granule). seen_as (fields_of c.self.inside.vmids c.self.inside.aux c.self.inside.used gs (g.S.PageStore.page_bytes c.self.inside.store) (g.S.PageStore.free_flags c.self.inside.store) c.self.inside.realms.items c.self.inside.rec_counts.items c.self.inside.recs.items)) c.if-not-shift.ensures.unchanged
+    ap (λ (gs : List Granule). seen_as
+    (fields_of c.self.inside.vmids c.self.inside.aux c.self.inside.used gs (g.S.PageStore.page_bytes c.self.inside.store) (g.S.PageStore.free_flags c.self.inside.store) c.self.inside.realms.items
+    c.self.inside.rec_counts.items c.self.inside.recs.items)) c.if-not-shift.ensures.unchanged
     ∙ c.self.view_is
     ∙ after_err c.args.self.now error_input _ (check_false _ error_input (Ok (Put c.args.granule (record (cell_at c.args.self.now.machine c.args.granule) { state = Undelegated }) ∷ []))
     (is_not_delegated c.args.self.now _ c.self.view_is c.self.invariant c.args.granule c.requires (λ e. let told = c.if-not-shift.ensures.answer.1 e in cc)))
@@ -33,7 +38,8 @@ invariant_of-self-2 g c = whole_undelegated c.args.self.now _ c.self.view_is c.s
 
 pub returns-clause-answer : goal.returns-clause-answer
 returns-clause-answer g c =
-    answers_ok {A = Unit {0}} tt (Put c.args.granule (record (cell_at c.args.self.now.machine c.args.granule) { state = Undelegated }) ∷ []) _ (check_true _ error_input (Ok (Put c.args.granule (record (cell_at c.args.self.now.machine c.args.granule) { state = Undelegated }) ∷ []))
+    answers_ok {A = Unit {0}} tt (Put c.args.granule (record (cell_at c.args.self.now.machine c.args.granule) { state = Undelegated }) ∷ []) _
+    (check_true _ error_input (Ok (Put c.args.granule (record (cell_at c.args.self.now.machine c.args.granule) { state = Undelegated }) ∷ []))
     (is_delegated_there c.args.self.now _ c.self.view_is c.self.invariant c.args.granule c.requires (c.if-not-shift.ensures.answer.0 refl)))
 
 pub returns-clause-machine : goal.returns-clause-machine

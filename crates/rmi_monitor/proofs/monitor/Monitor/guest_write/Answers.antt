@@ -55,7 +55,8 @@ returns-then-is_ready g c =
     let kept = kept_there _ c.self.invariant c.args.rec c.in-Some.kept at c.in-Some-realm_of.rd (sym c.realm_of.ensures ∙ c.in-Some-realm_of.is)
     c.number-2.result c.number-2.ensures.value _ c.in-Some-index.realm c.index-2.ensures c.in-Some-index.is in
     write_ready c.args.self.now _ c.self.view_is c.self.invariant c.args.rec c.in-Some.kept c.in-Some-realm_of.rd c.in-Some-index.realm kept c.args.ipa c.args.offset c.args.value
-    (located c.in-Some-index.realm c.args.ipa c.root.result c.root.ensures c.protected.result c.protected.ensures c.in-Some-realm_of.rd _ refl c.in-Some-protected.granule c.in-Some-protected.is).protected (sym c.is_ready.ensures ∙ c.if-is_ready.true)
+    (located c.in-Some-index.realm c.args.ipa c.root.result c.root.ensures c.protected.result c.protected.ensures c.in-Some-realm_of.rd _ refl c.in-Some-protected.granule
+    c.in-Some-protected.is).protected (sym c.is_ready.ensures ∙ c.if-is_ready.true)
 
 pub walk-walk-requires-clause-tables : goal.walk-walk-requires-clause-tables
 walk-walk-requires-clause-tables g c =
@@ -63,37 +64,46 @@ walk-walk-requires-clause-tables g c =
     let kept = kept_there _ c.self.invariant c.args.rec c.in-Some.kept at c.in-Some-realm_of.rd (sym c.realm_of.ensures ∙ c.in-Some-realm_of.is)
     c.number-2.result c.number-2.ensures.value _ c.in-Some-index.realm c.index-2.ensures c.in-Some-index.is in
     located_tables c.in-Some-index.realm c.in-Some-realm_of.rd c.args.ipa c.tables_of.result c.in-Some-protected.granule
-    (located c.in-Some-index.realm c.args.ipa c.root.result c.root.ensures c.protected.result c.protected.ensures c.in-Some-realm_of.rd c.tables_of.result c.tables_of.ensures c.in-Some-protected.granule c.in-Some-protected.is) _ c.self.invariant kept.there
+    (located c.in-Some-index.realm c.args.ipa c.root.result c.root.ensures c.protected.result c.protected.ensures c.in-Some-realm_of.rd c.tables_of.result c.tables_of.ensures
+    c.in-Some-protected.granule c.in-Some-protected.is) _ c.self.invariant kept.there
 
 pub walk-walk-requires-clause-inside : goal.walk-walk-requires-clause-inside
 walk-walk-requires-clause-inside g c =
     located_inside c.in-Some-index.realm c.in-Some-realm_of.rd c.args.ipa c.tables_of.result c.in-Some-protected.granule
-    (located c.in-Some-index.realm c.args.ipa c.root.result c.root.ensures c.protected.result c.protected.ensures c.in-Some-realm_of.rd c.tables_of.result c.tables_of.ensures c.in-Some-protected.granule c.in-Some-protected.is)
+    (located c.in-Some-index.realm c.args.ipa c.root.result c.root.ensures c.protected.result c.protected.ensures c.in-Some-realm_of.rd c.tables_of.result c.tables_of.ensures
+    c.in-Some-protected.granule c.in-Some-protected.is)
 
 pub returns-in_default-page : goal.returns-in_default-page
 returns-in_default-page g c =
     let at = rec_read c.args.self.now _ c.self.view_is c.self.invariant c.args.rec c.requires c.number.result c.number.ensures.value _ (Some c.in-Some.kept) c.index.ensures c.in-Some.is in
     let kept = kept_there _ c.self.invariant c.args.rec c.in-Some.kept at c.in-Some-realm_of.rd (sym c.realm_of.ensures ∙ c.in-Some-realm_of.is)
     c.number-2.result c.number-2.ensures.value _ c.in-Some-index.realm c.index-2.ensures c.in-Some-index.is in
-    let is = (located c.in-Some-index.realm c.args.ipa c.root.result c.root.ensures c.protected.result c.protected.ensures c.in-Some-realm_of.rd c.tables_of.result c.tables_of.ensures c.in-Some-protected.granule c.in-Some-protected.is) in
+    let is =
+    (located c.in-Some-index.realm c.args.ipa c.root.result c.root.ensures c.protected.result c.protected.ensures c.in-Some-realm_of.rd c.tables_of.result c.tables_of.ensures
+    c.in-Some-protected.granule c.in-Some-protected.is) in
     write_unassigned c.args.self.now _ c.self.view_is c.self.invariant c.args.rec c.in-Some.kept c.in-Some-realm_of.rd c.in-Some-index.realm kept c.args.ipa c.args.offset c.args.value
     is.protected (sym c.is_ready.ensures ∙ c.if-is_ready.false) c.tables_of.result c.in-Some-protected.granule c.last.result is c.last.ensures c.walk-walk.result c.walk-walk.ensures.walk
     _ (c.from.ensures ∙ ap (λ (w : Walk). error_rtt w.level) c.walk.view_is)
     (ap (λ (w : Walk). data_of w.row) (sym c.walk.view_is) ∙ sym c.page.ensures ∙ c.in_default-page.is)
 
 pub set-requires-clause-inside : goal.set-requires-clause-inside
-set-requires-clause-inside g c = page_inside _ c.self.invariant c.tables_of.result.rd c.in-Some-page.page c.args.offset c.args.value (c.walk-walk.ensures.page c.in-Some-page.page (ap (λ (w : Walk). data_of w.row) (sym c.walk.view_is) ∙ sym c.page.ensures ∙ c.in-Some-page.is))
+set-requires-clause-inside g c =
+    page_inside _ c.self.invariant c.tables_of.result.rd c.in-Some-page.page c.args.offset c.args.value
+    (c.walk-walk.ensures.page c.in-Some-page.page (ap (λ (w : Walk). data_of w.row) (sym c.walk.view_is) ∙ sym c.page.ensures ∙ c.in-Some-page.is))
 
 pub invariant_of-self : goal.invariant_of-self
 invariant_of-self g c =
-    whole_written _ c.self.invariant c.tables_of.result.rd c.in-Some-page.page c.args.offset c.args.value (c.walk-walk.ensures.page c.in-Some-page.page (ap (λ (w : Walk). data_of w.row) (sym c.walk.view_is) ∙ sym c.page.ensures ∙ c.in-Some-page.is)) _ _ c.set.ensures.written c.set.ensures.flags
+    whole_written _ c.self.invariant c.tables_of.result.rd c.in-Some-page.page c.args.offset c.args.value
+    (c.walk-walk.ensures.page c.in-Some-page.page (ap (λ (w : Walk). data_of w.row) (sym c.walk.view_is) ∙ sym c.page.ensures ∙ c.in-Some-page.is)) _ _ c.set.ensures.written c.set.ensures.flags
 
 pub returns : goal.returns
 returns g c =
     let at = rec_read c.args.self.now _ c.self.view_is c.self.invariant c.args.rec c.requires c.number.result c.number.ensures.value _ (Some c.in-Some.kept) c.index.ensures c.in-Some.is in
     let kept = kept_there _ c.self.invariant c.args.rec c.in-Some.kept at c.in-Some-realm_of.rd (sym c.realm_of.ensures ∙ c.in-Some-realm_of.is)
     c.number-2.result c.number-2.ensures.value _ c.in-Some-index.realm c.index-2.ensures c.in-Some-index.is in
-    let is = (located c.in-Some-index.realm c.args.ipa c.root.result c.root.ensures c.protected.result c.protected.ensures c.in-Some-realm_of.rd c.tables_of.result c.tables_of.ensures c.in-Some-protected.granule c.in-Some-protected.is) in
+    let is =
+    (located c.in-Some-index.realm c.args.ipa c.root.result c.root.ensures c.protected.result c.protected.ensures c.in-Some-realm_of.rd c.tables_of.result c.tables_of.ensures
+    c.in-Some-protected.granule c.in-Some-protected.is) in
     let leads = ap (λ (w : Walk). data_of w.row) (sym c.walk.view_is) ∙ sym c.page.ensures ∙ c.in-Some-page.is in
     write_done c.args.self.now _ c.self.view_is c.self.invariant c.args.rec c.in-Some.kept c.in-Some-realm_of.rd c.in-Some-index.realm kept c.args.ipa c.args.offset c.args.value
     is.protected (sym c.is_ready.ensures ∙ c.if-is_ready.false) c.tables_of.result c.in-Some-protected.granule c.last.result is c.last.ensures c.walk-walk.result c.walk-walk.ensures.walk

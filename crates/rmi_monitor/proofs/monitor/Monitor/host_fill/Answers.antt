@@ -15,11 +15,13 @@ pub fill-requires-clause-inside : goal.fill-requires-clause-inside
 fill-requires-clause-inside g c = in_pages c.args.self.now _ c.self.view_is c.self.invariant c.args.granule c.requires
 
 pub invariant_of-self : goal.invariant_of-self
-invariant_of-self g c = whole_filled c.args.self.now _ c.self.view_is c.self.invariant c.args.granule c.requires (sym c.in-Undelegated.ensures) _ _ _ c.fill.ensures.flags c.args.value refl c.fill.ensures.filled
+invariant_of-self g c =
+    whole_filled c.args.self.now _ c.self.view_is c.self.invariant c.args.granule c.requires (sym c.in-Undelegated.ensures) _ _ _ c.fill.ensures.flags c.args.value refl c.fill.ensures.filled
 
 pub returns-in-Undelegated-clause-answer : goal.returns-in-Undelegated-clause-answer
 returns-in-Undelegated-clause-answer g c =
-    answers_ok {A = Unit {0}} tt (Put c.args.granule (record (cell_at c.args.self.now.machine c.args.granule) { bytes = page_of c.args.value }) ∷ []) _ (check_true _ error_input (Ok (Put c.args.granule (record (cell_at c.args.self.now.machine c.args.granule) { bytes = page_of c.args.value }) ∷ []))
+    answers_ok {A = Unit {0}} tt (Put c.args.granule (record (cell_at c.args.self.now.machine c.args.granule) { bytes = page_of c.args.value }) ∷ []) _
+    (check_true _ error_input (Ok (Put c.args.granule (record (cell_at c.args.self.now.machine c.args.granule) { bytes = page_of c.args.value }) ∷ []))
     (is_undelegated_there c.args.self.now _ c.self.view_is c.self.invariant c.args.granule c.requires (sym c.in-Undelegated.ensures)))
 
 pub returns-in-Undelegated-clause-machine : goal.returns-in-Undelegated-clause-machine
@@ -30,6 +32,10 @@ pub returns-in_default : goal.returns-in_default
 returns-in_default g c =
     let not_there = is_not_undelegated c.args.self.now _ c.self.view_is c.self.invariant c.args.granule c.requires (λ e. c.in_default.not-Undelegated (c.state.ensures ∙ e)) in
     record {
-      answer = answers_err (Unit {0}) error_input _ (check_false _ error_input (Ok (Put c.args.granule (record (cell_at c.args.self.now.machine c.args.granule) { bytes = page_of c.args.value }) ∷ [])) not_there);
-      machine = after_err c.args.self.now error_input _ (check_false _ error_input (Ok (Put c.args.granule (record (cell_at c.args.self.now.machine c.args.granule) { bytes = page_of c.args.value }) ∷ [])) not_there);
+      answer =
+          answers_err (Unit {0}) error_input _
+          (check_false _ error_input (Ok (Put c.args.granule (record (cell_at c.args.self.now.machine c.args.granule) { bytes = page_of c.args.value }) ∷ [])) not_there);
+      machine =
+          after_err c.args.self.now error_input _
+          (check_false _ error_input (Ok (Put c.args.granule (record (cell_at c.args.self.now.machine c.args.granule) { bytes = page_of c.args.value }) ∷ [])) not_there);
     }

@@ -14,7 +14,8 @@ bytes-requires g c = in_pages c.args.self.now _ c.self.view_is c.self.invariant 
 
 pub returns-in-Undelegated-clause-answer : goal.returns-in-Undelegated-clause-answer
 returns-in-Undelegated-clause-answer g c =
-    answers_ok {A = ℕ} (slice_index c.bytes.result.now c.number.result) [] _ (check_true _ error_input (Ok []) (is_undelegated_there c.args.self.now _ c.self.view_is c.self.invariant c.args.granule c.requires (sym c.in-Undelegated.ensures)))
+    answers_ok {A = ℕ} (slice_index c.bytes.result.now c.number.result) [] _
+    (check_true _ error_input (Ok []) (is_undelegated_there c.args.self.now _ c.self.view_is c.self.invariant c.args.granule c.requires (sym c.in-Undelegated.ensures)))
 
 pub returns-in-Undelegated-clause-byte : goal.returns-in-Undelegated-clause-byte
 returns-in-Undelegated-clause-byte g c =

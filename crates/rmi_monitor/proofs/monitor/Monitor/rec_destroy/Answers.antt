@@ -21,40 +21,48 @@ returns-in_default g c =
 
 pub returns-then-not-is_ready : goal.returns-then-not-is_ready
 returns-then-not-is_ready g c =
-    let at = rec_read c.args.self.now _ c.self.view_is c.self.invariant c.args.rec c.requires c.number.result c.number.ensures.value c.index.result.now (Some c.in-Some.kept) c.index.ensures c.in-Some.is in
-    not_ready c.args.self.now _ c.self.view_is c.self.invariant c.args.rec c.in-Some.kept _ _ (kept_at _ c.self.invariant c.args.rec c.in-Some.kept at) c.is_ready.result _ c.is_ready.ensures c.if-not-is_ready.true refl
+    let at =
+    rec_read c.args.self.now _ c.self.view_is c.self.invariant c.args.rec c.requires c.number.result c.number.ensures.value c.index.result.now (Some c.in-Some.kept) c.index.ensures c.in-Some.is in
+    not_ready c.args.self.now _ c.self.view_is c.self.invariant c.args.rec c.in-Some.kept _ _ (kept_at _ c.self.invariant c.args.rec c.in-Some.kept at) c.is_ready.result _ c.is_ready.ensures
+    c.if-not-is_ready.true refl
 
 pub realm_of-requires : goal.realm_of-requires
 realm_of-requires g c = in_granules c.args.self.now _ c.self.view_is c.self.invariant c.args.rec c.requires
 
 pub unreachable-requires : goal.unreachable-requires
 unreachable-requires g c =
-    let at = rec_read c.args.self.now _ c.self.view_is c.self.invariant c.args.rec c.requires c.number.result c.number.ensures.value c.index.result.now (Some c.in-Some.kept) c.index.ensures c.in-Some.is in
+    let at =
+    rec_read c.args.self.now _ c.self.view_is c.self.invariant c.args.rec c.requires c.number.result c.number.ensures.value c.index.result.now (Some c.in-Some.kept) c.index.ensures c.in-Some.is in
     no_rd _ c.self.invariant c.args.rec c.in-Some.kept at (sym c.realm_of.ensures ∙ c.in_default-realm_of.is)
 
 pub release-requires-clause-page : goal.release-requires-clause-page
 release-requires-clause-page g c =
-    let at = rec_read c.args.self.now _ c.self.view_is c.self.invariant c.args.rec c.requires c.number.result c.number.ensures.value c.index.result.now (Some c.in-Some.kept) c.index.ensures c.in-Some.is in
+    let at =
+    rec_read c.args.self.now _ c.self.view_is c.self.invariant c.args.rec c.requires c.number.result c.number.ensures.value c.index.result.now (Some c.in-Some.kept) c.index.ensures c.in-Some.is in
     rec_page _ c.self.invariant c.args.rec c.in-Some.kept at
 
 pub release-requires-clause-stands : goal.release-requires-clause-stands
 release-requires-clause-stands g c =
-    let at = rec_read c.args.self.now _ c.self.view_is c.self.invariant c.args.rec c.requires c.number.result c.number.ensures.value c.index.result.now (Some c.in-Some.kept) c.index.ensures c.in-Some.is in
+    let at =
+    rec_read c.args.self.now _ c.self.view_is c.self.invariant c.args.rec c.requires c.number.result c.number.ensures.value c.index.result.now (Some c.in-Some.kept) c.index.ensures c.in-Some.is in
     rec_stands _ c.self.invariant c.args.rec c.in-Some.kept at
 
 pub release_all-requires-clause-pages : goal.release_all-requires-clause-pages
 release_all-requires-clause-pages g c =
-    let at = rec_read c.args.self.now _ c.self.view_is c.self.invariant c.args.rec c.requires c.number.result c.number.ensures.value c.index.result.now (Some c.in-Some.kept) c.index.ensures c.in-Some.is in
+    let at =
+    rec_read c.args.self.now _ c.self.view_is c.self.invariant c.args.rec c.requires c.number.result c.number.ensures.value c.index.result.now (Some c.in-Some.kept) c.index.ensures c.in-Some.is in
     aux_pages _ c.self.invariant c.args.rec c.in-Some.kept at c.auxiliaries.result.now c.auxiliaries.ensures.value _ _ c.release.ensures.cleared c.release.ensures.flags
 
 pub release_all-requires-clause-stand : goal.release_all-requires-clause-stand
 release_all-requires-clause-stand g c =
-    let at = rec_read c.args.self.now _ c.self.view_is c.self.invariant c.args.rec c.requires c.number.result c.number.ensures.value c.index.result.now (Some c.in-Some.kept) c.index.ensures c.in-Some.is in
+    let at =
+    rec_read c.args.self.now _ c.self.view_is c.self.invariant c.args.rec c.requires c.number.result c.number.ensures.value c.index.result.now (Some c.in-Some.kept) c.index.ensures c.in-Some.is in
     aux_stand _ c.self.invariant c.args.rec c.in-Some.kept at c.auxiliaries.result.now c.auxiliaries.ensures.value c.release.new.granules c.release.ensures.shifted
 
 pub release_all-requires-clause-distinct : goal.release_all-requires-clause-distinct
 release_all-requires-clause-distinct g c =
-    let at = rec_read c.args.self.now _ c.self.view_is c.self.invariant c.args.rec c.requires c.number.result c.number.ensures.value c.index.result.now (Some c.in-Some.kept) c.index.ensures c.in-Some.is in
+    let at =
+    rec_read c.args.self.now _ c.self.view_is c.self.invariant c.args.rec c.requires c.number.result c.number.ensures.value c.index.result.now (Some c.in-Some.kept) c.index.ensures c.in-Some.is in
     aux_distinct _ c.self.invariant c.args.rec c.in-Some.kept at c.auxiliaries.result.now c.auxiliaries.ensures.value
 
 pub index_mut-requires : goal.index_mut-requires
@@ -64,7 +72,8 @@ index_mut-requires g c =
 
 pub index_mut-requires-2 : goal.index_mut-requires-2
 index_mut-requires-2 g c =
-    let at = rec_read c.args.self.now _ c.self.view_is c.self.invariant c.args.rec c.requires c.number.result c.number.ensures.value c.index.result.now (Some c.in-Some.kept) c.index.ensures c.in-Some.is in
+    let at =
+    rec_read c.args.self.now _ c.self.view_is c.self.invariant c.args.rec c.requires c.number.result c.number.ensures.value c.index.result.now (Some c.in-Some.kept) c.index.ensures c.in-Some.is in
     let of = sym c.realm_of.ensures ∙ c.in-Some-realm_of.is in
     let inside = realm_inside _ c.self.invariant c.in-Some-realm_of.rd _ (its_realm _ c.self.invariant c.args.rec c.in-Some.kept at c.in-Some-realm_of.rd of) in
     let place : c.number-3.result < length c.self.inside.rec_counts.items = count_place _ c.self.invariant c.in-Some-realm_of.rd inside c.number-3.result c.number-3.ensures.value in
@@ -72,7 +81,8 @@ index_mut-requires-2 g c =
 
 pub overflow_sub-index_mut : goal.overflow_sub-index_mut
 overflow_sub-index_mut g c =
-    let at = rec_read c.args.self.now _ c.self.view_is c.self.invariant c.args.rec c.requires c.number.result c.number.ensures.value c.index.result.now (Some c.in-Some.kept) c.index.ensures c.in-Some.is in
+    let at =
+    rec_read c.args.self.now _ c.self.view_is c.self.invariant c.args.rec c.requires c.number.result c.number.ensures.value c.index.result.now (Some c.in-Some.kept) c.index.ensures c.in-Some.is in
     let of = sym c.realm_of.ensures ∙ c.in-Some-realm_of.is in
     let inside = realm_inside _ c.self.invariant c.in-Some-realm_of.rd _ (its_realm _ c.self.invariant c.args.rec c.in-Some.kept at c.in-Some-realm_of.rd of) in
     let read = count_read _ c.self.invariant c.in-Some-realm_of.rd inside c.number-3.result c.number-3.ensures.value c.index_mut-2.result.now c.index_mut-2.ensures.value in
@@ -81,22 +91,29 @@ overflow_sub-index_mut g c =
 
 pub invariant_of-self : goal.invariant_of-self
 invariant_of-self g c =
-    let at = rec_read c.args.self.now _ c.self.view_is c.self.invariant c.args.rec c.requires c.number.result c.number.ensures.value c.index.result.now (Some c.in-Some.kept) c.index.ensures c.in-Some.is in
+    let at =
+    rec_read c.args.self.now _ c.self.view_is c.self.invariant c.args.rec c.requires c.number.result c.number.ensures.value c.index.result.now (Some c.in-Some.kept) c.index.ensures c.in-Some.is in
     let of = sym c.realm_of.ensures ∙ c.in-Some-realm_of.is in
     let inside = realm_inside _ c.self.invariant c.in-Some-realm_of.rd _ (its_realm _ c.self.invariant c.args.rec c.in-Some.kept at c.in-Some-realm_of.rd of) in
     let read = count_read _ c.self.invariant c.in-Some-realm_of.rd inside c.number-3.result c.number-3.ensures.value c.index_mut-2.result.now c.index_mut-2.ensures.value in
-    subst IsWhole (sym (gone_by _ c.self.invariant c.args.rec c.in-Some.kept at c.in-Some-realm_of.rd c.release_all.new.granules c.release.new.granules _ _ _ _ c.auxiliaries.result.now c.number-2.result c.number-3.result c.index_mut-2.result.now
-    c.auxiliaries.ensures.value c.number-2.ensures.value c.release.ensures.shifted c.release_all.ensures.shifted c.release.ensures.cleared c.release_all.ensures.cleared c.release.ensures.flags c.release_all.ensures.flags
+    subst IsWhole (sym (gone_by _ c.self.invariant c.args.rec c.in-Some.kept at c.in-Some-realm_of.rd c.release_all.new.granules c.release.new.granules _ _ _ _ c.auxiliaries.result.now
+    c.number-2.result c.number-3.result c.index_mut-2.result.now
+    c.auxiliaries.ensures.value c.number-2.ensures.value c.release.ensures.shifted c.release_all.ensures.shifted c.release.ensures.cleared c.release_all.ensures.cleared c.release.ensures.flags
+    c.release_all.ensures.flags
     c.number-3.ensures.value read))
     (whole_gone _ c.self.invariant _ c.args.rec c.in-Some.kept _ (kept_by _ c.self.invariant c.args.rec c.in-Some.kept at c.in-Some-realm_of.rd of))
 
 pub returns : goal.returns
 returns g c =
-    let at = rec_read c.args.self.now _ c.self.view_is c.self.invariant c.args.rec c.requires c.number.result c.number.ensures.value c.index.result.now (Some c.in-Some.kept) c.index.ensures c.in-Some.is in
+    let at =
+    rec_read c.args.self.now _ c.self.view_is c.self.invariant c.args.rec c.requires c.number.result c.number.ensures.value c.index.result.now (Some c.in-Some.kept) c.index.ensures c.in-Some.is in
     let of = sym c.realm_of.ensures ∙ c.in-Some-realm_of.is in
     let inside = realm_inside _ c.self.invariant c.in-Some-realm_of.rd _ (its_realm _ c.self.invariant c.args.rec c.in-Some.kept at c.in-Some-realm_of.rd of) in
     let read = count_read _ c.self.invariant c.in-Some-realm_of.rd inside c.number-3.result c.number-3.ensures.value c.index_mut-2.result.now c.index_mut-2.ensures.value in
-    ready c.args.self.now _ c.self.view_is c.self.invariant c.args.rec c.in-Some.kept _ _ (kept_by _ c.self.invariant c.args.rec c.in-Some.kept at c.in-Some-realm_of.rd of) c.is_ready.result _ c.is_ready.ensures c.if-not-is_ready.false
-    (ap seen_as (gone_by _ c.self.invariant c.args.rec c.in-Some.kept at c.in-Some-realm_of.rd c.release_all.new.granules c.release.new.granules _ _ _ _ c.auxiliaries.result.now c.number-2.result c.number-3.result c.index_mut-2.result.now
-    c.auxiliaries.ensures.value c.number-2.ensures.value c.release.ensures.shifted c.release_all.ensures.shifted c.release.ensures.cleared c.release_all.ensures.cleared c.release.ensures.flags c.release_all.ensures.flags
+    ready c.args.self.now _ c.self.view_is c.self.invariant c.args.rec c.in-Some.kept _ _ (kept_by _ c.self.invariant c.args.rec c.in-Some.kept at c.in-Some-realm_of.rd of) c.is_ready.result _
+    c.is_ready.ensures c.if-not-is_ready.false
+    (ap seen_as (gone_by _ c.self.invariant c.args.rec c.in-Some.kept at c.in-Some-realm_of.rd c.release_all.new.granules c.release.new.granules _ _ _ _ c.auxiliaries.result.now c.number-2.result
+    c.number-3.result c.index_mut-2.result.now
+    c.auxiliaries.ensures.value c.number-2.ensures.value c.release.ensures.shifted c.release_all.ensures.shifted c.release.ensures.cleared c.release_all.ensures.cleared c.release.ensures.flags
+    c.release_all.ensures.flags
     c.number-3.ensures.value read))

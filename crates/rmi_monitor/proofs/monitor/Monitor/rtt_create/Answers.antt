@@ -1,54 +1,34 @@
-use Rattle.std.proofs.Common.{◌≡◌, ◌<◌, length, Some, None, Err, ◌∙◌, arith, refl, sym}
+use Rattle.std.proofs.Common.{sym, ◌∙◌}
 use Rattle.realm_model.specs.Rows.{is_table_place}
 use Rattle.realm_model.specs.Command.Check.{error_input, error_rtt}
 use Rattle.realm_model.specs.Command.Table.{rtt_create}
 use Rattle.rmi_monitor.specs.View.{seen_in}
 use Rattle.rmi_monitor.specs.Inside.{fields_of}
+use Rattle.rmi_monitor.proofs.TableCreates.{create_misplaced, create_nowhere, create_undelegated, create_refused, create_done}
 use Rattle.rmi_monitor.proofs.Comparisons.{test_held, test_failed}
-use Rattle.rmi_monitor.proofs.Granules.{in_granules}
-use Rattle.rmi_monitor.proofs.Located.{located, unprotected, located_tables, located_inside}
-use Rattle.rmi_monitor.proofs.Outcomes.{answers_err, answers_refused, after_err}
+use Rattle.rmi_monitor.proofs.Granules.{has_fields, in_granules, in_delegated}
+use Rattle.rmi_monitor.proofs.Located.{its_tables, its_space, its_place}
+use Rattle.rmi_monitor.proofs.Outcomes.{answers_err, answers_input, answers_refused, after_err}
 use Rattle.rmi_monitor.proofs.RealmCommands.{Done, seen_refused, whole_refused}
-use Rattle.rmi_monitor.proofs.RealmFound.{realm_place, realm_read}
-use Rattle.rmi_monitor.proofs.TableCreates.{create_nowhere, create_misplaced, create_unprotected, create_undelegated, create_refused, create_done}
 use Rattle.rmi_monitor.proofs.monitor.Monitor.rtt_create.Given.{Over}
 use Rattle.rmi_monitor.proofs.monitor.Monitor.rtt_create.Goals as goal
-use Rattle.rmi_monitor.proofs.monitor.Monitor.rtt_create.Goals.{in_default-2-via-in-Some+in_default, in_default-2-via-in_default}
 
-pub index-requires : goal.index-requires
-index-requires g c =
-    let inside : c.args.rd < length c.self.inside.realms.items = realm_place c.args.self.now _ c.self.view_is c.self.invariant c.args.rd c.requires.rd_taken.inside c.args.rd refl in
-    let same : c.number.result ≡ c.args.rd = c.number.ensures.value in
-    let long : c.self.inside.realms.len ≡ length c.self.inside.realms.items = c.self.inside.realms.ok.0 in
-    omega arith
-
--- ---- no realm
+-- ---- what is refused
 
 pub returns-in_default : goal.returns-in_default
 returns-in_default g c =
-    let none =
-    create_nowhere c.args.self.now _ c.self.view_is c.self.invariant c.args.rd c.args.table c.args.ipa c.args.level c.requires.rd_taken c.requires.table_taken
-    (realm_read c.args.self.now _ c.self.view_is c.self.invariant c.args.rd c.requires.rd_taken.inside c.number.result c.index.result.now None c.number.ensures.value c.index.ensures c.in_default.is) in
-    record { answer = answers_err (Unit {0}) error_input _ none; machine = after_err c.args.self.now error_input _ none }
+    let misplaced =
+    create_misplaced c.args.self.now c.args.rd c.args.table c.args.ipa c.args.level
+    (test_failed (is_table_place c.args.ipa c.args.level) c.args.level c.table_level.result c.table_level.ensures c.in_default.is) in
+    record { answer = answers_err (Unit {0}) error_input _ misplaced; machine = after_err c.args.self.now error_input _ misplaced }
 
--- ---- no place of a table
-
-no_place : (g : Over) (c : goal.In_default-2 g) → rtt_create (seen_in c.args.self.now c.args.rd) (seen_in c.args.self.now c.args.table) c.args.ipa c.args.level ≡ Err error_input
-no_place g c =
-    let there = realm_read c.args.self.now _ c.self.view_is c.self.invariant c.args.rd c.requires.rd_taken.inside c.number.result c.index.result.now (Some c.in-Some.realm) c.number.ensures.value c.index.ensures c.in-Some.is in
-    elim c.in_default-2.branch [
-      | in_default-2-via-in-Some+in_default w ↦
-          create_unprotected c.args.self.now _ c.self.view_is c.self.invariant c.args.rd c.args.table c.args.ipa c.args.level c.requires.rd_taken c.requires.table_taken c.in-Some.realm there
-          (unprotected c.in-Some.realm c.args.ipa c.root.result c.root.ensures c.protected.result c.protected.ensures w.in_default-2.is-1)
-      | in_default-2-via-in_default w ↦
-          create_misplaced c.args.self.now _ c.self.view_is c.self.invariant c.args.rd c.args.table c.args.ipa c.args.level c.requires.rd_taken c.requires.table_taken c.in-Some.realm there
-          (test_failed (is_table_place c.args.ipa c.args.level) c.args.level c.table_level.result c.table_level.ensures w.in_default-2.is-0)
-    ]
-
-pub returns-in_default-2 : goal.returns-in_default-2
-returns-in_default-2 g c = record { answer = answers_err (Unit {0}) error_input _ (no_place g c); machine = after_err c.args.self.now error_input _ (no_place g c) }
-
--- ---- the granule is not DELEGATED
+pub returns-in_err-tables : goal.returns-in_err-tables
+returns-in_err-tables g c =
+    let none = create_nowhere c.args.self.now c.args.rd c.args.table c.args.ipa c.args.level c.in_err-tables.ensures.err.1 in
+    record {
+      answer = answers_input c.from_residual.result c.in_err-tables.field-0.0 _ c.from_residual.ensures.1 c.in_err-tables.ensures.err.0 none;
+      machine = after_err c.args.self.now error_input _ none;
+    }
 
 pub is_delegated-requires : goal.is_delegated-requires
 is_delegated-requires g c = in_granules c.args.self.now _ c.self.view_is c.self.invariant c.args.table c.requires.table_taken
@@ -56,62 +36,49 @@ is_delegated-requires g c = in_granules c.args.self.now _ c.self.view_is c.self.
 pub returns-then-not-is_delegated : goal.returns-then-not-is_delegated
 returns-then-not-is_delegated g c =
     let undelegated =
-    create_undelegated c.args.self.now _ c.self.view_is c.self.invariant c.args.rd c.args.table c.args.ipa c.args.level c.requires.rd_taken c.requires.table_taken c.in-Some.realm
-    (realm_read c.args.self.now _ c.self.view_is c.self.invariant c.args.rd c.requires.rd_taken.inside c.number.result c.index.result.now (Some c.in-Some.realm) c.number.ensures.value c.index.ensures c.in-Some.is)
+    create_undelegated c.args.self.now c.args.rd c.args.table c.args.ipa c.args.level (has_fields c.self.view_is c.self.invariant) c.requires.table_taken
     (sym c.is_delegated.ensures ∙ c.if-not-is_delegated.true) in
     record { answer = answers_err (Unit {0}) error_input _ undelegated; machine = after_err c.args.self.now error_input _ undelegated }
 
 -- ---- the call
 
-pub create_table-requires-clause-backed : goal.create_table-requires-clause-backed
-create_table-requires-clause-backed g c = c.self.invariant.backed
-
-pub create_table-requires-clause-tables : goal.create_table-requires-clause-tables
-create_table-requires-clause-tables g c =
-    located_tables c.in-Some.realm c.args.rd c.args.ipa c.tables_of.result c.in-Some-Some.ipa
-    (located c.in-Some.realm c.args.ipa c.root.result c.root.ensures c.protected.result c.protected.ensures c.args.rd c.tables_of.result c.tables_of.ensures c.in-Some-Some.ipa c.in-Some-Some.is-1) _ c.self.invariant
-    (realm_read c.args.self.now _ c.self.view_is c.self.invariant c.args.rd c.requires.rd_taken.inside c.number.result c.index.result.now (Some c.in-Some.realm) c.number.ensures.value c.index.ensures c.in-Some.is)
-
-pub create_table-requires-clause-inside : goal.create_table-requires-clause-inside
-create_table-requires-clause-inside g c =
-    located_inside c.in-Some.realm c.args.rd c.args.ipa c.tables_of.result c.in-Some-Some.ipa
-    (located c.in-Some.realm c.args.ipa c.root.result c.root.ensures c.protected.result c.protected.ensures c.args.rd c.tables_of.result c.tables_of.ensures c.in-Some-Some.ipa c.in-Some-Some.is-1)
-
-refused : (g : Over) (c : goal.After-from_residual g)
-    → rtt_create (seen_in c.args.self.now c.args.rd) (seen_in c.args.self.now c.args.table) c.args.ipa c.args.level ≡ Err (error_rtt c.in_err-create_table.field-0.0.level)
-refused g c =
-    let level = test_held (is_table_place c.args.ipa c.args.level) c.args.level c.in-Some-Some.level c.table_level.result c.table_level.ensures c.in-Some-Some.is-0 in
-    create_refused c.args.self.now _ c.self.view_is c.self.invariant c.args.rd c.args.table c.args.ipa c.args.level c.requires.rd_taken c.requires.table_taken c.in-Some.realm
-    (realm_read c.args.self.now _ c.self.view_is c.self.invariant c.args.rd c.requires.rd_taken.inside c.number.result c.index.result.now (Some c.in-Some.realm) c.number.ensures.value c.index.ensures c.in-Some.is)
-    c.tables_of.result c.in-Some-Some.ipa c.in-Some-Some.level
-    (located c.in-Some.realm c.args.ipa c.root.result c.root.ensures c.protected.result c.protected.ensures c.args.rd c.tables_of.result c.tables_of.ensures c.in-Some-Some.ipa c.in-Some-Some.is-1)
-    level.1 level.0 (sym c.is_delegated.ensures ∙ c.if-not-is_delegated.false)
-    c.in_err-create_table.field-0.0.level c.in_err-create_table.ensures.answer
+pub create_table-requires : goal.create_table-requires
+create_table-requires g c =
+    let kept = has_fields c.self.view_is c.self.invariant in
+    let level = test_held (is_table_place c.args.ipa c.args.level) c.args.level c.in-Some.level c.table_level.result c.table_level.ensures c.in-Some.is in
+    record {
+      backed = c.self.invariant.backed;
+      tables = its_tables kept c.in_ok-tables.ensures.ok;
+      inside = its_space kept c.in_ok-tables.ensures.ok;
+      delegated = in_delegated c.args.self.now _ c.self.view_is c.self.invariant c.args.table c.requires.table_taken (sym c.is_delegated.ensures ∙ c.if-not-is_delegated.false);
+      place = its_place kept c.in_ok-tables.ensures.ok level.1 level.0;
+    }
 
 pub invariant_of-self : goal.invariant_of-self
-invariant_of-self g c = whole_refused _ c.self.invariant _ _ _ c.in_err-create_table.ensures.unchanged.1 c.in_err-create_table.ensures.unchanged.0 c.in_err-create_table.ensures.keeps.rest.flags
+invariant_of-self g c =
+    whole_refused _ c.self.invariant _ _ _ c.in_err-create_table.ensures.unchanged.1 c.in_err-create_table.ensures.unchanged.0 c.in_err-create_table.ensures.keeps.rest.flags
 
 pub returns-in_err-create_table : goal.returns-in_err-create_table
-returns-in_err-create_table g c = record {
-  answer = answers_refused c.from_residual.result (error_rtt c.in_err-create_table.field-0.0.level) _ c.from_residual.ensures.1 (refused g c);
-  machine =
-      seen_refused c.args.self.now _ c.self.view_is _ _ _ c.in_err-create_table.ensures.unchanged.1 c.in_err-create_table.ensures.unchanged.0 c.in_err-create_table.ensures.keeps.rest.flags
-      (error_rtt c.in_err-create_table.field-0.0.level) _ (refused g c);
-}
+returns-in_err-create_table g c =
+    let kept = has_fields c.self.view_is c.self.invariant in
+    let level = test_held (is_table_place c.args.ipa c.args.level) c.args.level c.in-Some.level c.table_level.result c.table_level.ensures c.in-Some.is in
+    let refused = create_refused c.args.self.now c.args.rd c.args.table c.args.ipa c.args.level kept c.requires.table_taken c.in_ok-tables.ensures.ok level.1 level.0
+    (sym c.is_delegated.ensures ∙ c.if-not-is_delegated.false) c.in_err-create_table.ensures.answer in
+    record {
+      answer = answers_refused c.from_residual-in_err-create_table.result (error_rtt c.in_err-create_table.field-0.0.level) _ c.from_residual-in_err-create_table.ensures.1 refused;
+      machine =
+          seen_refused c.args.self.now _ c.self.view_is _ _ _ c.in_err-create_table.ensures.unchanged.1 c.in_err-create_table.ensures.unchanged.0
+          c.in_err-create_table.ensures.keeps.rest.flags _ _ refused;
+    }
 
--- ---- the table is there
-
-done : (g : Over) (c : goal.In_ok-create_table g)
-    → Done c.args.self.now (rtt_create (seen_in c.args.self.now c.args.rd) (seen_in c.args.self.now c.args.table) c.args.ipa c.args.level)
+done : (g : Over) (c : goal.In_ok-create_table g) → Done c.args.self.now (rtt_create (seen_in c.args.self.now c.args.rd) (seen_in c.args.self.now c.args.table) c.args.ipa c.args.level)
     (fields_of c.self.inside.vmids c.self.inside.aux c.self.inside.used c.create_table.new.granules (g.S.PageStore.page_bytes c.create_table.new.store)
     (g.S.PageStore.free_flags c.create_table.new.store) c.self.inside.realms.items c.self.inside.rec_counts.items c.self.inside.recs.items)
 done g c =
-    let level = test_held (is_table_place c.args.ipa c.args.level) c.args.level c.in-Some-Some.level c.table_level.result c.table_level.ensures c.in-Some-Some.is-0 in
-    create_done c.args.self.now _ c.self.view_is c.self.invariant c.args.rd c.args.table c.args.ipa c.args.level c.requires.rd_taken c.requires.table_taken c.in-Some.realm
-    (realm_read c.args.self.now _ c.self.view_is c.self.invariant c.args.rd c.requires.rd_taken.inside c.number.result c.index.result.now (Some c.in-Some.realm) c.number.ensures.value c.index.ensures c.in-Some.is)
-    c.tables_of.result c.in-Some-Some.ipa c.in-Some-Some.level
-    (located c.in-Some.realm c.args.ipa c.root.result c.root.ensures c.protected.result c.protected.ensures c.args.rd c.tables_of.result c.tables_of.ensures c.in-Some-Some.ipa c.in-Some-Some.is-1)
-    level.1 level.0 (sym c.is_delegated.ensures ∙ c.if-not-is_delegated.false) _ _ _ (record {
+    let level = test_held (is_table_place c.args.ipa c.args.level) c.args.level c.in-Some.level c.table_level.result c.table_level.ensures c.in-Some.is in
+    create_done c.args.self.now c.args.rd c.args.table c.args.ipa c.args.level (has_fields c.self.view_is c.self.invariant) c.requires.table_taken c.in_ok-tables.ensures.ok level.1 level.0
+    (sym c.is_delegated.ensures ∙ c.if-not-is_delegated.false) c.requires.rd_taken
+    (record {
       answer = c.in_ok-create_table.ensures.answer;
       gains = c.in_ok-create_table.ensures.rows;
       moved = c.in_ok-create_table.ensures.moved;
