@@ -12,7 +12,7 @@ COUNT ?=
 PREFIX ?= /usr/local
 DESTDIR ?=
 
-PROGRAMS = realmhost rmitrace
+PROGRAMS = realmhost rmitrace realmview
 SHARE = $(DESTDIR)$(PREFIX)/share
 LIB = $(DESTDIR)$(PREFIX)/lib
 
@@ -27,7 +27,7 @@ try: ## a minute: builds realmhost with nothing proved, and replays PLAN
 try-trace: ## a minute: builds rmitrace with nothing proved, and checks TRACE
 	@tools/try rmitrace $(TRACE) -- check
 
-build: ## proves both programs and all that they stand on, and puts them into bin/
+build: ## proves the three programs and all that they stand on, and puts them into bin/
 	@tools/build
 
 c-library: ## proves the bench for C, and puts its libraries into build/
@@ -63,7 +63,7 @@ test: ## the whole gate from nothing: proofs, tests, what the built programs pri
 	@mkdir -p bin
 	@for it in $(PROGRAMS) test_memory; do install -m 755 crates/$$it/out/$$it bin/$$it || exit 1; done
 	@! command -v $(CC) > /dev/null || tools/c-library --after-ci
-	@tools/at_once tests/commands tests/program tests/traces tests/allocations tests/c-library tests/documents "tools/pictures --check"
+	@tools/at_once tests/commands tests/program tests/traces tests/view tests/allocations tests/c-library tests/documents "tools/pictures --check"
 
 wrong-bodies: ## tries bodies that do something else, of CRATE or all: the prover has to refuse each
 	@tests/wrong-bodies $(if $(JOBS),--jobs $(JOBS)) $(if $(SINCE),--since $(SINCE)) $(CRATE)

@@ -1,0 +1,38 @@
+//! Shows runs: the history of a plan as text, and the map that a history leads to. The plan or the history comes on standard
+//! input.
+#![tactic(auto)]
+
+ghost use Rattle.std.specs.Prelude.{◌≡◌, IfErr};
+ghost use Rattle.std.specs.Process.{exit_status};
+ghost use Rattle.view_program.specs.Stop.{status_of_outcome, IsStatus};
+
+use command_line::{Stop, arguments};
+use std::process::ExitCode;
+use told_device::Told;
+use view_program::{Asked, Fault, run};
+
+/// Does what the command line asks for.
+fn show(rt: &HostRuntime) -> Result<(), Stop<Fault>> {
+    let alloc = rt.alloc();
+    let words = arguments::<_, Fault>(rt)?;
+    let asked = Asked::of(alloc, &words)?;
+    let mut input = Told::new(rt.stdin());
+    let mut output = Told::new(rt.stdout());
+    run(alloc, asked, &mut input, &mut output)?;
+    Ok(())
+}
+
+/// The exit status. Where the program stops, standard error is told why.
+fn end(rt: &HostRuntime, outcome: Result<(), Stop<Fault>>) -> ExitCode
+    ensures value { exit_status result ≡ status_of_outcome outcome }
+    ensures stops { IfErr outcome (λ _. IsStatus (exit_status result)) }
+{
+    match outcome {
+        Ok(()) => ExitCode::SUCCESS,
+        Err(stop) => stop.end(rt),
+    }
+}
+
+fn main(rt: HostRuntime) -> ExitCode {
+    end(&rt, show(&rt))
+}

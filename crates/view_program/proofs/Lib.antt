@@ -1,0 +1,5 @@
+pub mod Words
+mod Faults
+mod Takings
+mod Legal
+mod ApplyEnds

@@ -1,0 +1,66 @@
+-- What clap's definition says of this program, whatever the words.
+use Rattle.std.proofs.Common.{◌≡◌, ℕ, List, [], true, refl, ap, codes, ◌⊎◌, inl, inr}
+use Rattle.std.specs.Prelude.{Option, Some, None, option_map, is_some}
+use Rattle.std.proofs.lemmas.Bool.{false≢true}
+use Rattle.clap.specs.Simple.{built}
+use Rattle.clap.specs.Words.{Row, Text, fault_of, is_simple, is_simple_and_free, one_of, subcommand_of}
+use Rattle.command_line.proofs.Passed.{Each, IsPassed}
+use Rattle.command_line.proofs.Subcommands.{NamesOne, is_entered, is_one, name_in, values_passed}
+use Rattle.realmhost_line.specs.Line.{IsErase}
+use Rattle.realmhost_line.proofs.Words.{built_erase}
+use Rattle.view_program.specs.Line.{IsAsked}
+use Rattle.view_program.specs.Program.{realmview}
+use Rattle.view_program.specs.declared.line.Asked.TheVariants.{History, Apply}
+
+pub realmview_is_simple : is_simple realmview ≡ true
+realmview_is_simple = refl
+
+pub realmview_is_free : is_simple_and_free realmview ≡ true
+realmview_is_free = refl
+
+-- ---- the subcommand
+
+named : (t : Text) → NamesOne t (built realmview).subs → (t ≡ codes "history") ⊎ (t ≡ codes "apply")
+named t (inl history) = inl history
+named t (inr (inl apply)) = inr apply
+named t (inr (inr more)) = absurd more
+
+apply_from : (sub : Option (Text × List Row)) → is_some sub ≡ true → ((r : Text × List Row) → sub ≡ Some r → (r.0 ≡ codes "history") ⊎ (r.0 ≡ codes "apply"))
+    → ¬ (name_in sub ≡ Some (codes "history")) → name_in sub ≡ Some (codes "apply")
+apply_from None has names other = absurd (false≢true has)
+apply_from (Some r) has names other = elim (names r refl) [
+  | inl history ↦ absurd (other (ap Some history))
+  | inr apply ↦ ap Some apply
+]
+
+-- words that have no fault, and do not ask for a history, ask to apply one
+pub apply_is_named : (words : List Text) → fault_of realmview words ≡ [] → ¬ (name_in (subcommand_of realmview words) ≡ Some (codes "history")) → name_in (subcommand_of realmview words) ≡ Some (codes "apply")
+apply_is_named words e other =
+    apply_from (subcommand_of realmview words) (is_entered realmview words e refl) (λ r is. named r.0 (is_one realmview words r is)) other
+
+-- ---- the build that is left out
+
+pub erase_passed : (words : List Text) → fault_of realmview words ≡ [] → (rows : List Row) → option_map (λ p. p.1) (subcommand_of realmview words) ≡ Some rows
+    → Each (IsPassed built_erase) rows
+erase_passed words e = values_passed realmview words e built_erase refl ((inl refl, (inr (refl, refl), tt)), ((inl refl, (inr (refl, refl), tt)), tt))
+
+module _ (sub : Option (Text × List Row)) (rows : List Row) (b : Option ℕ) where
+  pub history_is_asked : name_in sub ≡ Some (codes "history") → option_map (λ p. p.1) sub ≡ Some rows → IsErase (one_of (codes "erase") rows) b → IsAsked sub (History b)
+  history_is_asked name found erase = asked sub name found
+    where
+      asked : (s : Option (Text × List Row)) → name_in s ≡ Some (codes "history") → option_map (λ p. p.1) s ≡ Some rows → IsAsked s (History b)
+      asked None name found = absurd (cc)
+      asked (Some s) name found =
+          let same_name : s.0 ≡ codes "history" = cc in
+          let same_rows : s.1 ≡ rows = cc in
+          (same_name, rw same_rows erase)
+
+  pub apply_is_asked : name_in sub ≡ Some (codes "apply") → option_map (λ p. p.1) sub ≡ Some rows → IsErase (one_of (codes "erase") rows) b → IsAsked sub (Apply b)
+  apply_is_asked name found erase = asked sub name found
+    where
+      asked : (s : Option (Text × List Row)) → name_in s ≡ Some (codes "apply") → option_map (λ p. p.1) s ≡ Some rows → IsAsked s (Apply b)
+      asked None name found = absurd (cc)
+      asked (Some s) name found =
+          let same_name : s.0 ≡ codes "apply" = cc in
+          let same_rows : s.1 ≡ rows = cc in
+          (same_name, rw same_rows erase)

@@ -1,0 +1,13 @@
+use Rattle.std.proofs.Common.{◌∙◌, ap, ap₂}
+use Rattle.std.proofs.lemmas.Result.{IfOk-weaker}
+use Rattle.clap.specs.Words.{App, with_subcommand}
+use Rattle.view_program.proofs.line.command.Goals as goal
+
+pub returns : goal.returns
+returns c =
+    let history_is = c.in_ok-history.ensures in
+    let apply_is = c.in_ok-apply.ensures in
+    let with_history = c.in_ok-subcommand.ensures.shape history_is.1 ∙ ap₂ with_subcommand c.program.ensures (ap (λ (a : App). a.top) history_is.0) in
+    IfOk-weaker c.subcommand-2.result _ _
+    (λ r h. h.shape apply_is.1 ∙ ap₂ with_subcommand with_history (ap (λ (a : App). a.top) apply_is.0))
+    c.subcommand-2.ensures

@@ -1,0 +1,22 @@
+use Rattle.std.proofs.Common.{◌+◌, length, refl, ap, ◌∙◌}
+use Rattle.std.proofs.lemmas.Bool.{false≢true}
+use Rattle.build_books.specs.View.{HostView}
+use Rattle.view_program.proofs.taking.take_line.Goals as goal
+
+pub returns-then-apply_recorded-clause-ok : goal.returns-then-apply_recorded-clause-ok
+returns-then-apply_recorded-clause-ok g c = record {
+  event = c.in-Some.event;
+  is_text = c.in-Some.ensures.found;
+  can = c.if-apply_recorded.ensures.answer.0 refl;
+  grows = c.if-apply_recorded.ensures.applied;
+}
+
+pub returns-else-apply_recorded-clause-err : goal.returns-else-apply_recorded-clause-err
+returns-else-apply_recorded-clause-err g c = (
+  c.next_number-else-apply_recorded.ensures ∙ ap (λ (host : HostView). length host.history + 2) c.if-apply_recorded.ensures.unchanged,
+  record {
+    event = c.in-Some.event;
+    is_text = c.in-Some.ensures.found;
+    cannot = λ can. false≢true (c.if-apply_recorded.ensures.answer.1 can);
+  },
+)

@@ -1,0 +1,118 @@
+-- A history that is applied, line by line, to the machine that it opens.
+use Rattle.std.specs.Prelude.{◌≡◌, ◌+◌, ◌<◌, ◌≤◌, ℕ, List, [], ◌∷◌, ◌++◌, length, Option, Some, None, IfSome}
+use Rattle.realm_model.specs.declared.act.Event.{Event}
+use Rattle.realm_model.specs.History.{IsLegal}
+use Rattle.build_books.specs.Booted.{booted}
+use Rattle.build_books.specs.View.{HostView, with_event}
+use Rattle.realm_host.specs.Recorded.{CanApply, IsWithout}
+use Rattle.input_lines.specs.Lines.{lines_in}
+use Rattle.history_text.specs.Events.{IsEventText}
+use Rattle.history_text.specs.Histories.{IsOpeningText}
+use Rattle.history_text.specs.declared.opening.Opening.{Opening}
+use Rattle.plan_runs.specs.Run.{map_text}
+use Rattle.view_program.specs.declared.fault.Fault.{Fault}
+use Rattle.view_program.specs.declared.fault.Fault.TheVariants.{NoOpening, NoEvent, Refused, EraseNamesNoBuild, Memory, Device}
+
+-- a host of that size, before any event
+abbrev pub opened : Opening → HostView
+opened o = booted o.pages o.vmids o.aux o.builds o.history
+
+-- ---- lines that are taken
+
+-- the line is an event that can be applied, and it is the last of the history then
+pub record IsTaken (old : HostView) (line : List ℕ) (new : HostView) : Type 0 where
+  pub event : Event
+  pub is_text : IsEventText line event
+  pub can : CanApply old event
+  pub grows : new ≡ with_event old event.build event.act
+
+-- lines one after another
+abbrev pub AreTaken : HostView → List (List ℕ) → HostView → Type 0
+AreTaken old [] new = new ≡ old
+AreTaken old (line ∷ lines) new = (mid : HostView) × IsTaken old line mid × AreTaken mid lines new
+
+-- The lines are a history: the first opens a machine, and the others are events, each of which can be applied after those
+-- before it. They lead to this host.
+pub record IsHistory (lines : List (List ℕ)) (o : Opening) (host : HostView) : Type 0 where
+  pub first : List ℕ
+  pub events : List (List ℕ)
+  pub lines_are : lines ≡ first ∷ events
+  pub opens : IsOpeningText first o
+  pub taken : AreTaken (opened o) events host
+
+-- each line is the text of the event at its place
+abbrev pub AreTexts : List (List ℕ) → List Event → Type 0
+AreTexts [] [] = Unit {0}
+AreTexts (line ∷ lines) (event ∷ events) = IsEventText line event × AreTexts lines events
+AreTexts _ _ = ⊥
+
+-- Behind the first line stand the texts of the host's events, which are a legal history.
+pub record IsLegalText (lines : List (List ℕ)) (host : HostView) : Type 0 where
+  pub first : List ℕ
+  pub events : List (List ℕ)
+  pub lines_are : lines ≡ first ∷ events
+  pub texts : AreTexts events host.history
+  pub legal : IsLegal host.limits host.history
+
+-- the input is such lines, where it is known
+pub record IsHistoryIn (input : Option (List ℕ)) (o : Opening) (host : HostView) : Type 0 where
+  pub lines : List (List ℕ)
+  pub of_input : IfSome input (λ bytes. lines_in bytes ≡ lines)
+  pub history : IsHistory lines o host
+
+-- ---- lines that are no history
+
+-- there is no first line, or it opens no machine
+abbrev pub OpensNone : List (List ℕ) → Type 0
+OpensNone [] = Unit {0}
+OpensNone (first ∷ more) = (o : Opening) → IsOpeningText first o → ⊥
+
+-- the line is no event
+abbrev pub IsNoEvent : List ℕ → Type 0
+IsNoEvent line = (event : Event) → IsEventText line event → ⊥
+
+-- the line is an event that cannot be applied
+pub record IsRefused (host : HostView) (line : List ℕ) : Type 0 where
+  pub event : Event
+  pub is_text : IsEventText line event
+  pub cannot : CanApply host event → ⊥
+
+-- Lines are taken up to this one, whose number is counted from 1, the opening with it.
+pub record StopsAt (IsReason : HostView → List ℕ → Type 0) (lines : List (List ℕ)) (number : ℕ) : Type 0 where
+  pub o : Opening
+  pub host : HostView
+  pub before : List (List ℕ)
+  pub line : List ℕ
+  pub after : List (List ℕ)
+  pub split : lines ≡ before ++ line ∷ after
+  pub history : IsHistory before o host
+  pub number_is : number ≡ length before + 1
+  pub reason : IsReason host line
+
+-- Why the input is no history, where it is known. Want of memory and a device that fails are no matter of its lines.
+abbrev pub IsNoHistoryIn : Option (List ℕ) → Fault → Type 0
+IsNoHistoryIn input NoOpening = IfSome input (λ bytes. OpensNone (lines_in bytes))
+IsNoHistoryIn input (NoEvent number) = IfSome input (λ bytes. StopsAt (λ host line. IsNoEvent line) (lines_in bytes) number)
+IsNoHistoryIn input (Refused number) = IfSome input (λ bytes. StopsAt IsRefused (lines_in bytes) number)
+IsNoHistoryIn input Memory = Unit {0}
+IsNoHistoryIn input Device = Unit {0}
+IsNoHistoryIn input fault = ⊥
+
+-- ---- the map
+
+-- The map of the host, or of a host that has its history without a build's events.
+pub record IsMapWithout (o : Opening) (host : HostView) (build : ℕ) (text : List ℕ) : Type 0 where
+  pub of_machine : build < o.builds
+  pub fresh : HostView
+  pub without : IsWithout host build fresh
+  pub whole : text ≡ map_text fresh
+
+abbrev pub IsMap : Option ℕ → Opening → HostView → List ℕ → Type 0
+IsMap None o host text = text ≡ map_text host
+IsMap (Some build) o host text = IsMapWithout o host build text
+
+-- Why there is no map: for want of memory, or since the build to be left out is none of the machine's.
+abbrev pub HasNoMap : Option ℕ → Opening → Fault → Type 0
+HasNoMap erase o Memory = Unit {0}
+HasNoMap (Some build) o EraseNamesNoBuild = o.builds ≤ build
+HasNoMap erase o fault = ⊥

@@ -1,0 +1,67 @@
+-- What is printed of a history that is applied, and how that ends.
+use Rattle.std.specs.Prelude.{ℕ, Bool, true, false, List, Option, Result, Ok, Err}
+use Rattle.std.specs.Io.KnownBytes.{Appends, Keeps}
+use Rattle.build_books.specs.View.{HostView}
+use Rattle.told_device.specs.Whole.{AppendsFront}
+use Rattle.history_text.specs.declared.opening.Opening.{Opening}
+use Rattle.view_program.specs.Applied.{IsHistoryIn, IsNoHistoryIn, IsMap, HasNoMap}
+use Rattle.view_program.specs.declared.fault.Fault.{Fault}
+use Rattle.realm_program.specs.Printed.{IsEnd}
+use Rattle.view_program.specs.History.{IsHistoryText, IsWithoutHistory}
+use Rattle.view_program.specs.declared.line.Asked.{Asked}
+use Rattle.view_program.specs.declared.line.Asked.TheVariants.{History, Apply}
+use Rattle.view_program.specs.declared.fault.Fault.TheVariants.{Plan, NoOpening, NoEvent, Refused, EraseNamesNoBuild, Memory, Device}
+
+-- the input is a history with this map
+pub record HasMap (erase : Option ℕ) (input : Option (List ℕ)) (text : List ℕ) : Type 0 where
+  pub o : Opening
+  pub host : HostView
+  pub history : IsHistoryIn input o host
+  pub map : IsMap erase o host text
+
+-- the whole map was written
+pub record IsMapPrinted (erase : Option ℕ) (input old new : Option (List ℕ)) : Type 0 where
+  pub text : List ℕ
+  pub map : HasMap erase input text
+  pub written : Appends old new text
+
+-- a front of the map was written
+pub record IsMapCut (erase : Option ℕ) (input old new : Option (List ℕ)) : Type 0 where
+  pub text : List ℕ
+  pub map : HasMap erase input text
+  pub written : AppendsFront old new text
+
+-- the input is a history, and there is no build to be left out
+pub record NamesNoBuild (erase : Option ℕ) (input : Option (List ℕ)) : Type 0 where
+  pub o : Opening
+  pub host : HostView
+  pub history : IsHistoryIn input o host
+  pub none : HasNoMap erase o EraseNamesNoBuild
+
+-- where a device failed: nothing was written where it was a read, and a front of the map where it was a write
+abbrev pub IsEndOfDevice : Option ℕ → Bool → Option (List ℕ) → Option (List ℕ) → Option (List ℕ) → Type 0
+IsEndOfDevice erase true input old new = Keeps old new
+IsEndOfDevice erase false input old new = IsMapCut erase input old new
+
+-- The map is printed whole, or nothing, but that a write may fail between. `unread` is whether a read failed.
+abbrev pub IsApplyEnd : Option ℕ → Bool → Option (List ℕ) → Option (List ℕ) → Option (List ℕ) → Result (Unit {0}) Fault → Type 0
+IsApplyEnd erase unread input old new (Ok _) = IsMapPrinted erase input old new
+IsApplyEnd erase unread input old new (Err NoOpening) = IsNoHistoryIn input NoOpening × Keeps old new
+IsApplyEnd erase unread input old new (Err (NoEvent line)) = IsNoHistoryIn input (NoEvent line) × Keeps old new
+IsApplyEnd erase unread input old new (Err (Refused line)) = IsNoHistoryIn input (Refused line) × Keeps old new
+IsApplyEnd erase unread input old new (Err EraseNamesNoBuild) = NamesNoBuild erase input × Keeps old new
+IsApplyEnd erase unread input old new (Err Memory) = Keeps old new
+IsApplyEnd erase unread input old new (Err Device) = IsEndOfDevice erase unread input old new
+IsApplyEnd erase unread input old new (Err fault) = ⊥
+
+-- ---- what is asked
+
+-- of a plan's history, where the program's faults are those of a plan
+abbrev pub IsHistoryEnd : Option ℕ → Bool → Option (List ℕ) → Option (List ℕ) → Option (List ℕ) → Result (Unit {0}) Fault → Type 0
+IsHistoryEnd erase unread input old new (Ok done) = IsEnd (IsHistoryText erase) (IsWithoutHistory erase) unread input old new (Ok done)
+IsHistoryEnd erase unread input old new (Err (Plan fault)) = IsEnd (IsHistoryText erase) (IsWithoutHistory erase) unread input old new (Err fault)
+IsHistoryEnd erase unread input old new (Err fault) = ⊥
+
+abbrev pub IsRunEnd : Asked → Bool → Option (List ℕ) → Option (List ℕ) → Option (List ℕ) → Result (Unit {0}) Fault → Type 0
+IsRunEnd (History erase) unread input old new result = IsHistoryEnd erase unread input old new result
+IsRunEnd (Apply erase) unread input old new result = IsApplyEnd erase unread input old new result

@@ -1,0 +1,36 @@
+-- Events that a host takes from the lines to come.
+use Rattle.std.specs.Prelude.{◌≡◌, ◌+◌, ℕ, List, ◌∷◌, ◌++◌, length, Option, IfSome}
+use Rattle.build_books.specs.View.{HostView}
+use Rattle.input_lines.specs.Lines.{lines_in}
+use Rattle.view_program.specs.Applied.{AreTaken, IsNoEvent, IsRefused}
+use Rattle.view_program.specs.declared.fault.Fault.{Fault}
+use Rattle.view_program.specs.declared.fault.Fault.TheVariants.{NoEvent, Refused, Memory, Device}
+
+-- all lines to come are taken
+pub record AreAllTaken (input : Option (List ℕ)) (old new : HostView) : Type 0 where
+  pub lines : List (List ℕ)
+  pub of_input : IfSome input (λ bytes. lines_in bytes ≡ lines)
+  pub taken : AreTaken old lines new
+
+-- a host does not take this line, whose number follows from how many events it has
+abbrev pub IsUntaken : HostView → List ℕ → Fault → Type 0
+IsUntaken host line (NoEvent number) = (number ≡ length host.history + 2) × IsNoEvent line
+IsUntaken host line (Refused number) = (number ≡ length host.history + 2) × IsRefused host line
+IsUntaken host line fault = ⊥
+
+pub record AreCutShort (old : HostView) (lines : List (List ℕ)) (fault : Fault) : Type 0 where
+  pub before : List (List ℕ)
+  pub line : List ℕ
+  pub after : List (List ℕ)
+  pub mid : HostView
+  pub split : lines ≡ before ++ line ∷ after
+  pub taken : AreTaken old before mid
+  pub untaken : IsUntaken mid line fault
+
+-- why not all lines to come are taken
+abbrev pub AreNotTaken : Option (List ℕ) → HostView → Fault → Type 0
+AreNotTaken input old (NoEvent number) = IfSome input (λ bytes. AreCutShort old (lines_in bytes) (NoEvent number))
+AreNotTaken input old (Refused number) = IfSome input (λ bytes. AreCutShort old (lines_in bytes) (Refused number))
+AreNotTaken input old Memory = Unit {0}
+AreNotTaken input old Device = Unit {0}
+AreNotTaken input old fault = ⊥

@@ -1,0 +1,102 @@
+//! A history in, the map of the machine that it leads to out.
+ghost use Rattle.std.specs.Prelude.{◌≡◌, ◌↔◌, ◌⊎◌, false, true, Err, IfOk, IfErr, string_bytes};
+ghost use Rattle.realm_host.specs.Recorded.{fresh_like};
+ghost use Rattle.history_text.specs.Histories.{IsSize};
+ghost use Rattle.view_program.specs.Applied.{opened, IsHistoryIn, IsNoHistoryIn, IsMap, HasNoMap};
+ghost use Rattle.view_program.specs.Printed.{IsApplyEnd};
+ghost use Rattle.view_program.specs.declared.fault.Fault.TheVariants.{Device};
+
+use crate::fault::Fault;
+use crate::machine::boot;
+use crate::taking::{opening_in, take_lines};
+use buddy::BuddyArena;
+use granule_addr::BuildId;
+use history_text::Opening;
+use input_lines::Lines;
+use plan_runs::map_text;
+use realm_host::{Host, apply_without};
+use std::alloc::Global;
+use std::io::{Read, Write};
+use told_device::Told;
+
+// The host that the history in the input leads to, and the size of its machine.
+fn host_in<R: Read>(
+    alloc: Global,
+    input: &mut Told<R>,
+) -> Result<(Opening, Host<BuddyArena>), Fault>
+    requires { input.old.failed ≡ false }
+    ensures told { (input.new.failed ≡ true) ↔ (result ≡ Err Device) }
+    ensures ok { IfOk result (λ it. IsHistoryIn (R.remaining input.old.device) it.0 it.1) }
+    ensures err { IfErr result (IsNoHistoryIn (R.remaining input.old.device)) }
+{
+    let mut lines = Lines::new();
+    let mut line = Vec::new(alloc);
+    let opening = opening_in(&mut lines, input, &mut line)?;
+    let mut host = boot(alloc, &opening)?;
+    take_lines(&mut lines, input, &mut line, &mut host)?;
+    Ok((opening, host))
+}
+
+// The map of the host without a build: its history without the build's events is applied to a fresh host.
+fn map_without(
+    alloc: Global,
+    opening: &Opening,
+    host: &Host<BuddyArena>,
+    build: BuildId,
+) -> Result<String, Fault>
+    requires size { IsSize opening.now }
+    requires machine { fresh_like host.now ≡ opened opening.now }
+    ensures ok { IfOk result (λ text. IsMap (Some build) opening.now host.now (string_bytes text)) }
+    ensures err { IfErr result (HasNoMap (Some build) opening.now) }
+{
+    if build.number() >= opening.builds {
+        return Err(Fault::EraseNamesNoBuild);
+    }
+    let mut fresh = boot(alloc, opening)?;
+    let is_done = apply_without(host, build, &mut fresh);
+    prove!(is_done);
+    Ok(map_text(alloc, &fresh)?)
+}
+
+// The map that is asked for: a build may be left out.
+fn asked_map(
+    alloc: Global,
+    opening: &Opening,
+    host: &Host<BuddyArena>,
+    erase: Option<BuildId>,
+) -> Result<String, Fault>
+    requires size { IsSize opening.now }
+    requires machine { fresh_like host.now ≡ opened opening.now }
+    ensures ok { IfOk result (λ text. IsMap erase opening.now host.now (string_bytes text)) }
+    ensures err { IfErr result (HasNoMap erase opening.now) }
+{
+    match erase {
+        Some(build) => map_without(alloc, opening, host, build),
+        None => Ok(map_text(alloc, host)?),
+    }
+}
+
+/// Reads a history, applies each of its events as it is recorded, and writes the map of the machine that it leads to; or,
+/// where a build is to be left out, the map that the history without the build's events leads to.
+///
+/// The map is made whole before any of it is written. Errors: NoOpening, where the first line opens no machine, or there is
+/// none; NoEvent, with the first line that is no event, and Refused, with the first that is one and cannot be applied,
+/// whichever comes first; EraseNamesNoBuild, where all is a history and the build to be left out is none of the machine's;
+/// Memory, where a growth was refused; Device, where a read failed, and then nothing is written, or a write, and then a front
+/// of the map is. The input is read line by line, and of a line no more than 256 bytes are kept.
+pub fn apply<R: Read, W: Write>(
+    alloc: Global,
+    input: &mut Told<R>,
+    output: &mut Told<W>,
+    erase: Option<BuildId>,
+) -> Result<(), Fault>
+    requires readable { input.old.failed ≡ false }
+    requires writable { output.old.failed ≡ false }
+    ensures end { IsApplyEnd erase input.new.failed (R.remaining input.old.device) (W.contents output.old.device) (W.contents output.new.device) result }
+    ensures device { ((input.new.failed ≡ true) ⊎ (output.new.failed ≡ true)) ↔ (result ≡ Err Device) }
+{
+    let found = host_in(alloc, input)?;
+    let text = asked_map(alloc, &found.0, &found.1, erase)?;
+    output.write_whole(text.as_bytes())?;
+    Ok(())
+}

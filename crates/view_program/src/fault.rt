@@ -1,0 +1,96 @@
+//! Why nothing is printed, or a front of the text alone.
+ghost use Rattle.std.specs.Prelude.{◌≡◌};
+ghost use Rattle.view_program.specs.declared.fault.Fault.TheVariants.{Plan, Memory, Device};
+
+use command_line::Reason;
+use input_lines::LineError;
+use std::alloc::AllocError;
+use thiserror::Error;
+use told_device::DeviceFailed;
+
+/// Why what was asked for is not printed, or a front of the text alone. Its line goes to standard error. Lines are counted
+/// from 1.
+#[derive(Clone, Copy, Debug, PartialEq, Eq, Error)]
+pub enum Fault {
+    /// A plan has no history, for this reason.
+    #[error(transparent)]
+    Plan(realm_program::Fault),
+    /// The first line opens no machine, or there is none.
+    #[error("line 1 opens no history")]
+    NoOpening,
+    /// The line is no event.
+    #[error("line {0} is no event")]
+    NoEvent(usize),
+    /// The event of the line cannot be applied.
+    #[error("line {0} is refused")]
+    Refused(usize),
+    /// The build to be left out is none of the machine's.
+    #[error("erase names no build")]
+    EraseNamesNoBuild,
+    /// A growth was refused.
+    #[error("memory")]
+    Memory,
+    /// A read or a write failed.
+    #[error("device")]
+    Device,
+}
+
+impl Reason for Fault {
+    ghost use Rattle.view_program.specs.Stop.{status_of};
+
+    ghost status_of = { status_of };
+
+    ghost memory = { Memory };
+
+    fn status(&self) -> u8 {
+        match self {
+            Fault::Plan(fault) => fault.status(),
+            Fault::NoOpening | Fault::NoEvent(_) | Fault::Refused(_) => 1,
+            Fault::EraseNamesNoBuild => 2,
+            Fault::Memory => 3,
+            Fault::Device => 5,
+        }
+    }
+
+    fn of_memory() -> Fault {
+        Fault::Memory
+    }
+}
+
+impl From<realm_program::Fault> for Fault {
+    ghost from_gives = { λ error fault. fault ≡ Plan error };
+
+    fn from(error: realm_program::Fault) -> Fault {
+        Fault::Plan(error)
+    }
+}
+
+impl From<LineError> for Fault {
+    ghost use Rattle.std.specs.Prelude.{◌≡◌};
+    ghost use Rattle.view_program.specs.Stop.{fault_of_line};
+
+    ghost from_gives = { λ error fault. fault ≡ fault_of_line error };
+
+    fn from(error: LineError) -> Fault {
+        match error {
+            LineError::Memory => Fault::Memory,
+            LineError::Device => Fault::Device,
+        }
+    }
+}
+
+impl From<DeviceFailed> for Fault {
+    ghost from_gives = { λ _ fault. fault ≡ Device };
+
+    fn from(_error: DeviceFailed) -> Fault {
+        Fault::Device
+    }
+}
+
+impl From<AllocError> for Fault {
+    ghost from_gives = { λ _ fault. fault ≡ Memory };
+
+    fn from(_error: AllocError) -> Fault {
+        Fault::Memory
+    }
+}

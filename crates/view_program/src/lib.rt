@@ -1,0 +1,23 @@
+//! The parts of the program that reads: the history of a plan as text, a history applied to a machine, its command line, and
+//! why it stops.
+//!
+//! `history` goes from the bytes of a plan to the text of its history, and `apply` from the lines of a history to the map of
+//! the machine that it leads to, each over any reader and any writer. Whatever they say of a run they take from a host. Nothing
+//! here looks at the process that it runs in: a caller hands in the words and the devices.
+#![tactic(auto)]
+
+mod applying;
+mod fault;
+mod law;
+mod line;
+mod machine;
+mod plan_history;
+mod running;
+mod taking;
+
+pub use applying::apply;
+pub use fault::Fault;
+pub use law::what_is_applied_is_legal;
+pub use line::Asked;
+pub use plan_history::history;
+pub use running::run;

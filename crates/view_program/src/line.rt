@@ -1,0 +1,117 @@
+//! The command line.
+ghost use Rattle.std.specs.Prelude.{◌≡◌, IfOk, false, nat_lt, if◌then◌else◌, Some, None, option_and_then};
+ghost use Rattle.clap.specs.Words.{app_of, rule_of};
+ghost use Rattle.clap.specs.declared.builder.command.Command.TheViews.{out-Command as fields_of};
+ghost use Rattle.realmhost_line.specs.Program.{erase};
+ghost use Rattle.view_program.specs.Program.{history, apply, program, realmview};
+
+use clap::{Arg, ArgAction, Command, Error, value_parser};
+use granule_addr::BuildId;
+use std::alloc::{AllocError, Global};
+
+/// What the program is asked to do.
+#[derive(Clone, Copy, Debug, PartialEq, Eq)]
+pub enum Asked {
+    /// Write the history of a plan; a build may be left out.
+    History(Option<BuildId>),
+    /// Apply a history, and write the map; a build may be left out.
+    Apply(Option<BuildId>),
+}
+
+const ABOUT: &str =
+    "Shows runs of plans of realmhost: their histories as text, and where a history leads.";
+
+const HISTORY: &str =
+    "Replays the plan on standard input, and writes its history: the size of the machine, and an event a line";
+
+const HISTORY_EXAMPLE: &str = "Example: realmview history < plans/first.toml";
+
+const APPLY: &str =
+    "Applies the history on standard input, event by event, and writes the map of the machine that it leads to";
+
+const APPLY_EXAMPLE: &str =
+    "Example: realmview history < plans/first.toml | realmview apply --erase 0";
+
+const ERASE: &str = "Leaves the events of build B out";
+
+// The option by which a build is left out.
+fn erase<'a>(alloc: Global) -> Arg<'a>
+    ensures rule { rule_of result ≡ erase }
+    ensures local { result.global ≡ false }
+{
+    Arg::new(alloc, "erase")
+        .long("erase")
+        .value_name("B")
+        .help(ERASE)
+        .action(ArgAction::Set)
+        .value_parser(value_parser!(u8).range(0..=7))
+}
+
+fn history<'a>(alloc: Global) -> Result<Command<'a>, AllocError>
+    ensures { IfOk result (λ c. (app_of c ≡ history) × ((fields_of c).has_globals ≡ false)) }
+{
+    let history = Command::new(alloc, "history")
+        .about(HISTORY)
+        .after_help(HISTORY_EXAMPLE);
+    history.arg(erase(alloc))
+}
+
+fn apply<'a>(alloc: Global) -> Result<Command<'a>, AllocError>
+    ensures { IfOk result (λ c. (app_of c ≡ apply) × ((fields_of c).has_globals ≡ false)) }
+{
+    let apply = Command::new(alloc, "apply")
+        .about(APPLY)
+        .after_help(APPLY_EXAMPLE);
+    apply.arg(erase(alloc))
+}
+
+fn program<'a>(alloc: Global) -> Command<'a>
+    ensures { app_of result ≡ program }
+{
+    let named = Command::new(alloc, "realmview")
+        .version("0.1.0")
+        .about(ABOUT);
+    named
+        .subcommand_required(true)
+        .disable_help_subcommand(true)
+}
+
+/// What the command line's reader is told of the program.
+fn command<'a>(alloc: Global) -> Result<Command<'a>, AllocError>
+    ensures { IfOk result (λ c. app_of c ≡ realmview) }
+{
+    let history = history(alloc)?;
+    let apply = apply(alloc)?;
+    program(alloc).subcommand(history)?.subcommand(apply)
+}
+
+// The build of a number, if there may be one.
+fn build_of(number: Option<u8>) -> Option<BuildId>
+    ensures { result ≡ option_and_then (λ n. if nat_lt n 8 then Some n else None) number }
+{
+    BuildId::new(number?)
+}
+
+impl Asked {
+    ghost use Rattle.std.specs.Prelude.{map, string_bytes};
+    ghost use Rattle.clap.specs.Words.{FailsBy, fault_of, subcommand_of};
+    ghost use Rattle.view_program.specs.Line.{IsAsked};
+
+    /// What the words ask for. The first word is the program's name.
+    pub fn of(alloc: Global, words: &[String]) -> Result<Asked, Error>
+        // What clap's definition of a simple command gives for the words.
+        ensures ok { IfOk result (IsAsked (subcommand_of realmview (map string_bytes words.now))) }
+        // Which kind an error has: one that the definition names, or want of memory.
+        ensures kinds { FailsBy (fault_of realmview (map string_bytes words.now)) result }
+    {
+        let mut program = command(alloc)?;
+        let matches = program.try_get_matches_from_mut(words)?;
+        if let Some(history) = matches.subcommand_matches("history") {
+            return Ok(Asked::History(build_of(history.get_one("erase"))));
+        }
+        let Some(apply) = matches.subcommand_matches("apply") else {
+            unreachable!()
+        };
+        Ok(Asked::Apply(build_of(apply.get_one("erase"))))
+    }
+}

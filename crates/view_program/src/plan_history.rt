@@ -1,0 +1,82 @@
+//! A plan in, its history out.
+ghost use Rattle.std.specs.Prelude.{◌≡◌, ◌+◌, ◌≤◌, ◌↔◌, ◌⊎◌, false, true, Err, IfOk, IfErr, string_bytes};
+ghost use Rattle.realm_plan.specs.PlanView.{plan_view};
+ghost use Rattle.realm_program.specs.Printed.{IsEnd};
+ghost use Rattle.realm_program.specs.declared.fault.Fault.TheVariants.{Device};
+ghost use Rattle.view_program.specs.History.{opening_of, IsBuildOf, IsHistoryText, IsWithoutHistory};
+
+use buddy::BuddyArena;
+use granule_addr::BuildId;
+use history_text::{Opening, push_history};
+use plan_runs::run_turns;
+use realm_plan::Plan;
+use realm_program::{Fault, boot, plan_in};
+use std::alloc::Global;
+use std::io::{Read, Write};
+use told_device::Told;
+
+// The size of the plan's machine.
+fn opening_of(plan: &Plan) -> Opening
+    ensures { result ≡ opening_of (plan_view plan.now) }
+{
+    Opening {
+        pages: plan.pages,
+        vmids: plan.vmids,
+        aux: plan.aux,
+        history: plan.history,
+        builds: plan.builds.len() as u8,
+    }
+}
+
+// The build to be left out, which is one of the plan's.
+fn checked_erase(plan: &Plan, erase: Option<BuildId>) -> Result<Option<BuildId>, Fault>
+    ensures ok { IfOk result (λ checked. (checked ≡ erase) × IsBuildOf erase (plan_view plan.now)) }
+    ensures err { IfErr result (IsWithoutHistory erase (plan_view plan.now)) }
+{
+    let Some(build) = erase else {
+        return Ok(None);
+    };
+    if build.number() as usize >= plan.builds.len() {
+        return Err(Fault::EraseNamesNoBuild);
+    }
+    Ok(Some(build))
+}
+
+// The history of a run of the plan.
+fn text_of(alloc: Global, plan: &Plan, erase: Option<BuildId>) -> Result<String, Fault>
+    ensures ok { IfOk result (λ text. IsHistoryText erase (plan_view plan.now) (string_bytes text)) }
+    ensures err { IfErr result (IsWithoutHistory erase (plan_view plan.now)) }
+{
+    let erase = checked_erase(plan, erase)?;
+    let mut lines = String::new(alloc);
+    let mut host = boot::<BuddyArena>(alloc, plan)?;
+    run_turns(&mut host, plan, &mut lines)?;
+    let opening = opening_of(plan);
+    let mut text = String::new(alloc);
+    push_history(&mut text, &opening, host.history(), erase)?;
+    Ok(text)
+}
+
+/// Reads a plan, runs it, and writes its history; a build may be left out.
+///
+/// The text is made whole before any of it is written. Errors: the fault of a plan; EraseNamesNoBuild, where the build to be
+/// left out is none of the plan's; Memory, where a growth was refused; Device, where a read failed, and then nothing is
+/// written, or a write, and then a front of the text is.
+pub fn history<R: Read, W: Write>(
+    alloc: Global,
+    input: &mut Told<R>,
+    output: &mut Told<W>,
+    erase: Option<BuildId>,
+) -> Result<(), Fault>
+    requires readable { input.old.failed ≡ false }
+    requires writable { output.old.failed ≡ false }
+    ensures end { IsEnd (IsHistoryText erase) (IsWithoutHistory erase) input.new.failed
+        (R.remaining input.old.device) (W.contents output.old.device) (W.contents output.new.device) result }
+    ensures device { ((input.new.failed ≡ true) ⊎ (output.new.failed ≡ true)) ↔ (result ≡ Err Device) }
+    ensures asked { input.new.reads ≤ input.old.reads + 1048578 }
+{
+    let plan = plan_in(alloc, input)?;
+    let text = text_of(alloc, &plan, erase)?;
+    output.write_whole(text.as_bytes())?;
+    Ok(())
+}

@@ -1,0 +1,26 @@
+//! What the command line asks for is done.
+ghost use Rattle.std.specs.Prelude.{◌≡◌, false};
+ghost use Rattle.view_program.specs.Printed.{IsRunEnd};
+
+use crate::{Asked, Fault, apply, history};
+use std::alloc::Global;
+use std::io::{Read, Write};
+use told_device::Told;
+
+/// Does what is asked, over any reader and any writer.
+pub fn run<R: Read, W: Write>(
+    alloc: Global,
+    asked: Asked,
+    input: &mut Told<R>,
+    output: &mut Told<W>,
+) -> Result<(), Fault>
+    requires readable { input.old.failed ≡ false }
+    requires writable { output.old.failed ≡ false }
+    ensures end { IsRunEnd asked input.new.failed (R.remaining input.old.device) (W.contents output.old.device) (W.contents output.new.device) result }
+{
+    match asked {
+        Asked::History(erase) => history(alloc, input, output, erase)?,
+        Asked::Apply(erase) => apply(alloc, input, output, erase)?,
+    }
+    Ok(())
+}
