@@ -3,3 +3,4 @@ mod Faults
 mod Takings
 mod Legal
 mod ApplyEnds
+mod Once

@@ -1,11 +1,21 @@
-//! A law of histories that are applied.
-ghost use Rattle.std.specs.Prelude.{ℕ, List};
+//! Laws of histories that are applied.
+ghost use Rattle.std.specs.Prelude.{◌≡◌, ℕ, List};
 ghost use Rattle.realm_model.specs.History.{IsLegal};
 ghost use Rattle.build_books.specs.View.{HostView};
 ghost use Rattle.history_text.specs.declared.opening.Opening.{Opening};
-ghost use Rattle.view_program.specs.Applied.{IsHistory, IsLegalText};
+ghost use Rattle.view_program.specs.Applied.{IsHistory, IsLegalText, OpensNone, IsNoEvent, IsRefused, StopsAt};
 
 /// Lines that are a history are the texts of the events of their host, in their order, and these are a legal history.
 pub fn what_is_applied_is_legal()
     ensures { (lines : List (List ℕ)) (o : Opening) (host : HostView) → IsHistory lines o host → IsLegalText lines host }
+{}
+
+/// Lines are a history in one way, of one machine and with one host, or they stop in one of three ways: they open no machine,
+/// or a line is no event, or one is refused. No lines are both.
+pub fn histories_do_not_stop()
+    ensures machine { (lines : List (List ℕ)) (o p : Opening) (host other : HostView) → IsHistory lines o host → IsHistory lines p other → o ≡ p }
+    ensures host { (lines : List (List ℕ)) (o p : Opening) (host other : HostView) → IsHistory lines o host → IsHistory lines p other → host ≡ other }
+    ensures opens { (lines : List (List ℕ)) (o : Opening) (host : HostView) → IsHistory lines o host → OpensNone lines → ⊥ }
+    ensures events { (lines : List (List ℕ)) (o : Opening) (host : HostView) (number : ℕ) → IsHistory lines o host → StopsAt (λ it line. IsNoEvent line) lines number → ⊥ }
+    ensures accepted { (lines : List (List ℕ)) (o : Opening) (host : HostView) (number : ℕ) → IsHistory lines o host → StopsAt IsRefused lines number → ⊥ }
 {}

@@ -17,7 +17,7 @@ mod taking;
 
 pub use applying::apply;
 pub use fault::Fault;
-pub use law::what_is_applied_is_legal;
+pub use law::{histories_do_not_stop, what_is_applied_is_legal};
 pub use line::Asked;
 pub use plan_history::history;
 pub use running::run;
