@@ -3,7 +3,6 @@ use Rattle.std.proofs.Common.{◌≡◌, ℕ, List, [], ◌∷◌, ◌++◌, ref
 use Rattle.realm_model.specs.declared.act.Event.{Event}
 use Rattle.build_books.specs.View.{HostView, with_event}
 use Rattle.realm_host.specs.Recorded.{CanApply}
-use Rattle.history_text.specs.Events.{IsEventText}
 use Rattle.history_text.specs.Histories.{opening_numbers, IsOpeningText}
 use Rattle.history_text.specs.declared.opening.Opening.{Opening}
 use Rattle.history_text.proofs.EventTexts.{written_once}
