@@ -68,10 +68,11 @@ def make(crate, made, work):
 
 
 class Lanes:
-    """Runs the work of crates side by side, each after that of its libraries.
+    """Runs the work of crates side by side, each after that of its libraries, with no more jobs in all than processors.
 
-    The crate with the longest way of others above it comes first. It gets as many jobs as there are processors, and the others
-    fill what it leaves free: they run with less priority, as many as memory holds."""
+    The crate with the longest way of others above it comes first, and gets the processors that no other crate waits for, at
+    least two. The others have one job each, and less priority. Jobs of one crate share less than its own work, so a job for
+    another crate is always better spent; and no more crates run at once than memory holds."""
 
     def __init__(self, toolchain):
         self.rt, self.processors, self.memory = toolchain.rt, toolchain.rt.processors(), 0.85 * toolchain.rt.free()
@@ -82,22 +83,25 @@ class Lanes:
         left, way, waits, running, went = list(crates), ways_above(crates), waits_of(crates), {}, {}
         with ThreadPoolExecutor(len(left) or 1) as pool:
             while left or running:
-                for crate in sorted(left, key=lambda it: -way[it.name]):
-                    if all(name in went for name in waits[crate.name]):
-                        is_first = way[crate.name] >= max(way[it.name] for it in [crate, *running.values()])
-                        jobs = self.processors if is_first else max(self.processors // 2, 1)
-                        if self.has_room(crate, jobs, running.values()):
-                            left.remove(crate)
-                            failed = [name for name in waits[crate.name] if not went[name]]
-                            running[pool.submit(work, crate, jobs, 0 if is_first else 10, failed)] = crate
+                ready = [it for it in left if all(name in went for name in waits[it.name])]
+                ready.sort(key=lambda it: -way[it.name])
+                for place, crate in enumerate(ready):
+                    held = [it for it, _ in running.values()]
+                    is_first = way[crate.name] >= max(way[it.name] for it in [crate, *left, *held])
+                    free = self.processors - sum(jobs for _, jobs in running.values())
+                    jobs = max(free - len(ready[place + 1 :]), min(free, 2)) if is_first else min(free, 1)
+                    if not running or jobs > 0 and self.has_room(crate, jobs, running.values()):
+                        left.remove(crate)
+                        failed = [name for name in waits[crate.name] if not went[name]]
+                        running[pool.submit(work, crate, jobs, 0 if is_first else 10, failed)] = crate, jobs
                 for it in wait(running, return_when=FIRST_COMPLETED).done:
-                    went[running.pop(it).name] = it.result()
+                    went[running.pop(it)[0].name] = it.result()
         return all(went.values())
 
     def has_room(self, crate, jobs, running):
         # (a job more takes about six tenths of what the first one takes)
-        held = sum(self.rt.need(it) * (1 + 0.6 * (self.processors // 2 - 1)) for it in running)
-        return not running or held + self.rt.need(crate) * (1 + 0.6 * (jobs - 1)) <= self.memory
+        need = lambda it, jobs: self.rt.need(it) * (1 + 0.6 * (jobs - 1))
+        return sum(need(*it) for it in running) + need(crate, jobs) <= self.memory
 
 
 def waits_of(crates):
