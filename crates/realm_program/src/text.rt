@@ -1,11 +1,12 @@
 //! A plan in, the text of its run out.
-ghost use Rattle.std.specs.Prelude.{◌≡◌, ◌+◌, ◌≤◌, ◌↔◌, ◌⊎◌, ◌≢◌, false, true, Err, IfOk, IfErr, string_bytes};
+ghost use Rattle.std.specs.Prelude.{◌≡◌, ◌+◌, ◌<◌, ◌≤◌, ◌↔◌, ◌⊎◌, ◌≢◌, [], false, true, Err, IfOk, IfErr, string_bytes, vec_len};
+ghost use Rattle.std.specs.Result.{OnOk};
 ghost use Rattle.plan_runs.specs.Run.{IsToldRun};
 ghost use Rattle.realm_plan.specs.PlanView.{plan_view};
 ghost use Rattle.realm_program.specs.Printed.{IsEnd};
 ghost use Rattle.realm_host.specs.Recorded.{fresh_like};
 ghost use Rattle.realm_program.specs.Replay.{opening_host, LeadsTo, IsMapWithout, IsText, IsErasedText, IsAskedText, IsWithoutText};
-ghost use Rattle.realm_program.specs.declared.fault.Fault.TheVariants.{Memory, Device, Mismatch};
+ghost use Rattle.realm_program.specs.declared.fault.Fault.TheVariants.{Device, Mismatch};
 
 use crate::booting::boot;
 use crate::built::Built;
@@ -29,13 +30,21 @@ fn run_plan<S: Built>(alloc: Global, plan: &Plan, lines: &mut String) -> Result<
     Ok(host)
 }
 
+// Appends the text of a run of the plan.
+fn push_text<S: Built>(alloc: Global, plan: &Plan, text: &mut String) -> Result<(), AllocError>
+    requires { string_bytes text.old ≡ [] }
+    ensures { OnOk result (IsText (plan_view plan.now) (string_bytes text.new)) }
+{
+    let host = run_plan::<S>(alloc, plan, text)?;
+    push_map(text, &host)
+}
+
 /// The text of a run of the plan, made whole in memory. The one error is that allocation failed.
 pub fn text_of<S: Built>(alloc: Global, plan: &Plan) -> Result<String, AllocError>
     ensures { IfOk result (λ text. IsText (plan_view plan.now) (string_bytes text)) }
 {
     let mut text = String::new(alloc);
-    let host = run_plan::<S>(alloc, plan, &mut text)?;
-    push_map(&mut text, &host)?;
+    push_text::<S>(alloc, plan, &mut text)?;
     Ok(text)
 }
 
@@ -53,16 +62,23 @@ fn map_without(
     plan: &Plan,
     host: &Host<BuddyArena>,
     build: BuildId,
-) -> Result<String, Fault>
+) -> Result<String, AllocError>
     requires { opening_host (plan_view plan.now) ≡ fresh_like host.now }
-    ensures ok { IfOk result (λ text. IsMapWithout host.now build (string_bytes text)) }
-    ensures err { IfErr result (λ fault. fault ≡ Memory) }
+    ensures { IfOk result (λ text. IsMapWithout host.now build (string_bytes text)) }
 {
     let mut fresh = boot::<BuddyArena>(alloc, plan)?;
-    if !apply_without(host, build, &mut fresh) {
-        return Err(Fault::Mismatch);
-    }
-    Ok(map_text(alloc, &fresh)?)
+    let is_done = apply_without(host, build, &mut fresh);
+    prove!(is_done);
+    map_text(alloc, &fresh)
+}
+
+// The map of a run of the plan with one of its builds left out.
+fn run_without(alloc: Global, plan: &Plan, build: BuildId) -> Result<String, AllocError>
+    requires { build < vec_len plan.now.builds }
+    ensures { IfOk result (λ text. IsErasedText (plan_view plan.now) build (string_bytes text)) }
+{
+    let host = host_of(alloc, plan)?;
+    map_without(alloc, plan, &host, build)
 }
 
 // The map of a run of the plan with a build left out.
@@ -73,8 +89,7 @@ fn erased_text_of(alloc: Global, plan: &Plan, build: BuildId) -> Result<String, 
     if build.number() as usize >= plan.builds.len() {
         return Err(Fault::EraseNamesNoBuild);
     }
-    let host = host_of(alloc, plan)?;
-    map_without(alloc, plan, &host, build)
+    Ok(run_without(alloc, plan, build)?)
 }
 
 // The text that is asked for: a build may be left out.

@@ -79,7 +79,7 @@ fn asks_no_writer_again_that_has_failed(rt: HostRuntime) {
     for n in 0..7 {
         let mut output = told_sink(rt.alloc(), 1, Some(n as u64), false);
         holds(&rt, "a write failed", output.write_whole(text).is_err());
-        holds(&rt, "a front", output.device().has(&text[..n]));
+        holds(&rt, "a prefix", output.device().has(&text[..n]));
         was_written(&rt, &output, true, n as u64 + 1, 0);
     }
 }

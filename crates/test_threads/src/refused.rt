@@ -19,7 +19,26 @@ use std::test::Fail;
 use std::thread;
 use std::thread::Threads;
 use std::time::Clock;
-use workers::Gate;
+use workers::{Gate, Report};
+
+// The report of a guest, refused that step or none, is as it has to be.
+fn is_reported(
+    rt: &impl Abort,
+    alloc: Global,
+    report: &Option<Report>,
+    refused: Option<usize>,
+) -> Result<(), Fail> {
+    let Some(report) = report else {
+        return Err("a report".into());
+    };
+    match refused {
+        Some(step) => is_refused(rt, alloc, report, step),
+        None => {
+            is_accepted(rt, report);
+            Ok(())
+        }
+    }
+}
 
 // A guest has ended, and its report is as it has to be. Its seat comes back.
 fn ended<L: Ledgers>(rt: &impl Abort, alloc: Global, guest: Guest<L>) -> Result<Seat<L>, Fail> {
@@ -31,11 +50,7 @@ fn ended<L: Ledgers>(rt: &impl Abort, alloc: Global, guest: Guest<L>) -> Result<
         has_ended,
     } = guest;
     assert!(rt; has_ended, "build {} got no turn", seat.build().number());
-    let report = report.ok_or("a report")?;
-    match refused {
-        Some(step) => is_refused(rt, alloc, &report, step)?,
-        None => is_accepted(rt, &report),
-    }
+    is_reported(rt, alloc, &report, refused)?;
     Ok(seat)
 }
 

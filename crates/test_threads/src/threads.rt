@@ -189,38 +189,50 @@ fn boot_and_work<R: Threads + Wait + Abort + Sync, G: Gate + Sync>(
     work_together::<R, G, Brand>(rt, alloc, Blanks::new(), host, gate, plans)
 }
 
+// Builds that worked side by side ended so, each with these lines, and left this map.
+fn is_outcome(
+    rt: &impl Abort,
+    outcome: &Outcome,
+    ends: Result<(), BuildId>,
+    lines: &[&[Line]],
+    map: &str,
+) -> Result<(), Fail> {
+    assert_eq!(rt; outcome.ends, ends);
+    let mut number = 0;
+    for want in lines {
+        has_lines(rt, outcome, number, want)?;
+        number = number.saturating_add(1);
+    }
+    assert_eq!(rt; outcome.map.as_str(), map);
+    Ok(())
+}
+
 #[test]
 fn one_of_three_is_refused(rt: HostRuntime) -> Result<(), Fail> {
     let outcome = boot_and_work(&rt, rt.alloc(), 16, &OpenGate, three_plans(rt.alloc())?)?;
-    assert_eq!(rt; outcome.ends, Ok(()));
-    has_lines(&rt, &outcome, 0, &[taken(), replied(1, Reply::Done)])?;
-    let want = [
+    let is_refused = [
         taken(),
         replied(1, Reply::Done),
         answered(2, Answer::Refused(Refusal::Rmi(Rmi::INPUT))),
         undone(Kind::Delegate, 1),
         undone(Kind::Take, 0),
     ];
-    has_lines(&rt, &outcome, 1, &want)?;
-    let want = [taken(), replied(1, Reply::Done), replied(2, Reply::Byte(2))];
-    has_lines(&rt, &outcome, 2, &want)?;
+    let fills = [taken(), replied(1, Reply::Done)];
+    let reads = [taken(), replied(1, Reply::Done), replied(2, Reply::Byte(2))];
     let map = "0 page 0 UNDELEGATED 4096
 0 page 1 UNDELEGATED 0
 2 page 0 UNDELEGATED 8192
 free 13
 ";
-    assert_eq!(rt; outcome.map.as_str(), map);
-    Ok(())
+    is_outcome(&rt, &outcome, Ok(()), &[&fills, &is_refused, &reads], map)
 }
 
 #[test]
 fn two_of_three_are_stopped(rt: HostRuntime) -> Result<(), Fail> {
     let second = BuildId::new(1).unwrap();
     let outcome = boot_and_work(&rt, rt.alloc(), 16, &ForBuild0, three_plans(rt.alloc())?)?;
-    assert_eq!(rt; outcome.ends, Err(second));
-    has_lines(&rt, &outcome, 0, &[taken(), replied(1, Reply::Done)])?;
-    has_lines(&rt, &outcome, 1, &[taken()])?;
-    has_lines(&rt, &outcome, 2, &[taken()])?;
+    let fills = [taken(), replied(1, Reply::Done)];
+    let is_stopped = [taken()];
     let map = "0 page 0 UNDELEGATED 4096
 0 page 1 UNDELEGATED 0
 1 page 0 UNDELEGATED 0
@@ -228,23 +240,24 @@ fn two_of_three_are_stopped(rt: HostRuntime) -> Result<(), Fail> {
 2 page 0 UNDELEGATED 0
 free 11
 ";
-    assert_eq!(rt; outcome.map.as_str(), map);
-    Ok(())
+    is_outcome(
+        &rt,
+        &outcome,
+        Err(second),
+        &[&fills, &is_stopped, &is_stopped],
+        map,
+    )
 }
 
 #[test]
 fn each_reads_after_both_have_filled(rt: HostRuntime) -> Result<(), Fail> {
     let gate = Together::from(&rt);
     let outcome = boot_and_work(&rt, rt.alloc(), 2, &gate, two_plans(rt.alloc())?)?;
-    assert_eq!(rt; outcome.ends, Ok(()));
-    let want = [taken(), replied(1, Reply::Done), replied(2, Reply::Byte(9))];
-    has_lines(&rt, &outcome, 0, &want)?;
-    let want = [taken(), replied(1, Reply::Done), replied(2, Reply::Byte(3))];
-    has_lines(&rt, &outcome, 1, &want)?;
+    let first = [taken(), replied(1, Reply::Done), replied(2, Reply::Byte(9))];
+    let second = [taken(), replied(1, Reply::Done), replied(2, Reply::Byte(3))];
     let map = "0 page 0 UNDELEGATED 36864
 1 page 0 UNDELEGATED 12288
 free 0
 ";
-    assert_eq!(rt; outcome.map.as_str(), map);
-    Ok(())
+    is_outcome(&rt, &outcome, Ok(()), &[&first, &second], map)
 }

@@ -1,5 +1,5 @@
 //! A history in, the map of the machine that it leads to out.
-ghost use Rattle.std.specs.Prelude.{◌≡◌, ◌↔◌, ◌⊎◌, false, true, Err, IfOk, IfErr, string_bytes};
+ghost use Rattle.std.specs.Prelude.{◌≡◌, ◌<◌, ◌↔◌, ◌⊎◌, false, true, Err, IfOk, IfErr, string_bytes};
 ghost use Rattle.realm_host.specs.Recorded.{fresh_like};
 ghost use Rattle.history_text.specs.Histories.{IsSize};
 ghost use Rattle.view_program.specs.Applied.{opened, IsHistoryIn, IsNoHistoryIn, IsMap, HasNoMap};
@@ -15,7 +15,7 @@ use history_text::Opening;
 use input_lines::Lines;
 use plan_runs::map_text;
 use realm_host::{Host, apply_without};
-use std::alloc::Global;
+use std::alloc::{AllocError, Global};
 use std::io::{Read, Write};
 use told_device::Told;
 
@@ -43,19 +43,16 @@ fn map_without(
     opening: &Opening,
     host: &Host<BuddyArena>,
     build: BuildId,
-) -> Result<String, Fault>
+) -> Result<String, AllocError>
     requires size { IsSize opening.now }
+    requires build { build < opening.now.builds }
     requires machine { fresh_like host.now ≡ opened opening.now }
-    ensures ok { IfOk result (λ text. IsMap (Some build) opening.now host.now (string_bytes text)) }
-    ensures err { IfErr result (HasNoMap (Some build) opening.now) }
+    ensures { IfOk result (λ text. IsMap (Some build) opening.now host.now (string_bytes text)) }
 {
-    if build.number() >= opening.builds {
-        return Err(Fault::EraseNamesNoBuild);
-    }
     let mut fresh = boot(alloc, opening)?;
     let is_done = apply_without(host, build, &mut fresh);
     prove!(is_done);
-    Ok(map_text(alloc, &fresh)?)
+    map_text(alloc, &fresh)
 }
 
 // The map that is asked for: a build may be left out.
@@ -70,10 +67,13 @@ fn asked_map(
     ensures ok { IfOk result (λ text. IsMap erase opening.now host.now (string_bytes text)) }
     ensures err { IfErr result (HasNoMap erase opening.now) }
 {
-    match erase {
-        Some(build) => map_without(alloc, opening, host, build),
-        None => Ok(map_text(alloc, host)?),
+    let Some(build) = erase else {
+        return Ok(map_text(alloc, host)?);
+    };
+    if build.number() >= opening.builds {
+        return Err(Fault::EraseNamesNoBuild);
     }
+    Ok(map_without(alloc, opening, host, build)?)
 }
 
 /// Reads a history, applies each of its events as it is recorded, and writes the map of the machine that it leads to; or,
@@ -82,7 +82,7 @@ fn asked_map(
 /// The map is made whole before any of it is written. Errors: NoOpening, where the first line opens no machine, or there is
 /// none; NoEvent, with the first line that is no event, and Refused, with the first that is one and cannot be applied,
 /// whichever comes first; EraseNamesNoBuild, where all is a history and the build to be left out is none of the machine's;
-/// Memory, where a growth was refused; Device, where a read failed, and then nothing is written, or a write, and then a front
+/// Memory, where allocation failed; Device, where a read failed, and then nothing is written, or a write, and then a prefix
 /// of the map is. The input is read line by line, and of a line no more than 256 bytes are kept.
 pub fn apply<R: Read, W: Write>(
     alloc: Global,

@@ -2,6 +2,7 @@
 ghost use Rattle.std.specs.Prelude.{◌≡◌, ◌+◌, ◌≤◌, ◌↔◌, ◌⊎◌, false, true, Err, IfOk, IfErr, string_bytes};
 ghost use Rattle.realm_plan.specs.PlanView.{plan_view};
 ghost use Rattle.realm_program.specs.Printed.{IsEnd};
+ghost use Rattle.realm_program.specs.Replay.{opening_host};
 ghost use Rattle.realm_program.specs.declared.fault.Fault.TheVariants.{Device};
 ghost use Rattle.view_program.specs.History.{opening_of, IsBuildOf, IsHistoryText, IsWithoutHistory};
 
@@ -9,9 +10,10 @@ use buddy::BuddyArena;
 use granule_addr::BuildId;
 use history_text::{Opening, push_history};
 use plan_runs::run_turns;
+use realm_host::Host;
 use realm_plan::Plan;
 use realm_program::{Fault, boot, plan_in};
-use std::alloc::Global;
+use std::alloc::{AllocError, Global};
 use std::io::{Read, Write};
 use told_device::Told;
 
@@ -42,26 +44,48 @@ fn checked_erase(plan: &Plan, erase: Option<BuildId>) -> Result<Option<BuildId>,
     Ok(Some(build))
 }
 
-// The history of a run of the plan.
-fn text_of(alloc: Global, plan: &Plan, erase: Option<BuildId>) -> Result<String, Fault>
-    ensures ok { IfOk result (λ text. IsHistoryText erase (plan_view plan.now) (string_bytes text)) }
-    ensures err { IfErr result (IsWithoutHistory erase (plan_view plan.now)) }
+// The history of a fresh host after a run of the plan.
+fn text_after_run(
+    alloc: Global,
+    plan: &Plan,
+    host: &mut Host<BuddyArena>,
+    erase: Option<BuildId>,
+) -> Result<String, AllocError>
+    requires fresh { host.old ≡ opening_host (plan_view plan.now) }
+    requires build { IsBuildOf erase (plan_view plan.now) }
+    ensures { IfOk result (λ text. IsHistoryText erase (plan_view plan.now) (string_bytes text)) }
 {
-    let erase = checked_erase(plan, erase)?;
     let mut lines = String::new(alloc);
-    let mut host = boot::<BuddyArena>(alloc, plan)?;
-    run_turns(&mut host, plan, &mut lines)?;
+    run_turns(host, plan, &mut lines)?;
     let opening = opening_of(plan);
     let mut text = String::new(alloc);
     push_history(&mut text, &opening, host.history(), erase)?;
     Ok(text)
 }
 
+// The history of a run of the plan, without one of its builds or whole.
+fn run_text(alloc: Global, plan: &Plan, erase: Option<BuildId>) -> Result<String, AllocError>
+    requires { IsBuildOf erase (plan_view plan.now) }
+    ensures { IfOk result (λ text. IsHistoryText erase (plan_view plan.now) (string_bytes text)) }
+{
+    let mut host = boot::<BuddyArena>(alloc, plan)?;
+    text_after_run(alloc, plan, &mut host, erase)
+}
+
+// The history of a run of the plan.
+fn text_of(alloc: Global, plan: &Plan, erase: Option<BuildId>) -> Result<String, Fault>
+    ensures ok { IfOk result (λ text. IsHistoryText erase (plan_view plan.now) (string_bytes text)) }
+    ensures err { IfErr result (IsWithoutHistory erase (plan_view plan.now)) }
+{
+    let erase = checked_erase(plan, erase)?;
+    Ok(run_text(alloc, plan, erase)?)
+}
+
 /// Reads a plan, runs it, and writes its history; a build may be left out.
 ///
 /// The text is made whole before any of it is written. Errors: the fault of a plan; EraseNamesNoBuild, where the build to be
-/// left out is none of the plan's; Memory, where a growth was refused; Device, where a read failed, and then nothing is
-/// written, or a write, and then a front of the text is.
+/// left out is none of the plan's; Memory, where allocation failed; Device, where a read failed, and then nothing is
+/// written, or a write, and then a prefix of the text is.
 pub fn history<R: Read, W: Write>(
     alloc: Global,
     input: &mut Told<R>,

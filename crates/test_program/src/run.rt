@@ -74,12 +74,12 @@ fn a_read_that_fails_writes_nothing(rt: HostRuntime) {
 }
 
 #[test]
-fn a_write_that_fails_leaves_a_front_of_the_text(rt: HostRuntime) {
+fn a_write_that_fails_leaves_a_prefix_of_the_text(rt: HostRuntime) {
     for n in 0..TEXT.len() {
         let mut input = told_source(PLAN, 25, None);
         let mut output = told_sink(rt.alloc(), 1, Some(n as u64), false);
         let outcome = run(&rt, rt.alloc(), &mut input, &mut output, &OpenGate);
         holds(&rt, "a write failed", matches!(outcome, Err(Fault::Device)));
-        holds(&rt, "a front", output.device().has(&TEXT[..n]));
+        holds(&rt, "a prefix", output.device().has(&TEXT[..n]));
     }
 }

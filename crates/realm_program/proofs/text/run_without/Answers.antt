@@ -3,7 +3,7 @@ use Rattle.std.proofs.lemmas.Result.{IfOk-weaker}
 use Rattle.plan_runs.proofs.Settings.{fresh_like-run}
 use Rattle.realm_plan.specs.PlanView.{plan_view}
 use Rattle.realm_program.specs.Replay.{opening_host}
-use Rattle.realm_program.proofs.text.erased_text_of.Goals as goal
+use Rattle.realm_program.proofs.text.run_without.Goals as goal
 
 pub map_without-requires : goal.map_without-requires
 map_without-requires c =

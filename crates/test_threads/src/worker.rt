@@ -1,11 +1,13 @@
 //! Workers over a teller and a gate in the place of a host.
+ghost use Rattle.std.specs.Prelude.{◌≡◌, ◌+◌, ◌*◌, ◌≤◌, [], length, vec_capacity};
+
 use crate::lines;
 use crate::lines::{replied, step};
 use build_books::{Books, Mark};
 use build_commands::{Cmd, Refusal, Reply, Step};
 use granule_addr::{BuildId, RecNo};
 use realm_host::{Kind, Undone};
-use std::alloc::Global;
+use std::alloc::{AllocError, Global};
 use std::process::Abort;
 use std::sync::atomic::{AtomicU64, Ordering};
 use std::test::Fail;
@@ -149,6 +151,34 @@ fn enter(number: u16) -> Step {
     })
 }
 
+// The mark of a build that has done nothing.
+fn first_mark(alloc: Global) -> Result<Mark, AllocError> {
+    let books = Books::build(alloc, 1, 1, 0, 1, 16)?;
+    Ok(books.mark_now(BuildId::new(0).unwrap()))
+}
+
+// Whether a worker takes the steps to their end.
+fn takes_all(report: &mut Report, case: &Case, mark: Mark, steps: &[Step]) -> bool
+    requires empty { report.old.lines.items ≡ [] }
+    requires few { length steps.now ≤ 16 }
+    requires room { 2 * length steps.now + 1 ≤ vec_capacity report.old.lines }
+{
+    let asked = AtomicU64::new(0);
+    let mut fake = Fake {
+        asked: &asked,
+        refused: case.refused,
+        refused_later: case.refused_later,
+        mark,
+        above: case.above,
+    };
+    let gate = Turns {
+        most: case.turns,
+        asked: &asked,
+        passed: AtomicU64::new(0),
+    };
+    work(report, steps, &mut fake, &gate).is_ok()
+}
+
 // A worker takes the steps, and has these lines then, and has ended or not.
 fn works(
     rt: &impl Abort,
@@ -158,26 +188,14 @@ fn works(
     want: &[Line],
     ended: bool,
 ) -> Result<(), Fail> {
-    let build = BuildId::new(0).unwrap();
-    let books = Books::build(alloc, 1, 1, 0, 1, 16)?;
-    let asked = AtomicU64::new(0);
-    let mut fake = Fake {
-        asked: &asked,
-        refused: case.refused,
-        refused_later: case.refused_later,
-        mark: books.mark_now(build),
-        above: case.above,
-    };
     assert!(rt; steps.len() <= 16);
-    let lines = Vec::with_capacity(alloc, 2 * steps.len() + 1)?;
-    let mut report = Report { build, lines };
-    let gate = Turns {
-        most: case.turns,
-        asked: &asked,
-        passed: AtomicU64::new(0),
+    let mark = first_mark(alloc)?;
+    let mut report = Report {
+        build: BuildId::new(0).unwrap(),
+        lines: Vec::with_capacity(alloc, 2 * steps.len() + 1)?,
     };
-    let told = work(&mut report, steps, &mut fake, &gate);
-    assert_eq!(rt; told.is_ok(), ended);
+    let has_ended = takes_all(&mut report, case, mark, steps);
+    assert_eq!(rt; has_ended, ended);
     assert_eq!(rt; report.lines.as_slice(), want);
     Ok(())
 }
