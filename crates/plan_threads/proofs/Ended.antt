@@ -1,7 +1,7 @@
 -- How a run of all workers ends.
-use Rattle.std.proofs.Common.{◌≡◌, inl, inr, ℕ, ◌++◌, true, List, length, sym, subst, ◌∙◌, ap}
+use Rattle.std.proofs.Common.{◌≡◌, inl, inr, ℕ, ◌++◌, List, length, sym, subst, ◌∙◌, ap}
 use Rattle.std.specs.Global.{Vec}
-use Rattle.std.specs.List.{AllZip, flat_map}
+use Rattle.std.specs.List.{flat_map}
 use Rattle.std.specs.Prelude.{All, ◌⊎◌, Result, Ok, Err, IfOk, IfErr}
 use Rattle.std.proofs.lemmas.List.Elements.{length_all_zip}
 use Rattle.build_books.specs.View.{HostView}
@@ -17,7 +17,7 @@ use Rattle.realm_plan.specs.Plan.{Plan}
 use Rattle.report_audit.specs.Fitting.{ReportFits}
 use Rattle.workers.specs.declared.report.Report.{Report}
 use Rattle.plan_threads.specs.Text.{report_lines, audit_line}
-use Rattle.plan_threads.specs.Threads.{new_workers, seats_of, IsReportOf, IsEndedRun, IsText, IsStuck, IsMismatch, IsWithoutText}
+use Rattle.plan_threads.specs.Threads.{new_workers, AreLeft, IsEndedRun, IsText, IsStuck, IsMismatch, IsWithoutText}
 use Rattle.plan_threads.specs.declared.fault.RunFault.{RunFault}
 use Rattle.plan_threads.specs.declared.fault.RunFault.TheVariants.{Memory, Mismatch}
 use Rattle.plan_threads.proofs.Reports.{workers_fit, reports_fit, text_of_workers}
@@ -27,44 +27,45 @@ pub same_length : (opened : HostView) (passes stops : ℕ → ℕ → Type 0) (o
 unfolding AreRun
 same_length opened passes stops old new are = sym (length_all_zip (λ (before after : WorkerView). IsRun opened (passes before.seat.build) (stops before.seat.build) before after) old new are)
 
-module _ (plan : Plan) (passes stops : ℕ → ℕ → Type 0) (start opened : HostView) (is_start : opened ≡ start) (old new : List WorkerView) (are_new : old ≡ new_workers plan)
-    (run : AreRun start passes stops old new) where
-  run_of : AreRun opened passes stops (new_workers plan) new
-  run_of = subst (λ (o : HostView). AreRun o passes stops (new_workers plan) new) (sym is_start) (subst (λ (ws : List WorkerView). AreRun start passes stops ws new) are_new run)
+pub is_stuck : (plan : Plan) (passes stops : ℕ → ℕ → Type 0) (opened : HostView) (old new : List WorkerView) → old ≡ new_workers plan → AreRun opened passes stops old new
+    → (build : ℕ) → IsLowestWaiting new build → IsStuck plan passes stops opened build
+is_stuck plan passes stops opened old new are_new run build waits = record {
+  workers = new;
+  run = subst (λ (ws : List WorkerView). AreRun opened passes stops ws new) are_new run;
+  waits = waits;
+}
 
-  pub is_stuck : (build : ℕ) → IsLowestWaiting new build → IsStuck plan passes stops opened build
-  is_stuck build waits = record { workers = new; run = run_of; waits = waits }
+-- ---- all have ended
 
-  -- ---- all have ended
+module _ (plan : Plan) (passes stops : ℕ → ℕ → Type 0) (opened : HostView) (seats : List SeatView) (reports : List (Report × Vec Step)) (left : AreLeft plan passes stops opened seats reports)
+    (host : HostView) (back : IsGivenBack opened host seats) where
+  ended_run : IsEndedRun plan passes stops opened host left.workers
+  ended_run = record { run = left.run; ended = left.ended; given_back = subst (IsGivenBack opened host) left.seats_are back }
 
-  module _ (ended : All (λ (worker : WorkerView). worker.ended ≡ true) new) (host : HostView) (seats : List SeatView) (seats_are : seats ≡ seats_of new) where
-    ended_run : IsGivenBack start host seats → IsEndedRun plan passes stops opened host new
-    ended_run back = record {
-      run = run_of;
-      ended = ended;
-      given_back = subst (λ (o : HostView). IsGivenBack o host (seats_of new)) (sym is_start) (subst (IsGivenBack start host) seats_are back);
-    }
+  -- a host that is not closed
+  pub not_closed : (fault : CloseFault) → IsFault fault host seats → IsMismatch plan passes stops opened
+  not_closed fault bad = record { host = host; workers = left.workers; is_run = ended_run; differs = inl (fault, subst (IsFault fault host) left.seats_are bad) }
 
-    -- a host that is not closed
-    pub not_closed : (fault : CloseFault) → IsGivenBack start host seats → IsFault fault host seats → IsMismatch plan passes stops opened
-    not_closed fault back bad = record { host = host; workers = new; is_run = ended_run back; differs = inl (fault, subst (IsFault fault host) seats_are bad) }
+  -- a report that does not fit
+  pub misfit : (All (ReportFits host.history) reports → ⊥) → IsMismatch plan passes stops opened
+  misfit bad = record {
+    host = host;
+    workers = left.workers;
+    is_run = ended_run;
+    differs = inr (λ fit. bad (reports_fit host.history left.workers reports left.reports_are fit));
+  }
 
-    module _ (reports : List (Report × Vec Step)) (are_reports : AllZip IsReportOf new reports) (back : IsGivenBack start host seats) where
-      -- a report that does not fit
-      pub misfit : (All (ReportFits host.history) reports → ⊥) → IsMismatch plan passes stops opened
-      misfit bad = record { host = host; workers = new; is_run = ended_run back; differs = inr (λ fit. bad (reports_fit host.history new reports are_reports fit)) }
-
-      -- the text
-      pub is_text : (text : List ℕ) → IsClosed host seats → All (ReportFits host.history) reports
-          → text ≡ flat_map (report_lines plan) reports ++ (map_text host ++ audit_line) → IsText plan passes stops opened text
-      is_text text closed fit whole = record {
-        host = host;
-        workers = new;
-        is_run = ended_run back;
-        closed = subst (IsClosed host) seats_are closed;
-        fit = workers_fit host.history new reports are_reports fit;
-        whole = whole ∙ ap (λ (lines : List ℕ). lines ++ (map_text host ++ audit_line)) (text_of_workers plan new reports are_reports);
-      }
+  -- the text
+  pub is_text : (text : List ℕ) → IsClosed host seats → All (ReportFits host.history) reports
+      → text ≡ flat_map (report_lines plan) reports ++ (map_text host ++ audit_line) → IsText plan passes stops opened text
+  is_text text closed fit whole = record {
+    host = host;
+    workers = left.workers;
+    is_run = ended_run;
+    closed = subst (IsClosed host) left.seats_are closed;
+    fit = workers_fit host.history left.workers reports left.reports_are fit;
+    whole = whole ∙ ap (λ (lines : List ℕ). lines ++ (map_text host ++ audit_line)) (text_of_workers plan left.workers reports left.reports_are);
+  }
 
 -- ---- what a call says of its text, or of why there is none
 

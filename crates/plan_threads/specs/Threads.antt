@@ -1,7 +1,7 @@
 -- Runs of a plan in threads, and what is printed of one.
 use Rattle.std.specs.Prelude.{◌≡◌, ◌⊎◌, ℕ, true, false, List, [], ◌++◌, map, length, All}
 use Rattle.std.specs.Global.{Vec}
-use Rattle.std.specs.List.{flat_map, range_with_len}
+use Rattle.std.specs.List.{AllZip, flat_map, range_with_len}
 use Rattle.build_books.specs.View.{HostView}
 use Rattle.build_commands.specs.declared.cmd.Step.{Step}
 use Rattle.builders.specs.Close.{IsClosed, IsGivenBack}
@@ -46,6 +46,14 @@ pub record IsEndedRun (plan : Plan) (passes stops : ℕ → ℕ → Type 0) (ope
   pub run : AreRun opened passes stops (new_workers plan) workers
   pub ended : All (λ worker. worker.ended ≡ true) workers
   pub given_back : IsGivenBack opened host (seats_of workers)
+
+-- The workers of the plan's builds have run, and each has ended and left its seat and its report.
+pub record AreLeft (plan : Plan) (passes stops : ℕ → ℕ → Type 0) (opened : HostView) (seats : List SeatView) (reports : List (Report × Vec Step)) : Type 0 where
+  pub workers : List WorkerView
+  pub run : AreRun opened passes stops (new_workers plan) workers
+  pub ended : All (λ worker. worker.ended ≡ true) workers
+  pub seats_are : seats ≡ seats_of workers
+  pub reports_are : AllZip IsReportOf workers reports
 
 -- the worker's accepted lines tell its build's events in the history, one by one
 abbrev pub WorkerFits : List Event → WorkerView → Type 0

@@ -1,7 +1,9 @@
 //! All builds of a plan at once.
-ghost use Rattle.std.specs.Prelude.{◌≡◌, [], vec_len, string_bytes, IfOk, IfErr};
+ghost use Rattle.std.specs.Prelude.{◌≡◌, [], map, vec_len, string_bytes, IfOk, IfErr};
 ghost use Rattle.realm_plan.specs.PlanView.{plan_view};
-ghost use Rattle.plan_threads.specs.Threads.{IsWithoutText, IsText};
+ghost use Rattle.plan_threads.specs.Threads.{AreLeft, IsWithoutText, IsText};
+ghost use Rattle.builders.specs.Seats.{new_seat};
+ghost use Rattle.std.specs.List.{range_with_len};
 ghost use Rattle.plan_threads.specs.Order.{OrderIsNotTold};
 ghost use Rattle.builders.specs.Names.{AreNamed};
 
@@ -9,7 +11,7 @@ use crate::ends::{Ends, ends_of};
 use crate::fault::RunFault;
 use crate::new_workers::workers_of;
 use crate::text::audited_text_of;
-use builders::{Blanks, Ledgers, Shared, run_builds};
+use builders::{Blanks, Ledgers, Seat, Shared, run_builds};
 use page_arena::PageStore;
 use realm_host::Host;
 use realm_plan::Plan;
@@ -18,6 +20,32 @@ use std::marker::{Brand, Send, Sync};
 use std::sync::Wait;
 use std::thread::Threads;
 use workers::Gate;
+
+// The workers of the plan's builds run in new seats of a shared host, and end. What they leave.
+fn work_all<
+    R: Threads + Wait + Sync,
+    S: PageStore + Send,
+    G: Gate + Sync,
+    L: Ledgers + Send + Sync,
+>(
+    rt: &R,
+    alloc: Global,
+    plan: &Plan,
+    shared: &Shared<S, L>,
+    seats: Vec<Seat<L>>,
+    gate: &G,
+) -> Result<Ends<L>, RunFault>
+    requires { seats.items ≡ map new_seat (range_with_len 0 (vec_len plan.now.builds)) }
+    ensures ok { IfOk result (λ ends. AreLeft (plan_view plan.now) (G.passes gate.now) (G.stops gate.now) L.opened ends.seats.items ends.reports.items) }
+    ensures err { IfErr result (IsWithoutText (plan_view plan.now) (G.passes gate.now) (G.stops gate.now) L.opened) }
+{
+    let mut workers = workers_of(alloc, plan, seats)?;
+    if let Err(build) = run_builds(rt, shared, workers.as_mut_slice(), gate) {
+        return Err(RunFault::Stuck(build));
+    }
+    let ends = ends_of(alloc, workers)?;
+    Ok(ends)
+}
 
 // As `run_text`, with ledgers of these names.
 fn run_with<
@@ -44,11 +72,7 @@ fn run_with<
         Ok(started) => started,
         Err((error, _blanks, _host)) => return Err(error.into()),
     };
-    let mut workers = workers_of(alloc, plan, seats)?;
-    if let Err(build) = run_builds(rt, &shared, workers.as_mut_slice(), gate) {
-        return Err(RunFault::Stuck(build));
-    }
-    let Ends { seats, reports } = ends_of(alloc, workers)?;
+    let Ends { seats, reports } = work_all(rt, alloc, plan, &shared, seats, gate)?;
     let Ok(host) = shared.close(seats) else {
         return Err(RunFault::Mismatch);
     };

@@ -1,8 +1,8 @@
-use Rattle.std.proofs.Common.{string_bytes, subst, List, ℕ, []}
+use Rattle.std.proofs.Common.{string_bytes, subst, List, ℕ}
 use Rattle.std.proofs.lemmas.Result.{IfOk-weaker}
 use Rattle.plan_runs.specs.Run.{IsToldRun}
 use Rattle.realm_plan.specs.PlanView.{plan_view}
-use Rattle.realm_program.specs.Replay.{opening_host, LeadsTo}
+use Rattle.realm_program.specs.Replay.{opening_host}
 use Rattle.realm_program.proofs.text.host_of.Goals as goal
 
 pub returns : goal.returns

@@ -1,5 +1,3 @@
-use Rattle.std.proofs.Common.{string_bytes}
-use Rattle.std.proofs.lemmas.Result.{IfOk-weaker}
 use Rattle.plan_runs.proofs.Settings.{fresh_like-run}
 use Rattle.realm_plan.specs.PlanView.{plan_view}
 use Rattle.realm_program.specs.Replay.{opening_host}
