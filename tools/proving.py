@@ -70,9 +70,9 @@ def make(crate, made, work):
 class Lanes:
     """Runs the work of crates side by side, each after that of its libraries, with no more jobs in all than processors.
 
-    The crate with the longest way of others above it comes first, and gets the processors that no other crate waits for, at
-    least two. The others have one job each, and less priority. Jobs of one crate share less than its own work, so a job for
-    another crate is always better spent; and no more crates run at once than memory holds."""
+    The crate with the longest way of others above it comes first, and gets the processors that no other crate waits for. The
+    others have one job each, and less priority: two jobs of one crate do less than two crates, since each reads the libraries
+    anew. No more crates run at once than memory holds."""
 
     def __init__(self, toolchain):
         self.rt, self.processors, self.memory = toolchain.rt, toolchain.rt.processors(), 0.85 * toolchain.rt.free()
@@ -89,7 +89,7 @@ class Lanes:
                     held = [it for it, _ in running.values()]
                     is_first = way[crate.name] >= max(way[it.name] for it in [crate, *left, *held])
                     free = self.processors - sum(jobs for _, jobs in running.values())
-                    jobs = max(free - len(ready[place + 1 :]), min(free, 2)) if is_first else min(free, 1)
+                    jobs = max(free - len(ready[place + 1 :]), min(free, 1)) if is_first else min(free, 1)
                     if not running or jobs > 0 and self.has_room(crate, jobs, running.values()):
                         left.remove(crate)
                         failed = [name for name in waits[crate.name] if not went[name]]
