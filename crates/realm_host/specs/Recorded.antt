@@ -1,16 +1,25 @@
 -- Recorded events, applied again.
-use Rattle.std.specs.Prelude.{◌≡◌, ℕ, [], ◌∷◌, ◌++◌}
+use Rattle.std.specs.Prelude.{◌≡◌, ◌<◌, ◌≤◌, ◌⊎◌, ℕ, true, false, [], ◌∷◌, ◌++◌}
 use Rattle.realm_model.specs.declared.act.Event.{Event}
 use Rattle.realm_model.specs.History.{erase, IsLegal}
 use Rattle.realm_model.specs.World.{without}
 use Rattle.build_books.specs.View.{HostView, world_of}
 use Rattle.build_books.specs.Booted.{booted}
+use Rattle.realm_model.specs.Act.{is_reverse}
 use Rattle.realm_host.specs.Acting.{HasRoomFor}
+use Rattle.realm_host.specs.declared.why_not.WhyNot.{WhyNot}
+use Rattle.realm_host.specs.declared.why_not.WhyNot.TheVariants.{NoRoom, NotNewest, NoStep}
 
 -- An event can be applied: the history with it is legal, and its build has the room that it takes.
 pub record CanApply (host : HostView) (event : Event) : Type 0 where
   pub legal : IsLegal host.limits (host.history ++ event ∷ [])
   pub room : HasRoomFor host event.build event.act
+
+-- what stands in the way of an event that cannot be applied, of several things the first
+abbrev pub IsWhyNot : HostView → Event → WhyNot → Type 0
+IsWhyNot host event NoRoom = (event.build < host.limits.builds) × ¬ (HasRoomFor host event.build event.act)
+IsWhyNot host event NotNewest = (event.build < host.limits.builds) × HasRoomFor host event.build event.act × (is_reverse event.act ≡ true)
+IsWhyNot host event NoStep = (host.limits.builds ≤ event.build) ⊎ (HasRoomFor host event.build event.act × (is_reverse event.act ≡ false))
 
 -- a host of the same settings and as many pages, as it is booted
 abbrev pub fresh_like : HostView → HostView

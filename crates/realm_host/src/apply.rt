@@ -82,7 +82,7 @@ impl<S: PageStore> Host<S> {
     }
 
     // Whether a build has the room that an act takes, and can have it open where it has a reverse.
-    fn has_room_for(&self, build: BuildId, act: &Act) -> bool
+    pub(crate) fn has_room_for(&self, build: BuildId, act: &Act) -> bool
         requires { build < self.now.limits.builds }
         ensures { (result ≡ true) ↔ HasRoomFor self.now build act.now }
     {

@@ -17,6 +17,7 @@ mod picks;
 mod reply;
 mod settings;
 mod undo;
+mod why_not;
 mod without;
 
 pub use build_books::Mark;
@@ -25,4 +26,5 @@ pub use host::Host;
 pub use realm_model::Kind;
 pub use reply::Answer;
 pub use settings::Settings;
+pub use why_not::WhyNot;
 pub use without::apply_without;

@@ -2,6 +2,7 @@
 use Rattle.std.proofs.Common.{◌≡◌, ◌↔◌, ℕ, List, [], ◌∷◌, Option, Some, None, IfSome, Ok, Err, Bool, true, false, refl, ap, ◌∙◌, arith}
 use Rattle.std.specs.Io.KnownBytes.{Appends, prepend_known}
 use Rattle.build_books.specs.View.{HostView}
+use Rattle.realm_host.specs.declared.why_not.WhyNot.{WhyNot}
 use Rattle.told_device.specs.Whole.{AppendsFront}
 use Rattle.told_device.proofs.Read.{keeps_same}
 use Rattle.input_lines.specs.Lines.{lines_in, IsLine, HasLongLine}
@@ -63,8 +64,8 @@ module _ (first : List ℕ) (o : Opening) (opens : IsOpeningText first o) where
     reason = cut.untaken.1;
   }
 
-  stops_refused : (lines more : List (List ℕ)) (number : ℕ) → lines ≡ first ∷ more → AreCutShort (opened o) more (Refused number) → StopsAt IsRefused lines number
-  stops_refused lines more number are cut = record {
+  stops_refused : (lines more : List (List ℕ)) (number : ℕ) (why : WhyNot) → lines ≡ first ∷ more → AreCutShort (opened o) more (Refused number why) → StopsAt (IsRefused why) lines number
+  stops_refused lines more number why are cut = record {
     o = o;
     host = cut.mid;
     before = first ∷ cut.before;
@@ -82,9 +83,9 @@ module _ (first : List ℕ) (o : Opening) (opens : IsOpeningText first o) where
   no_history_in None ahead (NoEvent number) is none = tt
   no_history_in (Some xs) None (NoEvent number) is none = absurd is
   no_history_in (Some xs) (Some ys) (NoEvent number) is none = stops_no_event (lines_in xs) (lines_in ys) number is none
-  no_history_in None ahead (Refused number) is none = tt
-  no_history_in (Some xs) None (Refused number) is none = absurd is
-  no_history_in (Some xs) (Some ys) (Refused number) is none = stops_refused (lines_in xs) (lines_in ys) number is none
+  no_history_in None ahead (Refused number why) is none = tt
+  no_history_in (Some xs) None (Refused number why) is none = absurd is
+  no_history_in (Some xs) (Some ys) (Refused number why) is none = stops_refused (lines_in xs) (lines_in ys) number why is none
   no_history_in input ahead EraseNamesNoBuild is none = absurd none
   no_history_in input ahead Memory is none = tt
   no_history_in input ahead Device is none = tt
@@ -97,7 +98,7 @@ module _ (erase : Option ℕ) (unread : Bool) (input : Option (List ℕ)) where
   no_history output (Plan fault) none read = absurd none
   no_history output NoOpening none read = (none, keeps_same output)
   no_history output (NoEvent number) none read = (none, keeps_same output)
-  no_history output (Refused number) none read = (none, keeps_same output)
+  no_history output (Refused number why) none read = (none, keeps_same output)
   no_history output EraseNamesNoBuild none read = absurd none
   no_history output Memory none read = keeps_same output
   no_history output Device none read = rw (read refl) (keeps_same output)
@@ -107,12 +108,12 @@ module _ (erase : Option ℕ) (unread : Bool) (input : Option (List ℕ)) where
   no_map output o host (Plan fault) history none = absurd none
   no_map output o host NoOpening history none = absurd none
   no_map output o host (NoEvent number) history none = absurd none
-  no_map output o host (Refused number) history none = absurd none
+  no_map output o host (Refused number why) history none = absurd none
   no_map output o host EraseNamesNoBuild history none = (record { o = o; host = host; history = history; none = none }, keeps_same output)
   no_map output o host Memory history none = keeps_same output
   no_map output o host Device history none = absurd none
 
-  -- a front of the map was written
+  -- a prefix of the map was written
   pub cut_map : (old new : Option (List ℕ)) (o : Opening) (host : HostView) (text : List ℕ) → unread ≡ false → IsHistoryIn input o host → IsMap erase o host text → AppendsFront old new text
       → IsApplyEnd erase unread input old new (Err Device)
   cut_map old new o host text read history map written = rw read (record { text = text; map = record { o = o; host = host; history = history; map = map }; written = written })

@@ -7,6 +7,7 @@ use Rattle.history_text.specs.Histories.{opening_numbers, IsOpeningText}
 use Rattle.history_text.specs.declared.opening.Opening.{Opening}
 use Rattle.history_text.proofs.EventTexts.{written_once}
 use Rattle.history_text.proofs.OpeningTexts.{five_numbers, same_numbers, same_opening}
+use Rattle.realm_host.specs.declared.why_not.WhyNot.{WhyNot}
 use Rattle.view_program.specs.Applied.{opened, IsTaken, AreTaken, IsHistory, OpensNone, IsNoEvent, IsRefused, StopsAt}
 
 one_opening : (text : List ℕ) (a b : Opening) → IsOpeningText text a → IsOpeningText text b → a ≡ b
@@ -68,8 +69,8 @@ stops_at_no_event lines o host number history stop =
     let it = next_of (λ it line. IsNoEvent line) lines o host number history stop in
     stop.reason it.taken.event it.taken.is_text
 
-pub stops_at_refused : (lines : List (List ℕ)) (o : Opening) (host : HostView) (number : ℕ) → IsHistory lines o host → StopsAt IsRefused lines number → ⊥
-stops_at_refused lines o host number history stop =
-    let it = next_of IsRefused lines o host number history stop in
+pub stops_at_refused : (lines : List (List ℕ)) (o : Opening) (host : HostView) (number : ℕ) (why : WhyNot) → IsHistory lines o host → StopsAt (IsRefused why) lines number → ⊥
+stops_at_refused lines o host number why history stop =
+    let it = next_of (IsRefused why) lines o host number history stop in
     let refused = stop.reason in
     refused.cannot (subst (λ (event : Event). CanApply stop.host event) (written_once stop.line it.taken.event refused.event it.taken.is_text refused.is_text) it.taken.can)

@@ -98,7 +98,7 @@ module _ (start now : Option (List ℕ)) (old mid : HostView) (s : SoFar start n
   not_taken next line (Plan fault) is untaken = absurd untaken
   not_taken next line NoOpening is untaken = absurd untaken
   not_taken next line (NoEvent number) is untaken = cut_at start now line (NoEvent number) s.took (next_is now next line is) untaken
-  not_taken next line (Refused number) is untaken = cut_at start now line (Refused number) s.took (next_is now next line is) untaken
+  not_taken next line (Refused number why) is untaken = cut_at start now line (Refused number why) s.took (next_is now next line is) untaken
   not_taken next line EraseNamesNoBuild is untaken = absurd untaken
   not_taken next line Memory is untaken = tt
   not_taken next line Device is untaken = tt

@@ -4,7 +4,8 @@ use Rattle.realm_model.specs.declared.act.Event.{Event}
 use Rattle.realm_model.specs.History.{IsLegal}
 use Rattle.build_books.specs.Booted.{booted}
 use Rattle.build_books.specs.View.{HostView, with_event}
-use Rattle.realm_host.specs.Recorded.{CanApply, IsWithout}
+use Rattle.realm_host.specs.Recorded.{CanApply, IsWhyNot, IsWithout}
+use Rattle.realm_host.specs.declared.why_not.WhyNot.{WhyNot}
 use Rattle.input_lines.specs.Lines.{lines_in}
 use Rattle.history_text.specs.Events.{IsEventText}
 use Rattle.history_text.specs.Histories.{IsOpeningText}
@@ -71,11 +72,12 @@ OpensNone (first ∷ more) = (o : Opening) → IsOpeningText first o → ⊥
 abbrev pub IsNoEvent : List ℕ → Type 0
 IsNoEvent line = (event : Event) → IsEventText line event → ⊥
 
--- the line is an event that cannot be applied
-pub record IsRefused (host : HostView) (line : List ℕ) : Type 0 where
+-- the line is an event that cannot be applied, for this reason
+pub record IsRefused (why : WhyNot) (host : HostView) (line : List ℕ) : Type 0 where
   pub event : Event
   pub is_text : IsEventText line event
   pub cannot : CanApply host event → ⊥
+  pub because : IsWhyNot host event why
 
 -- Lines are taken up to this one, whose number is counted from 1, the opening with it.
 pub record StopsAt (IsReason : HostView → List ℕ → Type 0) (lines : List (List ℕ)) (number : ℕ) : Type 0 where
@@ -89,11 +91,11 @@ pub record StopsAt (IsReason : HostView → List ℕ → Type 0) (lines : List (
   pub number_is : number ≡ length before + 1
   pub reason : IsReason host line
 
--- Why the input is no history, where it is known. Want of memory and a device that fails are no matter of its lines.
+-- Why the input is no history, where it is known. That allocation or a device failed is no matter of its lines.
 abbrev pub IsNoHistoryIn : Option (List ℕ) → Fault → Type 0
 IsNoHistoryIn input NoOpening = IfSome input (λ bytes. OpensNone (lines_in bytes))
 IsNoHistoryIn input (NoEvent number) = IfSome input (λ bytes. StopsAt (λ host line. IsNoEvent line) (lines_in bytes) number)
-IsNoHistoryIn input (Refused number) = IfSome input (λ bytes. StopsAt IsRefused (lines_in bytes) number)
+IsNoHistoryIn input (Refused number why) = IfSome input (λ bytes. StopsAt (IsRefused why) (lines_in bytes) number)
 IsNoHistoryIn input Memory = Unit {0}
 IsNoHistoryIn input Device = Unit {0}
 IsNoHistoryIn input fault = ⊥
@@ -111,7 +113,7 @@ abbrev pub IsMap : Option ℕ → Opening → HostView → List ℕ → Type 0
 IsMap None o host text = text ≡ map_text host
 IsMap (Some build) o host text = IsMapWithout o host build text
 
--- Why there is no map: for want of memory, or since the build to be left out is none of the machine's.
+-- Why there is no map: allocation failed, or the build to be left out is none of the machine's.
 abbrev pub HasNoMap : Option ℕ → Opening → Fault → Type 0
 HasNoMap erase o Memory = Unit {0}
 HasNoMap (Some build) o EraseNamesNoBuild = o.builds ≤ build

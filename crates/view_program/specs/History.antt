@@ -26,7 +26,7 @@ pub record IsHistoryText (erase : Option ℕ) (plan : Plan) (text : List ℕ) : 
   pub run : IsToldRun plan (opening_host plan) last [] lines
   pub whole : text ≡ history_text (opening_of plan) (shown erase last.history)
 
--- Why there is none: for want of memory, or since the build to be left out is none of the plan's.
+-- Why there is none: allocation failed, or the build to be left out is none of the plan's.
 abbrev pub IsWithoutHistory : Option ℕ → Plan → Fault → Type 0
 IsWithoutHistory erase plan Memory = Unit {0}
 IsWithoutHistory (Some build) plan EraseNamesNoBuild = length plan.builds ≤ build

@@ -25,7 +25,7 @@ pub record IsMapPrinted (erase : Option ℕ) (input old new : Option (List ℕ))
   pub map : HasMap erase input text
   pub written : Appends old new text
 
--- a front of the map was written
+-- a prefix of the map was written
 pub record IsMapCut (erase : Option ℕ) (input old new : Option (List ℕ)) : Type 0 where
   pub text : List ℕ
   pub map : HasMap erase input text
@@ -38,7 +38,7 @@ pub record NamesNoBuild (erase : Option ℕ) (input : Option (List ℕ)) : Type 
   pub history : IsHistoryIn input o host
   pub none : HasNoMap erase o EraseNamesNoBuild
 
--- where a device failed: nothing was written where it was a read, and a front of the map where it was a write
+-- where a device failed: nothing was written where it was a read, and a prefix of the map where it was a write
 abbrev pub IsEndOfDevice : Option ℕ → Bool → Option (List ℕ) → Option (List ℕ) → Option (List ℕ) → Type 0
 IsEndOfDevice erase true input old new = Keeps old new
 IsEndOfDevice erase false input old new = IsMapCut erase input old new
@@ -48,7 +48,7 @@ abbrev pub IsApplyEnd : Option ℕ → Bool → Option (List ℕ) → Option (Li
 IsApplyEnd erase unread input old new (Ok _) = IsMapPrinted erase input old new
 IsApplyEnd erase unread input old new (Err NoOpening) = IsNoHistoryIn input NoOpening × Keeps old new
 IsApplyEnd erase unread input old new (Err (NoEvent line)) = IsNoHistoryIn input (NoEvent line) × Keeps old new
-IsApplyEnd erase unread input old new (Err (Refused line)) = IsNoHistoryIn input (Refused line) × Keeps old new
+IsApplyEnd erase unread input old new (Err (Refused line why)) = IsNoHistoryIn input (Refused line why) × Keeps old new
 IsApplyEnd erase unread input old new (Err EraseNamesNoBuild) = NamesNoBuild erase input × Keeps old new
 IsApplyEnd erase unread input old new (Err Memory) = Keeps old new
 IsApplyEnd erase unread input old new (Err Device) = IsEndOfDevice erase unread input old new

@@ -12,7 +12,7 @@ abbrev pub status_of : Fault → ℕ
 status_of (Plan fault) = plan.status_of fault
 status_of NoOpening = 1
 status_of (NoEvent line) = 1
-status_of (Refused line) = 1
+status_of (Refused line why) = 1
 status_of EraseNamesNoBuild = 2
 status_of Memory = 3
 status_of Device = 5

@@ -1,14 +1,15 @@
-//! Why nothing is printed, or a front of the text alone.
+//! Why nothing is printed, or a prefix of the text alone.
 ghost use Rattle.std.specs.Prelude.{◌≡◌};
 ghost use Rattle.view_program.specs.declared.fault.Fault.TheVariants.{Plan, Memory, Device};
 
 use command_line::Reason;
 use input_lines::LineError;
+use realm_host::WhyNot;
 use std::alloc::AllocError;
 use thiserror::Error;
 use told_device::DeviceFailed;
 
-/// Why what was asked for is not printed, or a front of the text alone. Its line goes to standard error. Lines are counted
+/// Why what was asked for is not printed, or a prefix of the text alone. Its line goes to standard error. Lines are counted
 /// from 1.
 #[derive(Clone, Copy, Debug, PartialEq, Eq, Error)]
 pub enum Fault {
@@ -21,13 +22,13 @@ pub enum Fault {
     /// The line is no event.
     #[error("line {0} is no event")]
     NoEvent(usize),
-    /// The event of the line cannot be applied.
-    #[error("line {0} is refused")]
-    Refused(usize),
+    /// The event of the line cannot be applied, for this reason.
+    #[error("line {0} is refused: {1}")]
+    Refused(usize, WhyNot),
     /// The build to be left out is none of the machine's.
     #[error("erase names no build")]
     EraseNamesNoBuild,
-    /// A growth was refused.
+    /// Allocation failed.
     #[error("memory")]
     Memory,
     /// A read or a write failed.
@@ -45,7 +46,7 @@ impl Reason for Fault {
     fn status(&self) -> u8 {
         match self {
             Fault::Plan(fault) => fault.status(),
-            Fault::NoOpening | Fault::NoEvent(_) | Fault::Refused(_) => 1,
+            Fault::NoOpening | Fault::NoEvent(_) | Fault::Refused(..) => 1,
             Fault::EraseNamesNoBuild => 2,
             Fault::Memory => 3,
             Fault::Device => 5,

@@ -101,7 +101,7 @@ impl Asked {
     pub fn of(alloc: Global, words: &[String]) -> Result<Asked, Error>
         // What clap's definition of a simple command gives for the words.
         ensures ok { IfOk result (IsAsked (subcommand_of realmview (map string_bytes words.now))) }
-        // Which kind an error has: one that the definition names, or want of memory.
+        // Which kind an error has: one that the definition names, or that allocation failed.
         ensures kinds { FailsBy (fault_of realmview (map string_bytes words.now)) result }
     {
         let mut program = command(alloc)?;

@@ -33,7 +33,7 @@ fn take_line<S: PageStore>(host: &mut Host<S>, line: &[u8]) -> Result<(), Fault>
     if host.apply_recorded(&event) {
         Ok(())
     } else {
-        Err(Fault::Refused(next_number(host)))
+        Err(Fault::Refused(next_number(host), host.why_not(&event)))
     }
 }
 

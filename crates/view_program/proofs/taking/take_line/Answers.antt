@@ -1,6 +1,7 @@
-use Rattle.std.proofs.Common.{◌+◌, length, refl, ap, ◌∙◌}
+use Rattle.std.proofs.Common.{◌+◌, length, refl, ap, ◌∙◌, subst}
 use Rattle.std.proofs.lemmas.Bool.{false≢true}
 use Rattle.build_books.specs.View.{HostView}
+use Rattle.realm_host.specs.Recorded.{IsWhyNot}
 use Rattle.view_program.proofs.taking.take_line.Goals as goal
 
 pub returns-then-apply_recorded-clause-ok : goal.returns-then-apply_recorded-clause-ok
@@ -18,5 +19,6 @@ returns-else-apply_recorded-clause-err g c = (
     event = c.in-Some.event;
     is_text = c.in-Some.ensures.found;
     cannot = λ can. false≢true (c.if-apply_recorded.ensures.answer.1 can);
+    because = subst (λ (host : HostView). IsWhyNot host c.in-Some.event c.why_not.result) c.if-apply_recorded.ensures.unchanged c.why_not.ensures;
   },
 )
