@@ -35,6 +35,13 @@ pub none_open : (build : ℕ) (history : List Event) → acts_of build history �
 unfolding open_entries
 none_open build history none = ap unmatched none
 
+-- a build that is not there is in no abort and has no mark
+pub no_abort : (host : HostView) (build : ℕ) → length host.aborting ≡ host.limits.builds → host.limits.builds ≤ build → is_aborting host build ≡ false
+no_abort host build aborts past = get_or_past host.aborting build false (omega arith)
+
+pub no_mark : (host : HostView) (build : ℕ) → length host.marks ≡ host.limits.builds → host.limits.builds ≤ build → mark_of host build ≡ None
+no_mark host build marks past = get_or_past host.marks build None (omega arith)
+
 if_some : (o : Option ℕ) (P : ℕ → Type 0) → ((x : ℕ) → o ≡ Some x → P x) → IfSome o P
 if_some None P each = tt
 if_some (Some x) P each = each x refl
@@ -74,7 +81,7 @@ module _ (host : HostView) (builds : List Build) (leases : Stacks) (holders : Li
             few_open = λ n. let early = ap length (none_open build (take n host.history) (acts_of-past host.limits.builds build (take n host.history) (All-take (λ (e : Event). e.build < host.limits.builds) n host.history kept.of_builds) past)) in omega (arith, early);
           }
 
-  -- and has no abort and no mark
+  -- and neither abort nor mark
   pub points_hold : (build : ℕ) → length host.aborting ≡ host.limits.builds → length host.marks ≡ host.limits.builds → PointsHold host build
   points_hold build aborts marks = at (nat_lt build host.limits.builds) refl
     where
@@ -83,8 +90,8 @@ module _ (host : HostView) (builds : List Build) (leases : Stacks) (holders : Li
       at false is =
           let past = ltb-false build host.limits.builds is in
           record {
-            in_abort = λ aborts_now. absurd (let not : is_aborting host build ≡ false = get_or_past host.aborting build false (omega arith) in cc);
-            marked = λ mark marked_now. absurd (let not : mark_of host build ≡ None = get_or_past host.marks build None (omega arith) in cc);
+            in_abort = λ aborts_now. absurd (let not = no_abort host build aborts past in cc);
+            marked = λ mark marked_now. absurd (let not = no_mark host build marks past in cc);
           }
 
   -- a page lies inside the machine

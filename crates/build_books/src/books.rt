@@ -1,5 +1,5 @@
 //! The history, and what is kept beside it.
-ghost use Rattle.std.specs.Prelude.{◌≡◌, ℕ, ◌<◌, ◌≤◌, [], length, drop, replicate, true, false, nat_lt, Some, None, IfOk, IfSome, option_map};
+ghost use Rattle.std.specs.Prelude.{◌≡◌, ℕ, ◌<◌, ◌≤◌, [], length, drop, replicate, true, false, nat_lt, Some, None, IfOk, IfSome, option_map, slice_index_or};
 ghost use Rattle.std.specs.Bool.{OnFalse};
 ghost use Rattle.std.specs.List.{last_or};
 ghost use Rattle.realm_model.specs.History.{acts_of, IsLegal, LeavesNoTrace};
@@ -168,6 +168,8 @@ impl Books {
         ensures there { result ≡ nat_lt build self.now.limits.builds }
         ensures none { OnFalse result (acts_of build self.now.history ≡ []) }
         ensures no_realm { OnFalse result (realm_of build (world_of self.now) ≡ None) }
+        ensures no_abort { OnFalse result (is_aborting self.now build ≡ false) }
+        ensures no_mark { OnFalse result (mark_of self.now build ≡ None) }
     {
         (build.number() as usize) < self.builds.len()
     }
@@ -295,6 +297,13 @@ impl Books {
         ensures { result ≡ is_leased_to (Some build) (world_of self.now).leases granule }
     {
         self.holders.is_held_by(granule, build)
+    }
+
+    /// The build that leases the granule; `None` where nobody does, and where the machine has not got it.
+    pub fn holder(&self, granule: Gran) -> Option<BuildId>
+        ensures { result ≡ slice_index_or (world_of self.now).leases granule None }
+    {
+        self.holders.holder(granule)
     }
 
     /// An abort of a build begins, where it has anything open.

@@ -20,6 +20,13 @@ impl Mark {
         self.length
     }
 
+    /// How many events the history had.
+    pub fn place(&self) -> u32
+        ensures { result ≡ self.now.place }
+    {
+        self.place
+    }
+
     /// Whether the two are the same point of the same build.
     pub fn is(self, other: Mark) -> bool
         ensures { result ≡ is_same_mark self other }

@@ -1,5 +1,5 @@
 //! Which build leases each granule of a machine.
-ghost use Rattle.std.specs.Prelude.{◌≡◌, ◌+◌, ◌^◌, ◌≤◌, length, replicate, Some, None, IfOk};
+ghost use Rattle.std.specs.Prelude.{◌≡◌, ◌+◌, ◌^◌, ◌≤◌, length, replicate, Some, None, IfOk, slice_index_or};
 ghost use Rattle.std.specs.List.{range_with_len};
 ghost use Rattle.realm_model.specs.StepLaw.{set_each};
 ghost use Rattle.realm_model.specs.World.{is_leased_to};
@@ -53,6 +53,13 @@ impl Holders {
         ensures { result ≡ is_leased_to (Some build) self.now granule }
     {
         matches!(self.of.get(granule.number() as usize), Some(Some(holder)) if *holder == build)
+    }
+
+    /// The build that leases the granule; `None` where nobody does, and where the machine has not got it.
+    pub fn holder(&self, granule: Gran) -> Option<BuildId>
+        ensures { result ≡ slice_index_or self.now granule None }
+    {
+        self.of.get(granule.number() as usize).copied().flatten()
     }
 
     // Sets the lease of `count` granules from `first` on.

@@ -20,3 +20,4 @@ pub mod Applied
 pub mod LeftOut
 pub mod There
 pub mod Interleaved
+pub mod Readings

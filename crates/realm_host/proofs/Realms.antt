@@ -15,7 +15,7 @@ use Rattle.realm_host.specs.Host.{IsWhole}
 use Rattle.realm_host.specs.Readings.{row_of}
 
 -- the row of a build's realm stands at its RD
-row_at_rd : (world : World) (build rd : ℕ) → rd_of build world ≡ Some rd → row_of world build ≡ (cell_at world.machine rd).descriptor
+pub row_at_rd : (world : World) (build rd : ℕ) → rd_of build world ≡ Some rd → row_of world build ≡ (cell_at world.machine rd).descriptor
 row_at_rd world build rd is = at (realm_of build world) (IsAt-realm_of build world) is
   where
     at : (o : Option Seen) → IsAt world.machine o → option_map (λ (s : Seen). s.number) o ≡ Some rd

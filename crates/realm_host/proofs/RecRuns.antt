@@ -1,4 +1,4 @@
--- Whether the REC that an act made runs, by what stands at its granule.
+-- The REC of a number, and whether it runs, by what stands at its granule.
 use Rattle.std.proofs.Common.{◌≡◌, ℕ, Bool, false, not, List, Option, Some, None, refl, sym, ap, ◌∙◌}
 use Rattle.std.specs.Prelude.{option_map, option_and_then}
 use Rattle.std.specs.FinMap.{get}
@@ -21,6 +21,7 @@ use Rattle.realm_model.specs.World.{World, realm_of}
 use Rattle.realm_objects.specs.Attributes.{RecAttributes}
 use Rattle.rmi_monitor.specs.View.{IsRec, rec_in}
 use Rattle.rmi_monitor.specs.Named.{rec_named, rec_attributes_of, rec_attributes_at}
+use Rattle.realm_host.specs.Readings.{rec_at}
 use Rattle.rmi_monitor.proofs.RecNamed.{named_some, named_none}
 
 -- a REC stands at the granule
@@ -113,3 +114,16 @@ module _ (limits : Limits) (history : List Event) (world : World) (at_world : re
       ∙ sym (ap (λ o. rec_runs o number) found.realm_is
       ∙ ap (λ o. elim o [ Some realm ↦ is_rec_running (get realm.recs number) | None ↦ false ]) found.rec.there
       ∙ ap is_rec_running found.rec.numbered)
+
+  -- the REC, as it is read by its number
+  pub rec_is : rec_at world build number ≡ option_map (λ rec. (granule, rec)) (rec_attributes_at world.machine granule)
+  rec_is =
+      let found = rec_there in
+      ap (λ o. read (option_and_then (λ (rd : Seen). rd.cell.descriptor) o)) found.realm_is
+      ∙ ap read found.rec.there
+      ∙ ap (option_map (λ (rec : RecRow). (rec.granule, rec_attributes_of number rec))) found.rec.numbered
+      ∙ ap (λ g. Some (g, rec_attributes_of number found.rec.rec)) found.rec.is
+      ∙ sym (ap (option_map (λ rec. (granule, rec))) (attributes_as limits world (reachable_worlds limits history world at_world) granule found.rd.number number found.rec))
+    where
+      read : Option RealmRow → Option (ℕ × RecAttributes)
+      read o = option_map (λ (rec : RecRow). (rec.granule, rec_attributes_of number rec)) (option_and_then (λ (realm : RealmRow). get realm.recs number) o)

@@ -1,8 +1,28 @@
--- What is read of a build's realm. RMM 1.0, Realm attributes.
-use Rattle.std.specs.Prelude.{ℕ, List, Option, option_map, option_and_then}
+-- What is read of granules, and of a build's realm. RMM 1.0, Granule, Realm and REC attributes, RTT entry.
+use Rattle.std.specs.Prelude.{ℕ, nat_lt, List, length, Option, Some, None, option_map, option_and_then, slice_index_or, if◌then◌else◌}
+use Rattle.std.specs.FinMap.{get}
+use Rattle.granule_addr.specs.Ipa.{first_covered}
 use Rattle.realm_model.specs.declared.states.RealmState.{RealmState}
-use Rattle.realm_model.specs.Machine.{RealmRow, Seen}
+use Rattle.realm_model.specs.Rows.{Walk}
+use Rattle.realm_model.specs.Machine.{RealmRow, RecRow, Seen, cell_at}
 use Rattle.realm_model.specs.World.{World, realm_of}
+use Rattle.realm_objects.specs.Attributes.{RecAttributes}
+use Rattle.rmi_monitor.specs.Named.{rec_attributes_of}
+use Rattle.rmi_monitor.specs.Walked.{walk_of}
+use Rattle.realm_host.specs.declared.reading.GranuleView.{GranuleView}
+use Rattle.realm_host.specs.declared.reading.RowView.{RowView}
+
+-- ---- granules
+
+-- a granule's state, the build that leases it, and the RD of its realm, where the machine has it
+abbrev pub granule_at : World → ℕ → Option GranuleView
+granule_at world granule = if nat_lt granule (length world.machine) then Some (record {
+  state = (cell_at world.machine granule).state;
+  build = slice_index_or world.leases granule None;
+  realm = (cell_at world.machine granule).realm;
+}) else None
+
+-- ---- realms
 
 -- the realm of a build
 abbrev pub row_of : World → ℕ → Option RealmRow
@@ -15,3 +35,19 @@ realm_at world build = option_map (λ (realm : RealmRow). (realm.state, realm.vm
 -- its measurement
 abbrev pub measurement_at : World → ℕ → Option (List ℕ)
 measurement_at world build = option_map (λ (realm : RealmRow). realm.measurement) (row_of world build)
+
+-- its REC of that number: the granule, and the REC's own attributes
+abbrev pub rec_at : World → ℕ → ℕ → Option (ℕ × RecAttributes)
+rec_at world build number =
+    option_map (λ (rec : RecRow). (rec.granule, rec_attributes_of number rec))
+    (option_and_then (λ (realm : RealmRow). get realm.recs number) (row_of world build))
+
+-- ---- rows
+
+-- the row where the walk of an IPA granule ends, with its place
+abbrev pub row_view : ℕ → Walk → RowView
+row_view ipa end = record { level = end.level; first = first_covered end.level ipa; entry = end.row }
+
+-- where it ends in the realm of a build, where that has the IPA granule
+abbrev pub row_at : World → ℕ → ℕ → ℕ → Option RowView
+row_at world build ipa level = option_map (row_view ipa) (option_and_then (λ (realm : RealmRow). walk_of realm ipa level) (row_of world build))

@@ -113,7 +113,7 @@ impl<S: PageStore> Host<S> {
     pub fn page_state(&self, build: BuildId, page: u16) -> Option<GranuleState>
         ensures { result ≡ option_map (λ g. (cell_at (world_of self.now).machine g).state) (granule_of_page self.now build page) }
     {
-        let granule = self.granule(build, page)?;
+        let granule = self.page_granule(build, page)?;
         Some(self.monitor.state(granule))
     }
 
@@ -121,7 +121,7 @@ impl<S: PageStore> Host<S> {
     pub fn page_sum(&self, build: BuildId, page: u16) -> Option<u32>
         ensures { result ≡ option_map (λ g. sum (cell_at (world_of self.now).machine g).bytes) (granule_of_page self.now build page) }
     {
-        let granule = self.granule(build, page)?;
+        let granule = self.page_granule(build, page)?;
         Some(self.monitor.byte_sum(granule))
     }
 
@@ -148,8 +148,8 @@ impl<S: PageStore> Host<S> {
         self.monitor.free_count()
     }
 
-    // The granule of a build's page.
-    fn granule(&self, build: BuildId, page: u16) -> Option<Gran>
+    /// The granule of a build's page; None where there is no such page.
+    pub fn page_granule(&self, build: BuildId, page: u16) -> Option<Gran>
         ensures value { result ≡ granule_of_page self.now build page }
         ensures inside { IfSome result (λ g. g < self.now.limits.pages) }
     {
@@ -160,8 +160,9 @@ impl<S: PageStore> Host<S> {
         }
     }
 
-    // The realm of a build.
-    pub(crate) fn realm(&self, build: BuildId) -> Option<&RealmDesc>
+    /// The realm of a build: state, VMID, starting tables with the width of its IPAs, the number of its next REC, and
+    /// measurement; None where it has none. A walk begins at level 1.
+    pub fn realm(&self, build: BuildId) -> Option<&RealmDesc>
         ensures { option_copied result ≡ option_map attributes_of (row_of (world_of self.now) build) }
     {
         if !self.books.has_build(build) {

@@ -14,6 +14,7 @@ mod host;
 pub mod law;
 mod marks;
 mod picks;
+mod reading;
 mod reply;
 mod settings;
 mod undo;
@@ -22,9 +23,18 @@ mod without;
 
 pub use build_books::Mark;
 pub use build_commands::{Cmd, Refusal, Reply, Undone};
+pub use granule_addr::{
+    BuildId, Gran, IpaGran, IpaWidth, Level, Order, PageOff, RecNo, Root, Vmid,
+};
 pub use host::Host;
-pub use realm_model::Kind;
+pub use page_arena::{PageStore, PlainStore};
+pub use reading::{GranuleView, RowView};
+pub use realm_model::{
+    Act, EntryState, Event, GranuleState, Kind, RealmState, RecState, Ripas, Rmi,
+};
+pub use realm_objects::{RealmDesc, Rec};
 pub use reply::Answer;
+pub use rtt::Entry;
 pub use settings::Settings;
 pub use why_not::WhyNot;
 pub use without::apply_without;

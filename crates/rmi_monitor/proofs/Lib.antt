@@ -63,3 +63,4 @@ pub mod RecGone
 pub mod RecGoneAfter
 pub mod RecDestroys
 pub mod Sweeps
+pub mod Walked

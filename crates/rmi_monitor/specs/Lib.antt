@@ -5,3 +5,4 @@ pub mod Inside
 pub mod Located
 pub mod Places
 pub mod Named
+pub mod Walked

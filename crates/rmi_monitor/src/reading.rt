@@ -1,19 +1,45 @@
-//! What is read of a REC by its granule.
+//! What is read of granules, of RECs, and of translation tables.
 ghost use Rattle.std.specs.Prelude.{◌≡◌, ◌<◌, length};
 ghost use Rattle.std.specs.Option.{option_copied};
+ghost use Rattle.realm_model.specs.Machine.{cell_at};
 ghost use Rattle.rmi_monitor.specs.Named.{rec_attributes_at};
+ghost use Rattle.rmi_monitor.specs.Walked.{walk_in};
 
 use crate::Monitor;
-use granule_addr::Gran;
+use crate::places::tables_of;
+use granule_addr::{Gran, IpaGran, Level};
 use page_arena::PageStore;
 use realm_objects::Rec;
+use rtt::Walk;
 
 impl<S: PageStore> Monitor<S> {
+    /// The RD of the realm that a granule belongs to; `None` comes exactly where it belongs to none. An RD belongs to its own
+    /// realm.
+    pub fn realm_of(&self, granule: Gran) -> Option<Gran>
+        requires { granule < length self.now.machine }
+        ensures { result ≡ (cell_at self.now.machine granule).realm }
+    {
+        self.granules.realm_of(granule)
+    }
+
     /// The REC that a granule is: number in its realm, state and auxiliaries; `None` comes exactly where it is no REC.
     pub fn rec_at(&self, granule: Gran) -> Option<&Rec>
         requires { granule < length self.now.machine }
         ensures { option_copied result ≡ rec_attributes_at self.now.machine granule }
     {
         self.recs[granule.number() as usize].as_ref()
+    }
+
+    /// Where the walk of an IPA granule towards a level ends in the realm of that RD; `None` comes exactly where the granule is
+    /// no RD, or the realm's address space has not got the IPA granule.
+    ///
+    /// `ipa` is the number of an IPA granule, of either half of the address space. RMM 1.0, RTT walk.
+    pub fn walk(&self, rd: Gran, ipa: u32, to: Level) -> Option<Walk>
+        requires { rd < length self.now.machine }
+        ensures { result ≡ walk_in self.now.machine rd ipa to }
+    {
+        let realm = self.realms[rd.number() as usize].as_ref()?;
+        let ipa = IpaGran::new(ipa, realm.root().width.number())?;
+        Some(tables_of(rd, realm).walk(&self.store, &self.granules, ipa, to))
     }
 }

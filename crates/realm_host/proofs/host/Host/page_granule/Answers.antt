@@ -2,7 +2,7 @@ use Rattle.std.proofs.Common.{ℕ, List, sym, ap, ◌∙◌}
 use Rattle.std.specs.Prelude.{slice_get}
 use Rattle.build_books.specs.View.{HostView, granule_of_page}
 use Rattle.realm_host.proofs.Booted.{no_pages}
-use Rattle.realm_host.proofs.host.Host.granule.Goals as goal
+use Rattle.realm_host.proofs.host.Host.page_granule.Goals as goal
 
 pub returns-else-has_build-clause-value : goal.returns-else-has_build-clause-value
 returns-else-has_build-clause-value g c =

@@ -1,0 +1,157 @@
+//! What is read of granules, of realms with their RECs and rows, and of what builds have open.
+ghost use Rattle.std.specs.Prelude.{◌≡◌, ◌+◌, ◌<◌, IfSome, option_map};
+ghost use Rattle.granule_addr.specs.Ipa.{covered_count, first_covered, widest_space};
+ghost use Rattle.realm_acts.specs.Mirror.{rd_of};
+ghost use Rattle.build_books.specs.View.{world_of, open_of, is_aborting, mark_of};
+ghost use Rattle.build_books.specs.Kept.{IsMarkOf};
+ghost use Rattle.realm_host.specs.Readings.{granule_at, rec_at, row_at};
+
+use crate::{Host, Mark};
+use build_commands::Desk;
+use granule_addr::{BuildId, Gran, IpaGran, Level, RecNo};
+use page_arena::PageStore;
+use realm_model::{Act, GranuleState};
+use realm_objects::Rec;
+use rtt::Entry;
+
+/// A granule: its state, the build that leases it, and the RD of the realm that it belongs to.
+#[derive(Clone, Copy, Debug, PartialEq, Eq)]
+pub struct GranuleView {
+    pub state: GranuleState,
+    pub build: Option<BuildId>,
+    pub realm: Option<Gran>,
+}
+
+/// A row of a realm's translation: its level, the first IPA granule that it covers, and what stands there. RMM 1.0, RTT
+/// entry.
+#[derive(Clone, Copy, Debug, PartialEq, Eq)]
+pub struct RowView {
+    pub level: Level,
+    pub first: IpaGran,
+    pub entry: Entry,
+}
+
+impl RowView {
+    /// The number of the first IPA granule after those that the row covers.
+    pub fn next(&self) -> u32
+        ensures { result ≡ self.now.first + covered_count self.now.level }
+    {
+        self.first.number() + covered_count(self.level)
+    }
+}
+
+// How many IPA granules a row of a level covers.
+fn covered_count(level: Level) -> u32
+    ensures { result ≡ covered_count level }
+{
+    match level.number() {
+        1 => 262_144,
+        2 => 512,
+        _ => 1,
+    }
+}
+
+// The first IPA granule of the level's row that covers the IPA granule of that number.
+fn first_covered(ipa: u32, level: Level) -> IpaGran
+    requires { ipa < widest_space }
+    ensures { result ≡ first_covered level ipa }
+{
+    let covered = covered_count(level);
+    IpaGran::new(ipa / covered * covered, 43).unwrap()
+}
+
+impl<S: PageStore> Host<S> {
+    /// How many pages the machine has.
+    pub fn pages(&self) -> u16
+        ensures { result ≡ self.now.limits.pages }
+    {
+        self.monitor.pages()
+    }
+
+    /// The state of a granule, the build that leases it, and the realm that it belongs to; `None` comes exactly where the
+    /// machine has not got it. An RD belongs to its own realm.
+    pub fn granule_view(&self, granule: Gran) -> Option<GranuleView>
+        ensures { result ≡ granule_at (world_of self.now) granule }
+    {
+        if granule.number() >= self.monitor.pages() {
+            return None;
+        }
+        Some(GranuleView {
+            state: self.monitor.state(granule),
+            build: self.books.holder(granule),
+            realm: self.monitor.realm_of(granule),
+        })
+    }
+
+    /// The RD of a build's realm; None where it has none.
+    pub fn rd(&self, build: BuildId) -> Option<Gran>
+        ensures value { result ≡ rd_of build (world_of self.now) }
+        ensures inside { IfSome result (λ rd. rd < self.now.limits.pages) }
+    {
+        if self.books.has_build(build) {
+            self.books.realm(build)
+        } else {
+            None
+        }
+    }
+
+    /// The REC of that number in a build's realm, with its granule: state and auxiliaries; None where there is none. Each number
+    /// is below that of the realm's next REC.
+    pub fn rec(&self, build: BuildId, number: RecNo) -> Option<(Gran, &Rec)>
+        ensures { option_map (λ rec. (rec.0, rec.1.now)) result ≡ rec_at (world_of self.now) build number }
+    {
+        if !self.books.has_build(build) {
+            return None;
+        }
+        let granule = self.books.rec(build, number)?;
+        let rec = self.monitor.rec_at(granule)?;
+        Some((granule, rec))
+    }
+
+    /// The row at which the walk of an IPA granule towards a level ends in a build's realm: the first on the way that is not
+    /// TABLE, or the one of that level. None where the build has no realm, or its address space has not got the IPA granule.
+    ///
+    /// `ipa` is the number of an IPA granule. From 0 on, the walk to level 3 of each row's `next` lists all rows but those that
+    /// are TABLE. RMM 1.0, RTT walk.
+    pub fn row(&self, build: BuildId, ipa: u32, to: Level) -> Option<RowView>
+        ensures { result ≡ row_at (world_of self.now) build ipa to }
+    {
+        let rd = self.rd(build)?;
+        let end = self.monitor.walk(rd, ipa, to)?;
+        Some(RowView {
+            level: end.level,
+            first: first_covered(ipa, end.level),
+            entry: end.entry,
+        })
+    }
+
+    /// What a build has open, the newest last; nothing where there is no such build.
+    pub fn open_acts(&self, build: BuildId) -> &[Act]
+        ensures { result.now ≡ open_of self.now build }
+    {
+        if self.books.has_build(build) {
+            self.books.open_above(build, 0)
+        } else {
+            &[]
+        }
+    }
+
+    /// Whether a build is in abort.
+    pub fn is_aborting(&self, build: BuildId) -> bool
+        ensures { result ≡ is_aborting self.now build }
+    {
+        self.books.has_build(build) && self.books.is_aborting(build)
+    }
+
+    /// The mark that is kept of a build, where there is one: the build can go back to it.
+    pub fn kept_mark(&self, build: BuildId) -> Option<Mark>
+        ensures value { result ≡ mark_of self.now build }
+        ensures stands { IfSome result (IsMarkOf self.now build) }
+    {
+        if self.books.has_build(build) {
+            self.books.mark(build)
+        } else {
+            None
+        }
+    }
+}
