@@ -39,12 +39,13 @@ c-test: c-library ## tries the bench from C, C++ and Python, over 1,000 random t
 
 install: ## copies what `make build` and `make c-library` have built, the documents, plans and traces below PREFIX
 	@for it in $(PROGRAMS); do test -x bin/$$it || { echo "install: there is no bin/$$it yet: make build" >&2; exit 1; }; done
-	install -d $(DESTDIR)$(PREFIX)/bin $(SHARE)/doc/realmhost/docs/pictures $(SHARE)/realmhost/plans $(SHARE)/realmhost/traces
+	install -d $(DESTDIR)$(PREFIX)/bin $(SHARE)/doc/realmhost/docs/pictures $(SHARE)/realmhost/plans/guide $(SHARE)/realmhost/traces
 	install -m 755 $(PROGRAMS:%=bin/%) $(DESTDIR)$(PREFIX)/bin
 	install -m 644 README.md LICENSE $(SHARE)/doc/realmhost
 	install -m 644 docs/*.md $(SHARE)/doc/realmhost/docs
 	install -m 644 docs/pictures/*.svg $(SHARE)/doc/realmhost/docs/pictures
-	install -m 644 plans/* $(SHARE)/realmhost/plans
+	install -m 644 plans/*.* $(SHARE)/realmhost/plans
+	install -m 644 plans/guide/* $(SHARE)/realmhost/plans/guide
 	install -m 644 traces/* $(SHARE)/realmhost/traces
 	@if test -f build/librmi_bench.a; then $(MAKE) --no-print-directory install-c-library; \
 	  else echo "install: there is no build/librmi_bench.a, and the bench for C is left out: make c-library"; fi
