@@ -3,8 +3,8 @@ from drawing import cell, path, picture, rect, text
 
 TITLE = "From a realm to a page of its memory"
 SAID = (
-    "The descriptor RD leads to the starting table, of level 1. Each of its entries is for 1 GiB, and may lead to a table of "
-    "level 2. Each entry of that is for 2 MiB, and may lead to a table of level 3. Each entry of that is for 4 KiB, and may "
+    "The descriptor RD leads to the starting table, of level 1. Each of its entries is for 1 GiB, and may lead to a table "
+    "of level 2. Each entry of that is for 2 MiB, and may lead to a table of level 3. Each entry of that is for 4 KiB, and may "
     "map a page of data. Each of these is a page that was delegated first: pages 0 to 4 of the plan."
 )
 ROW, TOP, WIDE, STEP, LEFT = 26, 112, 124, 167, 22
@@ -43,8 +43,8 @@ def tables_picture():
         MARKER, text(LEFT, 34, TITLE, "ink b h"),
         text(LEFT, 56, "A walk begins at the starting table, and ends where an entry leads to no further table.", "soft"),
         *(it for at, row in enumerate(PLACES) for it in place(at, *row)),
-        text(LEFT, below, "The number of an entry, and how far the addresses go that it is for. Each entry of level 1 is for "
-             "1 GiB, of level 2 for 2 MiB, of level 3 for 4 KiB.", "soft"),
+        text(LEFT, below, "The number of an entry, and how far the addresses go that it is for. Each entry of level 1 is "
+             "for 1 GiB, of level 2 for 2 MiB, of level 3 for 4 KiB.", "soft"),
         text(LEFT, below + 22, "The walk to IPA granule 0 takes entry 0 of each table. That to 512 takes entry 1 of page 2, "
              "and ends there: at level 2.", "ink b"),
     ]
