@@ -37,14 +37,20 @@ c-test: c-library ## tries the bench from C, C++ and Python, over 1,000 random t
 	@test -x bin/rmitrace || tools/build rmitrace
 	@tests/c-library --all
 
-install: ## copies what `make build` and `make c-library` have built, the documents, plans and traces below PREFIX
+install: ## copies what `make build` and `make c-library` have built, man pages, completions, documents, plans and traces below PREFIX
 	@for it in $(PROGRAMS); do test -x bin/$$it || { echo "install: there is no bin/$$it yet: make build" >&2; exit 1; }; done
-	install -d $(DESTDIR)$(PREFIX)/bin $(SHARE)/doc/realmhost/docs/pictures $(SHARE)/realmhost/plans $(SHARE)/realmhost/traces
+	install -d $(DESTDIR)$(PREFIX)/bin $(SHARE)/doc/realmhost/docs/pictures $(SHARE)/realmhost/plans/guide $(SHARE)/realmhost/traces
 	install -m 755 $(PROGRAMS:%=bin/%) $(DESTDIR)$(PREFIX)/bin
-	install -m 644 README.md LICENSE $(SHARE)/doc/realmhost
+	install -d $(SHARE)/man/man1 $(SHARE)/bash-completion/completions $(SHARE)/zsh/site-functions $(SHARE)/fish/vendor_completions.d
+	install -m 644 man/*.1 $(SHARE)/man/man1
+	for it in $(PROGRAMS); do install -m 644 completions/$$it.bash $(SHARE)/bash-completion/completions/$$it || exit 1; done
+	install -m 644 completions/_* $(SHARE)/zsh/site-functions
+	install -m 644 completions/*.fish $(SHARE)/fish/vendor_completions.d
+	install -m 644 README.md CHANGELOG.md CONTRIBUTING.md LICENSE $(SHARE)/doc/realmhost
 	install -m 644 docs/*.md $(SHARE)/doc/realmhost/docs
 	install -m 644 docs/pictures/*.svg $(SHARE)/doc/realmhost/docs/pictures
-	install -m 644 plans/* $(SHARE)/realmhost/plans
+	install -m 644 plans/*.* $(SHARE)/realmhost/plans
+	install -m 644 plans/guide/* $(SHARE)/realmhost/plans/guide
 	install -m 644 traces/* $(SHARE)/realmhost/traces
 	@if test -f build/librmi_bench.a; then $(MAKE) --no-print-directory install-c-library; \
 	  else echo "install: there is no build/librmi_bench.a, and the bench for C is left out: make c-library"; fi
@@ -63,7 +69,7 @@ test: ## the whole gate from nothing: proofs, tests, what the built programs pri
 	@mkdir -p bin
 	@for it in $(PROGRAMS) test_memory; do install -m 755 crates/$$it/out/$$it bin/$$it || exit 1; done
 	@! command -v $(CC) > /dev/null || tools/c-library --after-ci
-	@tools/at_once tests/commands tests/program tests/traces tests/view tests/allocations tests/c-library tests/documents "tools/pictures --check"
+	@tools/at_once tests/commands tests/program tests/traces tests/view tests/allocations tests/c-library tests/documents tests/pages tests/schema "tools/pictures --check"
 
 wrong-bodies: ## tries bodies that do something else, of CRATE or all: the prover has to refuse each
 	@tests/wrong-bodies $(if $(JOBS),--jobs $(JOBS)) $(if $(SINCE),--since $(SINCE)) $(CRATE)

@@ -1,0 +1,24 @@
+# Completions of realmview for bash. tools/completions makes this file of what --help says.
+_realmview() {
+    local word=${COMP_WORDS[COMP_CWORD]} before=${COMP_WORDS[COMP_CWORD - 1]} command= at
+    COMPREPLY=()
+    # Behind < or > comes a file.
+    [[ $before == [\<\>]* || $word == [\<\>]* ]] && return
+    # In --erase=3 the sign is a word of its own.
+    if [[ $word == = ]]; then
+        word=
+    elif [[ $before == = ]]; then
+        before=${COMP_WORDS[COMP_CWORD - 2]}
+    fi
+    for ((at = 1; at < COMP_CWORD; at++)); do
+        case ${COMP_WORDS[at]} in history | apply) command=${COMP_WORDS[at]} && break ;; esac
+    done
+    case $command:$before in
+        history:--erase) COMPREPLY=($(compgen -W '0 1 2 3 4 5 6 7' -- "$word")) ;;
+        apply:--erase) COMPREPLY=($(compgen -W '0 1 2 3 4 5 6 7' -- "$word")) ;;
+        history:*) COMPREPLY=($(compgen -W '--erase -h --help' -- "$word")) ;;
+        apply:*) COMPREPLY=($(compgen -W '--erase -h --help' -- "$word")) ;;
+        :*) COMPREPLY=($(compgen -W 'history apply -h --help -V --version' -- "$word")) ;;
+    esac
+}
+complete -o default -F _realmview realmview
