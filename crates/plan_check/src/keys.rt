@@ -62,16 +62,24 @@ pub fn unknown_keys(
     places: &Places,
     found: &mut Vec<Wrong>,
 ) -> Result<(), AllocError> {
-    let mut last = "";
-    for key in &places.keys {
-        let name = key.name.as_str();
-        if !is_known(key) && name != last {
+    for (place, key) in places.keys.iter().enumerate() {
+        if !is_known(key) && !is_as_before(&places.keys, place, key) {
             let words = of_unknown(alloc, key)?;
             tell(found, PlanFault::Key, key.at, words)?;
         }
-        last = name;
     }
     Ok(())
+}
+
+// Whether the key before the one at a place is the same, as in `[machine.cpu]` below `[machine]`.
+fn is_as_before(keys: &[KeyPlace], place: usize, key: &KeyPlace) -> bool {
+    let Some(before) = place.checked_sub(1) else {
+        return false;
+    };
+    match keys.get(before) {
+        Some(it) => it.build == key.build && it.name.as_str() == key.name.as_str(),
+        None => false,
+    }
 }
 
 // The keys that may stand where the key does.

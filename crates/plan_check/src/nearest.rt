@@ -5,7 +5,8 @@ use strsim::osa_distance;
 /// The most bytes of a word that is looked up.
 const LONGEST: usize = 32;
 
-/// Which of the names is the nearest to the word, if one is near: about a third of it may differ. Of several the first.
+/// Which of the names is the nearest to the word, if one is near: a third of the longer of both may differ. Of several
+/// the first.
 pub fn nearest(alloc: Global, names: &[&str], word: &str) -> Result<Option<usize>, AllocError> {
     if word.len() > LONGEST {
         return Ok(None);
@@ -15,7 +16,7 @@ pub fn nearest(alloc: Global, names: &[&str], word: &str) -> Result<Option<usize
     for (place, name) in names.iter().enumerate() {
         let edits = osa_distance(alloc, word, name)?;
         let longer = name.len().max(word.len());
-        if edits < least && edits.saturating_mul(3) <= longer.saturating_add(1) {
+        if edits < least && edits.saturating_mul(3) <= longer {
             found = Some(place);
             least = edits;
         }
