@@ -1,5 +1,5 @@
-"""Plans of the repository with random changes, for `tests/program` and `tests/fuzz`, and what has to hold whatever they have
-become.
+"""Plans of the repository with random changes, for `tests/program`, `tests/view` and `tests/fuzz`, and what has to hold whatever
+they have become.
 
 A plan of the same number is changed alike at each run. No text is known for it, so `findings` compares its answers with one
 another.
@@ -72,6 +72,55 @@ def changed_plans(numbers):
         yield number, plan, build
 
 
+# What spoils a plan, mostly: its words, its marks, and whole lines.
+MARKS = (b'"', b"[", b"]", b"[[", b",", b"=", b"#", b".", b"{", b"}", b" ", b"\t", b"\n", b"\\", b"'", b"-", b"0x", b"\xc3\xa9", b"\xff")
+WORD = re.compile(rb"[A-Za-z]+|\d+")
+
+
+def with_another_word(plan, dice):
+    """A word of the plan with a letter more, less or other, or in the place of another word."""
+    places = list(WORD.finditer(plan))
+    if not places:
+        return plan
+    at, word = dice.choice(places), dice.choice(places).group()
+    cut = dice.randrange(len(word) + 1)
+    letter = bytes([dice.choice(b"abcdefghijklmnopqrstuvwxyzABCXYZ_0189 ")])
+    return replaced(plan, at, dice.choice((word, word[:cut] + letter + word[cut:], word[:cut] + word[cut + 1 :])))
+
+
+def with_a_mark(plan, dice):
+    at = dice.randrange(len(plan) + 1)
+    return plan[:at] + dice.choice(MARKS) + plan[at + dice.randrange(2) :]
+
+
+def with_other_lines(plan, dice):
+    """A line twice, or not at all, or in another place."""
+    lines = plan.splitlines(keepends=True)
+    if not lines:
+        return plan
+    line = lines[dice.randrange(len(lines))]
+    if dice.randrange(2):
+        lines.remove(line)
+    if dice.randrange(2):
+        lines.insert(dice.randrange(len(lines) + 1), line)
+    return b"".join(lines)
+
+
+SPOILS = (with_another_word, with_a_mark, with_other_lines, with_a_number, with_a_step)
+
+
+def broken_plans(numbers):
+    """For each number a plan that is mostly none any more, but often still TOML."""
+    paths = sorted([*TOP.glob("plans/*.toml"), *TOP.glob("tests/runs/*.toml"), *TOP.glob("tests/checks/*.toml")])
+    plans = [path.read_bytes() for path in paths if path.stat().st_size < MOST_BYTES]
+    for number in numbers:
+        dice = random.Random(f"broken {number}")
+        plan = dice.choice(plans)
+        for spoil in dice.choices(SPOILS, (6, 3, 3, 4, 4), k=dice.randint(1, 4)):
+            plan = spoil(plan, dice) or b"#"
+        yield number, plan
+
+
 REFUSED = re.compile(rb"plan (20 syntax|21 key|22 step [0-7] \d{1,4}|23 order \d{1,5}|24 limit)\n")
 FREE = re.compile(rb"free (\d+)\n")
 
@@ -134,6 +183,60 @@ def fault_of_threads(replayed, ran):
     status, out, err = ran
     refused = {line[:1] for line in out.splitlines() if b" = no " in line}
     return status != 0 or err != b"" or not out.endswith(b"\naudit ok\n") or any(line[:1] in refused for line in map_of(out))
+
+
+# A finding: its line, its column, and `error` or `warning`.
+FINDING = re.compile(r"plan:(\d+):(\d+): (error|warning): (.+)\n")
+SIZE = re.compile(r"plan: (\d+) builds, (\d+) steps, (\d+) turns\n")
+# Of a line, so many bytes are shown on either side of a place, or so many less two.
+SHOWN = 80
+
+
+def cut_lines(text):
+    """The line of each place as it is shown, and the caret below it."""
+
+    def shown(line, column):
+        # (columns count characters, and what is no UTF-8 counts as it does in the text)
+        row = text.split(b"\n")[line - 1]
+        starts = [at for at, byte in enumerate(row) if byte & 0xC0 != 0x80] + [len(row)]
+        front, back = row[: starts[column - 1]], row[starts[column - 1] :]
+        if len(front) > SHOWN:
+            front = b".." + front[2 - SHOWN :]
+        if len(back) > SHOWN:
+            back = back[: SHOWN - 2] + b".."
+        plain = bytes(0x20 if byte < 0x20 or byte == 0x7F else byte for byte in front + back)
+        width = sum(byte & 0xC0 != 0x80 for byte in front)
+        return f"{plain.decode(errors='replace')}\n", f"{' ' * width}^\n"
+
+    return shown
+
+
+def fault_of_a_check(plan, replayed, checked):
+    """What is wrong with a check of a plan, if anything is: it has an error exactly where a replay has the fault of a plan, it
+    ends with the plan's size where there is none, and each place lies inside the text and is shown."""
+    status, out, err = checked
+    is_fault = replayed[0] == 1 and REFUSED.fullmatch(replayed[2]) is not None
+    if (status, err) != (1 if is_fault else 0, b""):
+        return f"status {status} and {err!r}, where a replay has {replayed[0]} and {replayed[2]!r}"
+    shown, lines = cut_lines(plan), [f"{line}\n" for line in out.decode().split("\n")[:-1]]
+    if not is_fault:
+        keys = tomllib.loads(plan.decode().removeprefix("\ufeff"))
+        size = SIZE.fullmatch(lines.pop())
+        wanted = len(keys["build"]), sum(len(it["steps"]) for it in keys["build"]), len(keys.get("order", []))
+        if not size or tuple(int(it) for it in size.groups()) != wanted:
+            return f"a plan of size {wanted} has not this size"
+    if len(lines) % 3 or is_fault and not lines:
+        return f"{len(lines)} lines"
+    places = []
+    for head, row, caret in zip(lines[::3], lines[1::3], lines[2::3]):
+        at = FINDING.fullmatch(head)
+        if not at or at[3] != ("error" if is_fault else "warning"):
+            return f"the line {head!r}"
+        line, column = int(at[1]), int(at[2])
+        if not 1 <= line <= plan.count(b"\n") + 1 or (row, caret) != shown(line, column):
+            return f"{head!r} shows {row!r} and {caret!r}"
+        places.append((line, column))
+    return None if places == sorted(places) else "the places are in no order"
 
 
 def findings(ask, plan, build):

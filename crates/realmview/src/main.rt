@@ -1,5 +1,5 @@
-//! Shows runs: the history of a plan as text, and the map that a history leads to. The plan or the history comes on standard
-//! input.
+//! Shows plans: what is wrong with one, the history of its run as text, and the map that a history leads to. The plan or the
+//! history comes on standard input.
 #![tactic(auto)]
 
 ghost use Rattle.std.specs.Prelude.{◌≡◌, IfErr};
@@ -9,26 +9,26 @@ ghost use Rattle.view_program.specs.Stop.{status_of_outcome, IsStatus};
 use command_line::{Stop, arguments};
 use std::process::ExitCode;
 use told_device::Told;
-use view_program::{Asked, Fault, run};
+use view_program::{Asked, Fault, Verdict, run};
 
 /// Does what the command line asks for.
-fn show(rt: &HostRuntime) -> Result<(), Stop<Fault>> {
+fn show(rt: &HostRuntime) -> Result<Verdict, Stop<Fault>> {
     let alloc = rt.alloc();
     let words = arguments::<_, Fault>(rt)?;
     let asked = Asked::of(alloc, &words)?;
     let mut input = Told::new(rt.stdin());
     let mut output = Told::new(rt.stdout());
-    run(alloc, asked, &mut input, &mut output)?;
-    Ok(())
+    Ok(run(alloc, asked, &mut input, &mut output)?)
 }
 
-/// The exit status. Where the program stops, standard error is told why.
-fn end(rt: &HostRuntime, outcome: Result<(), Stop<Fault>>) -> ExitCode
+/// The exit status. Where the program stops, standard error is told why. The errors of a plan stand on standard output.
+fn end(rt: &HostRuntime, outcome: Result<Verdict, Stop<Fault>>) -> ExitCode
     ensures value { exit_status result ≡ status_of_outcome outcome }
     ensures stops { IfErr outcome (λ _. IsStatus (exit_status result)) }
 {
     match outcome {
-        Ok(()) => ExitCode::SUCCESS,
+        Ok(Verdict::Done) => ExitCode::SUCCESS,
+        Ok(Verdict::HasErrors) => ExitCode::FAILURE,
         Err(stop) => stop.end(rt),
     }
 }

@@ -4,3 +4,4 @@ mod Takings
 mod Legal
 mod ApplyEnds
 mod Once
+mod CheckEnds

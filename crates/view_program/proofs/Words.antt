@@ -10,7 +10,7 @@ use Rattle.realmhost_line.specs.Line.{IsErase}
 use Rattle.realmhost_line.proofs.Words.{built_erase}
 use Rattle.view_program.specs.Line.{IsAsked}
 use Rattle.view_program.specs.Program.{realmview}
-use Rattle.view_program.specs.declared.line.Asked.TheVariants.{History, Apply}
+use Rattle.view_program.specs.declared.line.Asked.TheVariants.{History, Apply, Check}
 
 pub realmview_is_simple : is_simple realmview ≡ true
 realmview_is_simple = refl
@@ -20,29 +20,32 @@ realmview_is_free = refl
 
 -- ---- the subcommand
 
-named : (t : Text) → NamesOne t (built realmview).subs → (t ≡ codes "history") ⊎ (t ≡ codes "apply")
+named : (t : Text) → NamesOne t (built realmview).subs → (t ≡ codes "history") ⊎ ((t ≡ codes "apply") ⊎ (t ≡ codes "check"))
 named t (inl history) = inl history
-named t (inr (inl apply)) = inr apply
-named t (inr (inr more)) = absurd more
+named t (inr (inl apply)) = inr (inl apply)
+named t (inr (inr (inl check))) = inr (inr check)
+named t (inr (inr (inr more))) = absurd more
 
-apply_from : (sub : Option (Text × List Row)) → is_some sub ≡ true → ((r : Text × List Row) → sub ≡ Some r → (r.0 ≡ codes "history") ⊎ (r.0 ≡ codes "apply"))
-    → ¬ (name_in sub ≡ Some (codes "history")) → name_in sub ≡ Some (codes "apply")
-apply_from None has names other = absurd (false≢true has)
-apply_from (Some r) has names other = elim (names r refl) [
-  | inl history ↦ absurd (other (ap Some history))
-  | inr apply ↦ ap Some apply
+check_from : (sub : Option (Text × List Row)) → is_some sub ≡ true → ((r : Text × List Row) → sub ≡ Some r → (r.0 ≡ codes "history") ⊎ ((r.0 ≡ codes "apply") ⊎ (r.0 ≡ codes "check")))
+    → ¬ (name_in sub ≡ Some (codes "history")) → ¬ (name_in sub ≡ Some (codes "apply")) → IsAsked sub Check
+check_from None has names no_history no_apply = absurd (false≢true has)
+check_from (Some r) has names no_history no_apply = elim (names r refl) [
+  | inl history ↦ absurd (no_history (ap Some history))
+  | inr (inl apply) ↦ absurd (no_apply (ap Some apply))
+  | inr (inr check) ↦ check
 ]
 
--- words that have no fault, and do not ask for a history, ask to apply one
-pub apply_is_named : (words : List Text) → fault_of realmview words ≡ [] → ¬ (name_in (subcommand_of realmview words) ≡ Some (codes "history")) → name_in (subcommand_of realmview words) ≡ Some (codes "apply")
-apply_is_named words e other =
-    apply_from (subcommand_of realmview words) (is_entered realmview words e refl) (λ r is. named r.0 (is_one realmview words r is)) other
+-- words that have no fault, and ask neither for a history nor to apply one, ask for a check
+pub check_is_asked : (words : List Text) → fault_of realmview words ≡ [] → ¬ (name_in (subcommand_of realmview words) ≡ Some (codes "history")) → ¬ (name_in (subcommand_of realmview words) ≡ Some (codes "apply"))
+    → IsAsked (subcommand_of realmview words) Check
+check_is_asked words e no_history no_apply =
+    check_from (subcommand_of realmview words) (is_entered realmview words e refl) (λ r is. named r.0 (is_one realmview words r is)) no_history no_apply
 
 -- ---- the build that is left out
 
 pub erase_passed : (words : List Text) → fault_of realmview words ≡ [] → (rows : List Row) → option_map (λ p. p.1) (subcommand_of realmview words) ≡ Some rows
     → Each (IsPassed built_erase) rows
-erase_passed words e = values_passed realmview words e built_erase refl ((inl refl, (inr (refl, refl), tt)), ((inl refl, (inr (refl, refl), tt)), tt))
+erase_passed words e = values_passed realmview words e built_erase refl ((inl refl, (inr (refl, refl), tt)), ((inl refl, (inr (refl, refl), tt)), ((inr (refl, refl), tt), tt)))
 
 module _ (sub : Option (Text × List Row)) (rows : List Row) (b : Option ℕ) where
   pub history_is_asked : name_in sub ≡ Some (codes "history") → option_map (λ p. p.1) sub ≡ Some rows → IsErase (one_of (codes "erase") rows) b → IsAsked sub (History b)

@@ -4,4 +4,5 @@ pub mod Program
 pub mod History
 pub mod Applied
 pub mod Taking
+pub mod Checked
 pub mod Printed

@@ -8,8 +8,11 @@ use Rattle.view_program.specs.Applied.{IsHistoryIn, IsNoHistoryIn, IsMap, HasNoM
 use Rattle.view_program.specs.declared.fault.Fault.{Fault}
 use Rattle.realm_program.specs.Printed.{IsEnd}
 use Rattle.view_program.specs.History.{IsHistoryText, IsWithoutHistory}
+use Rattle.view_program.specs.Checked.{IsCheckEnd}
+use Rattle.view_program.specs.declared.checking.Verdict.{Verdict}
+use Rattle.view_program.specs.declared.checking.Verdict.TheVariants.{Done, HasErrors}
 use Rattle.view_program.specs.declared.line.Asked.{Asked}
-use Rattle.view_program.specs.declared.line.Asked.TheVariants.{History, Apply}
+use Rattle.view_program.specs.declared.line.Asked.TheVariants.{History, Apply, Check}
 use Rattle.view_program.specs.declared.fault.Fault.TheVariants.{Plan, NoOpening, NoEvent, Refused, EraseNamesNoBuild, Memory, Device}
 
 -- the input is a history with this map
@@ -62,6 +65,13 @@ IsHistoryEnd erase unread input old new (Ok done) = IsEnd (IsHistoryText erase) 
 IsHistoryEnd erase unread input old new (Err (Plan fault)) = IsEnd (IsHistoryText erase) (IsWithoutHistory erase) unread input old new (Err fault)
 IsHistoryEnd erase unread input old new (Err fault) = ⊥
 
-abbrev pub IsRunEnd : Asked → Bool → Option (List ℕ) → Option (List ℕ) → Option (List ℕ) → Result (Unit {0}) Fault → Type 0
-IsRunEnd (History erase) unread input old new result = IsHistoryEnd erase unread input old new result
-IsRunEnd (Apply erase) unread input old new result = IsApplyEnd erase unread input old new result
+-- what is done, where no plan is checked
+abbrev pub EndsAs : (Result (Unit {0}) Fault → Type 0) → Result Verdict Fault → Type 0
+EndsAs IsEndOf (Ok Done) = IsEndOf (Ok tt)
+EndsAs IsEndOf (Ok HasErrors) = ⊥
+EndsAs IsEndOf (Err fault) = IsEndOf (Err fault)
+
+abbrev pub IsRunEnd : Asked → Bool → Option (List ℕ) → Option (List ℕ) → Option (List ℕ) → Result Verdict Fault → Type 0
+IsRunEnd (History erase) unread input old new result = EndsAs (IsHistoryEnd erase unread input old new) result
+IsRunEnd (Apply erase) unread input old new result = EndsAs (IsApplyEnd erase unread input old new) result
+IsRunEnd Check unread input old new result = IsCheckEnd unread input old new result

@@ -5,6 +5,7 @@ ghost use Rattle.view_program.specs.declared.fault.Fault.TheVariants.{Plan, Memo
 use command_line::Reason;
 use input_lines::LineError;
 use realm_host::WhyNot;
+use realm_program::ReadError;
 use std::alloc::AllocError;
 use thiserror::Error;
 use told_device::DeviceFailed;
@@ -76,6 +77,20 @@ impl From<LineError> for Fault {
         match error {
             LineError::Memory => Fault::Memory,
             LineError::Device => Fault::Device,
+        }
+    }
+}
+
+impl From<ReadError> for Fault {
+    ghost use Rattle.std.specs.Prelude.{◌≡◌};
+    ghost use Rattle.view_program.specs.Stop.{fault_of_read};
+
+    ghost from_gives = { λ error fault. fault ≡ fault_of_read error };
+
+    fn from(error: ReadError) -> Fault {
+        match error {
+            ReadError::Memory => Fault::Memory,
+            ReadError::Device => Fault::Device,
         }
     }
 }

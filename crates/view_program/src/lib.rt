@@ -1,12 +1,14 @@
-//! The parts of the program that reads: the history of a plan as text, a history applied to a machine, its command line, and
-//! why it stops.
+//! The parts of the program that reads: the history of a plan as text, a history applied to a machine, what is wrong with a
+//! plan, its command line, and why it stops.
 //!
-//! `history` goes from the bytes of a plan to the text of its history, and `apply` from the lines of a history to the map of
-//! the machine that it leads to, each over any reader and any writer. Whatever they say of a run they take from a host. Nothing
-//! here looks at the process that it runs in: a caller hands in the words and the devices.
+//! `history` goes from the bytes of a plan to the text of its history, `apply` from the lines of a history to the map of the
+//! machine that it leads to, and `check` from bytes to what is told of them as a plan, each over any reader and any writer.
+//! Whatever they say of a run they take from a host. Nothing here looks at the process that it runs in: a caller hands in the
+//! words and the devices.
 #![tactic(auto)]
 
 mod applying;
+mod checking;
 mod fault;
 mod law;
 mod line;
@@ -16,6 +18,7 @@ mod running;
 mod taking;
 
 pub use applying::apply;
+pub use checking::{Verdict, check};
 pub use fault::Fault;
 pub use law::{histories_do_not_stop, what_is_applied_is_legal};
 pub use line::Asked;

@@ -3,7 +3,7 @@ ghost use Rattle.std.specs.Prelude.{◌≡◌, IfOk, false, nat_lt, if◌then◌
 ghost use Rattle.clap.specs.Words.{app_of, rule_of};
 ghost use Rattle.clap.specs.declared.builder.command.Command.TheViews.{out-Command as fields_of};
 ghost use Rattle.realmhost_line.specs.Program.{erase};
-ghost use Rattle.view_program.specs.Program.{history, apply, program, realmview};
+ghost use Rattle.view_program.specs.Program.{history, apply, check, program, realmview};
 
 use clap::{Arg, ArgAction, Command, Error, value_parser};
 use granule_addr::BuildId;
@@ -16,10 +16,12 @@ pub enum Asked {
     History(Option<BuildId>),
     /// Apply a history, and write the map; a build may be left out.
     Apply(Option<BuildId>),
+    /// Write what is wrong with a plan.
+    Check,
 }
 
 const ABOUT: &str =
-    "Shows runs of plans of realmhost: their histories as text, and where a history leads.";
+    "Shows plans of realmhost: what is wrong with them, their histories as text, and where a history leads.";
 
 const HISTORY: &str =
     "Replays the plan on standard input, and writes its history: the size of the machine, and an event a line";
@@ -31,6 +33,11 @@ const APPLY: &str =
 
 const APPLY_EXAMPLE: &str =
     "Example: realmview history < plans/first.toml | realmview apply --erase 0";
+
+const CHECK: &str =
+    "Writes what is wrong with the plan on standard input, each mistake with its line, or how much the plan has";
+
+const CHECK_EXAMPLE: &str = "Example: realmview check < plans/first.toml";
 
 const ERASE: &str = "Leaves the events of build B out";
 
@@ -65,6 +72,14 @@ fn apply<'a>(alloc: Global) -> Result<Command<'a>, AllocError>
     apply.arg(erase(alloc))
 }
 
+fn check<'a>(alloc: Global) -> Command<'a>
+    ensures app { app_of result ≡ check }
+    ensures local { (fields_of result).has_globals ≡ false }
+{
+    let check = Command::new(alloc, "check").about(CHECK);
+    check.after_help(CHECK_EXAMPLE)
+}
+
 fn program<'a>(alloc: Global) -> Command<'a>
     ensures { app_of result ≡ program }
 {
@@ -82,7 +97,8 @@ fn command<'a>(alloc: Global) -> Result<Command<'a>, AllocError>
 {
     let history = history(alloc)?;
     let apply = apply(alloc)?;
-    program(alloc).subcommand(history)?.subcommand(apply)
+    let both = program(alloc).subcommand(history)?.subcommand(apply)?;
+    both.subcommand(check(alloc))
 }
 
 // The build of a number, if there may be one.
@@ -109,9 +125,9 @@ impl Asked {
         if let Some(history) = matches.subcommand_matches("history") {
             return Ok(Asked::History(build_of(history.get_one("erase"))));
         }
-        let Some(apply) = matches.subcommand_matches("apply") else {
-            unreachable!()
-        };
-        Ok(Asked::Apply(build_of(apply.get_one("erase"))))
+        if let Some(apply) = matches.subcommand_matches("apply") {
+            return Ok(Asked::Apply(build_of(apply.get_one("erase"))));
+        }
+        Ok(Asked::Check)
     }
 }

@@ -2,7 +2,7 @@
 ghost use Rattle.std.specs.Prelude.{◌≡◌, false};
 ghost use Rattle.view_program.specs.Printed.{IsRunEnd};
 
-use crate::{Asked, Fault, apply, history};
+use crate::{Asked, Fault, Verdict, apply, check, history};
 use std::alloc::Global;
 use std::io::{Read, Write};
 use told_device::Told;
@@ -13,7 +13,7 @@ pub fn run<R: Read, W: Write>(
     asked: Asked,
     input: &mut Told<R>,
     output: &mut Told<W>,
-) -> Result<(), Fault>
+) -> Result<Verdict, Fault>
     requires readable { input.old.failed ≡ false }
     requires writable { output.old.failed ≡ false }
     ensures end { IsRunEnd asked input.new.failed (R.remaining input.old.device) (W.contents output.old.device) (W.contents output.new.device) result }
@@ -21,6 +21,7 @@ pub fn run<R: Read, W: Write>(
     match asked {
         Asked::History(erase) => history(alloc, input, output, erase)?,
         Asked::Apply(erase) => apply(alloc, input, output, erase)?,
+        Asked::Check => return check(alloc, input, output),
     }
-    Ok(())
+    Ok(Verdict::Done)
 }

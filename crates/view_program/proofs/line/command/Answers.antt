@@ -7,7 +7,9 @@ pub returns : goal.returns
 returns c =
     let history_is = c.in_ok-history.ensures in
     let apply_is = c.in_ok-apply.ensures in
+    let check_is = c.check.ensures in
     let with_history = c.in_ok-subcommand.ensures.shape history_is.1 ∙ ap₂ with_subcommand c.program.ensures (ap (λ (a : App). a.top) history_is.0) in
-    IfOk-weaker c.subcommand-2.result _ _
-    (λ r h. h.shape apply_is.1 ∙ ap₂ with_subcommand with_history (ap (λ (a : App). a.top) apply_is.0))
-    c.subcommand-2.ensures
+    let with_apply = c.in_ok-both.ensures.shape apply_is.1 ∙ ap₂ with_subcommand with_history (ap (λ (a : App). a.top) apply_is.0) in
+    IfOk-weaker c.subcommand-3.result _ _
+    (λ r h. h.shape check_is.local ∙ ap₂ with_subcommand with_apply (ap (λ (a : App). a.top) check_is.app))
+    c.subcommand-3.ensures

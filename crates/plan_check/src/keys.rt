@@ -1,0 +1,161 @@
+//! Keys that a plan has not got, and numbers outside their limits.
+use crate::nearest::nearest;
+use crate::places::{KeyPlace, Places};
+use crate::wrong::{Wrong, tell};
+use realm_plan::PlanFault;
+use std::alloc::{AllocError, Global};
+use toml::{Table, Value};
+
+const PLAN_KEYS: &[&str] = &["pages", "vmids", "aux", "history", "order", "build"];
+
+const BUILD_KEYS: &[&str] = &["steps"];
+
+/// The most bytes of a key that is quoted.
+const LONGEST: usize = 40;
+
+/// A whole number of a plan and its limits.
+struct Limits {
+    name: &'static str,
+    low: i64,
+    high: i64,
+}
+
+const WHOLES: [Limits; 4] = [
+    Limits {
+        name: "pages",
+        low: 1,
+        high: 4096,
+    },
+    Limits {
+        name: "vmids",
+        low: 1,
+        high: 255,
+    },
+    Limits {
+        name: "aux",
+        low: 0,
+        high: 16,
+    },
+    Limits {
+        name: "history",
+        low: 16,
+        high: 16384,
+    },
+];
+
+/// What a value is, in words.
+pub fn kind_of(value: &Value) -> &'static str {
+    match value {
+        Value::String(_) => "a string",
+        Value::Integer(_) => "a whole number",
+        Value::Float(_) => "a number with a fraction",
+        Value::Boolean(_) => "a boolean",
+        Value::Datetime(_) => "a date",
+        Value::Array(_) => "an array",
+        Value::Table(_) => "a table",
+    }
+}
+
+/// Tells the keys that neither a plan nor a build has. Where one stands several times in a row it is told once.
+pub fn unknown_keys(
+    alloc: Global,
+    places: &Places,
+    found: &mut Vec<Wrong>,
+) -> Result<(), AllocError> {
+    for (place, key) in places.keys.iter().enumerate() {
+        if !is_known(key) && !is_as_before(&places.keys, place, key) {
+            let words = of_unknown(alloc, key)?;
+            tell(found, PlanFault::Key, key.at, words)?;
+        }
+    }
+    Ok(())
+}
+
+// Whether the key before the one at a place is the same, as in `[machine.cpu]` below `[machine]`.
+fn is_as_before(keys: &[KeyPlace], place: usize, key: &KeyPlace) -> bool {
+    let Some(before) = place.checked_sub(1) else {
+        return false;
+    };
+    match keys.get(before) {
+        Some(it) => it.build == key.build && it.name.as_str() == key.name.as_str(),
+        None => false,
+    }
+}
+
+// The keys that may stand where the key does.
+fn names_beside(key: &KeyPlace) -> &'static [&'static str] {
+    match key.build {
+        Some(_) => BUILD_KEYS,
+        None => PLAN_KEYS,
+    }
+}
+
+fn is_known(key: &KeyPlace) -> bool {
+    names_beside(key)
+        .iter()
+        .any(|name| *name == key.name.as_str())
+}
+
+fn of_unknown(alloc: Global, key: &KeyPlace) -> Result<String, AllocError> {
+    let names = names_beside(key);
+    let (whose, all) = match key.build {
+        Some(_) => ("a build", "its one key is steps"),
+        None => (
+            "a plan",
+            "its keys are pages, vmids, aux, history, order and build",
+        ),
+    };
+    let name = key.name.as_str();
+    if let Some(place) = nearest(alloc, names, name)? {
+        if let Some(near) = names.get(place) {
+            return format!(in alloc; "`{name}` is no key of {whose}; the nearest is `{near}`");
+        }
+    }
+    if name.len() > LONGEST {
+        return format!(in alloc; "this is no key of {whose}: {all}");
+    }
+    format!(in alloc; "`{name}` is no key of {whose}: {all}")
+}
+
+/// Tells what is wrong with the whole numbers of a plan.
+pub fn numbers(
+    alloc: Global,
+    table: &Table,
+    places: &Places,
+    found: &mut Vec<Wrong>,
+) -> Result<(), AllocError> {
+    for limits in &WHOLES {
+        number(alloc, table, limits, places, found)?;
+    }
+    if table.get("pages").is_none() {
+        let words = format!(in alloc; "`pages` is missing")?;
+        tell(found, PlanFault::Key, 0, words)?;
+    }
+    Ok(())
+}
+
+fn number(
+    alloc: Global,
+    table: &Table,
+    limits: &Limits,
+    places: &Places,
+    found: &mut Vec<Wrong>,
+) -> Result<(), AllocError> {
+    let (name, low, high) = (limits.name, limits.low, limits.high);
+    let Some(value) = table.get(name) else {
+        return Ok(());
+    };
+    let at = places.value_at(name);
+    match value.as_integer() {
+        Some(whole) if low <= whole && whole <= high => Ok(()),
+        Some(whole) => {
+            let words = format!(in alloc; "`{name}` is {low} to {high}, and this is {whole}")?;
+            tell(found, PlanFault::Limit, at, words)
+        }
+        None => {
+            let kind = kind_of(value);
+            let words = format!(in alloc; "`{name}` is a whole number, and this is {kind}")?;
+            tell(found, PlanFault::Key, at, words)
+        }
+    }
+}

@@ -1,0 +1,52 @@
+//! Bytes in, what is told of them as a plan out.
+ghost use Rattle.std.specs.Prelude.{◌≡◌, ◌↔◌, ◌⊎◌, false, true, Err};
+ghost use Rattle.view_program.specs.Checked.{verdict_of, IsCheckEnd};
+ghost use Rattle.view_program.specs.declared.fault.Fault.TheVariants.{Device};
+
+use crate::fault::Fault;
+use plan_check::Report;
+use realm_program::read_whole;
+use std::alloc::Global;
+use std::io::{Read, Write};
+use told_device::Told;
+
+/// How what was asked for ended.
+#[derive(Clone, Copy, Debug, PartialEq, Eq)]
+pub enum Verdict {
+    /// It is done.
+    Done,
+    /// What was checked is no plan, and its errors are written.
+    HasErrors,
+}
+
+// What is to be said in the end of bytes that are a plan or none.
+fn verdict_of(is_plan: bool) -> Verdict
+    ensures { result ≡ verdict_of is_plan }
+{
+    if is_plan {
+        Verdict::Done
+    } else {
+        Verdict::HasErrors
+    }
+}
+
+/// Reads bytes, and writes what is wrong with them as a plan: all errors of bytes that are none, and of a plan its likely
+/// slips and how much it has.
+///
+/// The text is made whole before any of it is written. Errors: Memory, where allocation failed; Device, where a read failed, and
+/// then nothing is written, or a write, and then a prefix of the text is.
+pub fn check<R: Read, W: Write>(
+    alloc: Global,
+    input: &mut Told<R>,
+    output: &mut Told<W>,
+) -> Result<Verdict, Fault>
+    requires readable { input.old.failed ≡ false }
+    requires writable { output.old.failed ≡ false }
+    ensures end { IsCheckEnd input.new.failed (R.remaining input.old.device) (W.contents output.old.device) (W.contents output.new.device) result }
+    ensures device { ((input.new.failed ≡ true) ⊎ (output.new.failed ≡ true)) ↔ (result ≡ Err Device) }
+{
+    let bytes = read_whole(alloc, input)?;
+    let report = Report::on(alloc, &bytes)?;
+    output.write_whole(report.text.as_bytes())?;
+    Ok(verdict_of(report.is_plan))
+}
