@@ -1,9 +1,10 @@
 -- What is read of granules, RECs and rows, over the fields of a host.
-use Rattle.std.proofs.Common.{◌≡◌, ℕ, ◌-◌, ◌^◌, ◌<◌, ◌≤◌, Bool, true, false, cond, length, Option, Some, None, refl, sym, ap, ◌∙◌, arith}
-use Rattle.std.specs.Prelude.{nat_le, nat_lt, option_map, option_and_then, slice_index_or}
+use Rattle.std.proofs.Common.{◌≡◌, ℕ, ◌+◌, ◌-◌, ◌^◌, ◌<◌, ◌≤◌, Bool, true, false, cond, length, Option, Some, None, refl, sym, ap, ◌∙◌, subst, arith}
+use Rattle.std.specs.Prelude.{◌==◌, nat_le, nat_lt, option_map, option_and_then, slice_index_or}
 use Rattle.std.proofs.lemmas.Bool.{ltb-true, lt-ltb, le-ltb, leb-true, and_parts}
+use Rattle.std.proofs.Math.Nat.{lt-div-mul-add}
 use Rattle.std.proofs.Math.Pow.{pow_mono}
-use Rattle.granule_addr.specs.Ipa.{first_covered, is_width, is_in_space, widest_space}
+use Rattle.granule_addr.specs.Ipa.{covered_count, first_covered, is_width, is_in_space, widest_space}
 use Rattle.realm_model.specs.declared.states.GranuleState.{GranuleState}
 use Rattle.realm_model.specs.Machine.{Machine, RealmRow, cell_at}
 use Rattle.realm_model.specs.Rows.{Row, Walk, walk}
@@ -21,6 +22,15 @@ use Rattle.realm_host.specs.Readings.{granule_at, rec_at, row_view, row_at}
 use Rattle.realm_host.specs.declared.reading.GranuleView.{GranuleView}
 use Rattle.realm_host.proofs.RecRuns.{rec_is}
 use Rattle.realm_host.proofs.Realms.{row_at_rd, long}
+
+-- the IPA granules that a row covers go on past the one that was walked to
+pub past : (level ipa first : ℕ) → first ≡ first_covered level ipa → ipa < first + covered_count level
+past level ipa first is = subst (λ n. ipa < n + covered_count level) (sym is) (lt-div-mul-add (some (level == 1) (level == 2)))
+  where
+    some : (s t : Bool) → 0 < cond s (2 ^ 18) (cond t (2 ^ 9) 1)
+    some true t = omega arith
+    some false true = omega arith
+    some false false = omega arith
 
 -- the row of a build's realm, by its RD
 row_by_rd : (world : World) (build rd ipa level : ℕ) → rd_of build world ≡ Some rd → row_at world build ipa level ≡ option_map (row_view ipa) (walk_in world.machine rd ipa level)

@@ -114,7 +114,8 @@ impl<S: PageStore> Host<S> {
     /// `ipa` is the number of an IPA granule. From 0 on, the walk to level 3 of each row's `next` lists all rows but those that
     /// are TABLE. RMM 1.0, RTT walk.
     pub fn row(&self, build: BuildId, ipa: u32, to: Level) -> Option<RowView>
-        ensures { result ≡ row_at (world_of self.now) build ipa to }
+        ensures value { result ≡ row_at (world_of self.now) build ipa to }
+        ensures past { IfSome result (λ row. ipa < row.first + covered_count row.level) }
     {
         let rd = self.rd(build)?;
         let end = self.monitor.walk(rd, ipa, to)?;

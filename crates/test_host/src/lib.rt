@@ -1,5 +1,5 @@
-//! Tests of the host by calls that no plan makes, or whose answers no plan prints: aborts, marks, recorded events, refusals
-//! and measurements, over both stores of pages; limits of settings, and texts of refusals.
+//! Tests of the host by calls that no plan makes, or whose answers no plan prints: aborts, marks, recorded events, readings,
+//! refusals and measurements, over both stores of pages; limits of settings, and texts of refusals.
 #![tactic(auto)]
 
 #[cfg(test)]
@@ -12,6 +12,8 @@ mod hosts;
 mod marks;
 #[cfg(test)]
 mod measurement;
+#[cfg(test)]
+mod readings;
 #[cfg(test)]
 mod recorded;
 #[cfg(test)]
