@@ -6,7 +6,7 @@ use Rattle.realm_model.specs.declared.rmi.Rmi.{Rmi}
 use Rattle.realm_model.specs.Machine.{Seen}
 use Rattle.realm_model.specs.Update.{Outcome}
 use Rattle.realm_model.specs.Command.Check.{check, error_input}
-use Rattle.std.proofs.lemmas.Option.{same_Some, none-some}
+use Rattle.std.proofs.lemmas.Option.{same_Some}
 use Rattle.granule_addr.specs.declared.root.Root.{Root}
 use Rattle.realm_model.proofs.Booleans.{guarded, and_false}
 use Rattle.realm_model.proofs.Outcomes.{check_true, check_false}

@@ -1,8 +1,6 @@
 -- What the commands of the monitor keep: a bench is a bench.
-use Rattle.std.proofs.Common.{◌≡◌, ℕ, ◌<◌, ◌≤◌, List, [], ◌∷◌, length, Ok, Err, refl, sym, ◌∙◌, subst}
-use Rattle.std.proofs.lemmas.List.{length-set}
-use Rattle.realm_model.specs.Machine.{Machine}
-use Rattle.realm_model.specs.Update.{Update, Outcome, granule_of, machine_after, machine_after_all, machine_after_command}
+use Rattle.std.proofs.Common.{◌≡◌, ℕ, ◌<◌, ◌≤◌, length, refl, sym, subst}
+use Rattle.realm_model.specs.Update.{Outcome, machine_after_command}
 use Rattle.realm_model.proofs.Lengths.{length_after}
 use Rattle.rmi_monitor.specs.View.{MonitorView, IsTaken, after_command}
 use Rattle.rmi_bench.specs.Machine.{IsBench}

@@ -3,13 +3,16 @@ ghost use Rattle.std.specs.Prelude.{◌≡◌, ◌&&◌, nat_lt, false, sum, opt
 ghost use Rattle.std.specs.Option.{option_copied};
 ghost use Rattle.realm_model.specs.Machine.{cell_at};
 ghost use Rattle.rmi_monitor.specs.View.{attributes_of};
+ghost use Rattle.rmi_monitor.specs.Walked.{walk_in};
 ghost use Rattle.rmi_bench.specs.Readings.{reading, rec_reading, IsWordOf};
 ghost use Rattle.rmi_bench.specs.Calls.{is_inside};
 
 use crate::Bench;
+use granule_addr::{Gran, Level};
 use page_arena::PageStore;
 use realm_model::GranuleState;
 use realm_objects::{RealmDesc, Rec};
+use rtt::Walk;
 
 // How many words a page has.
 const WORDS: u16 = 512;
@@ -51,6 +54,26 @@ impl Bench {
     {
         let rd = self.granule(granule).ok()?;
         self.monitor.realm(rd)
+    }
+
+    /// The RD of the realm that a granule belongs to; `None` comes exactly where it belongs to none, or the machine has not
+    /// got it.
+    pub fn realm_of(&self, granule: u16) -> Option<Gran>
+        ensures { result ≡ (cell_at self.now.machine granule).realm }
+    {
+        let granule = self.granule(granule).ok()?;
+        self.monitor.realm_of(granule)
+    }
+
+    /// Where the walk of an IPA granule towards a level ends in the realm of that RD; `None` comes exactly where the granule is
+    /// no RD, or the realm's address space has not got the IPA granule.
+    ///
+    /// `ipa` is the number of an IPA granule, of either half of the address space. RMM 1.0, RTT walk.
+    pub fn walk(&self, rd: u16, ipa: u32, to: Level) -> Option<Walk>
+        ensures { result ≡ walk_in self.now.machine rd ipa to }
+    {
+        let rd = self.granule(rd).ok()?;
+        self.monitor.walk(rd, ipa, to)
     }
 
     /// The REC that a granule is: number, state and auxiliaries; `None` comes exactly where it is no REC.
