@@ -1,10 +1,10 @@
 -- From a place of a text to the next one.
-use Rattle.std.proofs.Common.{◌≡◌, ℕ, ◌+◌, ◌-◌, ◌<◌, ◌≤◌, Bool, true, false, not, cond, List, [], ◌∷◌, ◌++◌, length, take, drop, get_or, refl, sym, ap, ◌∙◌, arith}
+use Rattle.std.proofs.Common.{◌≡◌, ℕ, ◌+◌, ◌-◌, ◌<◌, ◌≤◌, Bool, true, false, not, cond, List, [], ◌∷◌, ◌++◌, length, take, drop, get_or, count_by, refl, sym, ap, ◌∙◌, arith}
 use Rattle.std.proofs.lemmas.Bool.Decides.{nat_tests}
 use Rattle.std.specs.List.{after_last, suffix_len}
-use Rattle.std.proofs.lemmas.List.{take_more, reverse-append, length_push, length-take-le, length-drop, drop_all, drop-append-le}
-use Rattle.std.proofs.lemmas.List.Sums.{count_by_more_yes, count_by_more_no, count_by-le-length, sum_by_push}
-use Rattle.plan_check.specs.Places.{is_feed, begins_char, front_of}
+use Rattle.std.proofs.lemmas.List.{take_more, reverse-append, length_push, length-take-le, length-drop, drop_all, drop-append-le, take-append-drop}
+use Rattle.std.proofs.lemmas.List.Sums.{count_by_more_yes, count_by_more_no, count_by-le-length, sum_by_push, sum_by-take-le}
+use Rattle.plan_check.specs.Places.{is_feed, begins_char, front_of, line_of, column_of}
 use Rattle.plan_check.specs.Cursors.{IsCursor}
 use Rattle.plan_check.specs.declared.cursor.Cursor.{Cursor}
 
@@ -87,3 +87,17 @@ module _ (text : List ℕ) (c : Cursor) (is : IsCursor text c) where
               ∙ ap (λ xs. xs ++ b ∷ []) is.front
               ∙ sym front;
         }
+
+-- ---- where places lie
+
+pub line_inside : (text : List ℕ) (at : ℕ) → line_of text at ≤ count_by is_feed text + 1
+line_inside text at = omega (arith, sum_by-take-le (λ b. cond (is_feed b) 1 0) text at)
+
+pub column_inside : (text : List ℕ) (at : ℕ) → column_of text at ≤ length (front_of text at) + 1
+column_inside text at = omega (arith, count_by-le-length begins_char (front_of text at))
+
+pub front_ends : (text : List ℕ) (at : ℕ) → (above : List ℕ) × (take at text ≡ above ++ front_of text at)
+unfolding front_of
+front_ends text at =
+    let cut = length (take at text) - suffix_len (λ b. not (is_feed b)) (take at text) in
+    (take cut (take at text), sym (take-append-drop cut (take at text)))

@@ -14,6 +14,7 @@ mod forms;
 mod gaps;
 mod judging;
 mod keys;
+mod law;
 mod nearest;
 mod number;
 mod order;
@@ -25,4 +26,5 @@ mod slips;
 mod walk;
 mod wrong;
 
+pub use law::places_lie_inside;
 pub use report::Report;
