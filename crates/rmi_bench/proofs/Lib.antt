@@ -5,3 +5,4 @@ pub mod Opens
 pub mod Words
 pub mod Numbers
 pub mod RecMakes
+pub mod OneGranule
