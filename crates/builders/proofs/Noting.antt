@@ -11,7 +11,7 @@ use Rattle.realm_model.specs.StepLaw.{set_each}
 use Rattle.realm_model.specs.Command.Check.{is_in}
 use Rattle.realm_model.proofs.SetEach.{get_or-set_each}
 use Rattle.build_books.specs.View.{HostView, is_aborting, with_event}
-use Rattle.builders.specs.Kept.{KeptView, IsSound, IsShared, IsCounted, IsKept}
+use Rattle.builders.specs.Kept.{KeptView, IsSound, IsShared, IsCounted, IsKeptBehindLock}
 use Rattle.builders.specs.Passes.{PassView}
 use Rattle.builders.specs.Seats.{SeatView, with_noted}
 use Rattle.builders.specs.Start.{IsOfStart}
@@ -59,7 +59,7 @@ no_abort_after host build act none =
 
 -- ---- what lies behind the lock, after one event more
 
-module _ (opened : HostView) (kept : KeptView) (is_kept : IsKept opened kept) (build count : ℕ) (below : build < 8) (had : get_or kept.books build 0 ≡ count) where
+module _ (opened : HostView) (kept : KeptView) (is_kept : IsKeptBehindLock opened kept) (build count : ℕ) (below : build < 8) (had : get_or kept.books build 0 ≡ count) where
   pub count_before : length (events_of build kept.host.history) ≡ count
   count_before = sym (is_kept.counted.each build below) ∙ had
 
@@ -90,7 +90,7 @@ module _ (opened : HostView) (kept : KeptView) (is_kept : IsKept opened kept) (b
         ];
       }
 
-      pub kept_after : IsSound host → IsKept opened (record { host = host; books = books })
+      pub kept_after : IsSound host → IsKeptBehindLock opened (record { host = host; books = books })
       kept_after sound = record {
         shared = shared_after sound;
         counted = subst (λ (h : HostView). IsCounted h.history books) (sym grows) (subst (IsCounted (kept.host.history ++ by build act ∷ [])) (sym books_is) counted_after);
@@ -99,7 +99,7 @@ module _ (opened : HostView) (kept : KeptView) (is_kept : IsKept opened kept) (b
 
 -- ---- as a call finds it, with the build's pass
 
-module _ (opened : HostView) (kept : KeptView) (is_kept : IsKept opened kept) (pass : PassView) (below : pass.build < 8) (had : get_or kept.books pass.build 0 ≡ pass.count) (build : ℕ)
+module _ (opened : HostView) (kept : KeptView) (is_kept : IsKeptBehindLock opened kept) (pass : PassView) (below : pass.build < 8) (had : get_or kept.books pass.build 0 ≡ pass.count) (build : ℕ)
     (build_is : build ≡ pass.build) (act : Act) (host : HostView) (grew : host ≡ with_event kept.host build act) (now : PassView) (same : now ≡ pass) where
   grows : host ≡ with_event kept.host pass.build act
   grows = grew ∙ ap (λ b. with_event kept.host b act) build_is
@@ -110,7 +110,7 @@ module _ (opened : HostView) (kept : KeptView) (is_kept : IsKept opened kept) (p
       ∙ count_after opened kept is_kept pass.build pass.count below had act host grows ∙ sym (ap (λ (p : PassView). p.count + 1) same)
 
   module _ (sound : IsSound host) where
-    pub kept_noted : (was books : List ℕ) → was ≡ kept.books → books ≡ set was now.build (now.count + 1) → IsKept opened (record { host = host; books = books })
+    pub kept_noted : (was books : List ℕ) → was ≡ kept.books → books ≡ set was now.build (now.count + 1) → IsKeptBehindLock opened (record { host = host; books = books })
     kept_noted was books was_is books_is =
         kept_after opened kept is_kept pass.build pass.count below had act host grows books
         (books_is ∙ (λ i. set (was_is i) (same i).build ((same i).count + 1))) sound

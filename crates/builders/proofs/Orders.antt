@@ -14,7 +14,7 @@ use Rattle.build_books.specs.View.{HostView}
 use Rattle.build_books.proofs.Worlds.{world_is}
 use Rattle.realm_host.specs.Interleaving.{DidTheSame}
 use Rattle.builders.specs.declared.close.CloseFault.{CloseFault}
-use Rattle.builders.specs.Close.{seats_of, IsWhole, IsGivenBack, IsClosed}
+use Rattle.builders.specs.Close.{seats_of, AreSeatsWhole, IsHostGivenBack, IsClosed}
 use Rattle.builders.specs.Order.{IsWorldOfSeats}
 use Rattle.builders.specs.Seats.{SeatView}
 
@@ -32,9 +32,9 @@ abbrev AreTrails : List Event → List SeatView → Type 0
 AreTrails history seats = All (λ (seat : SeatView). seat.trail ≡ events_of seat.build history) seats
 
 module _ (limits : Limits) (history other : List Event) (legal : IsLegal limits history) (too : IsLegal limits other)
-    (seats : List SeatView) (whole : IsWhole limits.builds seats) (trails : AreTrails history seats) (same : AreTrails other seats) where
+    (seats : List SeatView) (whole : AreSeatsWhole limits.builds seats) (trails : AreTrails history seats) (same : AreTrails other seats) where
   pub same_by_seats : HasSameEvents history other
-  unfolding IsWhole
+  unfolding AreSeatsWhole
   same_by_seats b = at (nat_lt b limits.builds) refl
     where
       one : (n : ℕ) → n ≡ 1 → 0 < n
@@ -55,7 +55,7 @@ world_of_seats host seats legal closed history too trails =
     sym (order_does_not_matter host.limits host.history history legal too (same_by_seats host.limits host.history history legal too seats closed.whole closed.trails trails)) ∙ world_is host legal
 
 -- two hosts that the same seats close
-pub did_the_same : (opened host twin : HostView) (seats : List SeatView) → IsGivenBack opened host seats → IsClosed host seats → IsGivenBack opened twin seats → IsClosed twin seats → DidTheSame host twin
+pub did_the_same : (opened host twin : HostView) (seats : List SeatView) → IsHostGivenBack opened host seats → IsClosed host seats → IsHostGivenBack opened twin seats → IsClosed twin seats → DidTheSame host twin
 did_the_same opened host twin seats given closed again too =
     let limits : twin.limits ≡ host.limits = again.of_start.limits ∙ sym given.of_start.limits in
     let legal : IsLegal host.limits twin.history = subst (λ l. IsLegal l twin.history) limits again.shared.sound.legal in
@@ -67,6 +67,6 @@ did_the_same opened host twin seats given closed again too =
     }
 
 pub if_closed : (opened : HostView) (seats : List SeatView) (result : Result HostView (CloseFault × HostView)) → IfOk result (λ host. IsClosed host seats)
-    → MatchResult result (λ host. IsGivenBack opened host seats) (λ e. IsGivenBack opened e.1 seats) → IfOk result (λ host. IsWorldOfSeats host seats)
+    → MatchResult result (λ host. IsHostGivenBack opened host seats) (λ e. IsHostGivenBack opened e.1 seats) → IfOk result (λ host. IsWorldOfSeats host seats)
 if_closed opened seats (Ok host) closed given = world_of_seats host seats given.shared.sound.legal closed
 if_closed opened seats (Err e) closed given = tt

@@ -3,7 +3,7 @@ use Rattle.std.proofs.Common.{◌≡◌, ℕ, suc, ◌<◌, List, [], ◌∷◌,
 use Rattle.std.specs.List.{AllZip}
 use Rattle.build_books.specs.View.{HostView}
 use Rattle.builders.specs.Runs.{AreRun}
-use Rattle.builders.specs.Workers.{WorkerView, IsRun}
+use Rattle.builders.specs.Workers.{WorkerView, IsWorkerRun}
 
 -- R holds of what stands at a place of two lists
 abbrev pub HoldsOf : {X : Type 0} → (X → X → Type 0) → List X → List X → ℕ → X → Type 0
@@ -19,7 +19,7 @@ zipped R (x ∷ xs) [] same each = absurd (omega arith)
 zipped R (x ∷ xs) (y ∷ ys) same each = (at_place R x y (each 0 x (omega arith)), zipped R xs ys (omega arith) (λ k d lt. each (suc k) d (omega arith)))
 
 pub are_run : (opened : HostView) (passes stops : ℕ → ℕ → Type 0) (old new : List WorkerView) → length new ≡ length old
-    → ((k : ℕ) (d : WorkerView) → k < length old → HoldsOf (λ before after. IsRun opened (passes before.seat.build) (stops before.seat.build) before after) old new k d)
+    → ((k : ℕ) (d : WorkerView) → k < length old → HoldsOf (λ before after. IsWorkerRun opened (passes before.seat.build) (stops before.seat.build) before after) old new k d)
     → AreRun opened passes stops old new
 unfolding AreRun
-are_run opened passes stops old new same each = zipped (λ before after. IsRun opened (passes before.seat.build) (stops before.seat.build) before after) old new same each
+are_run opened passes stops old new same each = zipped (λ before after. IsWorkerRun opened (passes before.seat.build) (stops before.seat.build) before after) old new same each

@@ -5,7 +5,7 @@ use Rattle.realm_model.specs.declared.act.Event.{Event}
 use Rattle.realm_model.specs.History.{open_entries, events_of}
 use Rattle.build_books.specs.View.{HostView, is_aborting}
 use Rattle.build_books.proofs.Empty.{none_open}
-use Rattle.builders.specs.Kept.{IsSound, IsKept}
+use Rattle.builders.specs.Kept.{IsSound, IsKeptBehindLock}
 
 -- nothing is open, so no build is in abort
 none_aborts : (host : HostView) → IsSound host → host.history ≡ [] → (build : ℕ) → is_aborting host build ≡ false
@@ -19,7 +19,7 @@ none_aborts host sound empty build = at (is_aborting host build) refl
         absurd (omega (arith, some, none))
 
 pub kept_at_start : (opened host : HostView) (books : List ℕ) → IsSound host → host.history ≡ [] → host ≡ opened → books ≡ 0 ∷ 0 ∷ 0 ∷ 0 ∷ 0 ∷ 0 ∷ 0 ∷ 0 ∷ []
-    → IsKept opened (record { host = host; books = books })
+    → IsKeptBehindLock opened (record { host = host; books = books })
 kept_at_start opened host books sound empty same zeros = record {
   shared = record { sound = sound; no_abort = none_aborts host sound empty };
   counted = record {

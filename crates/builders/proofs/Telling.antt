@@ -23,7 +23,7 @@ use Rattle.build_commands.specs.declared.undone.Undone.{Undone}
 use Rattle.workers.specs.Exchange.{Exchange, Did, Undid, KeptMark, LookedBack, is_event}
 use Rattle.builders.specs.Answered.{IsAnswered, AreAnswered}
 use Rattle.builders.specs.Seats.{SeatView, new_seat, with_noted}
-use Rattle.builders.specs.Told.{IsTold, IsRefused}
+use Rattle.builders.specs.Told.{IsCallTold, IsCallRefused}
 use Rattle.builders.specs.Trails.{IsActFor, IsReverseOf, IsEventOf, IsTrailOf}
 
 -- ---- the event of an accepted question
@@ -57,13 +57,13 @@ same_end : (history grown : List Event) (event other : Event) → grown ≡ hist
 same_end history grown event other one two =
     ap (event_or other) (sym (last_push None history event) ∙ ap (last_or None) (sym one ∙ two) ∙ last_push None history other)
 
-replied_event : (opened : HostView) (cmd : Cmd) (reply : Reply) (seat new : SeatView) (told : IsTold opened (Ask cmd) (Replied reply) seat new) → IsEventOf seat.build (Did cmd (Ok reply)) told.event
+replied_event : (opened : HostView) (cmd : Cmd) (reply : Reply) (seat new : SeatView) (told : IsCallTold opened (Ask cmd) (Replied reply) seat new) → IsEventOf seat.build (Did cmd (Ok reply)) told.event
 replied_event opened cmd reply seat new told =
     let it = told.answered in
     let is = same_end told.host.history told.new.history (by seat.build it.act) told.event (ap (λ (h : HostView). h.history) it.accepted.grows) told.ends in
     subst (IsEventOf seat.build (Did cmd (Ok reply))) is (refl, act_for told.host seat.build cmd it.act it.accepted.act_of, (_, it.reply_is))
 
-undone_event : (opened : HostView) (undone : Undone) (seat new : SeatView) (told : IsTold opened Undo (WasUndone undone) seat new) → IsEventOf seat.build (Undid (Ok undone)) told.event
+undone_event : (opened : HostView) (undone : Undone) (seat new : SeatView) (told : IsCallTold opened Undo (WasUndone undone) seat new) → IsEventOf seat.build (Undid (Ok undone)) told.event
 undone_event opened undone seat new told =
     let it = told.answered in
     let is = same_end told.host.history told.new.history (by seat.build it.act) told.event (ap (λ (h : HostView). h.history) it.accepted.grows) told.ends in
@@ -143,22 +143,22 @@ pub answer_more : (opened : HostView) (old new : SeatView) (exchange : Exchange)
 answer_more opened old new exchange same is earlier are =
     subst (λ build. AreAnswered opened (new_seat build) (earlier ++ exchange ∷ []) new) (sym same) (answered_more opened (new_seat old.build) earlier old exchange new are is)
 
-pub asked : (opened : HostView) (old new : SeatView) (cmd : Cmd) (result : Result Reply Refusal) → IfOk result (λ reply. IsTold opened (Ask cmd) (Replied reply) old new)
-    → IfErr result (λ refusal. IsRefused opened (Ask cmd) refusal old × (new ≡ old)) → IsAnswered opened old (Did cmd result) new
+pub asked : (opened : HostView) (old new : SeatView) (cmd : Cmd) (result : Result Reply Refusal) → IfOk result (λ reply. IsCallTold opened (Ask cmd) (Replied reply) old new)
+    → IfErr result (λ refusal. IsCallRefused opened (Ask cmd) refusal old × (new ≡ old)) → IsAnswered opened old (Did cmd result) new
 asked opened old new cmd (Ok reply) ok err = ok
 asked opened old new cmd (Err refusal) ok err = err
 
-pub undone : (opened : HostView) (old new : SeatView) (result : Result Undone Refusal) → IfOk result (λ undone. IsTold opened Undo (WasUndone undone) old new)
-    → IfErr result (λ refusal. IsRefused opened Undo refusal old × (new ≡ old)) → IsAnswered opened old (Undid result) new
+pub undone : (opened : HostView) (old new : SeatView) (result : Result Undone Refusal) → IfOk result (λ undone. IsCallTold opened Undo (WasUndone undone) old new)
+    → IfErr result (λ refusal. IsCallRefused opened Undo refusal old × (new ≡ old)) → IsAnswered opened old (Undid result) new
 undone opened old new (Ok did) ok err = ok
 undone opened old new (Err refusal) ok err = err
 
-pub asked_build : (opened : HostView) (old new : SeatView) (cmd : Cmd) (result : Result Reply Refusal) → IfOk result (λ reply. IsTold opened (Ask cmd) (Replied reply) old new)
-    → IfErr result (λ refusal. IsRefused opened (Ask cmd) refusal old × (new ≡ old)) → new.build ≡ old.build
+pub asked_build : (opened : HostView) (old new : SeatView) (cmd : Cmd) (result : Result Reply Refusal) → IfOk result (λ reply. IsCallTold opened (Ask cmd) (Replied reply) old new)
+    → IfErr result (λ refusal. IsCallRefused opened (Ask cmd) refusal old × (new ≡ old)) → new.build ≡ old.build
 asked_build opened old new cmd (Ok reply) ok err = ap (λ (s : SeatView). s.build) ok.noted
 asked_build opened old new cmd (Err refusal) ok err = ap (λ (s : SeatView). s.build) err.1
 
-pub undone_build : (opened : HostView) (old new : SeatView) (result : Result Undone Refusal) → IfOk result (λ undone. IsTold opened Undo (WasUndone undone) old new)
-    → IfErr result (λ refusal. IsRefused opened Undo refusal old × (new ≡ old)) → new.build ≡ old.build
+pub undone_build : (opened : HostView) (old new : SeatView) (result : Result Undone Refusal) → IfOk result (λ undone. IsCallTold opened Undo (WasUndone undone) old new)
+    → IfErr result (λ refusal. IsCallRefused opened Undo refusal old × (new ≡ old)) → new.build ≡ old.build
 undone_build opened old new (Ok undone) ok err = ap (λ (s : SeatView). s.build) ok.noted
 undone_build opened old new (Err refusal) ok err = ap (λ (s : SeatView). s.build) err.1

@@ -7,7 +7,7 @@ use Rattle.build_commands.specs.declared.cmd.Step.{Step}
 use Rattle.workers.proofs.Events.{accepted_tell_events}
 use Rattle.workers.specs.Events.{IsLineOf, is_accepted}
 use Rattle.workers.specs.Exchange.{is_event}
-use Rattle.workers.specs.Report.{IsReport, IsWork}
+use Rattle.workers.specs.Report.{IsWorkerReport, IsWork}
 use Rattle.workers.specs.Standing.{first_standing}
 use Rattle.workers.specs.declared.report.Line.{Line}
 use Rattle.realm_model.specs.declared.act.Event.{Event}
@@ -15,7 +15,7 @@ use Rattle.builders.proofs.Telling.{trail_of_answers}
 use Rattle.builders.specs.Answered.{AreAnswered}
 use Rattle.builders.specs.Seats.{SeatView, new_seat}
 use Rattle.builders.specs.Trails.{IsEventOf, IsTrailOf}
-use Rattle.builders.specs.Workers.{WorkerView, IsFaithful, IsRun}
+use Rattle.builders.specs.Workers.{WorkerView, IsFaithful, IsWorkerRun}
 
 -- a seat with no event is new
 is_fresh : (seat : SeatView) → seat.count ≡ length seat.trail → seat.trail ≡ [] → seat ≡ new_seat seat.build
@@ -26,7 +26,7 @@ is_fresh seat counted empty =
 pub is_run : (opened : HostView) (old new : SeatView) (passes stops : ℕ → Type 0) (steps : List Step) (lines : List Line) (answered ended : Bool) → ended ≡ answered
     → old.count ≡ length old.trail → old.trail ≡ [] → new.count ≡ length new.trail → new.build ≡ old.build
     → IsWork (λ exchanges. AreAnswered opened (new_seat old.build) exchanges old) (λ exchanges. AreAnswered opened (new_seat new.build) exchanges new) passes stops steps lines answered
-    → IsRun opened passes stops (record { seat = old; steps = steps; lines = []; ended = false }) (record { seat = new; steps = steps; lines = lines; ended = ended })
+    → IsWorkerRun opened passes stops (record { seat = old; steps = steps; lines = []; ended = false }) (record { seat = new; steps = steps; lines = lines; ended = ended })
 is_run opened old new passes stops steps lines answered ended is counts empty counted build work =
     let are = work.told [] (is_fresh old counts empty) in
     record {
@@ -34,7 +34,7 @@ is_run opened old new passes stops steps lines answered ended is counts empty co
       build_is = build;
       worked = record {
         exchanges = work.exchanges;
-        is_report = subst (IsReport 0 first_standing steps work.exchanges lines) (sym is) work.is_report;
+        is_report = subst (IsWorkerReport 0 first_standing steps work.exchanges lines) (sym is) work.is_report;
         answered = are;
         is_trail = trail_of_answers opened new.build work.exchanges new are;
         counted = counted;
@@ -44,7 +44,7 @@ is_run opened old new passes stops steps lines answered ended is counts empty co
     }
 
 -- of any worker with this seat and these steps
-pub of_worker : (opened : HostView) (passes stops : ℕ → Type 0) (old new : WorkerView) → IsRun opened passes stops (record { seat = old.seat; steps = old.steps; lines = []; ended = false }) new → IsRun opened passes stops old new
+pub of_worker : (opened : HostView) (passes stops : ℕ → Type 0) (old new : WorkerView) → IsWorkerRun opened passes stops (record { seat = old.seat; steps = old.steps; lines = []; ended = false }) new → IsWorkerRun opened passes stops old new
 of_worker opened passes stops old new run = record { steps_are = run.steps_are; build_is = run.build_is; worked = run.worked; passed = run.passed; stopped = run.stopped }
 
 none_left : {A B : Type 0} (R : A → B → Type 0) (xs : List A) (ys : List B) → xs ≡ [] → AllZip R xs ys → ys ≡ []

@@ -5,15 +5,15 @@ use Rattle.realm_host.specs.Call.{Ask, Undo}
 use Rattle.realm_host.specs.declared.reply.Answer.TheVariants.{Replied, Undone}
 use Rattle.workers.specs.Exchange.{Exchange, Did, Undid, KeptMark, LookedBack}
 use Rattle.builders.specs.Seats.{SeatView}
-use Rattle.builders.specs.Told.{IsTold, IsRefused, IsMarkTold, IsBackTold}
+use Rattle.builders.specs.Told.{IsCallTold, IsCallRefused, IsMarkTold, IsBackTold}
 
 -- There was a host that can lie behind the lock of builds that were started with `opened`, and answers so. An accepted command
 -- or undo makes a new seat, all else leaves it as it is.
 abbrev pub IsAnswered : HostView → SeatView → Exchange → SeatView → Type 0
-IsAnswered opened seat (Did cmd (Ok reply)) new = IsTold opened (Ask cmd) (Replied reply) seat new
-IsAnswered opened seat (Did cmd (Err refusal)) new = IsRefused opened (Ask cmd) refusal seat × (new ≡ seat)
-IsAnswered opened seat (Undid (Ok undone)) new = IsTold opened Undo (Undone undone) seat new
-IsAnswered opened seat (Undid (Err refusal)) new = IsRefused opened Undo refusal seat × (new ≡ seat)
+IsAnswered opened seat (Did cmd (Ok reply)) new = IsCallTold opened (Ask cmd) (Replied reply) seat new
+IsAnswered opened seat (Did cmd (Err refusal)) new = IsCallRefused opened (Ask cmd) refusal seat × (new ≡ seat)
+IsAnswered opened seat (Undid (Ok undone)) new = IsCallTold opened Undo (Undone undone) seat new
+IsAnswered opened seat (Undid (Err refusal)) new = IsCallRefused opened Undo refusal seat × (new ≡ seat)
 IsAnswered opened seat (KeptMark result) new = IsMarkTold opened seat result × (new ≡ seat)
 IsAnswered opened seat (LookedBack mark result) new = IsBackTold opened seat mark result × (new ≡ seat)
 

@@ -15,8 +15,8 @@ abbrev pub seats_of : ℕ → List SeatView → ℕ
 seats_of build seats = length (filter (λ seat. seat.build == build) seats)
 
 -- of each build of a host there is one seat
-unfoldable pub IsWhole : ℕ → List SeatView → Type 0
-IsWhole builds seats = (build : ℕ) → build < builds → seats_of build seats ≡ 1
+unfoldable pub AreSeatsWhole : ℕ → List SeatView → Type 0
+AreSeatsWhole builds seats = (build : ℕ) → build < builds → seats_of build seats ≡ 1
 
 -- the lowest build of a host of which there is not one seat
 pub record IsMissing (builds build : ℕ) (seats : List SeatView) : Type 0 where
@@ -42,12 +42,12 @@ pub record Differs (build : ℕ) (history : List Event) (seats : List SeatView) 
 -- ---- the host that comes back
 
 -- It lay behind the lock, its machine is that of the start, and each seat counts as many events as it has of the seat's build.
-pub record IsGivenBack (opened host : HostView) (seats : List SeatView) : Type 0 where
+pub record IsHostGivenBack (opened host : HostView) (seats : List SeatView) : Type 0 where
   pub shared : IsShared host
   pub of_start : IsOfStart opened host
   pub counted : All (λ seat. length (events_of seat.build host.history) ≡ seat.count) seats
 
 -- Each build's seat is there, and each trail is what the history has of its build.
 pub record IsClosed (host : HostView) (seats : List SeatView) : Type 0 where
-  pub whole : IsWhole host.limits.builds seats
+  pub whole : AreSeatsWhole host.limits.builds seats
   pub trails : All (λ seat. seat.trail ≡ events_of seat.build host.history) seats

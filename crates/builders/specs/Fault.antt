@@ -3,10 +3,10 @@ use Rattle.std.specs.Prelude.{List}
 use Rattle.build_books.specs.View.{HostView}
 use Rattle.builders.specs.declared.close.CloseFault.{CloseFault}
 use Rattle.builders.specs.declared.close.CloseFault.TheVariants.{SeatMissing, RecordMismatch}
-use Rattle.builders.specs.Close.{IsMissing, IsWhole, Differs}
+use Rattle.builders.specs.Close.{IsMissing, AreSeatsWhole, Differs}
 use Rattle.builders.specs.Seats.{SeatView}
 
 -- The lowest build is named; one of which there is not one seat before one whose trail differs.
 abbrev pub IsFault : CloseFault → HostView → List SeatView → Type 0
 IsFault (SeatMissing build) host seats = IsMissing host.limits.builds build seats
-IsFault (RecordMismatch build) host seats = IsWhole host.limits.builds seats × Differs build host.history seats
+IsFault (RecordMismatch build) host seats = AreSeatsWhole host.limits.builds seats × Differs build host.history seats

@@ -35,7 +35,7 @@ pub record IsCounted (history : List Event) (books : List ℕ) : Type 0 where
 
 -- What always holds behind the lock. The machine is that of the start, so no trail has less room than the history has for its
 -- build.
-pub record IsKept (opened : HostView) (kept : KeptView) : Type 0 where
+pub record IsKeptBehindLock (opened : HostView) (kept : KeptView) : Type 0 where
   pub shared : IsShared kept.host
   pub counted : IsCounted kept.host.history kept.books
   pub of_start : IsOfStart opened kept.host

@@ -2,12 +2,12 @@
 use Rattle.std.specs.Prelude.{◌≡◌, ℕ, ◌≤◌, false, List, All, Any}
 use Rattle.std.specs.List.{AllZip}
 use Rattle.build_books.specs.View.{HostView}
-use Rattle.builders.specs.Workers.{WorkerView, IsRun}
+use Rattle.builders.specs.Workers.{WorkerView, IsWorkerRun}
 
 -- Each worker, by its place, has worked on its steps, where builds were started with `opened`. Of each build the gate lets these
 -- turns pass, and stops those.
 unfoldable pub AreRun : HostView → (ℕ → ℕ → Type 0) → (ℕ → ℕ → Type 0) → List WorkerView → List WorkerView → Type 0
-AreRun opened passes stops old new = AllZip (λ before after. IsRun opened (passes before.seat.build) (stops before.seat.build) before after) old new
+AreRun opened passes stops old new = AllZip (λ before after. IsWorkerRun opened (passes before.seat.build) (stops before.seat.build) before after) old new
 
 -- the lowest build of a worker that has not ended
 pub record IsLowestWaiting (workers : List WorkerView) (build : ℕ) : Type 0 where

@@ -25,7 +25,7 @@ pub record IsBehind (opened host : HostView) (seat : SeatView) : Type 0 where
   pub counted : length (events_of seat.build host.history) ≡ seat.count
 
 -- An accepted call: there was a host that answers so, and the event that ends its history then ends the trail.
-pub record IsTold (opened : HostView) (call : Call) (answer : Answer) (seat new_seat : SeatView) : Type 0 where
+pub record IsCallTold (opened : HostView) (call : Call) (answer : Answer) (seat new_seat : SeatView) : Type 0 where
   pub host : HostView
   pub new : HostView
   pub event : Event
@@ -36,7 +36,7 @@ pub record IsTold (opened : HostView) (call : Call) (answer : Answer) (seat new_
   pub noted : new_seat ≡ with_noted seat event
 
 -- A refused call: there was a host that refuses so, and stays as it is.
-pub record IsRefused (opened : HostView) (call : Call) (refusal : Refusal) (seat : SeatView) : Type 0 where
+pub record IsCallRefused (opened : HostView) (call : Call) (refusal : Refusal) (seat : SeatView) : Type 0 where
   pub host : HostView
   pub behind : IsBehind opened host seat
   pub answered : IsAnswer host seat.build call (Refused refusal) host

@@ -13,15 +13,15 @@ build_of (Build5 share) = 5
 build_of (Build6 share) = 6
 build_of (Build7 share) = 7
 
-abbrev pub parts_of : {L : Type 0} → Whole L → ℕ
-parts_of (Build0 share) = share.parts
-parts_of (Build1 share) = share.parts
-parts_of (Build2 share) = share.parts
-parts_of (Build3 share) = share.parts
-parts_of (Build4 share) = share.parts
-parts_of (Build5 share) = share.parts
-parts_of (Build6 share) = share.parts
-parts_of (Build7 share) = share.parts
+abbrev pub parts_of_whole : {L : Type 0} → Whole L → ℕ
+parts_of_whole (Build0 share) = share.parts
+parts_of_whole (Build1 share) = share.parts
+parts_of_whole (Build2 share) = share.parts
+parts_of_whole (Build3 share) = share.parts
+parts_of_whole (Build4 share) = share.parts
+parts_of_whole (Build5 share) = share.parts
+parts_of_whole (Build6 share) = share.parts
+parts_of_whole (Build7 share) = share.parts
 
 abbrev pub amount_of : {L : Type 0} → Whole L → ℕ
 amount_of (Build0 share) = share.amount

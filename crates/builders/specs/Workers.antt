@@ -3,7 +3,7 @@ use Rattle.std.specs.Prelude.{◌≡◌, ℕ, ◌<◌, ◌⊎◌, Bool, false, L
 use Rattle.build_books.specs.View.{HostView}
 use Rattle.build_commands.specs.declared.cmd.Step.{Step}
 use Rattle.workers.specs.Exchange.{Exchange}
-use Rattle.workers.specs.Report.{IsReport}
+use Rattle.workers.specs.Report.{IsWorkerReport}
 use Rattle.workers.specs.Standing.{first_standing}
 use Rattle.workers.specs.declared.report.Line.{Line}
 use Rattle.builders.specs.Answered.{AreAnswered}
@@ -26,7 +26,7 @@ pub record IsNew (worker : WorkerView) : Type 0 where
 -- behind the lock of builds that were started with `opened`; the accepted ones are the trail's events, which the seat counts.
 pub record HasWorked (opened : HostView) (worker : WorkerView) : Type 0 where
   pub exchanges : List Exchange
-  pub is_report : IsReport 0 first_standing worker.steps exchanges worker.lines worker.ended
+  pub is_report : IsWorkerReport 0 first_standing worker.steps exchanges worker.lines worker.ended
   pub answered : AreAnswered opened (new_seat worker.seat.build) exchanges worker.seat
   pub is_trail : IsTrailOf worker.seat.build exchanges worker.seat.trail
   pub counted : worker.seat.count ≡ length worker.seat.trail
@@ -37,7 +37,7 @@ IsFaithful opened worker = IsNew worker ⊎ HasWorked opened worker
 
 -- A worker has worked on its steps. The gate let the turn of each question pass, from 0 on; and where the worker has not ended,
 -- the gate stops the next.
-pub record IsRun (opened : HostView) (passes stops : ℕ → Type 0) (old new : WorkerView) : Type 0 where
+pub record IsWorkerRun (opened : HostView) (passes stops : ℕ → Type 0) (old new : WorkerView) : Type 0 where
   pub steps_are : new.steps ≡ old.steps
   pub build_is : new.seat.build ≡ old.seat.build
   pub worked : HasWorked opened new

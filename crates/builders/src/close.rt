@@ -1,7 +1,7 @@
 //! Closing: is each build's seat there once, and is its trail what the history has of the build?
 ghost use Rattle.std.specs.Prelude.{◌≡◌, ◌+◌, ◌<◌, ◌≤◌, ◌↔◌, ℕ, [], ◌∷◌, ◌++◌, length, filter, slice_index, true, IsTrue, IfSome, IfNone};
 ghost use Rattle.std.specs.List.{All};
-ghost use Rattle.builders.specs.Close.{seats_of, Fits, IsMissing, IsWhole, Differs, FitsAll};
+ghost use Rattle.builders.specs.Close.{seats_of, Fits, IsMissing, AreSeatsWhole, Differs, FitsAll};
 ghost use Rattle.realm_model.specs.History.{events_of};
 
 use crate::ledgers::{Books, Ledgers};
@@ -30,11 +30,11 @@ pub fn audit<L: Ledgers>(books: &mut Books<L>, seats: &mut [Seat<L>])
 }
 
 /// The lowest build of which there is not one seat.
-#[tactic(auto, unfolding(crate::specs::Close::IsWhole))]
+#[tactic(auto, unfolding(crate::specs::Close::AreSeatsWhole))]
 pub fn missing<L: Ledgers>(seats: &[Seat<L>], builds: u8) -> Option<BuildId>
     requires { builds ≤ 8 }
     ensures some { IfSome result (λ build. IsMissing builds build seats.now) }
-    ensures none { IfNone result (IsWhole builds seats.now) }
+    ensures none { IfNone result (AreSeatsWhole builds seats.now) }
 {
     for number in 0..builds {
         let build = BuildId::new(number).unwrap();

@@ -7,7 +7,7 @@ ghost use Rattle.build_books.specs.View.{HostView, open_of};
 ghost use Rattle.realm_host.specs.Answer.{IsAnswer, replied, undone};
 ghost use Rattle.realm_host.specs.Call.{Ask, Undo};
 ghost use Rattle.realm_host.specs.Marked.{IsMarked, way_back};
-ghost use Rattle.builders.specs.Close.{IsClosed, IsGivenBack};
+ghost use Rattle.builders.specs.Close.{IsClosed, IsHostGivenBack};
 ghost use Rattle.builders.specs.Fault.{IsFault};
 ghost use Rattle.builders.specs.Kept.{IsNoted, IsSound};
 ghost use Rattle.realm_model.specs.History.{events_of};
@@ -32,7 +32,7 @@ pub struct Kept<S: PageStore, L: Ledgers> {
 
 impl<S: PageStore, L: Ledgers> Model for Kept<S, L> {
     ghost use Rattle.builders.specs.Codes.{kept_code};
-    ghost use Rattle.builders.specs.Kept.{KeptView, IsKept};
+    ghost use Rattle.builders.specs.Kept.{KeptView, IsKeptBehindLock};
 
     ghost Value = { KeptView };
 
@@ -40,7 +40,7 @@ impl<S: PageStore, L: Ledgers> Model for Kept<S, L> {
 
     ghost view = { λ k. record { host = k.host; books = k.books } };
 
-    ghost invariant = { λ k. IsKept L.opened (record { host = k.host; books = k.books }) };
+    ghost invariant = { λ k. IsKeptBehindLock L.opened (record { host = k.host; books = k.books }) };
 }
 
 impl<S: PageStore, L: Ledgers> Kept<S, L> {
@@ -110,7 +110,7 @@ impl<S: PageStore, L: Ledgers> Kept<S, L> {
         ensures closed { IfOk result (λ host. IsClosed host seats.items) }
         ensures fault { IfErr result (λ e. IsFault e.0 e.1 seats.items) }
         ensures host { MatchResult result (λ host. host ≡ self.host) (λ e. e.1 ≡ self.host) }
-        ensures given_back { MatchResult result (λ host. IsGivenBack L.opened host seats.items) (λ e. IsGivenBack L.opened e.1 seats.items) }
+        ensures given_back { MatchResult result (λ host. IsHostGivenBack L.opened host seats.items) (λ e. IsHostGivenBack L.opened e.1 seats.items) }
     {
         let Kept { host, mut books } = self;
         close::audit(&mut books, seats.as_mut_slice());

@@ -116,13 +116,13 @@ pub struct Pass<L: Ledgers> {
 impl<L: Ledgers> Model for Pass<L> {
     ghost use Rattle.std.specs.Prelude.{◌≡◌};
     ghost use Rattle.builders.specs.Passes.{PassView};
-    ghost use Rattle.builders.specs.Whole.{build_of, parts_of, amount_of};
+    ghost use Rattle.builders.specs.Whole.{build_of, parts_of_whole, amount_of};
 
     ghost Value = { PassView };
 
     ghost view = { λ p. record { build = build_of p.whole; count = amount_of p.whole } };
 
-    ghost invariant = { λ p. parts_of p.whole ≡ 1 };
+    ghost invariant = { λ p. parts_of_whole p.whole ≡ 1 };
 }
 
 impl<L: Ledgers> Pass<L> {

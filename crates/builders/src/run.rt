@@ -1,7 +1,7 @@
 //! All workers at once, each in a thread of its own.
 ghost use Rattle.std.specs.Prelude.{◌≡◌, [], true, All, MatchOption, MatchResult};
 ghost use Rattle.builders.specs.Runs.{AreRun, IsLowestWaiting};
-ghost use Rattle.builders.specs.Workers.{IsRun};
+ghost use Rattle.builders.specs.Workers.{IsWorkerRun};
 
 use crate::ledgers::Ledgers;
 use crate::shared::Shared;
@@ -34,7 +34,7 @@ pub fn run_builds<
         threads,
         &|_, worker: &mut Worker<L>|
             requires { worker.old.lines ≡ [] }
-            ensures { IsRun L.opened (G.passes gate.entry.now worker.old.seat.build) (G.stops gate.entry.now worker.old.seat.build) worker.old worker.new }
+            ensures { IsWorkerRun L.opened (G.passes gate.entry.now worker.old.seat.build) (G.stops gate.entry.now worker.old.seat.build) worker.old worker.new }
         { worker.run(rt, shared, gate) },
     );
     lowest_waiting(workers).map_or(Ok(()), Err)

@@ -3,11 +3,11 @@ ghost use Rattle.std.specs.Prelude.{◌≡◌, ◌≤◌, ℕ, [], ◌∷◌, ma
 ghost use Rattle.std.specs.List.{range_with_len};
 ghost use Rattle.realm_host.specs.Call.{Ask, Undo};
 ghost use Rattle.realm_host.specs.declared.reply.Answer.TheVariants.{Replied, Undone as WasUndone};
-ghost use Rattle.builders.specs.Close.{IsClosed, IsGivenBack};
+ghost use Rattle.builders.specs.Close.{IsClosed, IsHostGivenBack};
 ghost use Rattle.builders.specs.Fault.{IsFault};
 ghost use Rattle.builders.specs.Passes.{unused};
 ghost use Rattle.builders.specs.Seats.{new_seat};
-ghost use Rattle.builders.specs.Told.{IsTold, IsRefused, IsMarkTold, IsBackTold};
+ghost use Rattle.builders.specs.Told.{IsCallTold, IsCallRefused, IsMarkTold, IsBackTold};
 ghost use Rattle.builders.specs.Names.{AreNamed};
 ghost use Rattle.builders.specs.Order.{IsWorldOfSeats};
 
@@ -58,16 +58,16 @@ impl<S: PageStore, L: Ledgers> Shared<S, L> {
 
     /// Asks a command of the seat's build.
     pub fn call(&self, rt: &impl Wait, seat: &mut Seat<L>, cmd: Cmd) -> Result<Reply, Refusal>
-        ensures told { IfOk result (λ reply. IsTold L.opened (Ask cmd) (Replied reply) seat.old seat.new) }
-        ensures refused { IfErr result (λ refusal. IsRefused L.opened (Ask cmd) refusal seat.old × (seat.new ≡ seat.old)) }
+        ensures told { IfOk result (λ reply. IsCallTold L.opened (Ask cmd) (Replied reply) seat.old seat.new) }
+        ensures refused { IfErr result (λ refusal. IsCallRefused L.opened (Ask cmd) refusal seat.old × (seat.new ≡ seat.old)) }
     {
         self.kept.lock(rt).call(seat, cmd)
     }
 
     /// Undoes the newest act that the seat's build has open.
     pub fn undo(&self, rt: &impl Wait, seat: &mut Seat<L>) -> Result<Undone, Refusal>
-        ensures told { IfOk result (λ done. IsTold L.opened Undo (WasUndone done) seat.old seat.new) }
-        ensures refused { IfErr result (λ refusal. IsRefused L.opened Undo refusal seat.old × (seat.new ≡ seat.old)) }
+        ensures told { IfOk result (λ done. IsCallTold L.opened Undo (WasUndone done) seat.old seat.new) }
+        ensures refused { IfErr result (λ refusal. IsCallRefused L.opened Undo refusal seat.old × (seat.new ≡ seat.old)) }
     {
         self.kept.lock(rt).undo(seat)
     }
@@ -95,7 +95,7 @@ impl<S: PageStore, L: Ledgers> Shared<S, L> {
         ensures closed { IfOk result (λ host. IsClosed host seats.items) }
         ensures order { IfOk result (λ host. IsWorldOfSeats host seats.items) }
         ensures fault { IfErr result (λ e. IsFault e.0 e.1 seats.items) }
-        ensures host { MatchResult result (λ host. IsGivenBack L.opened host seats.items) (λ e. IsGivenBack L.opened e.1 seats.items) }
+        ensures host { MatchResult result (λ host. IsHostGivenBack L.opened host seats.items) (λ e. IsHostGivenBack L.opened e.1 seats.items) }
     {
         self.kept.into_inner().close(seats)
     }

@@ -1,6 +1,6 @@
 //! A worker for each build: its seat, its steps and its report.
 ghost use Rattle.std.specs.Prelude.{◌≡◌, ◌+◌, ◌*◌, ◌<◌, ◌≤◌, ℕ, [], false, length, vec_len, vec_capacity, IfOk, IfErr};
-ghost use Rattle.builders.specs.Workers.{IsFaithful, IsRun};
+ghost use Rattle.builders.specs.Workers.{IsFaithful, IsWorkerRun};
 
 use crate::ledgers::Ledgers;
 use crate::seat::Seat;
@@ -79,7 +79,7 @@ impl<L: Ledgers> Worker<L> {
     /// Takes its steps, with its turns from the gate.
     pub fn run<R: Wait, S: PageStore, G: Gate>(&mut self, rt: &R, shared: &Shared<S, L>, gate: &G)
         requires { self.old.lines ≡ [] }
-        ensures { IsRun L.opened (G.passes gate.now self.old.seat.build) (G.stops gate.now self.old.seat.build) self.old self.new }
+        ensures { IsWorkerRun L.opened (G.passes gate.now self.old.seat.build) (G.stops gate.now self.old.seat.build) self.old self.new }
     {
         let Worker {
             seat,
@@ -120,7 +120,7 @@ fn work_at<R: Wait, S: PageStore, G: Gate, L: Ledgers>(
     requires few { length steps.now ≤ 1024 }
     requires room { 2 * length steps.now + 1 ≤ vec_capacity report.old.lines }
     requires build { report.old.build ≡ seat.old.build }
-    ensures run { IsRun L.opened (G.passes gate.now seat.old.build) (G.stops gate.now seat.old.build)
+    ensures run { IsWorkerRun L.opened (G.passes gate.now seat.old.build) (G.stops gate.now seat.old.build)
         (record { seat = seat.old; steps = steps.now; lines = []; ended = false })
         (record { seat = seat.new; steps = steps.now; lines = report.new.lines.items; ended = result }) }
     ensures same { (report.new.build ≡ report.old.build) × (vec_capacity report.new.lines ≡ vec_capacity report.old.lines) }

@@ -10,10 +10,10 @@ use Rattle.number_text.proofs.UpTo.{up_to-items, few_from_test}
 use Rattle.realm_model.specs.declared.act.Act.{Act}
 use Rattle.realm_model.specs.declared.act.Act.TheVariants.{Take, UnTake, Fill, Peek, Delegate, Undelegate, Realm, UnRealm, Activate, Rtt, UnRtt, Ripas, Data, Unknown, UnData, Rec, UnRec, Enter, Exit, Poke}
 use Rattle.history_text.specs.Acts.{act_at}
-use Rattle.history_text.specs.Written.{order, granule, offset, ipa, width, level, written_act, IsInRange}
+use Rattle.history_text.specs.Written.{order, granule, offset, ipa, width, level, written_act, IsActInRange}
 use Rattle.history_text.proofs.Auxiliaries.{few_with_auxiliaries}
 
-pub means : (a : Act) → IsInRange a → act_at (written_act a).word (written_act a).numbers ≡ Some a
+pub means : (a : Act) → IsActInRange a → act_at (written_act a).word (written_act a).numbers ≡ Some a
 means (Take o first) h = rw (le-leb o order h.at_most.0, le-leb first granule h.at_most.1.0) refl
 means (UnTake o first) h = rw (le-leb o order h.at_most.0, le-leb first granule h.at_most.1.0) refl
 means (Fill g value) h = rw (le-leb g granule h.at_most.0, le-leb value u8 h.at_most.1.0) refl
@@ -50,7 +50,7 @@ pub ascii_test : (a : Act) → list_all (λ b. ltb b 128) (written_act a).word �
 ascii_test (Rec g auxiliaries number) = refl
 ascii_test _ = refl
 
-pub few_numbers : (a : Act) → IsInRange a → AreNumbers 18 (written_act a).numbers
+pub few_numbers : (a : Act) → IsActInRange a → AreNumbers 18 (written_act a).numbers
 few_numbers (Rec g auxiliaries number) h = few_with_auxiliaries g number auxiliaries.items h.bounds h.at_most
 few_numbers (UnRec g auxiliaries number) h = few_with_auxiliaries g number auxiliaries.items h.bounds h.at_most
 few_numbers a h = few_from_test 18 (written_act a).numbers (written_act a).maxima h.at_most refl

@@ -8,11 +8,11 @@ use Rattle.number_text.proofs.Rows.{none_makes, one_makes, two_makes, three_make
 use Rattle.realm_model.specs.declared.act.Act.{Act}
 use Rattle.realm_model.specs.declared.act.Act.TheVariants.{Take, UnTake, Fill, Peek, Delegate, Undelegate, Realm, UnRealm, Activate, Rtt, UnRtt, Ripas, Data, Unknown, UnData, Rec, UnRec, Enter, Exit, Poke}
 use Rattle.history_text.specs.Acts.{realm_row, table_row, rec_row, page_act_at, realm_act_at, table_act_at, data_act_at, rec_act_at, act_at}
-use Rattle.history_text.specs.Written.{order, granule, offset, ipa, written_act, HasBounds, IsInRange}
+use Rattle.history_text.specs.Written.{order, granule, offset, ipa, written_act, HasBounds, IsActInRange}
 use Rattle.history_text.proofs.RowsMake.{realm_makes, table_makes, rec_makes}
 
 abbrev pub SpellsAct : List ℕ → List ℕ → Act → Type 0
-SpellsAct word ns a = Spells (λ it. (written_act it).word) (λ it. (written_act it).numbers) IsInRange word ns a
+SpellsAct word ns a = Spells (λ it. (written_act it).word) (λ it. (written_act it).numbers) IsActInRange word ns a
 
 made : (a : Act) → AreAtMost (written_act a).numbers (written_act a).maxima → HasBounds a → SpellsAct (written_act a).word (written_act a).numbers a
 made a at_most bounds = record { word_is = refl; numbers_are = refl; in_range = record { at_most = at_most; bounds = bounds } }

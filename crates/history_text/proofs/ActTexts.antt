@@ -4,22 +4,22 @@ use Rattle.std.proofs.lemmas.Str.{IsUtf8-from_ascii, IsAscii-append}
 use Rattle.number_text.proofs.Grammars.{IsGrammar, meaning_of_spelled, spelled_from_meaning}
 use Rattle.number_text.proofs.Spelled.{IsAscii-from_test, IsAscii-spelled}
 use Rattle.realm_model.specs.declared.act.Act.{Act}
-use Rattle.history_text.specs.Acts.{act_at, act_of}
-use Rattle.history_text.specs.Written.{written_act, act_text, IsInRange}
+use Rattle.history_text.specs.Acts.{act_at, act_of_text}
+use Rattle.history_text.specs.Written.{written_act, act_text, IsActInRange}
 use Rattle.history_text.proofs.ActMeans.{means, one_word, ascii_test, few_numbers}
 use Rattle.history_text.proofs.ActSpells.{spells}
 use Rattle.number_text.specs.Numbers.{spelled_numbers}
 
-pub acts : IsGrammar (λ a. (written_act a).word) (λ a. (written_act a).numbers) IsInRange act_at 18
+pub acts : IsGrammar (λ a. (written_act a).word) (λ a. (written_act a).numbers) IsActInRange act_at 18
 acts = record { means = means; spells = spells; one_word = one_word; few_numbers = few_numbers }
 
-pub text_from_act : (text : List ℕ) (act : Act) → act_of text ≡ Some act → (text ≡ act_text act) × IsInRange act
+pub text_from_act : (text : List ℕ) (act : Act) → act_of_text text ≡ Some act → (text ≡ act_text act) × IsActInRange act
 text_from_act text act e = spelled_from_meaning acts text act e
 
-pub act_from_text : (text : List ℕ) (act : Act) → text ≡ act_text act → IsInRange act → act_of text ≡ Some act
+pub act_from_text : (text : List ℕ) (act : Act) → text ≡ act_text act → IsActInRange act → act_of_text text ≡ Some act
 act_from_text text act is in_range = meaning_of_spelled acts text act is in_range
 
-pub IsUtf8-act_text : (act : Act) → IsInRange act → IsUtf8 (act_text act)
+pub IsUtf8-act_text : (act : Act) → IsActInRange act → IsUtf8 (act_text act)
 IsUtf8-act_text act in_range =
     IsUtf8-from_ascii (act_text act)
     (IsAscii-append (written_act act).word (spelled_numbers (written_act act).numbers)

@@ -6,7 +6,7 @@ use Rattle.std.specs.Fmt.{decimal}
 use Rattle.std.proofs.lemmas.Fmt.{decimal_digit}
 use Rattle.realm_model.specs.Undoing.{by}
 use Rattle.realm_model.specs.declared.act.Event.{Event}
-use Rattle.history_text.specs.Acts.{act_of}
+use Rattle.history_text.specs.Acts.{act_of_text}
 use Rattle.history_text.specs.Written.{act_text}
 use Rattle.history_text.specs.Events.{event_text, IsEventText}
 use Rattle.history_text.proofs.ActTexts.{text_from_act, act_from_text}
@@ -40,7 +40,7 @@ parts_of line digit act event split is =
     let digit_is : digit ≡ 48 + event.build = cc in
     record { begins = digit_first event.build is.build ∙ ap (λ n. n ∷ []) (sym digit_is); act_is = cc }
 
-pub is_event : (line : List ℕ) (digit : ℕ) (rest : List ℕ) (event : Event) → line ≡ digit ∷ 32 ∷ rest → event.build < 8 → decimal event.build ≡ digit ∷ [] → act_of rest ≡ Some event.act
+pub is_event : (line : List ℕ) (digit : ℕ) (rest : List ℕ) (event : Event) → line ≡ digit ∷ 32 ∷ rest → event.build < 8 → decimal event.build ≡ digit ∷ [] → act_of_text rest ≡ Some event.act
     → IsEventText line event
 is_event line digit rest event split below begins means =
     let act = text_from_act rest event.act means in
@@ -86,7 +86,7 @@ written_once text a b is_a is_b =
     let digits : 48 + a.build ≡ 48 + b.build = cc in
     let builds : a.build ≡ b.build = omega (arith, digits) in
     let texts : act_text a.act ≡ act_text b.act = cc in
-    let found : Some a.act ≡ Some b.act = sym (act_from_text (act_text a.act) a.act refl is_a.act) ∙ ap act_of texts ∙ act_from_text (act_text b.act) b.act refl is_b.act in
+    let found : Some a.act ≡ Some b.act = sym (act_from_text (act_text a.act) a.act refl is_a.act) ∙ ap act_of_text texts ∙ act_from_text (act_text b.act) b.act refl is_b.act in
     let acts : a.act ≡ b.act = cc in
     let whole : by a.build a.act ≡ by b.build b.act = ap₂ by builds acts in
     whole

@@ -9,7 +9,7 @@ use Rattle.realm_model.specs.declared.act.Act.{Act}
 use Rattle.realm_model.specs.declared.act.Act.TheVariants.{Rec}
 use Rattle.realm_model.specs.declared.act.Event.{Event}
 use Rattle.history_text.specs.declared.opening.Opening.{Opening}
-use Rattle.history_text.specs.Written.{written_act, act_text, IsInRange}
+use Rattle.history_text.specs.Written.{written_act, act_text, IsActInRange}
 use Rattle.history_text.specs.Events.{IsEventText}
 use Rattle.history_text.specs.Histories.{opening_numbers, opening_text, IsOpeningText}
 use Rattle.history_text.proofs.ActMeans.{few_numbers}
@@ -32,7 +32,7 @@ short_word : (a : Act) → leb (length (written_act a).word) 10 ≡ true
 short_word (Rec g auxiliaries number) = refl
 short_word _ = refl
 
-length-act_text : (a : Act) → IsInRange a → length (act_text a) ≤ 208
+length-act_text : (a : Act) → IsActInRange a → length (act_text a) ≤ 208
 length-act_text a in_range =
     let are = few_numbers a in_range in
     let few : length (written_act a).numbers ≤ 18 = are.0 in

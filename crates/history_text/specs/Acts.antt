@@ -81,5 +81,5 @@ act_at word ns =
     (option_or (table_act_at word ns) (option_or (data_act_at word ns) (rec_act_at word ns))))
 
 -- the act of a text: the word before the first space, and a number behind each
-abbrev pub act_of : List ℕ → Option Act
-act_of text = meaning_of_text act_at text
+abbrev pub act_of_text : List ℕ → Option Act
+act_of_text text = meaning_of_text act_at text

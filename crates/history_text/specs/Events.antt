@@ -2,7 +2,7 @@
 use Rattle.std.specs.Prelude.{◌≡◌, ℕ, ◌<◌, List, ◌∷◌, ◌++◌}
 use Rattle.std.specs.Fmt.{decimal}
 use Rattle.realm_model.specs.declared.act.Event.{Event}
-use Rattle.history_text.specs.Written.{act_text, IsInRange}
+use Rattle.history_text.specs.Written.{act_text, IsActInRange}
 
 -- the build, a space, and what it did
 abbrev pub event_text : Event → List ℕ
@@ -12,4 +12,4 @@ event_text event = decimal event.build ++ (32 ∷ act_text event.act)
 pub record IsEventText (text : List ℕ) (event : Event) : Type 0 where
   pub is_written : text ≡ event_text event
   pub build : event.build < 8
-  pub act : IsInRange event.act
+  pub act : IsActInRange event.act

@@ -65,7 +65,7 @@ HasBounds (Rec g auxiliaries number) = array_vec_len auxiliaries ≤ 16
 HasBounds (UnRec g auxiliaries number) = array_vec_len auxiliaries ≤ 16
 HasBounds _ = Unit {0}
 
-pub record IsInRange (act : Act) : Type 0 where
+pub record IsActInRange (act : Act) : Type 0 where
   pub at_most : AreAtMost (written_act act).numbers (written_act act).maxima
   pub bounds : HasBounds act
 

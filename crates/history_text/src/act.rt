@@ -1,6 +1,6 @@
 //! The act that a word and its numbers are.
 ghost use Rattle.std.specs.Prelude.{◌≡◌, ◌≤◌, codes, IfSome, IfNone};
-ghost use Rattle.history_text.specs.Acts.{realm_row, table_row, rec_row, page_act_at, realm_act_at, table_act_at, data_act_at, rec_act_at, act_at, act_of};
+ghost use Rattle.history_text.specs.Acts.{realm_row, table_row, rec_row, page_act_at, realm_act_at, table_act_at, data_act_at, rec_act_at, act_at, act_of_text};
 
 use crate::granules::{GRANULE, IPA, granule_of, granules_of, ipa_of};
 use arrayvec::ArrayVec;
@@ -306,7 +306,7 @@ fn act(word: &str, numbers: &[u32]) -> Option<Act>
 /// The act that the text is: a word and its numbers, one space before each number and nothing else; the numbers in decimal,
 /// without a sign and without leading zeros, and each in its range. It takes no memory.
 pub fn act_from_text(text: &str) -> Option<Act>
-    ensures { result ≡ act_of text.now }
+    ensures { result ≡ act_of_text text.now }
 {
     let (word, rest) = cut_at_space(text);
     let numbers = numbers_of::<MOST_NUMBERS>(rest)?;

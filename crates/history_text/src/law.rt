@@ -3,7 +3,7 @@ ghost use Rattle.std.specs.Prelude.{◌≡◌, ℕ, ◌≤◌, List, length, rep
 ghost use Rattle.number_text.specs.Ranges.{AreAtMost};
 ghost use Rattle.realm_model.specs.declared.act.Event.{Event};
 ghost use Rattle.history_text.specs.declared.opening.Opening.{Opening};
-ghost use Rattle.history_text.specs.Written.{granule, IsInRange};
+ghost use Rattle.history_text.specs.Written.{granule, IsActInRange};
 ghost use Rattle.history_text.specs.Events.{event_text, IsEventText};
 ghost use Rattle.history_text.specs.Histories.{IsOpeningText};
 
@@ -37,7 +37,7 @@ fn granules_in_range(granules: &[Gran])
 fn read<T: Copy>(_numbers: T) {}
 
 fn act_in_range(act: &Act)
-    ensures { IsInRange act.now }
+    ensures { IsActInRange act.now }
 {
     match act {
         Act::Take { order, first } | Act::UnTake { order, first } => {

@@ -10,7 +10,7 @@ use Rattle.std.proofs.lemmas.Bool.{lt-ltb, and_parts, ne_eqb}
 use Rattle.std.proofs.lemmas.Slice.Eq.{bytes_eq-Decides}
 use Rattle.std.proofs.lemmas.Fmt.{digits_value-decimal}
 use Rattle.std.proofs.lemmas.List.Splits.{join_with_byte-slice_split}
-use Rattle.number_text.specs.Numbers.{AreNumbers, spelled_numbers, before_space, from_space, number_at, numbers_at}
+use Rattle.number_text.specs.Numbers.{AreNumbers, spelled_numbers, before_space, from_space, number_of_digits, numbers_of_digits}
 use Rattle.number_text.specs.Grammar.{spelled, meaning_of_fields, meaning_of_text}
 use Rattle.number_text.proofs.Cuts.{HasNoSpace, before_space-spelled, from_space-spelled, cut_joins}
 use Rattle.number_text.proofs.Decimals.{ascii_numerals}
@@ -46,15 +46,15 @@ map_some f (Some x) y e = (x, refl, cc)
 
 -- ---- numbers at the words of a text
 
-number_at-decimal : (n : ℕ) → n < 2 ^ 32 → number_at (decimal n) ≡ Some n
-number_at-decimal n small =
+number_of_digits-decimal : (n : ℕ) → n < 2 ^ 32 → number_of_digits (decimal n) ≡ Some n
+number_of_digits-decimal n small =
     let wide : n < 2 ^ 64 = omega arith in
     let value : digits_value 10 (decimal n) ≡ n = digits_value-decimal ascii_numerals n wide in
     rw (value, lt-ltb n (2 ^ 32) small, (bytes_eq-Decides (decimal n) (decimal n)).1 refl) refl
 
-numbers_at-decimals : (ns : List ℕ) → AllByRecursion (λ n. n < 2 ^ 32) ns → numbers_at (map decimal ns) ≡ Some ns
-numbers_at-decimals [] h = refl
-numbers_at-decimals (n ∷ ns) h = rw (number_at-decimal n h.0, numbers_at-decimals ns h.1) refl
+numbers_of_digits-decimals : (ns : List ℕ) → AllByRecursion (λ n. n < 2 ^ 32) ns → numbers_of_digits (map decimal ns) ≡ Some ns
+numbers_of_digits-decimals [] h = refl
+numbers_of_digits-decimals (n ∷ ns) h = rw (number_of_digits-decimal n h.0, numbers_of_digits-decimals ns h.1) refl
 
 split_cons : (b : ℕ) (bs : List ℕ) (w : List ℕ) (rest : List (List ℕ)) → b ≢ 32 → slice_split (λ c. c == 32) bs ≡ w ∷ rest → slice_split (λ c. c == 32) (b ∷ bs) ≡ (b ∷ w) ∷ rest
 split_cons b bs w rest apart h = rw (ne_eqb b 32 apart, h) refl
@@ -66,8 +66,8 @@ split_spelled [] (n ∷ ns) h k =
     ap (λ t. [] ∷ t) (split_spelled (decimal n) ns (no_space_decimal n wide) k.1)
 split_spelled (b ∷ w) ns h k = split_cons b (w ++ spelled_numbers ns) w (map decimal ns) (h 0 (omega arith)) (split_spelled w ns (λ i within. h (suc i) (omega arith)) k)
 
-number_at-some : (field : List ℕ) (n : ℕ) → number_at field ≡ Some n → field ≡ decimal n
-number_at-some field n e =
+number_of_digits-some : (field : List ℕ) (n : ℕ) → number_of_digits field ≡ Some n → field ≡ decimal n
+number_of_digits-some field n e =
     let value = digits_value 10 field in
     let (test, same) = test_from_some (ltb value (2 ^ 32) && bytes_eq (decimal value) field) value n e in
     let parts = and_parts (ltb value (2 ^ 32)) (bytes_eq (decimal value) field) test in
@@ -76,12 +76,12 @@ number_at-some field n e =
 joined_more : (word field joined_fields : List ℕ) (ns more : List ℕ) (n : ℕ) → field ≡ decimal n → n ∷ more ≡ ns → joined_fields ≡ field ++ spelled_numbers more → word ++ (32 ∷ joined_fields) ≡ word ++ spelled_numbers ns
 joined_more word field joined_fields ns more n here same go_on = ap (λ t. word ++ 32 ∷ t) (go_on ∙ rw here refl) ∙ ap (λ t. word ++ spelled_numbers t) same
 
-joined : (word : List ℕ) (fields : List (List ℕ)) (ns : List ℕ) → numbers_at fields ≡ Some ns → join_with_byte 32 (word ∷ fields) ≡ word ++ spelled_numbers ns
+joined : (word : List ℕ) (fields : List (List ℕ)) (ns : List ℕ) → numbers_of_digits fields ≡ Some ns → join_with_byte 32 (word ∷ fields) ≡ word ++ spelled_numbers ns
 joined word [] ns e = let none : ns ≡ [] = cc in rw none (sym (append-nil word))
 joined word (field ∷ fields) ns e =
-    let found = bind_some _ (number_at field) ns e in
-    let more = map_some _ (numbers_at fields) ns found.2 in
-    let here : field ≡ decimal found.0 = number_at-some field found.0 found.1 in
+    let found = bind_some _ (number_of_digits field) ns e in
+    let more = map_some _ (numbers_of_digits fields) ns found.2 in
+    let here : field ≡ decimal found.0 = number_of_digits-some field found.0 found.1 in
     joined_more word field (join_with_byte 32 (field ∷ fields)) ns more.0 found.0 here more.2 (joined field fields more.0 more.1)
 
 -- ---- texts of a grammar
@@ -93,12 +93,12 @@ module _ {A : Type 0} {word_of numbers_of : A → List ℕ} {IsInRange : A → T
   pub meaning_of_spelled : IsGrammar word_of numbers_of IsInRange meaning most → (text : List ℕ) (value : A) → text ≡ spelled (word_of value) (numbers_of value) → IsInRange value → meaning_of_text meaning text ≡ Some value
   meaning_of_spelled grammar text value is in_range =
       let are = grammar.few_numbers value in_range in
-      rw (is, split_spelled (word_of value) (numbers_of value) (grammar.one_word value) are.1, numbers_at-decimals (numbers_of value) are.1) (grammar.means value in_range)
+      rw (is, split_spelled (word_of value) (numbers_of value) (grammar.one_word value) are.1, numbers_of_digits-decimals (numbers_of value) are.1) (grammar.means value in_range)
 
   spelled_from_fields : IsGrammar word_of numbers_of IsInRange meaning most → (text : List ℕ) (fields : List (List ℕ)) (value : A) → join_with_byte 32 fields ≡ text → meaning_of_fields meaning fields ≡ Some value → (text ≡ spelled (word_of value) (numbers_of value)) × IsInRange value
   spelled_from_fields grammar text [] value joins e = absurd (cc)
   spelled_from_fields grammar text (word ∷ fields) value joins e =
-      let found = bind_some (meaning word) (numbers_at fields) value e in
+      let found = bind_some (meaning word) (numbers_of_digits fields) value e in
       let spells = grammar.spells word found.0 value found.2 in
       (sym joins ∙ joined word fields found.0 found.1 ∙ spelled_same word found.0 value spells, spells.in_range)
 

@@ -27,11 +27,11 @@ from_space [] = []
 from_space (b ∷ bs) = if b == 32 then b ∷ bs else from_space bs
 
 -- the number of 32 bits that the field is the decimal of
-abbrev pub number_at : List ℕ → Option ℕ
-number_at field =
+abbrev pub number_of_digits : List ℕ → Option ℕ
+number_of_digits field =
     let n = digits_value 10 field in
     if nat_lt n (2 ^ 32) && bytes_eq (decimal n) field then Some n else None
 
-abbrev pub numbers_at : List (List ℕ) → Option (List ℕ)
-numbers_at [] = Some []
-numbers_at (field ∷ fields) = option_and_then (λ n. option_map (λ ns. n ∷ ns) (numbers_at fields)) (number_at field)
+abbrev pub numbers_of_digits : List (List ℕ) → Option (List ℕ)
+numbers_of_digits [] = Some []
+numbers_of_digits (field ∷ fields) = option_and_then (λ n. option_map (λ ns. n ∷ ns) (numbers_of_digits fields)) (number_of_digits field)

@@ -12,7 +12,7 @@ use Rattle.plan_runs.specs.Turn.{IsStepTurn}
 use Rattle.plan_runs.specs.Place.{moved_on}
 use Rattle.plan_runs.specs.declared.answer.TurnAnswer.{TurnAnswer}
 use Rattle.plan_runs.specs.declared.place.Place.{Place}
-use Rattle.plan_runs.specs.Run.{Position, Turn, start, place_of, step_after, IsTurn, IsRun, IsToldTurn, IsToldRun, turn_text}
+use Rattle.plan_runs.specs.Run.{Position, Turn, start, place_of, step_after, IsTurn, AreTurns, IsToldTurn, IsToldRun, turn_text}
 
 -- a turn without a step
 pub idle_turn :
@@ -45,23 +45,23 @@ answered_turn plan from id build step answer host after moved old new is_id is_s
 }
 
 -- a run and one more turn
-pub IsRun-more :
+pub AreTurns-more :
     (plan : Plan) (order : List ℕ) (from : Position) (turns : List Turn) (at : Position) (build : ℕ) (turn : Turn) (to : Position)
-    → IsRun plan order from turns at
+    → AreTurns plan order from turns at
     → turn.build ≡ build
     → IsTurn plan at turn to
-    → IsRun plan (order ++ build ∷ []) from (turns ++ turn ∷ []) to
-IsRun-more plan [] from [] at build turn to run of_build is_turn =
+    → AreTurns plan (order ++ build ∷ []) from (turns ++ turn ∷ []) to
+AreTurns-more plan [] from [] at build turn to run of_build is_turn =
     (of_build, to, subst (λ p. IsTurn plan p turn to) run is_turn, refl)
-IsRun-more plan [] from (t ∷ turns) at build turn to run of_build is_turn = elim run [ ]
-IsRun-more plan (b ∷ order) from [] at build turn to run of_build is_turn = elim run [ ]
-IsRun-more plan (b ∷ order) from (t ∷ turns) at build turn to run of_build is_turn =
-    (run.0, run.1, run.2, IsRun-more plan order run.1 turns at build turn to run.3 of_build is_turn)
+AreTurns-more plan [] from (t ∷ turns) at build turn to run of_build is_turn = elim run [ ]
+AreTurns-more plan (b ∷ order) from [] at build turn to run of_build is_turn = elim run [ ]
+AreTurns-more plan (b ∷ order) from (t ∷ turns) at build turn to run of_build is_turn =
+    (run.0, run.1, run.2, AreTurns-more plan order run.1 turns at build turn to run.3 of_build is_turn)
 
 -- A prefix of the turns leads here, and its lines were appended.
 pub record IsToldFront (plan : Plan) (order : List ℕ) (from : HostView) (to : Position) (old new : List ℕ) : Type 0 where
   pub turns : List Turn
-  pub is_run : IsRun plan order (start from) turns to
+  pub is_run : AreTurns plan order (start from) turns to
   pub appended : new ≡ old ++ flat_map turn_text turns
 
 -- one more turn
@@ -72,7 +72,7 @@ pub IsToldFront-more :
     → IsToldFront plan (order ++ build ∷ []) from to old new
 IsToldFront-more plan order from at build to old between new front told = record {
   turns = front.turns ++ told.turn ∷ [];
-  is_run = IsRun-more plan order (start from) front.turns at build told.turn to front.is_run told.of_build told.is_turn;
+  is_run = AreTurns-more plan order (start from) front.turns at build told.turn to front.is_run told.of_build told.is_turn;
   appended = told.appended ∙ ap (λ t. t ++ turn_text told.turn) front.appended ∙ flat_map_more turn_text old front.turns told.turn;
 }
 
@@ -85,7 +85,7 @@ pub IsToldRun-whole :
 IsToldRun-whole plan i from at old new done front = record {
   turns = front.turns;
   end = at;
-  is_run = subst (λ order. IsRun plan order (start from) front.turns at) (take_all i plan.order done) front.is_run;
+  is_run = subst (λ order. AreTurns plan order (start from) front.turns at) (take_all i plan.order done) front.is_run;
   host = refl;
   appended = front.appended;
 }

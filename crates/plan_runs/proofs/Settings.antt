@@ -19,7 +19,7 @@ use Rattle.build_commands.specs.declared.undone.Undone.{Undone}
 use Rattle.plan_steps.specs.Asked.{asked}
 use Rattle.plan_steps.specs.declared.step.PlanStep.{PlanStep}
 use Rattle.realm_plan.specs.Plan.{Plan}
-use Rattle.plan_runs.specs.Run.{Position, Turn, start, place_of, step_after, IsTurnOf, IsRun, IsToldRun}
+use Rattle.plan_runs.specs.Run.{Position, Turn, start, place_of, step_after, IsTurnOf, AreTurns, IsToldRun}
 use Rattle.plan_runs.specs.Turn.{to_go_back, IsOneOfMany, IsTurnOfMany, IsToAbort, IsStepTurn}
 use Rattle.plan_runs.specs.declared.answer.TurnAnswer.{TurnAnswer}
 use Rattle.plan_runs.specs.declared.answer.TurnAnswer.TheVariants.{Nothing}
@@ -86,7 +86,7 @@ turn_same (Some step) from turn to is = step_same from.host turn.build (place_of
 
 -- ---- runs
 
-run_same : (plan : Plan) (order : List ℕ) (from : Position) (turns : List Turn) (to : Position) → IsRun plan order from turns to → SameSettings from.host to.host
+run_same : (plan : Plan) (order : List ℕ) (from : Position) (turns : List Turn) (to : Position) → AreTurns plan order from turns to → SameSettings from.host to.host
 run_same plan [] from [] to is = (ap (λ (p : Position). p.host.limits) is, ap (λ (p : Position). p.host.capacity) is)
 run_same plan [] from (t ∷ turns) to is = elim is [ ]
 run_same plan (b ∷ order) from [] to is = elim is [ ]

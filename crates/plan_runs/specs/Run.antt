@@ -54,11 +54,11 @@ abbrev pub IsTurn : Plan → Position → Turn → Position → Type 0
 IsTurn plan from turn to = IsTurnOf (step_after plan turn.build (place_of from.places turn.build).done) from turn to
 
 -- The turns of these builds, one after the other.
-abbrev pub IsRun : Plan → List ℕ → Position → List Turn → Position → Type 0
-IsRun plan [] from [] to = to ≡ from
-IsRun plan (build ∷ order) from (turn ∷ turns) to =
-    (turn.build ≡ build) × (between : Position) × IsTurn plan from turn between × IsRun plan order between turns to
-IsRun plan _ from _ to = ⊥
+abbrev pub AreTurns : Plan → List ℕ → Position → List Turn → Position → Type 0
+AreTurns plan [] from [] to = to ≡ from
+AreTurns plan (build ∷ order) from (turn ∷ turns) to =
+    (turn.build ≡ build) × (between : Position) × IsTurn plan from turn between × AreTurns plan order between turns to
+AreTurns plan _ from _ to = ⊥
 
 -- ---- what is printed
 
@@ -102,6 +102,6 @@ pub record IsToldTurn (plan : Plan) (from : Position) (build : ℕ) (to : Positi
 pub record IsToldRun (plan : Plan) (from to : HostView) (old new : List ℕ) : Type 0 where
   pub turns : List Turn
   pub end : Position
-  pub is_run : IsRun plan plan.order (start from) turns end
+  pub is_run : AreTurns plan plan.order (start from) turns end
   pub host : end.host ≡ to
   pub appended : new ≡ old ++ flat_map turn_text turns

@@ -13,13 +13,13 @@ use Rattle.build_commands.specs.declared.cmd.Step.TheVariants.{Ask, Undo, Abort,
 use Rattle.plan_steps.specs.declared.step.PlanStep.{PlanStep}
 use Rattle.plan_steps.specs.declared.step.PlanStep.TheVariants.{Whole, WidthLeftOut}
 use Rattle.plan_steps.specs.Steps.{whole, step_at}
-use Rattle.plan_steps.specs.Written.{page, offset, written_cmd, written_step, IsInRange}
+use Rattle.plan_steps.specs.Written.{page, page_offset, written_cmd, written_step, IsStepInRange}
 use Rattle.plan_steps.proofs.Auxiliaries.{few_with_auxiliaries}
 
-cmd_means : (c : Cmd) → IsInRange (whole c) → step_at (written_cmd c).word (written_cmd c).numbers ≡ Some (whole c)
+cmd_means : (c : Cmd) → IsStepInRange (whole c) → step_at (written_cmd c).word (written_cmd c).numbers ≡ Some (whole c)
 cmd_means (Take order) h = rw (le-leb order u8 h.at_most.0) refl
 cmd_means (Fill p v) h = rw (le-leb p page h.at_most.0, le-leb v u8 h.at_most.1.0) refl
-cmd_means (Peek p o) h = rw (le-leb p page h.at_most.0, le-leb o offset h.at_most.1.0) refl
+cmd_means (Peek p o) h = rw (le-leb p page h.at_most.0, le-leb o page_offset h.at_most.1.0) refl
 cmd_means (Delegate p) h = rw (le-leb p page h.at_most.0) refl
 cmd_means (Realm rd root width) h = rw (le-leb rd page h.at_most.0, le-leb root page h.at_most.1.0, le-leb width u8 h.at_most.1.1.0) refl
 cmd_means (Rtt p ipa level) h = rw (le-leb p page h.at_most.0, le-leb ipa u32 h.at_most.1.0, le-leb level u8 h.at_most.1.1.0) refl
@@ -30,9 +30,9 @@ cmd_means (Rec p auxiliaries) h = rw (le-leb p page h.at_most.0, up_to-items 16 
 cmd_means Activate h = refl
 cmd_means (Enter number) h = rw (le-leb number u16 h.at_most.0) refl
 cmd_means (Exit number) h = rw (le-leb number u16 h.at_most.0) refl
-cmd_means (Poke number ipa o v) h = rw (le-leb number u16 h.at_most.0, le-leb ipa u32 h.at_most.1.0, le-leb o offset h.at_most.1.1.0, le-leb v u8 h.at_most.1.1.1.0) refl
+cmd_means (Poke number ipa o v) h = rw (le-leb number u16 h.at_most.0, le-leb ipa u32 h.at_most.1.0, le-leb o page_offset h.at_most.1.1.0, le-leb v u8 h.at_most.1.1.1.0) refl
 
-pub means : (s : PlanStep) → IsInRange s → step_at (written_step s).word (written_step s).numbers ≡ Some s
+pub means : (s : PlanStep) → IsStepInRange s → step_at (written_step s).word (written_step s).numbers ≡ Some s
 means (Whole (Ask c)) h = cmd_means c h
 means (Whole Undo) h = refl
 means (Whole Abort) h = refl
@@ -54,11 +54,11 @@ one_word (Whole Mark) = no_space_from_test (written_step (Whole Mark)).word refl
 one_word (Whole Back) = no_space_from_test (written_step (Whole Back)).word refl
 one_word (WidthLeftOut rd root) = no_space_from_test (written_step (WidthLeftOut rd root)).word refl
 
-cmd_numbers : (c : Cmd) → IsInRange (whole c) → AreNumbers 17 (written_cmd c).numbers
+cmd_numbers : (c : Cmd) → IsStepInRange (whole c) → AreNumbers 17 (written_cmd c).numbers
 cmd_numbers (Rec p auxiliaries) h = few_with_auxiliaries p auxiliaries.items h.count h.at_most
 cmd_numbers c h = few_from_test 17 (written_cmd c).numbers (written_cmd c).maxima h.at_most refl
 
-pub few_numbers : (s : PlanStep) → IsInRange s → AreNumbers 17 (written_step s).numbers
+pub few_numbers : (s : PlanStep) → IsStepInRange s → AreNumbers 17 (written_step s).numbers
 few_numbers (Whole (Ask c)) h = cmd_numbers c h
 few_numbers (Whole Undo) h = few_from_test 17 [] [] h.at_most refl
 few_numbers (Whole Abort) h = few_from_test 17 [] [] h.at_most refl

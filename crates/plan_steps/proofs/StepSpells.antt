@@ -11,11 +11,11 @@ use Rattle.build_commands.specs.declared.cmd.Cmd.TheVariants.{Take, Fill, Peek, 
 use Rattle.build_commands.specs.declared.cmd.Step.TheVariants.{Undo, Abort, Mark, Back}
 use Rattle.plan_steps.specs.declared.step.PlanStep.{PlanStep}
 use Rattle.plan_steps.specs.declared.step.PlanStep.TheVariants.{Whole, WidthLeftOut}
-use Rattle.plan_steps.specs.Steps.{whole, page_step_at, realm_at, realm_step_at, table_step_at, rec_at, rec_step_at, way_back_step_at, step_at}
-use Rattle.plan_steps.specs.Written.{page, offset, written_step, HasCount, IsInRange}
+use Rattle.plan_steps.specs.Steps.{whole, page_step_at, realm_of_numbers, realm_step_at, table_step_at, rec_of_numbers, rec_step_at, way_back_step_at, step_at}
+use Rattle.plan_steps.specs.Written.{page, page_offset, written_step, HasCount, IsStepInRange}
 
 abbrev pub SpellsStep : List ℕ → List ℕ → PlanStep → Type 0
-SpellsStep word ns s = Spells (λ it. (written_step it).word) (λ it. (written_step it).numbers) IsInRange word ns s
+SpellsStep word ns s = Spells (λ it. (written_step it).word) (λ it. (written_step it).numbers) IsStepInRange word ns s
 
 made : (s : PlanStep) → AreAtMost (written_step s).numbers (written_step s).maxima → HasCount s → SpellsStep (written_step s).word (written_step s).numbers s
 made s at_most count = record { word_is = refl; numbers_are = refl; in_range = record { at_most = at_most; count = count } }
@@ -24,11 +24,11 @@ page_spells : (word ns : List ℕ) (s : PlanStep) → page_step_at word ns ≡ S
 page_spells word ns s =
     choose SpellsStep word ns s (codes "take") (one u8 (λ k. whole (Take k))) _ (one_makes (SpellsStep (codes "take")) u8 _ (λ k h. made (whole (Take k)) (h, tt) tt))
     (choose SpellsStep word ns s (codes "fill") (two page u8 (λ k l. whole (Fill k l))) _ (two_makes (SpellsStep (codes "fill")) page u8 _ (λ k l h i. made (whole (Fill k l)) (h, (i, tt)) tt))
-    (choose SpellsStep word ns s (codes "peek") (two page offset (λ k l. whole (Peek k l))) _ (two_makes (SpellsStep (codes "peek")) page offset _ (λ k l h i. made (whole (Peek k l)) (h, (i, tt)) tt))
+    (choose SpellsStep word ns s (codes "peek") (two page page_offset (λ k l. whole (Peek k l))) _ (two_makes (SpellsStep (codes "peek")) page page_offset _ (λ k l h i. made (whole (Peek k l)) (h, (i, tt)) tt))
     (choose SpellsStep word ns s (codes "delegate") (one page (λ k. whole (Delegate k))) _ (one_makes (SpellsStep (codes "delegate")) page _ (λ k h. made (whole (Delegate k)) (h, tt) tt))
     (λ e. absurd (cc)))))
 
-realm_spells : (ns : List ℕ) (s : PlanStep) → realm_at ns ≡ Some s → SpellsStep (codes "realm") ns s
+realm_spells : (ns : List ℕ) (s : PlanStep) → realm_of_numbers ns ≡ Some s → SpellsStep (codes "realm") ns s
 realm_spells ns s =
     either SpellsStep (codes "realm") ns s (two page page (λ k l. WidthLeftOut k l) ns) (three page page u8 (λ k l m. whole (Realm k l m)) ns)
     (two_makes (SpellsStep (codes "realm")) page page _ (λ k l h i. made (WidthLeftOut k l) (h, (i, tt)) tt) ns s)
@@ -36,7 +36,7 @@ realm_spells ns s =
 
 realm_step_spells : (word ns : List ℕ) (s : PlanStep) → realm_step_at word ns ≡ Some s → SpellsStep word ns s
 realm_step_spells word ns s =
-    choose SpellsStep word ns s (codes "realm") realm_at _ realm_spells
+    choose SpellsStep word ns s (codes "realm") realm_of_numbers _ realm_spells
     (choose SpellsStep word ns s (codes "activate") (none (whole Activate)) _ (none_makes (SpellsStep (codes "activate")) _ (made (whole Activate) tt tt))
     (λ e. absurd (cc)))
 
@@ -48,7 +48,7 @@ table_spells word ns s =
     (choose SpellsStep word ns s (codes "unknown") (two page u32 (λ k l. whole (Unknown k l))) _ (two_makes (SpellsStep (codes "unknown")) page u32 _ (λ k l h i. made (whole (Unknown k l)) (h, (i, tt)) tt))
     (λ e. absurd (cc)))))
 
-rec_spells : (ns : List ℕ) (s : PlanStep) → rec_at ns ≡ Some s → SpellsStep (codes "rec") ns s
+rec_spells : (ns : List ℕ) (s : PlanStep) → rec_of_numbers ns ≡ Some s → SpellsStep (codes "rec") ns s
 rec_spells [] s e = absurd (cc)
 rec_spells (p ∷ more) s e = elim (leb p page) as (λ t. leb p page ≡ t → cond t (option_map (λ it. whole (Rec p it)) (up_to 16 page more)) None ≡ Some s → SpellsStep (codes "rec") (p ∷ more) s) [
   | true ↦ λ test made_it.
@@ -62,10 +62,10 @@ rec_spells (p ∷ more) s e = elim (leb p page) as (λ t. leb p page ≡ t → c
 
 rec_step_spells : (word ns : List ℕ) (s : PlanStep) → rec_step_at word ns ≡ Some s → SpellsStep word ns s
 rec_step_spells word ns s =
-    choose SpellsStep word ns s (codes "rec") rec_at _ rec_spells
+    choose SpellsStep word ns s (codes "rec") rec_of_numbers _ rec_spells
     (choose SpellsStep word ns s (codes "enter") (one u16 (λ k. whole (Enter k))) _ (one_makes (SpellsStep (codes "enter")) u16 _ (λ k h. made (whole (Enter k)) (h, tt) tt))
     (choose SpellsStep word ns s (codes "exit") (one u16 (λ k. whole (Exit k))) _ (one_makes (SpellsStep (codes "exit")) u16 _ (λ k h. made (whole (Exit k)) (h, tt) tt))
-    (choose SpellsStep word ns s (codes "poke") (four u16 u32 offset u8 (λ k l m n. whole (Poke k l m n))) _ (four_makes (SpellsStep (codes "poke")) u16 u32 offset u8 _ (λ k l m n h i j o. made (whole (Poke k l m n)) (h, (i, (j, (o, tt)))) tt))
+    (choose SpellsStep word ns s (codes "poke") (four u16 u32 page_offset u8 (λ k l m n. whole (Poke k l m n))) _ (four_makes (SpellsStep (codes "poke")) u16 u32 page_offset u8 _ (λ k l m n h i j o. made (whole (Poke k l m n)) (h, (i, (j, (o, tt)))) tt))
     (λ e. absurd (cc)))))
 
 way_back_spells : (word ns : List ℕ) (s : PlanStep) → way_back_step_at word ns ≡ Some s → SpellsStep word ns s

@@ -4,11 +4,11 @@ use Rattle.std.specs.Prelude.{IfSome, IfNone}
 use Rattle.number_text.proofs.Grammars.{IsGrammar, meaning_of_spelled, spelled_from_meaning}
 use Rattle.plan_steps.specs.declared.step.PlanStep.{PlanStep}
 use Rattle.plan_steps.specs.Steps.{step_at, step_of}
-use Rattle.plan_steps.specs.Written.{written_step, IsInRange, IsStepText}
+use Rattle.plan_steps.specs.Written.{written_step, IsStepInRange, IsStepText}
 use Rattle.plan_steps.proofs.StepMeans.{means, one_word, few_numbers}
 use Rattle.plan_steps.proofs.StepSpells.{spells}
 
-pub steps : IsGrammar (λ s. (written_step s).word) (λ s. (written_step s).numbers) IsInRange step_at 17
+pub steps : IsGrammar (λ s. (written_step s).word) (λ s. (written_step s).numbers) IsStepInRange step_at 17
 steps = record { means = means; spells = spells; one_word = one_word; few_numbers = few_numbers }
 
 pub text_of_step : (text : List ℕ) (step : PlanStep) → step_of text ≡ Some step → IsStepText text step

@@ -10,7 +10,7 @@ use Rattle.build_commands.specs.declared.cmd.Cmd.TheVariants.{Take, Fill, Peek, 
 use Rattle.build_commands.specs.declared.cmd.Step.TheVariants.{Ask, Undo, Abort, Mark, Back}
 use Rattle.plan_steps.specs.declared.step.PlanStep.{PlanStep}
 use Rattle.plan_steps.specs.declared.step.PlanStep.TheVariants.{Whole, WidthLeftOut}
-use Rattle.plan_steps.specs.Written.{page, offset}
+use Rattle.plan_steps.specs.Written.{page, page_offset}
 
 abbrev pub whole : Cmd → PlanStep
 whole cmd = Whole (Ask cmd)
@@ -19,7 +19,7 @@ abbrev pub page_step_at : List ℕ → List ℕ → Option PlanStep
 page_step_at word ns =
     if bytes_eq word (codes "take") then one u8 (λ order. whole (Take order)) ns
     else if bytes_eq word (codes "fill") then two page u8 (λ p value. whole (Fill p value)) ns
-    else if bytes_eq word (codes "peek") then two page offset (λ p o. whole (Peek p o)) ns
+    else if bytes_eq word (codes "peek") then two page page_offset (λ p o. whole (Peek p o)) ns
     else if bytes_eq word (codes "delegate") then one page (λ p. whole (Delegate p)) ns
     else None
 
@@ -30,12 +30,12 @@ short_realm_at ns = two page page (λ rd root. WidthLeftOut rd root) ns
 abbrev pub whole_realm_at : List ℕ → Option PlanStep
 whole_realm_at ns = three page page u8 (λ rd root width. whole (Realm rd root width)) ns
 
-abbrev pub realm_at : List ℕ → Option PlanStep
-realm_at ns = option_or (short_realm_at ns) (whole_realm_at ns)
+abbrev pub realm_of_numbers : List ℕ → Option PlanStep
+realm_of_numbers ns = option_or (short_realm_at ns) (whole_realm_at ns)
 
 abbrev pub realm_step_at : List ℕ → List ℕ → Option PlanStep
 realm_step_at word ns =
-    if bytes_eq word (codes "realm") then realm_at ns
+    if bytes_eq word (codes "realm") then realm_of_numbers ns
     else if bytes_eq word (codes "activate") then none (whole Activate) ns
     else None
 
@@ -47,16 +47,16 @@ table_step_at word ns =
     else if bytes_eq word (codes "unknown") then two page u32 (λ p ipa. whole (Unknown p ipa)) ns
     else None
 
-abbrev pub rec_at : List ℕ → Option PlanStep
-rec_at [] = None
-rec_at (p ∷ more) = if nat_le p page then option_map (λ auxiliaries. whole (Rec p auxiliaries)) (up_to 16 page more) else None
+abbrev pub rec_of_numbers : List ℕ → Option PlanStep
+rec_of_numbers [] = None
+rec_of_numbers (p ∷ more) = if nat_le p page then option_map (λ auxiliaries. whole (Rec p auxiliaries)) (up_to 16 page more) else None
 
 abbrev pub rec_step_at : List ℕ → List ℕ → Option PlanStep
 rec_step_at word ns =
-    if bytes_eq word (codes "rec") then rec_at ns
+    if bytes_eq word (codes "rec") then rec_of_numbers ns
     else if bytes_eq word (codes "enter") then one u16 (λ number. whole (Enter number)) ns
     else if bytes_eq word (codes "exit") then one u16 (λ number. whole (Exit number)) ns
-    else if bytes_eq word (codes "poke") then four u16 u32 offset u8 (λ number ipa o value. whole (Poke number ipa o value)) ns
+    else if bytes_eq word (codes "poke") then four u16 u32 page_offset u8 (λ number ipa o value. whole (Poke number ipa o value)) ns
     else None
 
 -- the four words by which a build goes back over its own steps

@@ -15,13 +15,13 @@ abbrev pub page : ℕ
 page = 4095
 
 -- the greatest offset in a page
-abbrev pub offset : ℕ
-offset = 4095
+abbrev pub page_offset : ℕ
+page_offset = 4095
 
 abbrev pub written_cmd : Cmd → Written
 written_cmd (Take order) = written (codes "take") (order ∷ []) (u8 ∷ [])
 written_cmd (Fill p value) = written (codes "fill") (p ∷ value ∷ []) (page ∷ u8 ∷ [])
-written_cmd (Peek p o) = written (codes "peek") (p ∷ o ∷ []) (page ∷ offset ∷ [])
+written_cmd (Peek p o) = written (codes "peek") (p ∷ o ∷ []) (page ∷ page_offset ∷ [])
 written_cmd (Delegate p) = written (codes "delegate") (p ∷ []) (page ∷ [])
 written_cmd (Realm rd root width) = written (codes "realm") (rd ∷ root ∷ width ∷ []) (page ∷ page ∷ u8 ∷ [])
 written_cmd (Rtt p ipa level) = written (codes "rtt") (p ∷ ipa ∷ level ∷ []) (page ∷ u32 ∷ u8 ∷ [])
@@ -32,7 +32,7 @@ written_cmd (Rec p auxiliaries) = written (codes "rec") (p ∷ auxiliaries.items
 written_cmd Activate = written (codes "activate") [] []
 written_cmd (Enter number) = written (codes "enter") (number ∷ []) (u16 ∷ [])
 written_cmd (Exit number) = written (codes "exit") (number ∷ []) (u16 ∷ [])
-written_cmd (Poke number ipa o value) = written (codes "poke") (number ∷ ipa ∷ o ∷ value ∷ []) (u16 ∷ u32 ∷ offset ∷ u8 ∷ [])
+written_cmd (Poke number ipa o value) = written (codes "poke") (number ∷ ipa ∷ o ∷ value ∷ []) (u16 ∷ u32 ∷ page_offset ∷ u8 ∷ [])
 
 abbrev pub written_step : PlanStep → Written
 written_step (Whole (Ask cmd)) = written_cmd cmd
@@ -55,11 +55,11 @@ abbrev pub HasCount : PlanStep → Type 0
 HasCount (Whole (Ask (Rec p auxiliaries))) = array_vec_len auxiliaries ≤ 16
 HasCount _ = Unit {0}
 
-pub record IsInRange (step : PlanStep) : Type 0 where
+pub record IsStepInRange (step : PlanStep) : Type 0 where
   pub at_most : AreAtMost (written_step step).numbers (written_step step).maxima
   pub count : HasCount step
 
 -- the text is the spelling of the step, and the step's numbers are in their ranges
 pub record IsStepText (text : List ℕ) (step : PlanStep) : Type 0 where
   pub is_spelled : text ≡ spelling step
-  pub in_range : IsInRange step
+  pub in_range : IsStepInRange step

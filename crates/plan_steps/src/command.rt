@@ -2,7 +2,7 @@
 ghost use Rattle.std.specs.Prelude.{◌≡◌, Some, codes};
 ghost use Rattle.number_text.specs.Rows.{none};
 ghost use Rattle.plan_steps.specs.declared.step.PlanStep.TheVariants.{Whole};
-ghost use Rattle.plan_steps.specs.Steps.{whole, page_step_at, short_realm_at, whole_realm_at, realm_at, realm_step_at, table_step_at, rec_at, rec_step_at, way_back_step_at, step_at};
+ghost use Rattle.plan_steps.specs.Steps.{whole, page_step_at, short_realm_at, whole_realm_at, realm_of_numbers, realm_step_at, table_step_at, rec_of_numbers, rec_step_at, way_back_step_at, step_at};
 
 use crate::operands::{MOST_PAGE, Offset, Page};
 use crate::step::PlanStep;
@@ -75,7 +75,7 @@ fn whole_realm(numbers: &[u32]) -> Option<PlanStep>
 }
 
 fn realm(numbers: &[u32]) -> Option<PlanStep>
-    ensures { result ≡ realm_at numbers.now }
+    ensures { result ≡ realm_of_numbers numbers.now }
 {
     match short_realm(numbers) {
         Some(found) => Some(found),
@@ -135,7 +135,7 @@ fn table_step(word: &str, numbers: &[u32]) -> Option<PlanStep>
 
 // A REC, and its auxiliary pages.
 fn rec(numbers: &[u32]) -> Option<PlanStep>
-    ensures { result ≡ rec_at numbers.now }
+    ensures { result ≡ rec_of_numbers numbers.now }
 {
     let [page, more @ ..] = numbers else {
         return None;

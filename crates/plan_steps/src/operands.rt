@@ -32,9 +32,9 @@ impl Operand for Page {
 pub struct Offset(pub PageOff);
 
 impl Operand for Offset {
-    ghost use Rattle.plan_steps.specs.Written.{offset};
+    ghost use Rattle.plan_steps.specs.Written.{page_offset};
 
-    ghost maximum = { offset };
+    ghost maximum = { page_offset };
 
     ghost of = { λ n. record { 0 = n } };
 

@@ -2,27 +2,27 @@
 use Rattle.std.proofs.Common.{◌≡◌, ℕ, List, ◌++◌, sym, ap, ◌∙◌, subst}
 use Rattle.std.specs.List.{flat_map}
 use Rattle.build_books.specs.View.{HostView}
-use Rattle.builders.specs.Close.{IsGivenBack, IsClosed}
+use Rattle.builders.specs.Close.{IsHostGivenBack, IsClosed}
 use Rattle.builders.proofs.Orders.{did_the_same}
 use Rattle.plan_runs.specs.Run.{map_text}
 use Rattle.plan_runs.proofs.Maps.{same_map}
 use Rattle.realm_plan.specs.Plan.{Plan}
 use Rattle.plan_threads.specs.Order.{OrderIsNotTold}
 use Rattle.plan_threads.specs.Text.{audit_line}
-use Rattle.plan_threads.specs.Threads.{seats_of, worker_text, IsText}
+use Rattle.plan_threads.specs.Threads.{worker_seats, worker_text, IsWorkersText}
 
 module _ (plan : Plan) (passes stops : ℕ → ℕ → Type 0) (opened : HostView) (text other : List ℕ)
-    (run : IsText plan passes stops opened text) (again : IsText plan passes stops opened other) where
-  same_maps : seats_of again.workers ≡ seats_of run.workers → map_text again.host ≡ map_text run.host
+    (run : IsWorkersText plan passes stops opened text) (again : IsWorkersText plan passes stops opened other) where
+  same_maps : worker_seats again.workers ≡ worker_seats run.workers → map_text again.host ≡ map_text run.host
   same_maps same =
       same_map run.host again.host
-      (did_the_same opened run.host again.host (seats_of run.workers) run.is_run.given_back run.closed
-      (subst (IsGivenBack opened again.host) same again.is_run.given_back) (subst (IsClosed again.host) same again.closed))
+      (did_the_same opened run.host again.host (worker_seats run.workers) run.is_run.given_back run.closed
+      (subst (IsHostGivenBack opened again.host) same again.is_run.given_back) (subst (IsClosed again.host) same again.closed))
 
   same_texts : again.workers ≡ run.workers → other ≡ text
   same_texts same =
       again.whole
-      ∙ (λ i. flat_map (worker_text plan) (same i) ++ (same_maps (ap seats_of same) i ++ audit_line))
+      ∙ (λ i. flat_map (worker_text plan) (same i) ++ (same_maps (ap worker_seats same) i ++ audit_line))
       ∙ sym run.whole
 
 pub order_is_not_told : (plan : Plan) (passes stops : ℕ → ℕ → Type 0) (opened : HostView) → OrderIsNotTold plan passes stops opened

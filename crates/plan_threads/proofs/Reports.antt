@@ -11,7 +11,7 @@ use Rattle.realm_plan.specs.Plan.{Plan}
 use Rattle.report_audit.specs.Fitting.{DoesFit, ReportFits}
 use Rattle.workers.specs.declared.report.Report.{Report}
 use Rattle.workers.specs.declared.report.Line.{Line}
-use Rattle.plan_threads.specs.Text.{steps_of, report_lines}
+use Rattle.plan_threads.specs.Text.{steps_of_build, report_lines}
 use Rattle.plan_threads.specs.Threads.{IsReportOf, WorkerFits, worker_text}
 
 -- ---- one
@@ -29,7 +29,7 @@ fits_back history worker (report, asks) is fits =
     (subst (λ (ss : List Step). DoesFit worker.seat.build ss worker.lines history) (sym is.2) fits))
 
 text_one : (plan : Plan) (worker : WorkerView) (report : Report × Vec Step) → IsReportOf worker report → report_lines plan report ≡ worker_text plan worker
-text_one plan worker (report, asks) is = ap₂ (λ (b : ℕ) (ls : List Line). report_text b (steps_of plan b) ls) is.0 is.1
+text_one plan worker (report, asks) is = ap₂ (λ (b : ℕ) (ls : List Line). report_text b (steps_of_build plan b) ls) is.0 is.1
 
 -- ---- all
 

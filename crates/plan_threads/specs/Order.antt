@@ -3,12 +3,12 @@ use Rattle.std.specs.Prelude.{◌≡◌, ℕ, List}
 use Rattle.build_books.specs.View.{HostView}
 use Rattle.plan_runs.specs.Run.{map_text}
 use Rattle.realm_plan.specs.Plan.{Plan}
-use Rattle.plan_threads.specs.Threads.{seats_of, IsText}
+use Rattle.plan_threads.specs.Threads.{worker_seats, IsWorkersText}
 
 -- Two runs after which each build's seat has the same events have the same map; and they have the same text where the workers
 -- show the same lines too.
 abbrev pub OrderIsNotTold : Plan → (ℕ → ℕ → Type 0) → (ℕ → ℕ → Type 0) → HostView → Type 0
 OrderIsNotTold plan passes stops opened =
-    (text other : List ℕ) (run : IsText plan passes stops opened text) (again : IsText plan passes stops opened other)
-    → (seats_of again.workers ≡ seats_of run.workers → map_text again.host ≡ map_text run.host)
+    (text other : List ℕ) (run : IsWorkersText plan passes stops opened text) (again : IsWorkersText plan passes stops opened other)
+    → (worker_seats again.workers ≡ worker_seats run.workers → map_text again.host ≡ map_text run.host)
     × (again.workers ≡ run.workers → other ≡ text)

@@ -8,12 +8,12 @@ use Rattle.realm_plan.specs.Plan.{Plan}
 use Rattle.workers.specs.declared.report.Report.{Report}
 
 -- the steps of a build
-abbrev pub steps_of : Plan → ℕ → List PlanStep
-steps_of plan build = slice_index_or plan.builds build []
+abbrev pub steps_of_build : Plan → ℕ → List PlanStep
+steps_of_build plan build = slice_index_or plan.builds build []
 
 -- the lines of a report, which tell the steps as they stand in the plan
 abbrev pub report_lines : Plan → Report × Vec Step → List ℕ
-report_lines plan (report, asks) = report_text report.build (steps_of plan report.build) report.lines.items
+report_lines plan (report, asks) = report_text report.build (steps_of_build plan report.build) report.lines.items
 
 -- The reports tell the events of the history, one by one.
 abbrev pub audit_line : List ℕ

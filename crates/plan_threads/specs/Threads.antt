@@ -4,7 +4,7 @@ use Rattle.std.specs.Global.{Vec}
 use Rattle.std.specs.List.{AllZip, flat_map, range_with_len}
 use Rattle.build_books.specs.View.{HostView}
 use Rattle.build_commands.specs.declared.cmd.Step.{Step}
-use Rattle.builders.specs.Close.{IsClosed, IsGivenBack}
+use Rattle.builders.specs.Close.{IsClosed, IsHostGivenBack}
 use Rattle.builders.specs.Fault.{IsFault}
 use Rattle.builders.specs.Runs.{AreRun, IsLowestWaiting}
 use Rattle.builders.specs.Seats.{SeatView, new_seat}
@@ -17,7 +17,7 @@ use Rattle.realm_model.specs.declared.act.Event.{Event}
 use Rattle.realm_plan.specs.Plan.{Plan}
 use Rattle.report_audit.specs.Fitting.{DoesFit}
 use Rattle.workers.specs.declared.report.Report.{Report}
-use Rattle.plan_threads.specs.Text.{steps_of, audit_line}
+use Rattle.plan_threads.specs.Text.{steps_of_build, audit_line}
 use Rattle.plan_threads.specs.declared.fault.RunFault.{RunFault}
 use Rattle.plan_threads.specs.declared.fault.RunFault.TheVariants.{Memory, Stuck, Mismatch}
 
@@ -25,14 +25,14 @@ use Rattle.plan_threads.specs.declared.fault.RunFault.TheVariants.{Memory, Stuck
 
 -- the worker of a build that has asked nothing of its steps
 abbrev pub new_worker : Plan → ℕ → WorkerView
-new_worker plan build = record { seat = new_seat build; steps = map asked (steps_of plan build); lines = []; ended = false }
+new_worker plan build = record { seat = new_seat build; steps = map asked (steps_of_build plan build); lines = []; ended = false }
 
 -- one for each build of the plan
 abbrev pub new_workers : Plan → List WorkerView
 new_workers plan = map (new_worker plan) (range_with_len 0 (length plan.builds))
 
-abbrev pub seats_of : List WorkerView → List SeatView
-seats_of workers = map (λ worker. worker.seat) workers
+abbrev pub worker_seats : List WorkerView → List SeatView
+worker_seats workers = map (λ worker. worker.seat) workers
 
 -- what a worker leaves as a report, with its steps
 abbrev pub IsReportOf : WorkerView → Report × Vec Step → Type 0
@@ -45,14 +45,14 @@ IsReportOf worker (report, asks) = (report.build ≡ worker.seat.build) × (repo
 pub record IsEndedRun (plan : Plan) (passes stops : ℕ → ℕ → Type 0) (opened host : HostView) (workers : List WorkerView) : Type 0 where
   pub run : AreRun opened passes stops (new_workers plan) workers
   pub ended : All (λ worker. worker.ended ≡ true) workers
-  pub given_back : IsGivenBack opened host (seats_of workers)
+  pub given_back : IsHostGivenBack opened host (worker_seats workers)
 
 -- The workers of the plan's builds have run, and each has ended and left its seat and its report.
 pub record AreLeft (plan : Plan) (passes stops : ℕ → ℕ → Type 0) (opened : HostView) (seats : List SeatView) (reports : List (Report × Vec Step)) : Type 0 where
   pub workers : List WorkerView
   pub run : AreRun opened passes stops (new_workers plan) workers
   pub ended : All (λ worker. worker.ended ≡ true) workers
-  pub seats_are : seats ≡ seats_of workers
+  pub seats_are : seats ≡ worker_seats workers
   pub reports_are : AllZip IsReportOf workers reports
 
 -- the worker's accepted lines tell its build's events in the history, one by one
@@ -63,15 +63,15 @@ WorkerFits history worker = DoesFit worker.seat.build worker.steps worker.lines 
 
 -- the lines of a worker's report
 abbrev pub worker_text : Plan → WorkerView → List ℕ
-worker_text plan worker = report_text worker.seat.build (steps_of plan worker.seat.build) worker.lines
+worker_text plan worker = report_text worker.seat.build (steps_of_build plan worker.seat.build) worker.lines
 
 -- The text of some run in which each worker has ended: its history is legal, each seat has what it has of the seat's build, and
 -- each report fits it. It is the lines of the reports by build, the map of the history, and the line of the audit.
-pub record IsText (plan : Plan) (passes stops : ℕ → ℕ → Type 0) (opened : HostView) (text : List ℕ) : Type 0 where
+pub record IsWorkersText (plan : Plan) (passes stops : ℕ → ℕ → Type 0) (opened : HostView) (text : List ℕ) : Type 0 where
   pub host : HostView
   pub workers : List WorkerView
   pub is_run : IsEndedRun plan passes stops opened host workers
-  pub closed : IsClosed host (seats_of workers)
+  pub closed : IsClosed host (worker_seats workers)
   pub fit : All (WorkerFits host.history) workers
   pub whole : text ≡ flat_map (worker_text plan) workers ++ (map_text host ++ audit_line)
 
@@ -89,9 +89,9 @@ pub record IsMismatch (plan : Plan) (passes stops : ℕ → ℕ → Type 0) (ope
   pub host : HostView
   pub workers : List WorkerView
   pub is_run : IsEndedRun plan passes stops opened host workers
-  pub differs : ((fault : CloseFault) × IsFault fault host (seats_of workers)) ⊎ ¬ (All (WorkerFits host.history) workers)
+  pub differs : ((fault : CloseFault) × IsFault fault host (worker_seats workers)) ⊎ ¬ (All (WorkerFits host.history) workers)
 
-abbrev pub IsWithoutText : Plan → (ℕ → ℕ → Type 0) → (ℕ → ℕ → Type 0) → HostView → RunFault → Type 0
-IsWithoutText plan passes stops opened Memory = Unit {0}
-IsWithoutText plan passes stops opened (Stuck build) = IsStuck plan passes stops opened build
-IsWithoutText plan passes stops opened Mismatch = IsMismatch plan passes stops opened
+abbrev pub IsWithoutWorkersText : Plan → (ℕ → ℕ → Type 0) → (ℕ → ℕ → Type 0) → HostView → RunFault → Type 0
+IsWithoutWorkersText plan passes stops opened Memory = Unit {0}
+IsWithoutWorkersText plan passes stops opened (Stuck build) = IsStuck plan passes stops opened build
+IsWithoutWorkersText plan passes stops opened Mismatch = IsMismatch plan passes stops opened

@@ -1,7 +1,7 @@
 //! What workers leave.
 ghost use Rattle.std.specs.Prelude.{◌≡◌, map, IfOk};
 ghost use Rattle.std.specs.List.{AllZip};
-ghost use Rattle.plan_threads.specs.Threads.{seats_of, IsReportOf};
+ghost use Rattle.plan_threads.specs.Threads.{worker_seats, IsReportOf};
 
 use build_commands::Step;
 use builders::{Ledgers, Seat, Worker};
@@ -20,7 +20,7 @@ pub(crate) fn ends_of<L: Ledgers>(
     alloc: Global,
     workers: Vec<Worker<L>>,
 ) -> Result<Ends<L>, AllocError>
-    ensures seats { IfOk result (λ ends. ends.seats.items ≡ seats_of workers.items) }
+    ensures seats { IfOk result (λ ends. ends.seats.items ≡ worker_seats workers.items) }
     ensures reports { IfOk result (λ ends. AllZip IsReportOf workers.items ends.reports.items) }
 {
     let mut seats = Vec::with_capacity(alloc, workers.len())?;

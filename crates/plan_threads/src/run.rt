@@ -1,7 +1,7 @@
 //! All builds of a plan at once.
 ghost use Rattle.std.specs.Prelude.{◌≡◌, [], map, vec_len, string_bytes, IfOk, IfErr};
 ghost use Rattle.realm_plan.specs.PlanView.{plan_view};
-ghost use Rattle.plan_threads.specs.Threads.{AreLeft, IsWithoutText, IsText};
+ghost use Rattle.plan_threads.specs.Threads.{AreLeft, IsWithoutWorkersText, IsWorkersText};
 ghost use Rattle.builders.specs.Seats.{new_seat};
 ghost use Rattle.std.specs.List.{range_with_len};
 ghost use Rattle.plan_threads.specs.Order.{OrderIsNotTold};
@@ -37,7 +37,7 @@ fn work_all<
 ) -> Result<Ends<L>, RunFault>
     requires { seats.items ≡ map new_seat (range_with_len 0 (vec_len plan.now.builds)) }
     ensures ok { IfOk result (λ ends. AreLeft (plan_view plan.now) (G.passes gate.now) (G.stops gate.now) L.opened ends.seats.items ends.reports.items) }
-    ensures err { IfErr result (IsWithoutText (plan_view plan.now) (G.passes gate.now) (G.stops gate.now) L.opened) }
+    ensures err { IfErr result (IsWithoutWorkersText (plan_view plan.now) (G.passes gate.now) (G.stops gate.now) L.opened) }
 {
     let mut workers = workers_of(alloc, plan, seats)?;
     if let Err(build) = run_builds(rt, shared, workers.as_mut_slice(), gate) {
@@ -65,8 +65,8 @@ fn run_with<
     requires builds { host.limits.builds ≡ vec_len plan.now.builds }
     requires opened { host ≡ L.opened }
     requires named { AreNamed L.names blanks }
-    ensures ok { IfOk result (λ text. IsText (plan_view plan.now) (G.passes gate.now) (G.stops gate.now) host (string_bytes text)) }
-    ensures err { IfErr result (IsWithoutText (plan_view plan.now) (G.passes gate.now) (G.stops gate.now) host) }
+    ensures ok { IfOk result (λ text. IsWorkersText (plan_view plan.now) (G.passes gate.now) (G.stops gate.now) host (string_bytes text)) }
+    ensures err { IfErr result (IsWithoutWorkersText (plan_view plan.now) (G.passes gate.now) (G.stops gate.now) host) }
 {
     let (shared, seats) = match Shared::<S, L>::start(alloc, blanks, host) {
         Ok(started) => started,
@@ -94,8 +94,8 @@ pub fn run_text<R: Threads + Wait + Sync, S: PageStore + Drop + Send, G: Gate + 
 ) -> Result<String, RunFault>
     requires empty { host.history ≡ [] }
     requires builds { host.limits.builds ≡ vec_len plan.now.builds }
-    ensures ok { IfOk result (λ text. IsText (plan_view plan.now) (G.passes gate.now) (G.stops gate.now) host (string_bytes text)) }
-    ensures err { IfErr result (IsWithoutText (plan_view plan.now) (G.passes gate.now) (G.stops gate.now) host) }
+    ensures ok { IfOk result (λ text. IsWorkersText (plan_view plan.now) (G.passes gate.now) (G.stops gate.now) host (string_bytes text)) }
+    ensures err { IfErr result (IsWithoutWorkersText (plan_view plan.now) (G.passes gate.now) (G.stops gate.now) host) }
     ensures order { OrderIsNotTold (plan_view plan.now) (G.passes gate.now) (G.stops gate.now) host }
 {
     run_with::<R, S, G, Brand>(rt, alloc, plan, Blanks::new(), host, gate)

@@ -3,7 +3,7 @@ use Rattle.std.proofs.Common.{◌≡◌, ℕ, List, length, Result, Ok, Err, ref
 use Rattle.plan_steps.specs.declared.step.PlanStep.{PlanStep}
 use Rattle.realm_plan.specs.Contents.{Contents}
 use Rattle.realm_plan.specs.Outcome.{◌>>=◌, Fails}
-use Rattle.realm_plan.specs.Plan.{Plan, builds_of, order_of, numbers_of, lengths_of, plan_of_contents}
+use Rattle.realm_plan.specs.Plan.{Plan, builds_of, order_of, plan_numbers_of, lengths_of, plan_of_contents}
 use Rattle.realm_plan.specs.declared.fault.PlanFault.{PlanFault}
 use Rattle.realm_plan.specs.declared.fault.PlanError.{PlanError}
 use Rattle.realm_plan.specs.declared.fault.PlanError.TheVariants as errors
@@ -22,7 +22,7 @@ module _ (c : Contents) where
   ends builds order n = lengths_of builds order >>= (λ _. Ok (made builds order n))
 
   abbrev pub after_order : List (List PlanStep) → List ℕ → Result Plan PlanFault
-  after_order builds order = numbers_of c >>= ends builds order
+  after_order builds order = plan_numbers_of c >>= ends builds order
 
   abbrev pub after_builds : List (List PlanStep) → Result Plan PlanFault
   after_builds builds = order_of (length builds) 0 c.order >>= after_order builds
@@ -37,11 +37,11 @@ module _ (c : Contents) where
     fails_at_order error fails = rw builds_read (fails_first (after_order builds) (order_of (length builds) 0 c.order) error fails)
 
     module _ (order : List ℕ) (order_read : order_of (length builds) 0 c.order ≡ Ok order) where
-      pub fails_at_numbers : (error : PlanError) → Fails error (numbers_of c) → Fails error (plan_of_contents c)
+      pub fails_at_numbers : (error : PlanError) → Fails error (plan_numbers_of c) → Fails error (plan_of_contents c)
       unfolding plan_of_contents
-      fails_at_numbers error fails = rw (builds_read, order_read) (fails_first (ends builds order) (numbers_of c) error fails)
+      fails_at_numbers error fails = rw (builds_read, order_read) (fails_first (ends builds order) (plan_numbers_of c) error fails)
 
-      module _ (n : Numbers) (numbers_read : numbers_of c ≡ Ok n) where
+      module _ (n : Numbers) (numbers_read : plan_numbers_of c ≡ Ok n) where
         pub fails_at_lengths : (error : PlanError) → Fails error (lengths_of builds order) → Fails error (plan_of_contents c)
         unfolding plan_of_contents
         fails_at_lengths error fails = rw (builds_read, order_read, numbers_read) (fails_first (λ _. Ok (made builds order n)) (lengths_of builds order) error fails)

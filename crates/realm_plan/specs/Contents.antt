@@ -45,20 +45,20 @@ abbrev pub build_keys : List (List ℕ)
 build_keys = codes "steps" ∷ []
 
 -- the texts of the steps of a build, which is a table with the one key `steps`, an array of texts
-abbrev pub steps_of : Data → Option (List (List ℕ))
-steps_of value = as_table value >>= (λ ms. if has_only build_keys ms then get_member (codes "steps") ms >>= as_array >>= texts_of else None)
+abbrev pub step_texts_of : Data → Option (List (List ℕ))
+step_texts_of value = as_table value >>= (λ ms. if has_only build_keys ms then get_member (codes "steps") ms >>= as_array >>= texts_of else None)
 
-abbrev pub builds_of : Items → Option (List (List (List ℕ)))
-builds_of no_items = Some []
-builds_of (item value more) = steps_of value >>= (λ b. option_map (λ bs. b ∷ bs) (builds_of more))
+abbrev pub build_texts_of : Items → Option (List (List (List ℕ)))
+build_texts_of no_items = Some []
+build_texts_of (item value more) = step_texts_of value >>= (λ b. option_map (λ bs. b ∷ bs) (build_texts_of more))
 
 abbrev pub builds_at : Members → Option (List (List (List ℕ)))
-builds_at ms = get_member (codes "build") ms >>= as_array >>= builds_of
+builds_at ms = get_member (codes "build") ms >>= as_array >>= build_texts_of
 
 -- no order is the empty one
-abbrev pub order_of : Option Data → Option (List ℤ)
-order_of None = Some []
-order_of (Some value) = as_array value >>= wholes_of
+abbrev pub order_numbers_of : Option Data → Option (List ℤ)
+order_numbers_of None = Some []
+order_numbers_of (Some value) = as_array value >>= wholes_of
 
 pub record Contents : Type 0 where
   pub pages : ℤ
@@ -73,7 +73,7 @@ unfoldable pub contents_of : Members → Option Contents
 contents_of ms =
     if has_only plan_keys ms then
     wholes_at ms >>= (λ n.
-    order_of (get_member (codes "order") ms) >>= (λ order.
+    order_numbers_of (get_member (codes "order") ms) >>= (λ order.
     builds_at ms >>= (λ builds.
     Some (record { pages = n.pages; vmids = n.vmids; aux = n.aux; history = n.history; order = order; builds = builds }))))
     else None

@@ -45,8 +45,8 @@ abbrev pub within : Bool → Result (Unit {0}) PlanFault
 within holds = if holds then Ok tt else Err fault.Limit
 
 -- the four numbers, each within its limits
-unfoldable pub numbers_of : Contents → Result Numbers PlanFault
-numbers_of c =
+unfoldable pub plan_numbers_of : Contents → Result Numbers PlanFault
+plan_numbers_of c =
     between 1 4096 c.pages >>= (λ pages.
     between 1 255 c.vmids >>= (λ vmids.
     between 0 16 c.aux >>= (λ aux.
@@ -75,7 +75,7 @@ unfoldable pub plan_of_contents : Contents → Result Plan PlanFault
 plan_of_contents c =
     builds_of 0 c.builds >>= (λ builds.
     order_of (length builds) 0 c.order >>= (λ order.
-    numbers_of c >>= (λ n.
+    plan_numbers_of c >>= (λ n.
     lengths_of builds order >>= (λ _.
     Ok (record { pages = n.pages; vmids = n.vmids; aux = n.aux; history = n.history; builds = builds; order = order })))))
 

@@ -4,7 +4,7 @@ ghost use Rattle.std.specs.List.{list_any};
 ghost use Rattle.std.specs.Str.{bytes_eq};
 ghost use Rattle.toml.specs.Data.{get_member};
 ghost use Rattle.toml.specs.View.{view, array_view, table_view};
-ghost use Rattle.realm_plan.specs.Contents.{has_only, whole_of, wholes_at, wholes_of, texts_of, steps_of, builds_of, builds_at, order_of};
+ghost use Rattle.realm_plan.specs.Contents.{has_only, whole_of, wholes_at, wholes_of, texts_of, step_texts_of, build_texts_of, builds_at, order_numbers_of};
 
 use std::alloc::{AllocError, Global};
 use toml::value::Array;
@@ -106,7 +106,7 @@ fn has_only_keys(table: &Table, names: &[&str]) -> bool
 
 /// The texts of the steps of a build: a table with the one key `steps`, an array of texts.
 fn steps_of<'a>(alloc: Global, value: &'a Value) -> Result<Option<Vec<&'a str>>, AllocError>
-    ensures { IfOk result (λ r. option_map (λ v. map (λ t. t.now) v.items) r ≡ steps_of (view value.now)) }
+    ensures { IfOk result (λ r. option_map (λ v. map (λ t. t.now) v.items) r ≡ step_texts_of (view value.now)) }
 {
     let Some(table) = value.as_table() else {
         return Ok(None);
@@ -126,7 +126,7 @@ fn steps_of<'a>(alloc: Global, value: &'a Value) -> Result<Option<Vec<&'a str>>,
 /// The texts of the steps of each build.
 fn builds_of<'a>(alloc: Global, array: &'a Array) -> Result<Option<Vec<Vec<&'a str>>>, AllocError>
     ensures { IfOk result (λ r. option_map (λ v. map (λ b. map (λ t. t.now) b.items) v.items) r
-        ≡ builds_of (array_view array.now)) }
+        ≡ build_texts_of (array_view array.now)) }
 {
     let mut found = Vec::new(alloc);
     for value in array {
@@ -155,7 +155,7 @@ fn builds_at<'a>(alloc: Global, table: &'a Table) -> Result<Option<Vec<Vec<&'a s
 /// The entries of the order. Where the key is missing there are none.
 fn order_of(alloc: Global, value: Option<&Value>) -> Result<Option<Vec<i64>>, AllocError>
     ensures { IfOk result (λ r. option_map (λ v. v.items) r
-        ≡ order_of (option_map (λ v. view v.now) value.entry)) }
+        ≡ order_numbers_of (option_map (λ v. view v.now) value.entry)) }
 {
     let Some(value) = value else {
         return Ok(Some(Vec::new(alloc)));

@@ -3,7 +3,7 @@ ghost use Rattle.std.specs.Prelude.{◌≡◌, ◌≤◌, map, All, IfOk, OnOk, 
 ghost use Rattle.std.specs.List.{list_all};
 ghost use Rattle.realm_plan.specs.ContentsView.{contents_view};
 ghost use Rattle.realm_plan.specs.Outcome.{Gives};
-ghost use Rattle.realm_plan.specs.Plan.{between as between_at, within as within_at, numbers_of, lengths_of};
+ghost use Rattle.realm_plan.specs.Plan.{between as between_at, within as within_at, plan_numbers_of, lengths_of};
 
 use crate::contents::Contents;
 use crate::fault::{PlanError, PlanFault};
@@ -52,9 +52,9 @@ fn within(holds: bool) -> Result<(), PlanError>
 }
 
 /// The numbers, where each is within its limits.
-#[tactic(auto, unfolding(crate::specs::Plan::numbers_of))]
+#[tactic(auto, unfolding(crate::specs::Plan::plan_numbers_of))]
 pub fn numbers_of(contents: &Contents<'_>) -> Result<Numbers, PlanError>
-    ensures value { Gives (λ n. n) result (numbers_of (contents_view contents.now)) }
+    ensures value { Gives (λ n. n) result (plan_numbers_of (contents_view contents.now)) }
     ensures pages { IfOk result (λ n. (1 ≤ n.pages) × (n.pages ≤ 4096)) }
     ensures vmids { IfOk result (λ n. 1 ≤ n.vmids) }
     ensures aux { IfOk result (λ n. n.aux ≤ 16) }

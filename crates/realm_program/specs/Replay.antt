@@ -13,7 +13,7 @@ abbrev pub opening_host : Plan → HostView
 opening_host plan = booted plan.pages plan.vmids plan.aux (length plan.builds) plan.history
 
 -- some run of the plan leads to this host
-pub record LeadsTo (plan : Plan) (last : HostView) : Type 0 where
+pub record RunLeadsTo (plan : Plan) (last : HostView) : Type 0 where
   pub lines : List ℕ
   pub run : IsToldRun plan (opening_host plan) last [] lines
 

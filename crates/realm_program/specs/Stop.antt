@@ -10,6 +10,6 @@ abbrev pub status_of_outcome : Result (Unit {0}) (Stop Fault) → ℕ
 status_of_outcome (Ok _) = 0
 status_of_outcome (Err stop) = status_of_stop status_of stop
 
--- the statuses of a program that has not printed the whole text of a run
+-- the statuses of a program that has not printed the whole text that it was asked for
 abbrev pub IsStatus : ℕ → Type 0
 IsStatus status = (status ≡ 1) ⊎ (status ≡ 2) ⊎ (status ≡ 3) ⊎ (status ≡ 4) ⊎ (status ≡ 5)

@@ -5,7 +5,7 @@ ghost use Rattle.plan_runs.specs.Run.{IsToldRun};
 ghost use Rattle.realm_plan.specs.PlanView.{plan_view};
 ghost use Rattle.realm_program.specs.Printed.{IsEnd};
 ghost use Rattle.realm_host.specs.Recorded.{fresh_like};
-ghost use Rattle.realm_program.specs.Replay.{opening_host, LeadsTo, IsMapWithout, IsText, IsErasedText, IsAskedText, IsWithoutText};
+ghost use Rattle.realm_program.specs.Replay.{opening_host, RunLeadsTo, IsMapWithout, IsText, IsErasedText, IsAskedText, IsWithoutText};
 ghost use Rattle.realm_program.specs.declared.fault.Fault.TheVariants.{Device, Mismatch};
 
 use crate::booting::boot;
@@ -50,7 +50,7 @@ pub fn text_of<S: Built>(alloc: Global, plan: &Plan) -> Result<String, AllocErro
 
 // The host after a run of the plan, whose lines are let go.
 fn host_of(alloc: Global, plan: &Plan) -> Result<Host<BuddyArena>, AllocError>
-    ensures { IfOk result (LeadsTo (plan_view plan.now)) }
+    ensures { IfOk result (RunLeadsTo (plan_view plan.now)) }
 {
     let mut lines = String::new(alloc);
     run_plan(alloc, plan, &mut lines)

@@ -11,8 +11,8 @@ use Rattle.clap.specs.declared.builder.value_parser.ValueParser.TheVariants as p
 use Rattle.clap.proofs.CallerReads.{signed_reads}
 use Rattle.command_line.proofs.Passed.{Each, IsPassed, accepted, text_passed}
 use Rattle.command_line.proofs.Subcommands.{NamesOne, is_entered, is_one, name_in, values_passed}
-use Rattle.realmhost_line.specs.Line.{IsErase, IsLine}
-use Rattle.realmhost_line.specs.Program.{erase, realmhost}
+use Rattle.realmhost_line.specs.Line.{IsErase, IsHostSubcommand}
+use Rattle.realmhost_line.specs.Program.{erase_option, realmhost}
 use Rattle.realmhost_line.specs.declared.line.Line.TheVariants.{Replay, Run}
 
 pub realmhost_is_simple : is_simple realmhost ≡ true
@@ -29,7 +29,7 @@ named t (inr (inl run)) = inr run
 named t (inr (inr more)) = absurd more
 
 run_from : (sub : Option (Text × List Row)) → is_some sub ≡ true → ((r : Text × List Row) → sub ≡ Some r → (r.0 ≡ codes "replay") ⊎ (r.0 ≡ codes "run"))
-    → ¬ (name_in sub ≡ Some (codes "replay")) → IsLine sub Run
+    → ¬ (name_in sub ≡ Some (codes "replay")) → IsHostSubcommand sub Run
 run_from None has names other = absurd (false≢true has)
 run_from (Some r) has names other = elim (names r refl) [
   | inl replay ↦ absurd (other (ap Some replay))
@@ -37,7 +37,7 @@ run_from (Some r) has names other = elim (names r refl) [
 ]
 
 -- words that have no fault, and do not ask for a replay, ask for a run
-pub run_is_asked : (words : List Text) → fault_of realmhost words ≡ [] → ¬ (name_in (subcommand_of realmhost words) ≡ Some (codes "replay")) → IsLine (subcommand_of realmhost words) Run
+pub run_is_asked : (words : List Text) → fault_of realmhost words ≡ [] → ¬ (name_in (subcommand_of realmhost words) ≡ Some (codes "replay")) → IsHostSubcommand (subcommand_of realmhost words) Run
 run_is_asked words e other =
     run_from (subcommand_of realmhost words) (is_entered realmhost words e refl) (λ r is. named r.0 (is_one realmhost words r is)) other
 
@@ -52,7 +52,7 @@ read_below text n small read = rw (lt-ltb n 8 small) ((read.0.0, subst (λ k. k 
 
 -- the rule of `--erase` where the command is built
 abbrev pub built_erase : Rule
-built_erase = filled erase
+built_erase = filled erase_option
 
 pub erase_passed : (words : List Text) → fault_of realmhost words ≡ [] → (rows : List Row) → option_map (λ p. p.1) (subcommand_of realmhost words) ≡ Some rows
     → Each (IsPassed built_erase) rows
@@ -78,7 +78,7 @@ erase_from {E} rows (Some t) b gives parses passed is none value =
 
 -- a replay is asked for, with or without a build to be left out
 pub replay_is_asked : (sub : Option (Text × List Row)) (rows : List Row) (b : Option ℕ)
-    → name_in sub ≡ Some (codes "replay") → option_map (λ p. p.1) sub ≡ Some rows → IsErase (one_of (codes "erase") rows) b → IsLine sub (Replay b)
+    → name_in sub ≡ Some (codes "replay") → option_map (λ p. p.1) sub ≡ Some rows → IsErase (one_of (codes "erase") rows) b → IsHostSubcommand sub (Replay b)
 replay_is_asked None rows b name found erase = absurd (cc)
 replay_is_asked (Some s) rows b name found erase =
     let same_name : s.0 ≡ codes "replay" = cc in

@@ -12,7 +12,7 @@ IsErase None erase = erase ≡ None
 IsErase (Some text) None = ⊥
 IsErase (Some text) (Some build) = ParsesUnsigned {E = Unit {0}} 3 10 text (Ok build)
 
-abbrev pub IsLine : Option (Text × List Row) → Line → Type 0
-IsLine None line = ⊥
-IsLine (Some found) (Replay erase) = (found.0 ≡ codes "replay") × IsErase (one_of (codes "erase") found.1) erase
-IsLine (Some found) Run = found.0 ≡ codes "run"
+abbrev pub IsHostSubcommand : Option (Text × List Row) → Line → Type 0
+IsHostSubcommand None line = ⊥
+IsHostSubcommand (Some found) (Replay erase) = (found.0 ≡ codes "replay") × IsErase (one_of (codes "erase") found.1) erase
+IsHostSubcommand (Some found) Run = found.0 ≡ codes "run"

@@ -5,21 +5,21 @@ use Rattle.clap.specs.declared.builder.action.ArgAction.TheVariants.{Set}
 use Rattle.clap.specs.declared.builder.value_parser.ValueParser.TheVariants as parser
 
 -- `--erase B`, B from 0 to 7
-abbrev pub erase : Rule
-erase = record (new_rule (codes "erase")) { long = Some (codes "erase"); value_names = 1; action = Some Set; parser = Some (parser.Signed (pos 0) (pos 7)) }
+abbrev pub erase_option : Rule
+erase_option = record (new_rule (codes "erase")) { long = Some (codes "erase"); value_names = 1; action = Some Set; parser = Some (parser.Signed (pos 0) (pos 7)) }
 
-abbrev pub replay : App
-replay = with_rule (new_app (codes "replay")) erase
+abbrev pub replay_subcommand : App
+replay_subcommand = with_rule (new_app (codes "replay")) erase_option
 
 -- without options
-abbrev pub run : App
-run = new_app (codes "run")
+abbrev pub run_subcommand : App
+run_subcommand = new_app (codes "run")
 
 -- it has a version; a subcommand is required, and there is none called `help`
-abbrev pub program : App
-program =
+abbrev pub realmhost_alone : App
+realmhost_alone =
     let a = new_app (codes "realmhost") in
     record a { top = record a.top { has_version = true; subcommand_required = true; disable_help_subcommand = true } }
 
 abbrev pub realmhost : App
-realmhost = with_subcommand (with_subcommand program replay.top) run.top
+realmhost = with_subcommand (with_subcommand realmhost_alone replay_subcommand.top) run_subcommand.top

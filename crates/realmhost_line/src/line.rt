@@ -2,7 +2,7 @@
 ghost use Rattle.std.specs.Prelude.{◌≡◌, IfOk, false, nat_lt, if◌then◌else◌, Some, None, option_and_then};
 ghost use Rattle.clap.specs.Words.{app_of, rule_of};
 ghost use Rattle.clap.specs.declared.builder.command.Command.TheViews.{out-Command as fields_of};
-ghost use Rattle.realmhost_line.specs.Program.{erase, replay, program, realmhost};
+ghost use Rattle.realmhost_line.specs.Program.{erase_option, replay_subcommand, realmhost_alone, realmhost};
 
 use clap::{Arg, ArgAction, Command, Error, value_parser};
 use granule_addr::BuildId;
@@ -30,7 +30,7 @@ const ERASE: &str = "Prints the map alone, of the same history without the comma
 
 // The option by which a build is left out.
 fn erase<'a>(alloc: Global) -> Arg<'a>
-    ensures rule { rule_of result ≡ erase }
+    ensures rule { rule_of result ≡ erase_option }
     ensures local { result.global ≡ false }
 {
     Arg::new(alloc, "erase")
@@ -42,14 +42,14 @@ fn erase<'a>(alloc: Global) -> Arg<'a>
 }
 
 fn replay<'a>(alloc: Global) -> Result<Command<'a>, AllocError>
-    ensures { IfOk result (λ c. (app_of c ≡ replay) × ((fields_of c).has_globals ≡ false)) }
+    ensures { IfOk result (λ c. (app_of c ≡ replay_subcommand) × ((fields_of c).has_globals ≡ false)) }
 {
     let replay = Command::new(alloc, "replay").about(REPLAY);
     replay.arg(erase(alloc))
 }
 
 fn program<'a>(alloc: Global) -> Command<'a>
-    ensures { app_of result ≡ program }
+    ensures { app_of result ≡ realmhost_alone }
 {
     let named = Command::new(alloc, "realmhost")
         .version("0.1.0")
@@ -78,12 +78,12 @@ fn build_of(number: Option<u8>) -> Option<BuildId>
 impl Line {
     ghost use Rattle.std.specs.Prelude.{map, string_bytes};
     ghost use Rattle.clap.specs.Words.{FailsBy, fault_of, subcommand_of};
-    ghost use Rattle.realmhost_line.specs.Line.{IsLine};
+    ghost use Rattle.realmhost_line.specs.Line.{IsHostSubcommand};
 
     /// The line that the words are. The first word is the program's name.
     pub fn of(alloc: Global, words: &[String]) -> Result<Line, Error>
         // What clap's definition of a simple command gives for the words.
-        ensures ok { IfOk result (IsLine (subcommand_of realmhost (map string_bytes words.now))) }
+        ensures ok { IfOk result (IsHostSubcommand (subcommand_of realmhost (map string_bytes words.now))) }
         // Which kind an error has: one that the definition names, or that allocation failed.
         ensures kinds { FailsBy (fault_of realmhost (map string_bytes words.now)) result }
     {

@@ -4,7 +4,8 @@
 
 ghost use Rattle.std.specs.Prelude.{◌≡◌, IfErr};
 ghost use Rattle.std.specs.Process.{exit_status};
-ghost use Rattle.view_program.specs.Stop.{status_of_outcome, IsStatus};
+ghost use Rattle.realm_program.specs.Stop.{IsStatus};
+ghost use Rattle.view_program.specs.Stop.{view_exit_status};
 
 use command_line::{Stop, arguments};
 use std::process::ExitCode;
@@ -23,7 +24,7 @@ fn show(rt: &HostRuntime) -> Result<Verdict, Stop<Fault>> {
 
 /// The exit status. Where the program stops, standard error is told why. The errors of a plan stand on standard output.
 fn end(rt: &HostRuntime, outcome: Result<Verdict, Stop<Fault>>) -> ExitCode
-    ensures value { exit_status result ≡ status_of_outcome outcome }
+    ensures value { exit_status result ≡ view_exit_status outcome }
     ensures stops { IfErr outcome (λ _. IsStatus (exit_status result)) }
 {
     match outcome {

@@ -21,7 +21,7 @@ use Rattle.realm_host.specs.Refusals.{refusal_of, last_checks}
 use Rattle.realm_model.specs.History.{pages_of, IsLegal}
 use Rattle.realm_model.specs.declared.act.Act.{Act}
 use Rattle.realm_model.proofs.Pages.{pages_are_leased}
-use Rattle.report_audit.specs.Fitting.{granule_at, AreGranules, IsActOf}
+use Rattle.report_audit.specs.Fitting.{granule_of_number, AreGranules, IsFittingAct}
 use Rattle.report_audit.specs.Hosts.{HostReplyFits}
 
 -- ---- checks of which none holds
@@ -65,7 +65,7 @@ module _ (host : HostView) (build : ℕ) (few : All (λ page. page < 4096) (page
       at : (o : Option ℕ) → slice_get (pages_of build host.history) n ≡ o
           → cond (is_none o) (Some (NotLeased n)) (first_that_holds (page_checks (desk_of host) build ns)) ≡ None
           → (first_that_holds (page_checks (desk_of host) build ns) ≡ None → AreGranules (pages_of build host.history) ns (filter_map (λ page. granule_of_page host build page) ns))
-          → option_and_then (λ number. if nat_lt number 4096 then Some number else None) o ∷ map (granule_at (pages_of build host.history)) ns
+          → option_and_then (λ number. if nat_lt number 4096 then Some number else None) o ∷ map (granule_of_number (pages_of build host.history)) ns
           ≡ map (λ granule. Some granule) (cons_option o (filter_map (λ page. granule_of_page host build page) ns))
       at None is missing more = cc
       at (Some granule) is rest more = λ i. granule_there (pages_of build host.history) few n granule is i ∷ more rest i
@@ -78,7 +78,7 @@ few_pages host build legal few place d inside =
     omega arith
 
 act_fits : (host : HostView) (build : ℕ) (cmd : Cmd) (act : Act) → All (λ page. page < 4096) (pages_of build host.history) → refusal_of host build (Ask cmd) ≡ None
-    → IsHostActOf host build (Ask cmd) act → IsActOf (pages_of build host.history) cmd act
+    → IsHostActOf host build (Ask cmd) act → IsFittingAct (pages_of build host.history) cmd act
 act_fits host build (Take order) act few none is = is
 act_fits host build cmd act few none is = record {
   granules = granules_named host build cmd;

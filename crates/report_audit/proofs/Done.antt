@@ -14,37 +14,37 @@ use Rattle.build_commands.specs.declared.undone.Undone.{Undone}
 use Rattle.realm_model.specs.Act.{reverse_of}
 use Rattle.realm_model.specs.declared.act.Act.{Act}
 use Rattle.realm_model.specs.declared.act.Act.TheVariants as acts
-use Rattle.report_audit.specs.Fitting.{AreGranules, IsMadeOf, IsUndone}
-use Rattle.report_audit.specs.Picks.{picked_for}
+use Rattle.report_audit.specs.Fitting.{AreGranules, IsMadeOf, IsFittingUndo}
+use Rattle.report_audit.specs.Picks.{picked_in}
 use Rattle.report_audit.proofs.Held.{same_granules}
 
 -- ---- what was picked for a command is what its act holds
 
 module _ (picked : Picked) (act : Act) where
   picked_peek : (offset : ℕ) (o : Option ℕ) → option_and_then (λ g. Some (acts.Peek g offset picked.byte)) o ≡ Some act
-      → option_and_then (λ g. Some (acts.Peek g offset (picked_for act).byte)) o ≡ Some act
+      → option_and_then (λ g. Some (acts.Peek g offset (picked_in act).byte)) o ≡ Some act
   picked_peek offset None e = cc
   picked_peek offset (Some g) e =
-      ap (λ (a : Act). Some (acts.Peek g offset (picked_for a).byte)) (sym (same_Some (acts.Peek g offset picked.byte) act e)) ∙ e
+      ap (λ (a : Act). Some (acts.Peek g offset (picked_in a).byte)) (sym (same_Some (acts.Peek g offset picked.byte) act e)) ∙ e
 
   picked_root : (g : ℕ) (o : Option Root) → option_map (λ (tables : Root). acts.Realm g tables picked.vmid) o ≡ Some act
-      → option_map (λ (tables : Root). acts.Realm g tables (picked_for act).vmid) o ≡ Some act
+      → option_map (λ (tables : Root). acts.Realm g tables (picked_in act).vmid) o ≡ Some act
   picked_root g None e = cc
   picked_root g (Some tables) e =
-      ap (λ (a : Act). Some (acts.Realm g tables (picked_for a).vmid)) (sym (same_Some (acts.Realm g tables picked.vmid) act e)) ∙ e
+      ap (λ (a : Act). Some (acts.Realm g tables (picked_in a).vmid)) (sym (same_Some (acts.Realm g tables picked.vmid) act e)) ∙ e
 
   picked_realm : (root : Option Root) (o : Option ℕ) → option_and_then (λ g. option_map (λ (tables : Root). acts.Realm g tables picked.vmid) root) o ≡ Some act
-      → option_and_then (λ g. option_map (λ (tables : Root). acts.Realm g tables (picked_for act).vmid) root) o ≡ Some act
+      → option_and_then (λ g. option_map (λ (tables : Root). acts.Realm g tables (picked_in act).vmid) root) o ≡ Some act
   picked_realm root None e = cc
   picked_realm root (Some g) e = picked_root g root e
 
   picked_rec : (granules : List ℕ) (o : Option ℕ) → option_and_then (λ g. Some (acts.Rec g (record { items = granules }) picked.number)) o ≡ Some act
-      → option_and_then (λ g. Some (acts.Rec g (record { items = granules }) (picked_for act).number)) o ≡ Some act
+      → option_and_then (λ g. Some (acts.Rec g (record { items = granules }) (picked_in act).number)) o ≡ Some act
   picked_rec granules None e = cc
   picked_rec granules (Some g) e =
-      ap (λ (a : Act). Some (acts.Rec g (record { items = granules }) (picked_for a).number)) (sym (same_Some (acts.Rec g (record { items = granules }) picked.number) act e)) ∙ e
+      ap (λ (a : Act). Some (acts.Rec g (record { items = granules }) (picked_in a).number)) (sym (same_Some (acts.Rec g (record { items = granules }) picked.number) act e)) ∙ e
 
-  picked_again : (cmd : Cmd) (granules : List ℕ) → act_of cmd granules picked ≡ Some act → act_of cmd granules (picked_for act) ≡ Some act
+  picked_again : (cmd : Cmd) (granules : List ℕ) → act_of cmd granules picked ≡ Some act → act_of cmd granules (picked_in act) ≡ Some act
   unfolding act_of
   picked_again (Peek page offset) granules e = picked_peek offset (slice_get granules 0) e
   picked_again (Realm rd root width) granules e = picked_realm (root_of width (drop 1 granules)) (slice_get granules 0) e
@@ -54,7 +54,7 @@ module _ (picked : Picked) (act : Act) where
 -- ---- commands
 
 module _ (pages : List ℕ) (cmd : Cmd) (act : Act) (granules : List ℕ) (picked : Picked) (o : Option Act)
-    (are : AreGranules pages (operands cmd) granules) (picked_is : picked ≡ picked_for act) (o_is : o ≡ act_of cmd granules picked) where
+    (are : AreGranules pages (operands cmd) granules) (picked_is : picked ≡ picked_in act) (o_is : o ≡ act_of cmd granules picked) where
   -- where the act is made, it is made of the granules that were found
   made_again : IsMadeOf pages cmd act → o ≡ Some act
   made_again made =
@@ -73,13 +73,13 @@ module _ (pages : List ℕ) (cmd : Cmd) (act : Act) (granules : List ℕ) (picke
 -- ---- undos
 
 module _ (opened : List Act) (undone : Undone) (newest act : Act) (last : last_or None opened ≡ Some newest) where
-  pub undone_act : IsUndone opened undone act → reverse_of newest ≡ Some act
+  pub undone_act : IsFittingUndo opened undone act → reverse_of newest ≡ Some act
   undone_act h = ap (option_and_then reverse_of) (sym last) ∙ h.act_is
 
-  pub undone_kind : IsUndone opened undone act → act_kind newest ≡ Some undone.kind
+  pub undone_kind : IsFittingUndo opened undone act → act_kind newest ≡ Some undone.kind
   undone_kind h = ap (option_and_then act_kind) (sym last) ∙ h.kind_is
 
-  pub undone_from : reverse_of newest ≡ Some act → act_kind newest ≡ Some undone.kind → undone.left ≡ length opened - 1 → IsUndone opened undone act
+  pub undone_from : reverse_of newest ≡ Some act → act_kind newest ≡ Some undone.kind → undone.left ≡ length opened - 1 → IsFittingUndo opened undone act
   undone_from back kind left = record {
     act_is = ap (option_and_then reverse_of) last ∙ back;
     kind_is = ap (option_and_then act_kind) last ∙ kind;

@@ -9,7 +9,7 @@ use Rattle.realm_model.specs.declared.act.Act.{Act}
 use Rattle.realm_model.specs.declared.act.Act.TheVariants.{Take}
 use Rattle.realm_model.specs.Act.{block}
 use Rattle.realm_model.specs.History.{pages_held}
-use Rattle.report_audit.specs.Fitting.{granule_at}
+use Rattle.report_audit.specs.Fitting.{granule_of_number}
 
 -- ---- a page of one list after another
 
@@ -37,14 +37,14 @@ module _ (opened : List Act) (i : ℕ) (act : Act) (inside : i < length opened) 
       ap (flat_map pages_held) (drop_more opened i act inside)
       ∙ ap (λ (a : Act). pages_held a ++ flat_map pages_held (drop (i + 1) opened)) (sym is)
 
-  pub granule_here : (left : ℕ) → left < length (pages_held act) → granule_at (flat_map pages_held (drop i opened)) left ≡ granule_at (pages_held act) left
+  pub granule_here : (left : ℕ) → left < length (pages_held act) → granule_of_number (flat_map pages_held (drop i opened)) left ≡ granule_of_number (pages_held act) left
   granule_here left here =
-      ap (λ pages. granule_at pages left) left_pages
+      ap (λ pages. granule_of_number pages left) left_pages
       ∙ ap (option_and_then _) (slice_get-append_left (pages_held act) (flat_map pages_held (drop (i + 1) opened)) left here)
 
-  pub granule_later : (left less : ℕ) → length (pages_held act) + less ≡ left → granule_at (flat_map pages_held (drop i opened)) left ≡ granule_at (flat_map pages_held (drop (i + 1) opened)) less
+  pub granule_later : (left less : ℕ) → length (pages_held act) + less ≡ left → granule_of_number (flat_map pages_held (drop i opened)) left ≡ granule_of_number (flat_map pages_held (drop (i + 1) opened)) less
   granule_later left less e =
-      ap (λ pages. granule_at pages left) left_pages
+      ap (λ pages. granule_of_number pages left) left_pages
       ∙ ap (option_and_then _) (slice_get-append_right (pages_held act) (flat_map pages_held (drop (i + 1) opened)) left less e)
 
   pub length_left : length (flat_map pages_held (drop i opened)) ≡ length (pages_held act) + length (flat_map pages_held (drop (i + 1) opened))
@@ -79,15 +79,15 @@ pub place_below : (order place first : ℕ) → place < length (block order firs
 place_below order place first inside = let long = length-range_with_len first (2 ^ order) in omega arith
 
 -- the granule at a place of a block
-pub granule_at-block : (act : Act) (order first place number : ℕ) (made : Option ℕ) → act ≡ Take order first → number ≡ first → place < length (pages_held act)
-    → made ≡ (if nat_lt (number + place) 4096 && nat_lt (number + place) 4096 then Some (number + place) else None) → made ≡ granule_at (pages_held act) place
-granule_at-block act order first place number made is same inside made_is =
+pub granule_of_number-block : (act : Act) (order first place number : ℕ) (made : Option ℕ) → act ≡ Take order first → number ≡ first → place < length (pages_held act)
+    → made ≡ (if nat_lt (number + place) 4096 && nat_lt (number + place) 4096 then Some (number + place) else None) → made ≡ granule_of_number (pages_held act) place
+granule_of_number-block act order first place number made is same inside made_is =
     let there : place < 2 ^ order = place_below order place first (subst (λ (a : Act). place < length (pages_held a)) is inside) in
     made_is
     ∙ twice (nat_lt (number + place) 4096) (number + place)
     ∙ ap (λ n. if nat_lt (n + place) 4096 then Some (n + place) else None) same
     ∙ sym (ap (λ o. option_and_then (λ n. if nat_lt n 4096 then Some n else None) o) (slice_get-range_with_len first (2 ^ order) place there))
-    ∙ sym (ap (λ (a : Act). granule_at (pages_held a) place) is)
+    ∙ sym (ap (λ (a : Act). granule_of_number (pages_held a) place) is)
   where
     twice : (test : Bool) (n : ℕ) → (if test && test then Some n else None) ≡ (if test then Some n else None)
     twice true n = refl

@@ -28,12 +28,12 @@ use Rattle.workers.specs.declared.report.Report.{Report}
 -- ---- commands
 
 -- The granule of a build's page. A number that the largest machine has not is no granule.
-abbrev pub granule_at : List ℕ → ℕ → Option ℕ
-granule_at pages page = option_and_then (λ number. if nat_lt number 4096 then Some number else None) (slice_get pages page)
+abbrev pub granule_of_number : List ℕ → ℕ → Option ℕ
+granule_of_number pages page = option_and_then (λ number. if nat_lt number 4096 then Some number else None) (slice_get pages page)
 
 -- the granules are those of the pages with these numbers, each of them there
 abbrev pub AreGranules : List ℕ → List ℕ → List ℕ → Type 0
-AreGranules pages numbers granules = map (granule_at pages) numbers ≡ map (λ granule. Some granule) granules
+AreGranules pages numbers granules = map (granule_of_number pages) numbers ≡ map (λ granule. Some granule) granules
 
 -- The act is the command's of the granules of its pages, whatever was picked for it.
 pub record IsMadeOf (pages : List ℕ) (cmd : Cmd) (act : Act) : Type 0 where
@@ -43,19 +43,19 @@ pub record IsMadeOf (pages : List ℕ) (cmd : Cmd) (act : Act) : Type 0 where
   pub act_is : act_of cmd granules picked ≡ Some act
 
 -- The act is that of the command of a build with these pages. The block of a Take is any.
-abbrev pub IsActOf : List ℕ → Cmd → Act → Type 0
-IsActOf pages (Take order) act = (first : ℕ) × (act ≡ acts.Take order first)
-IsActOf pages cmd act = IsMadeOf pages cmd act
+abbrev pub IsFittingAct : List ℕ → Cmd → Act → Type 0
+IsFittingAct pages (Take order) act = (first : ℕ) × (act ≡ acts.Take order first)
+IsFittingAct pages cmd act = IsMadeOf pages cmd act
 
 -- and the reply is that to it
-pub record IsReplied (pages : List ℕ) (cmd : Cmd) (reply : Reply) (act : Act) : Type 0 where
-  pub act_is : IsActOf pages cmd act
+pub record IsFittingReply (pages : List ℕ) (cmd : Cmd) (reply : Reply) (act : Act) : Type 0 where
+  pub act_is : IsFittingAct pages cmd act
   pub reply_is : reply ≡ reply_of (length pages) act
 
 -- ---- undos
 
 -- The act is the reverse of the last of those that are open. Its kind is told, and how many are left.
-pub record IsUndone (opened : List Act) (undone : Undone) (act : Act) : Type 0 where
+pub record IsFittingUndo (opened : List Act) (undone : Undone) (act : Act) : Type 0 where
   pub act_is : option_and_then reverse_of (last_or None opened) ≡ Some act
   pub kind_is : option_and_then act_kind (last_or None opened) ≡ Some undone.kind
   pub left_is : undone.left ≡ length opened - 1
@@ -65,8 +65,8 @@ pub record IsUndone (opened : List Act) (undone : Undone) (act : Act) : Type 0 w
 -- An answer fits its question where the build has these pages and these acts open, and this is its next event. A reply and an
 -- undo have this event. A mark is told as how many acts are open. What did nothing, or was refused, fits anywhere.
 abbrev pub AnswerFits : List ℕ → List Act → Option Event → Question → Answer → Type 0
-AnswerFits pages opened next (question.Do cmd) (Replied reply) = IsSomeAnd next (λ event. IsReplied pages cmd reply event.act)
-AnswerFits pages opened next question.Undo (WasUndone undone) = IsSomeAnd next (λ event. IsUndone opened undone event.act)
+AnswerFits pages opened next (question.Do cmd) (Replied reply) = IsSomeAnd next (λ event. IsFittingReply pages cmd reply event.act)
+AnswerFits pages opened next question.Undo (WasUndone undone) = IsSomeAnd next (λ event. IsFittingUndo opened undone event.act)
 AnswerFits pages opened next question.Mark (Marked count) = count ≡ length opened
 AnswerFits pages opened next asked Nothing = Unit {0}
 AnswerFits pages opened next asked (Refused refusal) = Unit {0}

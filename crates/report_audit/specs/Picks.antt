@@ -8,8 +8,8 @@ abbrev pub picks : ℕ → ℕ → ℕ → Picked
 picks vmid number byte = record { vmid = vmid; number = number; byte = byte }
 
 -- what was picked for an act; what it does not hold is any
-abbrev pub picked_for : Act → Picked
-picked_for (Realm rd root vmid) = picks vmid 0 0
-picked_for (Rec granule auxiliaries number) = picks 1 number 0
-picked_for (Peek granule offset byte) = picks 1 0 byte
-picked_for _ = picks 1 0 0
+abbrev pub picked_in : Act → Picked
+picked_in (Realm rd root vmid) = picks vmid 0 0
+picked_in (Rec granule auxiliaries number) = picks 1 number 0
+picked_in (Peek granule offset byte) = picks 1 0 byte
+picked_in _ = picks 1 0 0

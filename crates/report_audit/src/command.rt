@@ -3,8 +3,8 @@ ghost use Rattle.std.specs.Prelude.{◌≡◌, ◌↔◌, length, true, IsTrue};
 ghost use Rattle.std.specs.List.{flat_map};
 ghost use Rattle.build_commands.specs.Replies.{reply_of};
 ghost use Rattle.realm_model.specs.History.{pages_held};
-ghost use Rattle.report_audit.specs.Fitting.{IsMadeOf, IsActOf, IsReplied};
-ghost use Rattle.report_audit.specs.Picks.{picked_for};
+ghost use Rattle.report_audit.specs.Fitting.{IsMadeOf, IsFittingAct, IsFittingReply};
+ghost use Rattle.report_audit.specs.Picks.{picked_in};
 
 use crate::pages::{granules_of, has_pages};
 use build_commands::{Cmd, Picked, Reply, act_of, reply_of};
@@ -13,7 +13,7 @@ use realm_model::Act;
 
 // What was picked for an act, where it holds what was.
 fn picked_for(act: &Act) -> Picked
-    ensures { result ≡ picked_for act.now }
+    ensures { result ≡ picked_in act.now }
 {
     let mut picked = Picked {
         vmid: Vmid::new(1).unwrap(),
@@ -44,7 +44,7 @@ fn is_made_of(opened: &[Act], cmd: &Cmd, act: &Act) -> bool
 
 // Whether an act is a command's. The block of a Take is any.
 fn is_act_of(opened: &[Act], cmd: &Cmd, act: &Act) -> bool
-    ensures { IsTrue result ↔ IsActOf (flat_map pages_held opened.now) cmd.now act.now }
+    ensures { IsTrue result ↔ IsFittingAct (flat_map pages_held opened.now) cmd.now act.now }
 {
     match (cmd, act) {
         (Cmd::Take { order }, Act::Take { order: taken, .. }) => *order == taken.number(),
@@ -66,7 +66,7 @@ fn is_reply_to(opened: &[Act], reply: &Reply, act: &Act) -> bool
 
 /// Whether a command of a build that has these acts open did this act, and was told this of it.
 pub(crate) fn is_replied(opened: &[Act], cmd: &Cmd, reply: &Reply, act: &Act) -> bool
-    ensures { IsTrue result ↔ IsReplied (flat_map pages_held opened.now) cmd.now reply.now act.now }
+    ensures { IsTrue result ↔ IsFittingReply (flat_map pages_held opened.now) cmd.now reply.now act.now }
 {
     is_act_of(opened, cmd, act) && is_reply_to(opened, reply, act)
 }

@@ -3,7 +3,7 @@ ghost use Rattle.std.specs.Prelude.{◌≡◌, ◌↔◌, ◌+◌, ◌<◌, ◌�
 ghost use Rattle.std.specs.List.{flat_map, range_with_len};
 ghost use Rattle.build_commands.specs.Needs.{operands, tables_named};
 ghost use Rattle.realm_model.specs.History.{pages_held};
-ghost use Rattle.report_audit.specs.Fitting.{granule_at, AreGranules};
+ghost use Rattle.report_audit.specs.Fitting.{granule_of_number, AreGranules};
 
 use arrayvec::ArrayVec;
 use build_commands::Cmd;
@@ -25,7 +25,7 @@ fn held_count(act: &Act) -> u16
 fn held_granule(act: &Act, place: u16) -> Option<Gran>
     requires there { place < length (pages_held act.now) }
     requires few { place < 512 }
-    ensures { result ≡ granule_at (pages_held act.now) place }
+    ensures { result ≡ granule_of_number (pages_held act.now) place }
 {
     match act {
         Act::Take { first, .. } => Gran::new(first.number() + place, MOST_PAGES),
@@ -35,7 +35,7 @@ fn held_granule(act: &Act, place: u16) -> Option<Gran>
 
 // The granule of a page of a build that has these acts open.
 fn granule_at(opened: &[Act], page: usize) -> Option<Gran>
-    ensures { result ≡ granule_at (flat_map pages_held opened.now) page }
+    ensures { result ≡ granule_of_number (flat_map pages_held opened.now) page }
 {
     let mut left = page;
     for act in opened {

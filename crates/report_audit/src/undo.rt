@@ -1,7 +1,7 @@
 //! What an undo did, and what was told of it.
 ghost use Rattle.std.specs.Prelude.{◌≡◌, ◌↔◌, Some, IsTrue};
 ghost use Rattle.realm_model.specs.Kind.{act_kind};
-ghost use Rattle.report_audit.specs.Fitting.{IsUndone};
+ghost use Rattle.report_audit.specs.Fitting.{IsFittingUndo};
 
 use build_commands::Undone;
 use build_journal::takes_back;
@@ -18,7 +18,7 @@ fn is_of_kind(act: &Act, kind: Kind) -> bool
 
 /// Whether an undo of a build that has these acts open did this act, and was told this of it.
 pub(crate) fn is_undone(opened: &[Act], undone: &Undone, act: &Act) -> bool
-    ensures { IsTrue result ↔ IsUndone opened.now undone.now act.now }
+    ensures { IsTrue result ↔ IsFittingUndo opened.now undone.now act.now }
 {
     match opened.last() {
         Some(newest) => {

@@ -1,5 +1,5 @@
 -- What is read of a granule by number.
-use Rattle.std.specs.Prelude.{◌≡◌, ◌≢◌, ℕ, ◌<◌, true, Option, Some, None, if◌then◌else◌}
+use Rattle.std.specs.Prelude.{◌≡◌, ◌≢◌, ℕ, ◌<◌, true, Option, Some, None, option_map, if◌then◌else◌}
 use Rattle.granule_addr.specs.Ipa.{entry_index}
 use Rattle.page_arena.specs.Word.{word_of_page}
 use Rattle.realm_model.specs.declared.states.GranuleState.TheVariants.{Rtt}
@@ -8,14 +8,18 @@ use Rattle.realm_model.specs.Machine.{Cell, RealmRow, cell_at}
 use Rattle.rtt.specs.Word.{entry_word}
 use Rattle.rtt.specs.Realm.{IsInside}
 use Rattle.rtt.specs.RowWords.{table_by}
-use Rattle.realm_objects.specs.Attributes.{RecAttributes}
-use Rattle.rmi_monitor.specs.View.{MonitorView}
+use Rattle.realm_objects.specs.Attributes.{RealmAttributes, RecAttributes}
+use Rattle.rmi_monitor.specs.View.{MonitorView, attributes_of}
 use Rattle.rmi_monitor.specs.Named.{rec_attributes_at}
 use Rattle.rmi_bench.specs.Calls.{is_inside}
 
 -- a reading of the granule's cell, where the machine has it
 abbrev pub reading : {A : Type 0} → (Cell → A) → MonitorView → ℕ → Option A
 reading read monitor granule = if is_inside monitor granule then Some (read (cell_at monitor.machine granule)) else None
+
+-- the attributes of the realm of that RD
+abbrev pub realm_reading : MonitorView → ℕ → Option RealmAttributes
+realm_reading monitor rd = option_map attributes_of (cell_at monitor.machine rd).descriptor
 
 -- the attributes of the REC that the granule is, where the machine has it
 abbrev pub rec_reading : MonitorView → ℕ → Option RecAttributes

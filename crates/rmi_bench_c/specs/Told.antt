@@ -1,14 +1,12 @@
 -- States by number, and what is told of a realm and of a REC.
-use Rattle.std.specs.Prelude.{ℕ, ◌-◌, List, ◌++◌, length, replicate, Option, option_map}
+use Rattle.std.specs.Prelude.{ℕ, ◌-◌, List, ◌++◌, length, replicate}
 use Rattle.realm_model.specs.declared.states.GranuleState.{GranuleState}
 use Rattle.realm_model.specs.declared.states.GranuleState.TheVariants as granule_state
 use Rattle.realm_model.specs.declared.states.RealmState.{RealmState}
 use Rattle.realm_model.specs.declared.states.RealmState.TheVariants as realm_state
 use Rattle.realm_model.specs.declared.states.RecState.{RecState}
 use Rattle.realm_model.specs.declared.states.RecState.TheVariants as rec_state
-use Rattle.realm_model.specs.Machine.{cell_at}
 use Rattle.realm_objects.specs.Attributes.{RealmAttributes, RecAttributes}
-use Rattle.rmi_monitor.specs.View.{MonitorView, attributes_of}
 use Rattle.rmi_bench_c.specs.declared.told.Realm.{Realm}
 use Rattle.rmi_bench_c.specs.declared.told.Rec.{Rec}
 
@@ -32,10 +30,6 @@ rec_state_code rec_state.Ready = 0
 rec_state_code rec_state.Running = 1
 
 -- ---- realms and RECs
-
--- the attributes of the realm of that RD
-abbrev pub realm_reading : MonitorView → ℕ → Option RealmAttributes
-realm_reading m rd = option_map attributes_of (cell_at m.machine rd).descriptor
 
 abbrev pub realm_told : RealmAttributes → Realm
 realm_told realm = record {

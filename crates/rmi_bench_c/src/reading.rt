@@ -1,9 +1,9 @@
 //! What is read of granules. A reading answers whether there was something to read; where there was not, what it was to write
 //! stays as it is.
 ghost use Rattle.std.specs.Prelude.{◌≡◌, ◌&&◌, true, false, sum, option_map, IfSome};
-ghost use Rattle.rmi_bench.specs.Readings.{reading, rec_reading, IsWordOf};
+ghost use Rattle.rmi_bench.specs.Readings.{reading, realm_reading, rec_reading, IsWordOf};
 ghost use Rattle.rmi_bench_c.specs.Answers.{fits_u16, has_word, Reads};
-ghost use Rattle.rmi_bench_c.specs.Told.{granule_state_code, realm_reading, realm_told, rec_told};
+ghost use Rattle.rmi_bench_c.specs.Told.{granule_state_code, realm_told, rec_told};
 
 use crate::Handle;
 use crate::told::{Realm, Rec, granule_state_code, read_realm, read_rec};

@@ -1,6 +1,6 @@
 //! What is read of a realm and of a REC, as C has it.
 ghost use Rattle.std.specs.Prelude.{◌≡◌, ◌≤◌, length, option_map};
-ghost use Rattle.rmi_bench.specs.Readings.{rec_reading};
+ghost use Rattle.rmi_bench.specs.Readings.{realm_reading, rec_reading};
 ghost use Rattle.rmi_bench_c.specs.Answers.{Tells};
 ghost use Rattle.rmi_bench_c.specs.Told as told;
 
@@ -110,7 +110,7 @@ fn rec_told(rec: &monitor::Rec) -> Rec
 
 // The realm whose RD a granule is, into `realm`, where it is one.
 pub(crate) fn read_realm(bench: &Bench, granule: u16, realm: &mut Realm) -> bool
-    ensures { Tells (option_map told.realm_told (told.realm_reading bench.now granule)) realm.old result realm.new }
+    ensures { Tells (option_map told.realm_told (realm_reading bench.now granule)) realm.old result realm.new }
 {
     match bench.realm(granule) {
         Some(it) => {

@@ -8,7 +8,7 @@ use Rattle.std.proofs.lemmas.Str.Parse.{not_in_digits}
 use Rattle.std.proofs.lemmas.Fmt.{digits_decimal}
 use Rattle.number_text.specs.Numbers.{spelled_numbers}
 use Rattle.number_text.proofs.Decimals.{ascii_numerals}
-use Rattle.rmi_trace.specs.Lines.{before_answer, IsAsked}
+use Rattle.rmi_trace.specs.Lines.{before_answer, IsAskedIn}
 use Rattle.rmi_trace.proofs.Answered.{begins}
 
 -- ---- where an answer begins
@@ -53,21 +53,21 @@ before_answer-answered [] answer h = refl
 before_answer-answered (b ∷ []) answer h = before_more b (32 ∷ 61 ∷ 32 ∷ answer) [] (begins-false b 32 (61 ∷ 32 ∷ answer) (λ e. omega (arith, e))) refl
 before_answer-answered (b ∷ c ∷ rest) answer h = before_more b (c ∷ (rest ++ (32 ∷ 61 ∷ 32 ∷ answer))) (c ∷ rest) (begins-false b c (rest ++ (32 ∷ 61 ∷ 32 ∷ answer)) h.1.0) (before_answer-answered (c ∷ rest) answer h.1)
 
-pub before_answer-asked : (text asked : List ℕ) → HasNoSign asked → IsAsked text asked → before_answer text ≡ asked
+pub before_answer-asked : (text asked : List ℕ) → HasNoSign asked → IsAskedIn text asked → before_answer text ≡ asked
 before_answer-asked text asked none (inl alone) = ap before_answer alone ∙ before_answer-alone asked none
 before_answer-asked text asked none (inr answered) = ap before_answer answered.1 ∙ before_answer-answered asked answered.0 none
 
 -- ---- any text is what is asked, or that and an answer
 
-asked_more : (b : ℕ) (text asked : List ℕ) → IsAsked text asked → IsAsked (b ∷ text) (b ∷ asked)
+asked_more : (b : ℕ) (text asked : List ℕ) → IsAskedIn text asked → IsAskedIn (b ∷ text) (b ∷ asked)
 asked_more b text asked (inl alone) = inl (ap (λ t. b ∷ t) alone)
 asked_more b text asked (inr answered) = inr (answered.0, ap (λ t. b ∷ t) answered.1)
 
-asked_or_more : (b : ℕ) (rest : List ℕ) (t : Bool) → begins (b ∷ rest) ≡ t → IsAsked rest (before_answer rest) → IsAsked (b ∷ rest) (cond t [] (b ∷ before_answer rest))
+asked_or_more : (b : ℕ) (rest : List ℕ) (t : Bool) → begins (b ∷ rest) ≡ t → IsAskedIn rest (before_answer rest) → IsAskedIn (b ∷ rest) (cond t [] (b ∷ before_answer rest))
 asked_or_more b rest true test more = inr (drop 3 (b ∷ rest), sign_first (b ∷ rest) test)
 asked_or_more b rest false test more = asked_more b rest (before_answer rest) more
 
-pub asked-before_answer : (text : List ℕ) → IsAsked text (before_answer text)
+pub asked-before_answer : (text : List ℕ) → IsAskedIn text (before_answer text)
 asked-before_answer [] = inl refl
 asked-before_answer (b ∷ rest) = asked_or_more b rest (begins (b ∷ rest)) refl (asked-before_answer rest)
 

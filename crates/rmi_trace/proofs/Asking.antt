@@ -8,7 +8,7 @@ use Rattle.rmi_trace.specs.declared.request.Reading.{Reading}
 use Rattle.rmi_trace.specs.declared.request.Reading.TheVariants as reading
 use Rattle.rmi_trace.specs.declared.request.Request.{Request}
 use Rattle.rmi_trace.specs.declared.request.Request.TheVariants as request
-use Rattle.rmi_trace.specs.Lines.{before_answer, is_remark, IsAsked, Asks}
+use Rattle.rmi_trace.specs.Lines.{before_answer, is_remark, IsAskedIn, Asks}
 use Rattle.rmi_trace.specs.Written.{written_command, written_reading, written_request, IsWritten}
 use Rattle.rmi_trace.proofs.RequestGrammar.{requests}
 use Rattle.rmi_trace.proofs.Asked.{HasNoSign, no_sign-append, no_sign-from_test, no_sign-spelled, before_answer-asked, asked-before_answer}
@@ -48,7 +48,7 @@ not_remark-word (request.Opening o) more = refl
 not_remark-word (request.Command c) more = remark_test c more
 not_remark-word (request.Reading r) more = remark_test_of_reading r more
 
-not_remark-asked : (text asked : List ℕ) (r : Request) → IsAsked text asked → IsWritten asked r → is_remark text ≡ false
+not_remark-asked : (text asked : List ℕ) (r : Request) → IsAskedIn text asked → IsWritten asked r → is_remark text ≡ false
 not_remark-asked text asked r (inl alone) is = ap is_remark (alone ∙ is.is_spelled) ∙ not_remark-word r (spelled_numbers (written_request r).numbers)
 not_remark-asked text asked r (inr answered) is =
     let numbers = spelled_numbers (written_request r).numbers in

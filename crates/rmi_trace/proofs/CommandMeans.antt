@@ -11,10 +11,10 @@ use Rattle.rmi_trace.specs.declared.request.Command.{Command}
 use Rattle.rmi_trace.specs.declared.request.Command.TheVariants.{GranuleDelegate, GranuleUndelegate, HostFill, HostPeek, RealmCreate, RealmActivate, RealmDestroy, RttCreate, RttDestroy, RttInitRipas, DataCreate, DataCreateUnknown, DataDestroy, RecCreate, RecEnter, RecExit, RecDestroy, GuestWrite}
 use Rattle.rmi_trace.specs.declared.request.Request.TheVariants as request
 use Rattle.rmi_trace.specs.Commands.{command_at}
-use Rattle.rmi_trace.specs.Written.{written_command, IsInRange}
+use Rattle.rmi_trace.specs.Written.{written_command, IsRequestInRange}
 use Rattle.rmi_trace.proofs.Auxiliaries.{few_with_auxiliaries}
 
-pub command_means : (c : Command) → IsInRange (request.Command c) → command_at (written_command c).word (written_command c).numbers ≡ Some c
+pub command_means : (c : Command) → IsRequestInRange (request.Command c) → command_at (written_command c).word (written_command c).numbers ≡ Some c
 command_means (GranuleDelegate g) h = rw (le-leb g u16 h.at_most.0) refl
 command_means (GranuleUndelegate g) h = rw (le-leb g u16 h.at_most.0) refl
 command_means (HostFill g v) h = rw (le-leb g u16 h.at_most.0, le-leb v u8 h.at_most.1.0) refl
@@ -42,6 +42,6 @@ no_space_test _ = refl
 pub command_word : (c : Command) → HasNoSpace (written_command c).word
 command_word c = no_space_from_test (written_command c).word (no_space_test c)
 
-pub command_numbers : (c : Command) → IsInRange (request.Command c) → AreNumbers 18 (written_command c).numbers
+pub command_numbers : (c : Command) → IsRequestInRange (request.Command c) → AreNumbers 18 (written_command c).numbers
 command_numbers (RecCreate rd g auxiliaries) h = few_with_auxiliaries rd g auxiliaries.items h.counts h.at_most
 command_numbers c h = few_from_test 18 (written_command c).numbers (written_command c).maxima h.at_most refl

@@ -11,10 +11,10 @@ use Rattle.rmi_trace.specs.declared.request.Command.{Command}
 use Rattle.rmi_trace.specs.declared.request.Command.TheVariants.{GranuleDelegate, GranuleUndelegate, HostFill, HostPeek, RealmCreate, RealmActivate, RealmDestroy, RttCreate, RttDestroy, RttInitRipas, DataCreate, DataCreateUnknown, DataDestroy, RecCreate, RecEnter, RecExit, RecDestroy, GuestWrite}
 use Rattle.rmi_trace.specs.declared.request.Request.TheVariants as request
 use Rattle.rmi_trace.specs.Commands.{rec_create_at, granule_command_at, realm_command_at, table_command_at, data_command_at, rec_command_at, command_at}
-use Rattle.rmi_trace.specs.Written.{written_command, HasCounts, IsInRange}
+use Rattle.rmi_trace.specs.Written.{written_command, HasCounts, IsRequestInRange}
 
 abbrev pub SpellsCommand : List ℕ → List ℕ → Command → Type 0
-SpellsCommand word ns c = Spells (λ it. (written_command it).word) (λ it. (written_command it).numbers) (λ it. IsInRange (request.Command it)) word ns c
+SpellsCommand word ns c = Spells (λ it. (written_command it).word) (λ it. (written_command it).numbers) (λ it. IsRequestInRange (request.Command it)) word ns c
 
 made : (c : Command) → AreAtMost (written_command c).numbers (written_command c).maxima → HasCounts (request.Command c) → SpellsCommand (written_command c).word (written_command c).numbers c
 made c at_most counts = record { word_is = refl; numbers_are = refl; in_range = record { at_most = at_most; counts = counts } }

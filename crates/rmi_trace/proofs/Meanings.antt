@@ -12,7 +12,7 @@ use Rattle.rmi_trace.specs.declared.line.Line.{Line}
 use Rattle.rmi_trace.specs.declared.line.Line.TheVariants as line
 use Rattle.rmi_trace.specs.declared.request.Request.{Request}
 use Rattle.rmi_trace.specs.Requests.{request_at}
-use Rattle.rmi_trace.specs.Lines.{text_of, before_answer, is_readable, IsReadable, is_remark, IsRemark, Asks, Means, line_of_request, line_of}
+use Rattle.rmi_trace.specs.Lines.{text_of, before_answer, is_readable, IsReadable, is_remark, IsRemark, Asks, Means, line_of_request, line_of_trace}
 use Rattle.rmi_trace.proofs.Asked.{asked-before_answer}
 use Rattle.rmi_trace.proofs.Asking.{asks-from_written, written-from_asks, not_remark-asks}
 use Rattle.rmi_trace.proofs.RequestTexts.{written-from_meaning, meaning-written}
@@ -56,14 +56,14 @@ test-from_not_readable bytes is_not = elim (cases_Bool (is_readable bytes)) [
 abbrev pub asked : List ℕ → List ℕ
 asked bytes = before_answer (text_of bytes)
 
-pub line_of-not_readable : (bytes : List ℕ) → ¬ IsReadable bytes → line.Neither ≡ line_of bytes
-line_of-not_readable bytes is_not = rw (test-from_not_readable bytes is_not) refl
+pub line_of_trace-not_readable : (bytes : List ℕ) → ¬ IsReadable bytes → line.Neither ≡ line_of_trace bytes
+line_of_trace-not_readable bytes is_not = rw (test-from_not_readable bytes is_not) refl
 
-pub line_of-remark : (bytes : List ℕ) → IsReadable bytes → is_remark (text_of bytes) ≡ true → line.Remark ≡ line_of bytes
-line_of-remark bytes is test = rw (test-from_readable bytes is, test) refl
+pub line_of_trace-remark : (bytes : List ℕ) → IsReadable bytes → is_remark (text_of bytes) ≡ true → line.Remark ≡ line_of_trace bytes
+line_of_trace-remark bytes is test = rw (test-from_readable bytes is, test) refl
 
-pub line_of-asked : (bytes : List ℕ) (found : Option Request) → IsReadable bytes → is_remark (text_of bytes) ≡ false → found ≡ meaning_of_text request_at (asked bytes) → line_of_request found ≡ line_of bytes
-line_of-asked bytes found is test same =
+pub line_of_trace-asked : (bytes : List ℕ) (found : Option Request) → IsReadable bytes → is_remark (text_of bytes) ≡ false → found ≡ meaning_of_text request_at (asked bytes) → line_of_request found ≡ line_of_trace bytes
+line_of_trace-asked bytes found is test same =
     ap line_of_request same
     ∙ sym (ap (λ u. cond u (cond (is_remark (text_of bytes)) line.Remark (line_of_request (meaning_of_text request_at (asked bytes)))) line.Neither) (test-from_readable bytes is)
     ∙ ap (λ u. cond u line.Remark (line_of_request (meaning_of_text request_at (asked bytes)))) test)
@@ -113,8 +113,8 @@ asked_means bytes None e is is_not = λ _. (
       cc,
 )
 
-pub means-line_of : (bytes : List ℕ) → Means bytes (line_of bytes)
-means-line_of bytes = elim (cases_Bool (is_readable bytes)) [
+pub means-line_of_trace : (bytes : List ℕ) → Means bytes (line_of_trace bytes)
+means-line_of_trace bytes = elim (cases_Bool (is_readable bytes)) [
   | inr none ↦ rw none (λ is. absurd (false≢true (sym none ∙ test-from_readable bytes is)))
   | inl some ↦
       let is = readable-from_test bytes some in
@@ -128,20 +128,20 @@ neither : (bytes : List ℕ) (found : Option Request) → meaning_of_text reques
 neither bytes None e none = refl
 neither bytes (Some request) e none = absurd (none request (asks-from_written (text_of bytes) request (written-from_meaning (asked bytes) request e)))
 
-pub line_of-means : (bytes : List ℕ) (l : Line) → Means bytes l → l ≡ line_of bytes
-line_of-means bytes line.Remark (is, remark) = line_of-remark bytes is (test-from_remark (text_of bytes) remark)
-line_of-means bytes (line.Request request) (is, asks) =
-    line_of-asked bytes (Some request) is (not_remark-asks (text_of bytes) request asks) (sym (meaning-written (asked bytes) request (written-from_asks (text_of bytes) request asks)))
-line_of-means bytes line.Neither means = elim (cases_Bool (is_readable bytes)) [
+pub line_of_trace-means : (bytes : List ℕ) (l : Line) → Means bytes l → l ≡ line_of_trace bytes
+line_of_trace-means bytes line.Remark (is, remark) = line_of_trace-remark bytes is (test-from_remark (text_of bytes) remark)
+line_of_trace-means bytes (line.Request request) (is, asks) =
+    line_of_trace-asked bytes (Some request) is (not_remark-asks (text_of bytes) request asks) (sym (meaning-written (asked bytes) request (written-from_asks (text_of bytes) request asks)))
+line_of_trace-means bytes line.Neither means = elim (cases_Bool (is_readable bytes)) [
   | inr none ↦ rw none refl
   | inl some ↦
       let is = readable-from_test bytes some in
       let (is_not, none) = means is in
-      line_of-asked bytes None is (test-from_not_remark (text_of bytes) is_not) (neither bytes (meaning_of_text request_at (asked bytes)) refl none)
+      line_of_trace-asked bytes None is (test-from_not_remark (text_of bytes) is_not) (neither bytes (meaning_of_text request_at (asked bytes)) refl none)
 ]
 
 pub one_meaning : (bytes : List ℕ) (a b : Line) → Means bytes a → Means bytes b → a ≡ b
-one_meaning bytes a b is_a is_b = line_of-means bytes a is_a ∙ sym (line_of-means bytes b is_b)
+one_meaning bytes a b is_a is_b = line_of_trace-means bytes a is_a ∙ sym (line_of_trace-means bytes b is_b)
 
-pub meant-line_of : (bytes : List ℕ) (l : Line) → l ≡ line_of bytes → Means bytes l
-meant-line_of bytes l same = subst (Means bytes) (sym same) (means-line_of bytes)
+pub meant-line_of_trace : (bytes : List ℕ) (l : Line) → l ≡ line_of_trace bytes → Means bytes l
+meant-line_of_trace bytes l same = subst (Means bytes) (sym same) (means-line_of_trace bytes)

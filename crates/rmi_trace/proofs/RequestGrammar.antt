@@ -18,16 +18,16 @@ use Rattle.rmi_trace.specs.declared.request.Request.{Request}
 use Rattle.rmi_trace.specs.declared.request.Request.TheVariants as request
 use Rattle.rmi_trace.specs.Commands.{command_at}
 use Rattle.rmi_trace.specs.Requests.{reading_at, machine_at, opening_at, request_at}
-use Rattle.rmi_trace.specs.Written.{written_reading, written_opening, written_request, IsInRange}
+use Rattle.rmi_trace.specs.Written.{written_reading, written_opening, written_request, IsRequestInRange}
 use Rattle.rmi_trace.proofs.CommandMeans.{command_means, command_word, command_numbers}
 use Rattle.rmi_trace.proofs.CommandSpells.{command_spells}
 
 abbrev pub SpellsRequest : List ℕ → List ℕ → Request → Type 0
-SpellsRequest word ns r = Spells (λ it. (written_request it).word) (λ it. (written_request it).numbers) IsInRange word ns r
+SpellsRequest word ns r = Spells (λ it. (written_request it).word) (λ it. (written_request it).numbers) IsRequestInRange word ns r
 
 -- ---- readings
 
-reading_means : (r : Reading) → IsInRange (request.Reading r) → request_at (written_reading r).word (written_reading r).numbers ≡ Some (request.Reading r)
+reading_means : (r : Reading) → IsRequestInRange (request.Reading r) → request_at (written_reading r).word (written_reading r).numbers ≡ Some (request.Reading r)
 reading_means (reading.Word g i) h = rw (le-leb g u16 h.at_most.0, le-leb i u16 h.at_most.1.0) refl
 reading_means (reading.State g) h = rw (le-leb g u16 h.at_most.0) refl
 reading_means (reading.Sum g) h = rw (le-leb g u16 h.at_most.0) refl
@@ -36,7 +36,7 @@ reading_means (reading.Measurement g) h = rw (le-leb g u16 h.at_most.0) refl
 reading_means (reading.Rec g) h = rw (le-leb g u16 h.at_most.0) refl
 
 abbrev SpellsReading : List ℕ → List ℕ → Reading → Type 0
-SpellsReading word ns r = Spells (λ it. (written_reading it).word) (λ it. (written_reading it).numbers) (λ it. IsInRange (request.Reading it)) word ns r
+SpellsReading word ns r = Spells (λ it. (written_reading it).word) (λ it. (written_reading it).numbers) (λ it. IsRequestInRange (request.Reading it)) word ns r
 
 made_reading : (r : Reading) → AreAtMost (written_reading r).numbers (written_reading r).maxima → SpellsReading (written_reading r).word (written_reading r).numbers r
 made_reading r at_most = record { word_is = refl; numbers_are = refl; in_range = record { at_most = at_most; counts = tt } }
@@ -58,13 +58,13 @@ no_space_test _ = refl
 reading_word : (r : Reading) → HasNoSpace (written_reading r).word
 reading_word r = no_space_from_test (written_reading r).word (no_space_test r)
 
-reading_numbers : (r : Reading) → IsInRange (request.Reading r) → AreNumbers 18 (written_reading r).numbers
+reading_numbers : (r : Reading) → IsRequestInRange (request.Reading r) → AreNumbers 18 (written_reading r).numbers
 reading_numbers (reading.Word g i) h = few_from_test 18 (g ∷ i ∷ []) (u16 ∷ u16 ∷ []) h.at_most refl
 reading_numbers r h = few_from_test 18 (written_reading r).numbers (written_reading r).maxima h.at_most refl
 
 -- ---- openings
 
-opening_means : (o : Opening) → IsInRange (request.Opening o) → request_at (written_opening o).word (written_opening o).numbers ≡ Some (request.Opening o)
+opening_means : (o : Opening) → IsRequestInRange (request.Opening o) → request_at (written_opening o).word (written_opening o).numbers ≡ Some (request.Opening o)
 opening_means o h =
     rw (le-leb o.pages 4096 h.at_most.0, le-leb o.vmids 255 h.at_most.1.0, le-leb o.auxiliaries 16 h.at_most.1.1.0, le-leb 1 o.pages h.counts.0, le-leb 1 o.vmids h.counts.1) refl
 
@@ -98,7 +98,7 @@ opening_spells word ns o = choose SpellsOpening word ns o (codes "machine") mach
 
 -- ---- requests
 
-means : (r : Request) → IsInRange r → request_at (written_request r).word (written_request r).numbers ≡ Some r
+means : (r : Request) → IsRequestInRange r → request_at (written_request r).word (written_request r).numbers ≡ Some r
 means (request.Opening o) h = opening_means o h
 means (request.Command c) h = rw (command_means c h) refl
 means (request.Reading r) h = reading_means r h
@@ -130,10 +130,10 @@ one_word (request.Opening o) = no_space_from_test (codes "machine") refl
 one_word (request.Command c) = command_word c
 one_word (request.Reading r) = reading_word r
 
-few_numbers : (r : Request) → IsInRange r → AreNumbers 18 (written_request r).numbers
+few_numbers : (r : Request) → IsRequestInRange r → AreNumbers 18 (written_request r).numbers
 few_numbers (request.Opening o) h = few_from_test 18 (written_opening o).numbers (written_opening o).maxima h.at_most refl
 few_numbers (request.Command c) h = command_numbers c h
 few_numbers (request.Reading r) h = reading_numbers r h
 
-pub requests : IsGrammar (λ r. (written_request r).word) (λ r. (written_request r).numbers) IsInRange request_at 18
+pub requests : IsGrammar (λ r. (written_request r).word) (λ r. (written_request r).numbers) IsRequestInRange request_at 18
 requests = record { means = means; spells = spells; one_word = one_word; few_numbers = few_numbers }

@@ -11,27 +11,27 @@ use Rattle.rmi_trace.specs.declared.answer.RecState.TheVariants.{Ready, Running}
 use Rattle.rmi_trace.specs.declared.answer.Answer.{Answer}
 use Rattle.rmi_trace.specs.declared.answer.Answer.TheVariants as answer
 
-abbrev pub state_word : State → List ℕ
-state_word state.Undelegated = codes "UNDELEGATED"
-state_word state.Delegated = codes "DELEGATED"
-state_word state.Rd = codes "RD"
-state_word state.Rec = codes "REC"
-state_word state.RecAux = codes "REC_AUX"
-state_word state.Data = codes "DATA"
-state_word state.Rtt = codes "RTT"
+abbrev pub trace_state_word : State → List ℕ
+trace_state_word state.Undelegated = codes "UNDELEGATED"
+trace_state_word state.Delegated = codes "DELEGATED"
+trace_state_word state.Rd = codes "RD"
+trace_state_word state.Rec = codes "REC"
+trace_state_word state.RecAux = codes "REC_AUX"
+trace_state_word state.Data = codes "DATA"
+trace_state_word state.Rtt = codes "RTT"
 
-abbrev pub realm_word : RealmState → List ℕ
-realm_word New = codes "NEW"
-realm_word Active = codes "ACTIVE"
+abbrev pub trace_realm_word : RealmState → List ℕ
+trace_realm_word New = codes "NEW"
+trace_realm_word Active = codes "ACTIVE"
 
 abbrev pub rec_word : RecState → List ℕ
 rec_word Ready = codes " READY"
 rec_word Running = codes " RUNNING"
 
 -- `next` is the number of the next REC
-abbrev pub realm_text : RealmState → ℕ → ℕ → ℕ → ℕ → List ℕ
-realm_text s vmid root width next =
-    realm_word s ++ codes " vmid " ++ decimal vmid ++ codes " root " ++ decimal root ++ codes " width " ++ decimal width ++ codes " next " ++ decimal next
+abbrev pub realm_answer_text : RealmState → ℕ → ℕ → ℕ → ℕ → List ℕ
+realm_answer_text s vmid root width next =
+    trace_realm_word s ++ codes " vmid " ++ decimal vmid ++ codes " root " ++ decimal root ++ codes " width " ++ decimal width ++ codes " next " ++ decimal next
 
 -- each auxiliary behind one space
 abbrev pub rec_text : ℕ → RecState → List ℕ → List ℕ
@@ -42,17 +42,17 @@ abbrev pub measurement_text : List ℕ → List ℕ
 measurement_text bytes = encode_lower bytes
 
 -- what stands behind ` = `; a value stands behind the result word of RMI_SUCCESS
-abbrev pub answer_text : Answer → List ℕ
-answer_text (answer.ResultWord word) = decimal word
-answer_text (answer.Value value) = codes "0 " ++ decimal value
-answer_text answer.Nothing = codes "none"
-answer_text (answer.State s) = state_word s
-answer_text (answer.Sum sum) = decimal sum
-answer_text (answer.Word word) = decimal word
-answer_text (answer.Realm s vmid root width next) = realm_text s vmid root width next
-answer_text (answer.Measurement bytes) = measurement_text bytes
-answer_text (answer.Rec number s auxiliaries) = rec_text number s auxiliaries.items
-answer_text answer.NoCommand = codes "no command"
+abbrev pub trace_answer_text : Answer → List ℕ
+trace_answer_text (answer.ResultWord word) = decimal word
+trace_answer_text (answer.Value value) = codes "0 " ++ decimal value
+trace_answer_text answer.Nothing = codes "none"
+trace_answer_text (answer.State s) = trace_state_word s
+trace_answer_text (answer.Sum sum) = decimal sum
+trace_answer_text (answer.Word word) = decimal word
+trace_answer_text (answer.Realm s vmid root width next) = realm_answer_text s vmid root width next
+trace_answer_text (answer.Measurement bytes) = measurement_text bytes
+trace_answer_text (answer.Rec number s auxiliaries) = rec_text number s auxiliaries.items
+trace_answer_text answer.NoCommand = codes "no command"
 
 -- ---- lines
 
@@ -60,4 +60,4 @@ abbrev pub repeated_line : List ℕ → List ℕ
 repeated_line line = line ++ 10 ∷ []
 
 abbrev pub answered_line : List ℕ → Answer → List ℕ
-answered_line asked given = asked ++ codes " = " ++ answer_text given ++ 10 ∷ []
+answered_line asked given = asked ++ codes " = " ++ trace_answer_text given ++ 10 ∷ []

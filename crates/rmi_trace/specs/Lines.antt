@@ -22,12 +22,12 @@ abbrev pub IsRemark : List ℕ → Type 0
 IsRemark text = (text ≡ []) ⊎ (slice_index text 0 ≡ 35)
 
 -- the text is what is asked, alone or before an answer
-abbrev pub IsAsked : List ℕ → List ℕ → Type 0
-IsAsked text asked = (text ≡ asked) ⊎ ((answer : List ℕ) × (text ≡ asked ++ (codes " = " ++ answer)))
+abbrev pub IsAskedIn : List ℕ → List ℕ → Type 0
+IsAskedIn text asked = (text ≡ asked) ⊎ ((answer : List ℕ) × (text ≡ asked ++ (codes " = " ++ answer)))
 
 -- the text is that of a request, alone or before an answer
 abbrev pub Asks : List ℕ → Request → Type 0
-Asks text request = (asked : List ℕ) × IsAsked text asked × IsWritten asked request
+Asks text request = (asked : List ℕ) × IsAskedIn text asked × IsWritten asked request
 
 -- what a line means: no command where it is neither a remark nor a request
 abbrev pub Means : List ℕ → Line → Type 0
@@ -57,7 +57,7 @@ abbrev pub line_of_request : Option Request → Line
 line_of_request (Some request) = line.Request request
 line_of_request None = line.Neither
 
-abbrev pub line_of : List ℕ → Line
-line_of bytes =
+abbrev pub line_of_trace : List ℕ → Line
+line_of_trace bytes =
     if is_readable bytes then (if is_remark (text_of bytes) then line.Remark else line_of_request (meaning_of_text request_at (before_answer (text_of bytes))))
     else line.Neither

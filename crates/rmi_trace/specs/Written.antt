@@ -55,11 +55,11 @@ HasCounts (request.Opening opening) = (1 ≤ opening.pages) × (1 ≤ opening.vm
 HasCounts (request.Command (RecCreate rd granule auxiliaries)) = array_vec_len auxiliaries ≤ 16
 HasCounts _ = Unit {0}
 
-pub record IsInRange (r : Request) : Type 0 where
+pub record IsRequestInRange (r : Request) : Type 0 where
   pub at_most : AreAtMost (written_request r).numbers (written_request r).maxima
   pub counts : HasCounts r
 
 -- the text is the request's word and its numbers, each in decimal behind one space
 pub record IsWritten (text : List ℕ) (r : Request) : Type 0 where
   pub is_spelled : text ≡ spelled (written_request r).word (written_request r).numbers
-  pub in_range : IsInRange r
+  pub in_range : IsRequestInRange r

@@ -1,7 +1,7 @@
 //! Answers of the monitor, and their texts.
 ghost use Rattle.std.specs.Prelude.{◌≡◌, ◌≤◌, ◌+◌, ◌++◌, length, decimal, ℕ, List};
 ghost use Rattle.arrayvec.specs.ArrayVec.{array_vec_len};
-ghost use Rattle.rmi_trace.specs.Answers.{state_word, realm_text, rec_text, measurement_text, answer_text};
+ghost use Rattle.rmi_trace.specs.Answers.{trace_state_word, realm_answer_text, rec_text, measurement_text, trace_answer_text};
 
 use arrayvec::ArrayVec;
 
@@ -92,7 +92,7 @@ fn push_short(text: &mut ArrayVec<u8, MOST_BYTES>, number: u16)
 
 // The name of the state.
 fn state_word(state: State) -> &'static [u8]
-    ensures word { result.now ≡ state_word state }
+    ensures word { result.now ≡ trace_state_word state }
     ensures short { length result.now ≤ 11 }
 {
     match state {
@@ -114,7 +114,7 @@ fn realm_text(
     width: u8,
     next: u16,
 ) -> ArrayVec<u8, MOST_BYTES>
-    ensures { result.items ≡ realm_text state vmid root width next }
+    ensures { result.items ≡ realm_answer_text state vmid root width next }
 {
     let mut text = ArrayVec::new();
     match state {
@@ -165,7 +165,7 @@ fn measurement_text(measurement: &[u8; 32]) -> ArrayVec<u8, MOST_BYTES>
 impl Answer {
     /// The text of the answer, as a trace has it behind ` = `. It takes no memory.
     pub fn text(&self) -> ArrayVec<u8, MOST_BYTES>
-        ensures { result.items ≡ answer_text self.now }
+        ensures { result.items ≡ trace_answer_text self.now }
     {
         let mut text = ArrayVec::new();
         match self {

@@ -1,7 +1,7 @@
 //! Lines of a trace, without the line feed that ends them.
 ghost use Rattle.std.specs.Prelude.{◌≡◌};
 ghost use Rattle.std.specs.Option.{option_copied};
-ghost use Rattle.rmi_trace.specs.Lines.{text_of, before_answer, answer_in, is_remark, line_of, Means};
+ghost use Rattle.rmi_trace.specs.Lines.{text_of, before_answer, answer_in, is_remark, line_of_trace, Means};
 
 use crate::request::Request;
 use crate::requests::request_of;
@@ -56,7 +56,7 @@ fn is_remark(text: &[u8]) -> bool
 /// What the line is. A line of more than `MOST_LINE` bytes, or one that is not UTF-8, is no command. It takes no memory.
 pub fn parse(line: &[u8]) -> Line
     ensures meant { Means line.now result }
-    ensures exact { result ≡ line_of line.now }
+    ensures exact { result ≡ line_of_trace line.now }
 {
     if line.len() > MOST_LINE {
         return Line::Neither;

@@ -4,7 +4,7 @@
 
 ghost use Rattle.std.specs.Prelude.{◌≡◌, IfErr};
 ghost use Rattle.std.specs.Process.{exit_status};
-ghost use Rattle.trace_program.specs.Stop.{status_of_outcome, IsStatus};
+ghost use Rattle.trace_program.specs.Stop.{trace_exit_status, IsTraceStatus};
 
 use command_line::{Stop, arguments};
 use std::process::ExitCode;
@@ -23,8 +23,8 @@ fn serve(rt: &HostRuntime) -> Result<Verdict, Stop<Fault>> {
 
 /// The exit status. Where the program stops, standard error says why. A line that is wrong stands on standard output.
 fn end(rt: &HostRuntime, outcome: Result<Verdict, Stop<Fault>>) -> ExitCode
-    ensures value { exit_status result ≡ status_of_outcome outcome }
-    ensures stops { IfErr outcome (λ _. IsStatus (exit_status result)) }
+    ensures value { exit_status result ≡ trace_exit_status outcome }
+    ensures stops { IfErr outcome (λ _. IsTraceStatus (exit_status result)) }
 {
     match outcome {
         Ok(Verdict::Agree) => ExitCode::SUCCESS,

@@ -11,13 +11,13 @@ use Rattle.realm_program.specs.declared.fault.Fault.TheVariants.{Memory, Stuck, 
 -- The text of some run of the plan by workers, on a machine of its size. Of each build the gate lets these turns
 -- pass, and stops those.
 abbrev pub IsThreadsText : (ℕ → ℕ → Type 0) → (ℕ → ℕ → Type 0) → Plan → List ℕ → Type 0
-IsThreadsText passes stops plan text = threads.IsText plan passes stops (opening_host plan) text
+IsThreadsText passes stops plan text = threads.IsWorkersText plan passes stops (opening_host plan) text
 
 -- Why there is none: allocation failed, a worker waited in vain, or a report does not fit the history.
 abbrev pub IsWithoutThreadsText : (ℕ → ℕ → Type 0) → (ℕ → ℕ → Type 0) → Plan → Fault → Type 0
 IsWithoutThreadsText passes stops plan Memory = Unit {0}
-IsWithoutThreadsText passes stops plan (Stuck build) = threads.IsWithoutText plan passes stops (opening_host plan) (why.Stuck build)
-IsWithoutThreadsText passes stops plan Mismatch = threads.IsWithoutText plan passes stops (opening_host plan) why.Mismatch
+IsWithoutThreadsText passes stops plan (Stuck build) = threads.IsWithoutWorkersText plan passes stops (opening_host plan) (why.Stuck build)
+IsWithoutThreadsText passes stops plan Mismatch = threads.IsWithoutWorkersText plan passes stops (opening_host plan) why.Mismatch
 IsWithoutThreadsText passes stops plan fault = ⊥
 
 -- The order in which the builds of a run came through the lock is not printed, whatever the plan.

@@ -6,8 +6,8 @@ use Rattle.std.proofs.Math.Seq.{take-suc}
 use Rattle.std.proofs.lemmas.List.{take-append-drop, map-append, length-map}
 use Rattle.std.proofs.lemmas.List.Elements.{filter-append}
 use Rattle.trace_program.specs.Session.{Now}
-use Rattle.trace_program.specs.Input.{kept_of}
-use Rattle.trace_program.specs.Verdict.{has_answer, is_only_performed, IsAgreed, Differs, AreAgreed, LastDiffers}
+use Rattle.trace_program.specs.Input.{kept_of_line}
+use Rattle.trace_program.specs.Verdict.{has_answer, is_only_performed, IsAgreed, LineDiffers, AreAgreed, LastDiffers}
 use Rattle.trace_program.specs.declared.checking.Counts.{Counts}
 use Rattle.trace_program.specs.Checking.{IsAgreedSoFar, CountsLine, StopsAtFeed}
 use Rattle.trace_program.proofs.Kept.{kept_none}
@@ -25,25 +25,25 @@ count_of p lines = length (filter p lines)
 count_more : (p : List ℕ → Bool) (lines : List (List ℕ)) (line : List ℕ) → count_of p (lines ++ line ∷ []) ≡ count_of p lines + count_of p (line ∷ [])
 count_more p lines line = ap length (filter-append p lines (line ∷ [])) ∙ length-append (filter p lines) (filter p (line ∷ []))
 
-kept_with : (lines : List (List ℕ)) (rest line : List ℕ) → line ≡ kept_of rest → map kept_of (lines ++ rest ∷ []) ≡ map kept_of lines ++ line ∷ []
-kept_with lines rest line kept = map-append kept_of lines (rest ∷ []) ∙ ap (λ (l : List ℕ). map kept_of lines ++ l ∷ []) (sym kept)
+kept_with : (lines : List (List ℕ)) (rest line : List ℕ) → line ≡ kept_of_line rest → map kept_of_line (lines ++ rest ∷ []) ≡ map kept_of_line lines ++ line ∷ []
+kept_with lines rest line kept = map-append kept_of_line lines (rest ∷ []) ∙ ap (λ (l : List ℕ). map kept_of_line lines ++ l ∷ []) (sym kept)
 
 -- a line ends, which agrees or not
-module _ (lines : List (List ℕ)) (rest line : List ℕ) (bench : Now) (kept : line ≡ kept_of rest) (agreed : AreAgreed None (map kept_of lines) bench) where
-  pub kept_agreed : (after : Now) → IsAgreed bench line after → AreAgreed None (map kept_of (lines ++ rest ∷ [])) after
-  kept_agreed after a = rw (kept_with lines rest line kept) (agreed_more None (map kept_of lines) line bench after agreed a)
+module _ (lines : List (List ℕ)) (rest line : List ℕ) (bench : Now) (kept : line ≡ kept_of_line rest) (agreed : AreAgreed None (map kept_of_line lines) bench) where
+  pub kept_agreed : (after : Now) → IsAgreed bench line after → AreAgreed None (map kept_of_line (lines ++ rest ∷ [])) after
+  kept_agreed after a = rw (kept_with lines rest line kept) (agreed_more None (map kept_of_line lines) line bench after agreed a)
 
-  pub kept_count : (p : List ℕ → Bool) (before after : ℕ) → before ≡ count_of p (map kept_of lines) → after ≡ before + count_of p (line ∷ []) → after ≡ count_of p (map kept_of (lines ++ rest ∷ []))
-  kept_count p before after b a = a ∙ ap (λ n. n + count_of p (line ∷ [])) b ∙ sym (count_more p (map kept_of lines) line) ∙ ap (count_of p) (sym (kept_with lines rest line kept))
+  pub kept_count : (p : List ℕ → Bool) (before after : ℕ) → before ≡ count_of p (map kept_of_line lines) → after ≡ before + count_of p (line ∷ []) → after ≡ count_of p (map kept_of_line (lines ++ rest ∷ []))
+  kept_count p before after b a = a ∙ ap (λ n. n + count_of p (line ∷ [])) b ∙ sym (count_more p (map kept_of_line lines) line) ∙ ap (count_of p) (sym (kept_with lines rest line kept))
 
-  pub kept_differs : (count : ℕ) (text : List ℕ) → count ≡ length lines → Differs bench (count + 1) line text → LastDiffers (map kept_of (lines ++ rest ∷ [])) text
+  pub kept_differs : (count : ℕ) (text : List ℕ) → count ≡ length lines → LineDiffers bench (count + 1) line text → LastDiffers (map kept_of_line (lines ++ rest ∷ [])) text
   kept_differs count text counted d = record {
-    before = map kept_of lines;
+    before = map kept_of_line lines;
     bytes = line;
     split = kept_with lines rest line kept;
     bench = bench;
     agreed = agreed;
-    differs = subst (λ n. Differs bench (n + 1) line text) (counted ∙ sym (length-map lines kept_of)) d;
+    differs = subst (λ n. LineDiffers bench (n + 1) line text) (counted ∙ sym (length-map lines kept_of_line)) d;
   }
 
 -- ---- one byte more
@@ -52,7 +52,7 @@ pub agreed_none : IsAgreedSoFar [] None (record { lines = 0; answers = 0; perfor
 agreed_none = record { lines = []; rest = []; cut = refl; is_kept = sym kept_none; agreed = refl; counted = refl; answered = refl; performed = refl }
 
 module _ (read : List ℕ) (bench : Now) (counts : Counts) (line : List ℕ) (b : ℕ) where
-  pub agreed_byte : (grown : List ℕ) → IsAgreedSoFar read bench counts line → (b == 10) ≡ false → ((rest : List ℕ) → line ≡ kept_of rest → grown ≡ kept_of (rest ++ b ∷ []))
+  pub agreed_byte : (grown : List ℕ) → IsAgreedSoFar read bench counts line → (b == 10) ≡ false → ((rest : List ℕ) → line ≡ kept_of_line rest → grown ≡ kept_of_line (rest ++ b ∷ []))
       → IsAgreedSoFar (read ++ b ∷ []) bench counts grown
   agreed_byte grown s other keeps = record {
     lines = s.lines;
@@ -78,13 +78,13 @@ module _ (read : List ℕ) (bench : Now) (counts : Counts) (line : List ℕ) (b 
     performed = kept_count s.lines s.rest line bench s.is_kept s.agreed is_only_performed counts.performed counts_after.performed s.performed w.performed;
   }
 
-  pub differs_at_feed : (text : List ℕ) → IsAgreedSoFar read bench counts line → (b == 10) ≡ true → b ≡ 10 → Differs bench (counts.lines + 1) line text → StopsAtFeed (read ++ b ∷ []) text
+  pub differs_at_feed : (text : List ℕ) → IsAgreedSoFar read bench counts line → (b == 10) ≡ true → b ≡ 10 → LineDiffers bench (counts.lines + 1) line text → StopsAtFeed (read ++ b ∷ []) text
   differs_at_feed text s feed is d = record {
     front = read ++ b ∷ [];
     ahead = [];
     split = sym (append-nil (read ++ b ∷ []));
     ends = (read, ap (λ (c : ℕ). read ++ c ∷ []) is);
-    first = subst (λ (ls : List (List ℕ)). LastDiffers (map kept_of ls) text)
+    first = subst (λ (ls : List (List ℕ)). LastDiffers (map kept_of_line ls) text)
         (sym (lines_without (read ++ b ∷ []) (s.lines ++ s.rest ∷ []) [] (cut_feed read s.lines s.rest b feed s.cut) refl))
         (kept_differs s.lines s.rest line bench s.is_kept s.agreed counts.lines text s.counted d);
   }

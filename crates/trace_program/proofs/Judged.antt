@@ -5,8 +5,9 @@ use Rattle.std.proofs.Math.Nat.{eq-zero-or-pos}
 use Rattle.std.specs.Prelude.{Result, Ok, Err, IfOk}
 use Rattle.std.specs.Io.KnownBytes.{Consumes, IsAtEnd}
 use Rattle.trace_program.specs.Session.{Now}
-use Rattle.trace_program.specs.Input.{lines_in, kept_of}
-use Rattle.trace_program.specs.Verdict.{has_answer, is_only_performed, answers_in, performed_in, agreement_text, Differs, AreAgreed, AllAgree, LastDiffers, IsJudged}
+use Rattle.input_lines.specs.Lines.{lines_in}
+use Rattle.trace_program.specs.Input.{kept_of_line}
+use Rattle.trace_program.specs.Verdict.{has_answer, is_only_performed, answers_in, performed_in, agreement_text, LineDiffers, AreAgreed, AllAgree, LastDiffers, IsTraceJudged}
 use Rattle.trace_program.specs.Checking.{CountsLine, IsAgreedSoFar, IsAgreedUnderway, StopsAtFeed}
 use Rattle.trace_program.specs.declared.checking.Counts.{Counts}
 use Rattle.trace_program.specs.declared.checking.Verdict.{Verdict}
@@ -40,7 +41,7 @@ module _ (input left after : Option (List ℕ)) (bench : Now) (counts : Counts) 
   }
 
   pub judged_in_part : (text : List ℕ) → IsAgreedUnderway input left bench counts line → Consumes left after part
-      → ((read : List ℕ) → IsAgreedSoFar read bench counts line → StopsAtFeed (read ++ part) text) → IsJudged input after Differ text
+      → ((read : List ℕ) → IsAgreedSoFar read bench counts line → StopsAtFeed (read ++ part) text) → IsTraceJudged input after Differ text
   judged_in_part text u consumed stops = let s = stops u.read u.so_far in record {
     read = u.read ++ part;
     consumed = consumes_more input left after u.read part u.consumed consumed;
@@ -55,9 +56,9 @@ pub record AreRight (input left : Option (List ℕ)) (counts : Counts) : Type 0 
   pub consumed : Consumes input left read
   pub at_end : IsAtEnd left
   pub last : Now
-  pub agreed : AreAgreed None (map kept_of (lines_in read)) last
-  pub answered : counts.answers ≡ answers_in (map kept_of (lines_in read))
-  pub performed : counts.performed ≡ performed_in (map kept_of (lines_in read))
+  pub agreed : AreAgreed None (map kept_of_line (lines_in read)) last
+  pub answered : counts.answers ≡ answers_in (map kept_of_line (lines_in read))
+  pub performed : counts.performed ≡ performed_in (map kept_of_line (lines_in read))
 
 module _ (input left : Option (List ℕ)) (bench : Now) (counts : Counts) (line : List ℕ) (u : IsAgreedUnderway input left bench counts line) (end : IsAtEnd left) where
   -- with the last line feed
@@ -86,7 +87,7 @@ module _ (input left : Option (List ℕ)) (bench : Now) (counts : Counts) (line 
         performed = rw lines (kept_count s.lines s.rest line bench s.is_kept s.agreed is_only_performed counts.performed counts_after.performed s.performed w.performed);
       }
 
-  pub judged_differs : (text : List ℕ) → 0 < length line → Differs bench (counts.lines + 1) line text → IsJudged input left Differ text
+  pub judged_differs : (text : List ℕ) → 0 < length line → LineDiffers bench (counts.lines + 1) line text → IsTraceJudged input left Differ text
   judged_differs text some d = let s = u.so_far in
       let lines : lines_in u.read ≡ s.lines ++ s.rest ∷ [] = lines_with u.read s.lines s.rest s.cut (some_kept line s.rest s.is_kept some) in record {
         read = u.read;
@@ -96,29 +97,29 @@ module _ (input left : Option (List ℕ)) (bench : Now) (counts : Counts) (line 
           ahead = [];
           split = sym (append-nil u.read);
           ends = inr (end, refl);
-          first = subst (λ (ls : List (List ℕ)). LastDiffers (map kept_of ls) text) (sym lines) (kept_differs s.lines s.rest line bench s.is_kept s.agreed counts.lines text s.counted d);
+          first = subst (λ (ls : List (List ℕ)). LastDiffers (map kept_of_line ls) text) (sym lines) (kept_differs s.lines s.rest line bench s.is_kept s.agreed counts.lines text s.counted d);
         };
       }
 
 -- ---- the verdict on lines that are right
 
 module _ (input left : Option (List ℕ)) (counts : Counts) (text : List ℕ) (right : AreRight input left counts) (told : text ≡ agreement_text counts.answers counts.performed) where
-  all_agree : AllAgree (map kept_of (lines_in right.read)) text
+  all_agree : AllAgree (map kept_of_line (lines_in right.read)) text
   all_agree = record {
     last = right.last;
     agreed = right.agreed;
-    told = told ∙ ap (λ n. agreement_text n counts.performed) right.answered ∙ ap (agreement_text (answers_in (map kept_of (lines_in right.read)))) right.performed;
+    told = told ∙ ap (λ n. agreement_text n counts.performed) right.answered ∙ ap (agreement_text (answers_in (map kept_of_line (lines_in right.read)))) right.performed;
   }
 
-  judged_some : 0 < counts.answers → IsJudged input left Agree text
+  judged_some : 0 < counts.answers → IsTraceJudged input left Agree text
   judged_some some = record { read = right.read; consumed = right.consumed; judged = (right.at_end, all_agree, subst (λ n. 0 < n) right.answered some) }
 
-  judged_none : counts.answers ≡ 0 → IsJudged input left NoAnswers text
+  judged_none : counts.answers ≡ 0 → IsTraceJudged input left NoAnswers text
   judged_none none = record { read = right.read; consumed = right.consumed; judged = (right.at_end, all_agree, sym right.answered ∙ none) }
 
 pub agreement_judged : {A E : Type 0} (verdict : A → Verdict) (items : A → List ℕ) (input left : Option (List ℕ)) (counts : Counts) (r : Result A E) → AreRight input left counts
     → (0 < counts.answers → IfOk r (λ j. verdict j ≡ Agree)) → (counts.answers ≡ 0 → IfOk r (λ j. verdict j ≡ NoAnswers))
-    → IfOk r (λ j. items j ≡ agreement_text counts.answers counts.performed) → IfOk r (λ j. IsJudged input left (verdict j) (items j))
+    → IfOk r (λ j. items j ≡ agreement_text counts.answers counts.performed) → IfOk r (λ j. IsTraceJudged input left (verdict j) (items j))
 agreement_judged verdict items input left counts (Ok j) right agree nothing told = elim (eq-zero-or-pos counts.answers) [
   | inl none ↦ rw (nothing none) (judged_none input left counts (items j) right told none)
   | inr some ↦ rw (agree some) (judged_some input left counts (items j) right told some)

@@ -7,7 +7,8 @@ use Rattle.std.specs.Io.KnownBytes.{Appends, Keeps}
 use Rattle.told_device.specs.Whole.{AppendsFront}
 use Rattle.told_device.proofs.Written.{appends_none, appends_more, appends_keeps}
 use Rattle.trace_program.specs.Session.{Now}
-use Rattle.trace_program.specs.Input.{last_line, kept_of, IsCutShort}
+use Rattle.input_lines.specs.Lines.{last_line}
+use Rattle.trace_program.specs.Input.{kept_of_line, IsCutShort}
 use Rattle.trace_program.specs.Answering.{IsSoFar, Writes, WritesFront}
 use Rattle.trace_program.proofs.Kept.{kept_none}
 use Rattle.trace_program.proofs.Parts.{cut_feed, cut_more, lines_are}
@@ -17,7 +18,7 @@ pub so_far_none : (old : Option (List ℕ)) → IsSoFar old old [] None []
 so_far_none old = record { lines = []; rest = []; cut = refl; is_kept = sym kept_none; text = []; session = (refl, refl); written = appends_none old }
 
 module _ (old new : Option (List ℕ)) (read : List ℕ) (bench : Now) (line : List ℕ) (b : ℕ) where
-  pub so_far_more : (grown : List ℕ) → IsSoFar old new read bench line → (b == 10) ≡ false → ((rest : List ℕ) → line ≡ kept_of rest → grown ≡ kept_of (rest ++ b ∷ []))
+  pub so_far_more : (grown : List ℕ) → IsSoFar old new read bench line → (b == 10) ≡ false → ((rest : List ℕ) → line ≡ kept_of_line rest → grown ≡ kept_of_line (rest ++ b ∷ []))
       → IsSoFar old new (read ++ b ∷ []) bench grown
   so_far_more grown s other keeps = record {
     lines = s.lines;

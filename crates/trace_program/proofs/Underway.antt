@@ -5,7 +5,7 @@ use Rattle.std.specs.Io.KnownBytes.{Keeps, Consumes, IsAtEnd}
 use Rattle.told_device.proofs.Written.{appends_more}
 use Rattle.told_device.proofs.Read.{consumes_none, consumes_more, keeps_same}
 use Rattle.trace_program.specs.Session.{Now, IsSession}
-use Rattle.trace_program.specs.Input.{kept_of, AreAnswered, IsCutShort, AreCutShort}
+use Rattle.trace_program.specs.Input.{kept_of_line, AreLinesAnswered, IsCutShort, AreAnswersCutShort}
 use Rattle.trace_program.specs.Answering.{IsSoFar, IsUnderway, Writes, WritesFront}
 use Rattle.trace_program.proofs.Kept.{none_kept, some_kept}
 use Rattle.trace_program.proofs.Parts.{lines_without, lines_with}
@@ -47,7 +47,7 @@ underway_more input left after old new newer bench bench_after line line_after p
 }
 
 pub stopped_in_part : (input left after old new newer : Option (List ℕ)) (bench : Now) (line part : List ℕ) → IsUnderway input left old new bench line → Consumes left after part
-    → ((start : Option (List ℕ)) (read : List ℕ) → IsSoFar start new read bench line → IsCutShort start newer (read ++ part)) → AreCutShort input after old newer
+    → ((start : Option (List ℕ)) (read : List ℕ) → IsSoFar start new read bench line → IsCutShort start newer (read ++ part)) → AreAnswersCutShort input after old newer
 stopped_in_part input left after old new newer bench line part u consumed stops = record {
   read = u.read ++ part;
   consumed = consumes_more input left after u.read part u.consumed consumed;
@@ -57,40 +57,40 @@ stopped_in_part input left after old new newer bench line part u consumed stops 
 -- ---- at the end of the input
 
 module _ (input left old new : Option (List ℕ)) (bench : Now) (line : List ℕ) where
-  pub answered_all : IsUnderway input left old new bench line → IsAtEnd left → length line ≡ 0 → AreAnswered input left old new
+  pub answered_all : IsUnderway input left old new bench line → IsAtEnd left → length line ≡ 0 → AreLinesAnswered input left old new
   answered_all u end none = let s = u.so_far in record {
     bytes = u.read;
     consumed = u.consumed;
     at_end = end;
     text = s.text;
     last = bench;
-    session = subst (λ (ls : List (List ℕ)). IsSession None (map kept_of ls) s.text bench) (sym (lines_without u.read s.lines s.rest s.cut (none_kept line s.rest s.is_kept none))) s.session;
+    session = subst (λ (ls : List (List ℕ)). IsSession None (map kept_of_line ls) s.text bench) (sym (lines_without u.read s.lines s.rest s.cut (none_kept line s.rest s.is_kept none))) s.session;
     written = s.written;
   }
 
   pub answered_last : (after : Option (List ℕ)) (bench_after : Now) → IsUnderway input left old new bench line → IsAtEnd left → 0 < length line
-      → Writes new after bench line bench_after → AreAnswered input left old after
+      → Writes new after bench line bench_after → AreLinesAnswered input left old after
   answered_last after bench_after u end some w = let s = u.so_far in record {
     bytes = u.read;
     consumed = u.consumed;
     at_end = end;
     text = s.text ++ w.told;
     last = bench_after;
-    session = subst (λ (ls : List (List ℕ)). IsSession None (map kept_of ls) (s.text ++ w.told) bench_after) (sym (lines_with u.read s.lines s.rest s.cut (some_kept line s.rest s.is_kept some)))
+    session = subst (λ (ls : List (List ℕ)). IsSession None (map kept_of_line ls) (s.text ++ w.told) bench_after) (sym (lines_with u.read s.lines s.rest s.cut (some_kept line s.rest s.is_kept some)))
         (kept_session_more None s.lines s.rest line s.text w.told bench bench_after s.session s.is_kept w.is_told);
     written = appends_more old new after s.text w.told s.written w.written;
   }
 
   -- ---- where it stops
 
-  pub stopped_here : (left_after after : Option (List ℕ)) → IsUnderway input left old new bench line → Keeps left left_after → Keeps new after → AreCutShort input left_after old after
+  pub stopped_here : (left_after after : Option (List ℕ)) → IsUnderway input left old new bench line → Keeps left left_after → Keeps new after → AreAnswersCutShort input left_after old after
   stopped_here left_after after u unread unwritten = record {
     read = u.read;
     consumed = consumes_keeps input left left_after u.read u.consumed unread;
     cut_short = subst (IsCutShort old after) (append-nil u.read) (stopped old new u.read bench line after [] u.so_far unwritten);
   }
 
-  stopped_in_last : (after : Option (List ℕ)) → IsUnderway input left old new bench line → 0 < length line → WritesFront new after bench line → AreCutShort input left old after
+  stopped_in_last : (after : Option (List ℕ)) → IsUnderway input left old new bench line → 0 < length line → WritesFront new after bench line → AreAnswersCutShort input left old after
   stopped_in_last after u some w = let s = u.so_far in record {
     read = u.read;
     consumed = u.consumed;
@@ -108,6 +108,6 @@ module _ (input left old new : Option (List ℕ)) (bench : Now) (line : List ℕ
     };
   }
 
-  pub last_stopped : (after : Option (List ℕ)) → IsUnderway input left old new bench line → 0 < length line → (Keeps new after ⊎ WritesFront new after bench line) → AreCutShort input left old after
+  pub last_stopped : (after : Option (List ℕ)) → IsUnderway input left old new bench line → 0 < length line → (Keeps new after ⊎ WritesFront new after bench line) → AreAnswersCutShort input left old after
   last_stopped after u some (inl keeps) = stopped_here left after u (keeps_same left) keeps
   last_stopped after u some (inr writes) = stopped_in_last after u some writes

@@ -11,7 +11,7 @@ use Rattle.rmi_monitor.specs.View.{MonitorView, Answers, after_command, seen_in}
 use Rattle.rmi_bench.specs.Calls.{naming, numbered, Does}
 use Rattle.rmi_trace.specs.declared.answer.Answer.TheVariants as answer
 use Rattle.rmi_trace.specs.declared.request.Command.TheVariants.{HostPeek, RecCreate}
-use Rattle.trace_program.specs.Commands.{outcome_of, answer_with, answer_to, next_number}
+use Rattle.trace_program.specs.Commands.{command_outcome, answer_with, answer_to, next_rec_number}
 
 -- ---- a byte that is read
 
@@ -25,7 +25,7 @@ unfolding check
 after_check true rmi outcome machine h = h
 after_check false rmi outcome machine h = refl
 
-pub peeked : (granule offset : ℕ) (m : MonitorView) → m ≡ after_command (outcome_of (HostPeek granule offset) m) m
+pub peeked : (granule offset : ℕ) (m : MonitorView) → m ≡ after_command (command_outcome (HostPeek granule offset) m) m
 peeked granule offset m =
     ap (λ (t : Machine). record m { machine = t }) (sym (after_check _ _ _ m.machine (after_check _ _ _ m.machine (after_check _ _ _ m.machine (after_none m.machine)))))
 
@@ -48,7 +48,7 @@ made_of_realm m rd granule auxiliaries =
 
 -- the number that is answered is that of the realm's next REC
 numbered_next : (m : MonitorView) (rd number : ℕ) (outcome : Outcome) → Yields (HasRealm (seen_in m rd)) outcome → Answers {A = ℕ} (Ok number) outcome
-    → ((realm : RealmRow) → (cell_at m.machine rd).descriptor ≡ Some realm → number ≡ realm.next) → answer.Value number ≡ answer_with (Some (next_number m rd)) outcome
+    → ((realm : RealmRow) → (cell_at m.machine rd).descriptor ≡ Some realm → number ≡ realm.next) → answer.Value number ≡ answer_with (Some (next_rec_number m rd)) outcome
 numbered_next m rd number (Err rmi) yields answers is = absurd answers
 numbered_next m rd number (Ok updates) yields answers is =
     let has = yields.where_ok updates refl in

@@ -2,30 +2,31 @@
 use Rattle.std.specs.Prelude.{◌≡◌, ℕ, Bool, true, false, List, [], ◌∷◌, ◌++◌, map, Option, None}
 use Rattle.std.specs.Io.KnownBytes.{Appends, Consumes}
 use Rattle.told_device.specs.Whole.{AppendsFront}
-use Rattle.trace_program.specs.Session.{Now, IsTold, IsSession}
-use Rattle.trace_program.specs.Input.{parts_of, kept_of, AreAnswered}
+use Rattle.trace_program.specs.Session.{Now, IsLineTold, IsSession}
+use Rattle.input_lines.specs.Lines.{parts_of}
+use Rattle.trace_program.specs.Input.{kept_of_line, AreLinesAnswered}
 
 -- Lines of what was read are answered, and of the rest so much is kept.
 pub record IsSoFar (old new : Option (List ℕ)) (read : List ℕ) (bench : Now) (kept : List ℕ) : Type 0 where
   pub lines : List (List ℕ)
   pub rest : List ℕ
   pub cut : parts_of read ≡ lines ++ rest ∷ []
-  pub is_kept : kept ≡ kept_of rest
+  pub is_kept : kept ≡ kept_of_line rest
   pub text : List ℕ
-  pub session : IsSession None (map kept_of lines) text bench
+  pub session : IsSession None (map kept_of_line lines) text bench
   pub written : Appends old new text
 
 -- the answer to a line was written
 pub record Writes (old new : Option (List ℕ)) (before : Now) (line : List ℕ) (after : Now) : Type 0 where
   pub told : List ℕ
-  pub is_told : IsTold before line told after
+  pub is_told : IsLineTold before line told after
   pub written : Appends old new told
 
 -- a prefix of the answer to a line was written
 pub record WritesFront (old new : Option (List ℕ)) (before : Now) (line : List ℕ) : Type 0 where
   pub after : Now
   pub told : List ℕ
-  pub is_told : IsTold before line told after
+  pub is_told : IsLineTold before line told after
   pub written : AppendsFront old new told
 
 -- the same, of what the reader gave
@@ -35,6 +36,6 @@ pub record IsUnderway (input left old new : Option (List ℕ)) (bench : Now) (ke
   pub so_far : IsSoFar old new read bench kept
 
 -- there may be more to read, or the input was read to its end
-abbrev pub GoesOn : Bool → (input left old new : Option (List ℕ)) → Now → List ℕ → Type 0
-GoesOn true input left old new bench kept = IsUnderway input left old new bench kept
-GoesOn false input left old new bench kept = AreAnswered input left old new
+abbrev pub AnsweringGoesOn : Bool → (input left old new : Option (List ℕ)) → Now → List ℕ → Type 0
+AnsweringGoesOn true input left old new bench kept = IsUnderway input left old new bench kept
+AnsweringGoesOn false input left old new bench kept = AreLinesAnswered input left old new

@@ -2,7 +2,8 @@
 use Rattle.std.specs.Prelude.{◌≡◌, ℕ, ◌+◌, List, [], ◌∷◌, ◌++◌, length, map, Option, None}
 use Rattle.std.specs.Io.KnownBytes.{Consumes}
 use Rattle.trace_program.specs.Session.{Now}
-use Rattle.trace_program.specs.Input.{parts_of, kept_of, lines_in}
+use Rattle.input_lines.specs.Lines.{parts_of, lines_in}
+use Rattle.trace_program.specs.Input.{kept_of_line}
 use Rattle.trace_program.specs.Verdict.{IsAgreed, AreAgreed, answers_in, performed_in, EndsWithFeed, LastDiffers}
 use Rattle.trace_program.specs.declared.checking.Counts.{Counts}
 
@@ -11,11 +12,11 @@ pub record IsAgreedSoFar (read : List ℕ) (bench : Now) (counts : Counts) (kept
   pub lines : List (List ℕ)
   pub rest : List ℕ
   pub cut : parts_of read ≡ lines ++ rest ∷ []
-  pub is_kept : kept ≡ kept_of rest
-  pub agreed : AreAgreed None (map kept_of lines) bench
+  pub is_kept : kept ≡ kept_of_line rest
+  pub agreed : AreAgreed None (map kept_of_line lines) bench
   pub counted : counts.lines ≡ length lines
-  pub answered : counts.answers ≡ answers_in (map kept_of lines)
-  pub performed : counts.performed ≡ performed_in (map kept_of lines)
+  pub answered : counts.answers ≡ answers_in (map kept_of_line lines)
+  pub performed : counts.performed ≡ performed_in (map kept_of_line lines)
 
 -- the same, of what the reader gave
 pub record IsAgreedUnderway (input left : Option (List ℕ)) (bench : Now) (counts : Counts) (kept : List ℕ) : Type 0 where
@@ -37,4 +38,4 @@ pub record StopsAtFeed (read text : List ℕ) : Type 0 where
   pub ahead : List ℕ
   pub split : read ≡ front ++ ahead
   pub ends : EndsWithFeed front
-  pub first : LastDiffers (map kept_of (lines_in front)) text
+  pub first : LastDiffers (map kept_of_line (lines_in front)) text

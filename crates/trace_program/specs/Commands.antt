@@ -17,37 +17,37 @@ use Rattle.rmi_trace.specs.declared.request.Command.{Command}
 use Rattle.rmi_trace.specs.declared.request.Command.TheVariants.{GranuleDelegate, GranuleUndelegate, HostFill, HostPeek, RealmCreate, RealmActivate, RealmDestroy, RttCreate, RttDestroy, RttInitRipas, DataCreate, DataCreateUnknown, DataDestroy, RecCreate, RecEnter, RecExit, RecDestroy, GuestWrite}
 
 -- What comes of a command: its definition on the granules that it names. An offset above 4,095 is an input error.
-abbrev pub outcome_of : Command → MonitorView → Outcome
-outcome_of (GranuleDelegate granule) m = naming (granule ∷ []) m (granule_delegate (seen_in m granule))
-outcome_of (GranuleUndelegate granule) m = naming (granule ∷ []) m (granule_undelegate (seen_in m granule))
-outcome_of (HostFill granule value) m = naming (granule ∷ []) m (host_fill (seen_in m granule) value)
-outcome_of (HostPeek granule offset) m = check (nat_lt offset 4096) error_input (naming (granule ∷ []) m (host_peek (seen_in m granule)))
-outcome_of (RealmCreate rd root vmid width) m = naming (rd ∷ root ∷ []) m (make_realm m rd (record { first = root; width = width }) vmid)
-outcome_of (RealmActivate rd) m = naming (rd ∷ []) m (realm_activate (seen_in m rd))
-outcome_of (RealmDestroy rd) m = naming (rd ∷ []) m (realm_destroy (seen_in m rd))
-outcome_of (RttCreate rd granule ipa level) m = naming (rd ∷ granule ∷ []) m (rtt_create (seen_in m rd) (seen_in m granule) ipa level)
-outcome_of (RttDestroy rd ipa level) m = naming (rd ∷ []) m (rtt_destroy (seen_in m rd) ipa level)
-outcome_of (RttInitRipas rd ipa count) m = naming (rd ∷ []) m (rtt_init_ripas (seen_in m rd) ipa count)
-outcome_of (DataCreate rd granule ipa source) m = naming (rd ∷ granule ∷ source ∷ []) m (data_create (seen_in m rd) (seen_in m granule) ipa (seen_in m source))
-outcome_of (DataCreateUnknown rd granule ipa) m = naming (rd ∷ granule ∷ []) m (data_create_unknown (seen_in m rd) (seen_in m granule) ipa)
-outcome_of (DataDestroy rd ipa) m = naming (rd ∷ []) m (data_destroy (seen_in m rd) ipa)
-outcome_of (RecCreate rd granule auxiliaries) m =
+abbrev pub command_outcome : Command → MonitorView → Outcome
+command_outcome (GranuleDelegate granule) m = naming (granule ∷ []) m (granule_delegate (seen_in m granule))
+command_outcome (GranuleUndelegate granule) m = naming (granule ∷ []) m (granule_undelegate (seen_in m granule))
+command_outcome (HostFill granule value) m = naming (granule ∷ []) m (host_fill (seen_in m granule) value)
+command_outcome (HostPeek granule offset) m = check (nat_lt offset 4096) error_input (naming (granule ∷ []) m (host_peek (seen_in m granule)))
+command_outcome (RealmCreate rd root vmid width) m = naming (rd ∷ root ∷ []) m (make_realm m rd (record { first = root; width = width }) vmid)
+command_outcome (RealmActivate rd) m = naming (rd ∷ []) m (realm_activate (seen_in m rd))
+command_outcome (RealmDestroy rd) m = naming (rd ∷ []) m (realm_destroy (seen_in m rd))
+command_outcome (RttCreate rd granule ipa level) m = naming (rd ∷ granule ∷ []) m (rtt_create (seen_in m rd) (seen_in m granule) ipa level)
+command_outcome (RttDestroy rd ipa level) m = naming (rd ∷ []) m (rtt_destroy (seen_in m rd) ipa level)
+command_outcome (RttInitRipas rd ipa count) m = naming (rd ∷ []) m (rtt_init_ripas (seen_in m rd) ipa count)
+command_outcome (DataCreate rd granule ipa source) m = naming (rd ∷ granule ∷ source ∷ []) m (data_create (seen_in m rd) (seen_in m granule) ipa (seen_in m source))
+command_outcome (DataCreateUnknown rd granule ipa) m = naming (rd ∷ granule ∷ []) m (data_create_unknown (seen_in m rd) (seen_in m granule) ipa)
+command_outcome (DataDestroy rd ipa) m = naming (rd ∷ []) m (data_destroy (seen_in m rd) ipa)
+command_outcome (RecCreate rd granule auxiliaries) m =
     naming (rd ∷ granule ∷ auxiliaries.items) m (numbered (seen_in m rd)
     (rec_create m.aux (seen_in m rd) (seen_in m granule) (map (seen_in m) auxiliaries.items)))
-outcome_of (RecEnter rec) m = naming (rec ∷ []) m (on_rec rec_enter m rec)
-outcome_of (RecExit rec) m = naming (rec ∷ []) m (on_rec rec_exit m rec)
-outcome_of (RecDestroy rec) m = naming (rec ∷ []) m (on_rec rec_destroy m rec)
-outcome_of (GuestWrite rec ipa offset value) m =
+command_outcome (RecEnter rec) m = naming (rec ∷ []) m (on_rec rec_enter m rec)
+command_outcome (RecExit rec) m = naming (rec ∷ []) m (on_rec rec_exit m rec)
+command_outcome (RecDestroy rec) m = naming (rec ∷ []) m (on_rec rec_destroy m rec)
+command_outcome (GuestWrite rec ipa offset value) m =
     check (nat_lt offset 4096) error_input (naming (rec ∷ []) m (on_rec (λ rd number. guest_write rd number ipa offset value) m rec))
 
 -- the number that the next REC of the realm of that RD gets
-abbrev pub next_number : MonitorView → ℕ → ℕ
-next_number m rd = elim (cell_at m.machine rd).descriptor [ Some realm ↦ realm.next | None ↦ 0 ]
+abbrev pub next_rec_number : MonitorView → ℕ → ℕ
+next_rec_number m rd = elim (cell_at m.machine rd).descriptor [ Some realm ↦ realm.next | None ↦ 0 ]
 
 -- the value that is answered where the command is done: the byte that is read, or the number of the new REC
 abbrev pub value_of : Command → MonitorView → Option ℕ
 value_of (HostPeek granule offset) m = Some (slice_index (cell_at m.machine granule).bytes offset)
-value_of (RecCreate rd granule auxiliaries) m = Some (next_number m rd)
+value_of (RecCreate rd granule auxiliaries) m = Some (next_rec_number m rd)
 value_of _ m = None
 
 -- RMI_SUCCESS with the value, if there is one, or the result word of a refusal. RMM 1.0, RMI command return codes.
@@ -58,4 +58,4 @@ answer_with value (Err refusal) = answer.ResultWord (result_word refusal)
 
 -- what is answered to the command
 abbrev pub answer_to : Command → MonitorView → Answer
-answer_to command m = answer_with (value_of command m) (outcome_of command m)
+answer_to command m = answer_with (value_of command m) (command_outcome command m)

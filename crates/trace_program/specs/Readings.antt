@@ -1,16 +1,15 @@
 -- What a bench answers to a reading.
-use Rattle.std.specs.Prelude.{◌≡◌, ℕ, ◌&&◌, nat_lt, false, sum, Option, Some, None, option_map}
+use Rattle.std.specs.Prelude.{◌≡◌, ℕ, ◌&&◌, nat_lt, false, sum, Option, Some, None}
 use Rattle.realm_model.specs.declared.states.GranuleState.{GranuleState}
 use Rattle.realm_model.specs.declared.states.GranuleState.TheVariants as granule_state
 use Rattle.realm_model.specs.declared.states.RealmState.{RealmState}
 use Rattle.realm_model.specs.declared.states.RealmState.TheVariants as realm_state
 use Rattle.realm_model.specs.declared.states.RecState.{RecState}
 use Rattle.realm_model.specs.declared.states.RecState.TheVariants as rec_state
-use Rattle.realm_model.specs.Machine.{cell_at}
 use Rattle.realm_objects.specs.Attributes.{RealmAttributes, RecAttributes}
-use Rattle.rmi_monitor.specs.View.{MonitorView, attributes_of}
+use Rattle.rmi_monitor.specs.View.{MonitorView}
 use Rattle.rmi_bench.specs.Calls.{is_inside}
-use Rattle.rmi_bench.specs.Readings.{reading, rec_reading, IsWordOf}
+use Rattle.rmi_bench.specs.Readings.{reading, realm_reading, rec_reading, IsWordOf}
 use Rattle.rmi_trace.specs.declared.answer.Answer.{Answer}
 use Rattle.rmi_trace.specs.declared.answer.Answer.TheVariants as answer
 use Rattle.rmi_trace.specs.declared.answer.State as told_state
@@ -41,19 +40,15 @@ rec_state_of rec_state.Running = told_rec.TheVariants.Running
 -- ---- answers
 
 -- what is told of what is read, or `none` where nothing is
-abbrev pub told : {A : Type 0} → (A → Answer) → Option A → Answer
-told tell (Some it) = tell it
-told tell None = answer.Nothing
+abbrev pub told_or_none : {A : Type 0} → (A → Answer) → Option A → Answer
+told_or_none tell (Some it) = tell it
+told_or_none tell None = answer.Nothing
 
 abbrev pub realm_answer : RealmAttributes → Answer
 realm_answer realm = answer.Realm (realm_state_of realm.state) realm.vmid realm.root.first realm.root.width realm.next
 
 abbrev pub rec_answer : RecAttributes → Answer
 rec_answer rec = answer.Rec rec.number (rec_state_of rec.state) (record { items = rec.auxiliaries })
-
--- the attributes of the realm of that RD
-abbrev pub realm_reading : MonitorView → ℕ → Option RealmAttributes
-realm_reading m rd = option_map attributes_of (cell_at m.machine rd).descriptor
 
 -- a word of a page, or `none` outside of the machine and behind the page's end
 abbrev pub IsWordAnswer : MonitorView → ℕ → ℕ → Answer → Type 0
@@ -63,9 +58,9 @@ IsWordAnswer m granule index _ = ⊥
 
 -- The answer to a reading.
 abbrev pub IsReading : Reading → MonitorView → Answer → Type 0
-IsReading (asked.State granule) m a = a ≡ told (λ s. answer.State (granule_state_of s)) (reading (λ cell. cell.state) m granule)
-IsReading (asked.Sum granule) m a = a ≡ told (λ n. answer.Sum n) (reading (λ cell. sum cell.bytes) m granule)
+IsReading (asked.State granule) m a = a ≡ told_or_none (λ s. answer.State (granule_state_of s)) (reading (λ cell. cell.state) m granule)
+IsReading (asked.Sum granule) m a = a ≡ told_or_none (λ n. answer.Sum n) (reading (λ cell. sum cell.bytes) m granule)
 IsReading (asked.Word granule index) m a = IsWordAnswer m granule index a
-IsReading (asked.Realm granule) m a = a ≡ told realm_answer (realm_reading m granule)
-IsReading (asked.Measurement granule) m a = a ≡ told (λ realm. answer.Measurement realm.measurement) (realm_reading m granule)
-IsReading (asked.Rec granule) m a = a ≡ told rec_answer (rec_reading m granule)
+IsReading (asked.Realm granule) m a = a ≡ told_or_none realm_answer (realm_reading m granule)
+IsReading (asked.Measurement granule) m a = a ≡ told_or_none (λ realm. answer.Measurement realm.measurement) (realm_reading m granule)
+IsReading (asked.Rec granule) m a = a ≡ told_or_none rec_answer (rec_reading m granule)

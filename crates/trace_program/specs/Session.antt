@@ -3,7 +3,7 @@ use Rattle.std.specs.Prelude.{◌≡◌, ℕ, Bool, true, false, List, [], ◌�
 use Rattle.rmi_monitor.specs.View.{MonitorView, after_command}
 use Rattle.rmi_bench.specs.Machine.{is_machine, opened}
 use Rattle.rmi_trace.specs.Answers.{repeated_line, answered_line}
-use Rattle.rmi_trace.specs.Lines.{text_of, before_answer, line_of}
+use Rattle.rmi_trace.specs.Lines.{text_of, before_answer, line_of_trace}
 use Rattle.rmi_trace.specs.declared.answer.Answer.{Answer}
 use Rattle.rmi_trace.specs.declared.answer.Answer.TheVariants.{NoCommand}
 use Rattle.rmi_trace.specs.declared.line.Line.{Line}
@@ -11,7 +11,7 @@ use Rattle.rmi_trace.specs.declared.line.Line.TheVariants as line
 use Rattle.rmi_trace.specs.declared.request.Opening.{Opening}
 use Rattle.rmi_trace.specs.declared.request.Request.{Request}
 use Rattle.rmi_trace.specs.declared.request.Request.TheVariants.{Opening as Opens, Command, Reading}
-use Rattle.trace_program.specs.Commands.{outcome_of, answer_to}
+use Rattle.trace_program.specs.Commands.{command_outcome, answer_to}
 use Rattle.trace_program.specs.Readings.{IsReading}
 
 -- the monitor of the last `machine` line, if there was one
@@ -30,17 +30,17 @@ IsOpening true o old given new = (given ≡ None) × (new ≡ Some (opened o.pag
 IsOpening false o old given new = IsNoCommand old given new
 
 -- Before a machine is opened, nothing else is a command.
-abbrev pub IsPerformed : Request → Now → Option Answer → Now → Type 0
-IsPerformed (Opens o) old given new = IsOpening (is_machine o.pages o.vmids o.auxiliaries) o old given new
-IsPerformed request None given new = IsNoCommand None given new
-IsPerformed (Command c) (Some m) given new = (given ≡ Some (answer_to c m)) × (new ≡ Some (after_command (outcome_of c m) m))
-IsPerformed (Reading r) (Some m) given new = (a : Answer) × IsReading r m a × (given ≡ Some a) × (new ≡ Some m)
+abbrev pub IsRequestPerformed : Request → Now → Option Answer → Now → Type 0
+IsRequestPerformed (Opens o) old given new = IsOpening (is_machine o.pages o.vmids o.auxiliaries) o old given new
+IsRequestPerformed request None given new = IsNoCommand None given new
+IsRequestPerformed (Command c) (Some m) given new = (given ≡ Some (answer_to c m)) × (new ≡ Some (after_command (command_outcome c m) m))
+IsRequestPerformed (Reading r) (Some m) given new = (a : Answer) × IsReading r m a × (given ≡ Some a) × (new ≡ Some m)
 
 -- The answer to a line, if it gets one, and what the line does.
-abbrev pub IsAnswer : Line → Now → Option Answer → Now → Type 0
-IsAnswer line.Remark old given new = (given ≡ None) × (new ≡ old)
-IsAnswer line.Neither old given new = IsNoCommand old given new
-IsAnswer (line.Request request) old given new = IsPerformed request old given new
+abbrev pub IsTraceAnswer : Line → Now → Option Answer → Now → Type 0
+IsTraceAnswer line.Remark old given new = (given ≡ None) × (new ≡ old)
+IsTraceAnswer line.Neither old given new = IsNoCommand old given new
+IsTraceAnswer (line.Request request) old given new = IsRequestPerformed request old given new
 
 -- what is asked in a line: all of a remark, and else what stands before the answer
 abbrev pub asked_with : List ℕ → Line → List ℕ
@@ -53,10 +53,10 @@ written_with bytes line (Some a) = answered_line (asked_with bytes line) a
 written_with bytes line None = repeated_line (asked_with bytes line)
 
 -- what is written for a line
-pub record IsTold (old : Now) (bytes text : List ℕ) (new : Now) : Type 0 where
+pub record IsLineTold (old : Now) (bytes text : List ℕ) (new : Now) : Type 0 where
   pub given : Option Answer
-  pub answer : IsAnswer (line_of bytes) old given new
-  pub written : text ≡ written_with bytes (line_of bytes) given
+  pub answer : IsTraceAnswer (line_of_trace bytes) old given new
+  pub written : text ≡ written_with bytes (line_of_trace bytes) given
 
 -- ---- lines in their order
 
@@ -64,4 +64,4 @@ pub record IsTold (old : Now) (bytes text : List ℕ) (new : Now) : Type 0 where
 abbrev pub IsSession : Now → List (List ℕ) → List ℕ → Now → Type 0
 IsSession old [] text new = (text ≡ []) × (new ≡ old)
 IsSession old (bytes ∷ more) text new =
-    (mid : Now) × (first : List ℕ) × (rest : List ℕ) × IsTold old bytes first mid × IsSession mid more rest new × (text ≡ first ++ rest)
+    (mid : Now) × (first : List ℕ) × (rest : List ℕ) × IsLineTold old bytes first mid × IsSession mid more rest new × (text ≡ first ++ rest)

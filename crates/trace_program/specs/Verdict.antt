@@ -2,15 +2,16 @@
 use Rattle.std.specs.Prelude.{◌≡◌, ℕ, ◌+◌, ◌<◌, ◌&&◌, Bool, true, false, List, [], ◌∷◌, ◌++◌, codes, decimal, length, map, filter, is_some, is_none, Option, Some, None, ◌⊎◌}
 use Rattle.std.specs.Io.KnownBytes.{Consumes, IsAtEnd, Appends}
 use Rattle.told_device.specs.Whole.{AppendsFront}
-use Rattle.rmi_trace.specs.Answers.{repeated_line, answer_text}
-use Rattle.rmi_trace.specs.Lines.{text_of, answer_in, line_of}
+use Rattle.rmi_trace.specs.Answers.{repeated_line, trace_answer_text}
+use Rattle.rmi_trace.specs.Lines.{text_of, answer_in, line_of_trace}
 use Rattle.rmi_trace.specs.declared.answer.Answer.{Answer}
 use Rattle.rmi_trace.specs.declared.answer.Answer.TheVariants.{NoCommand}
 use Rattle.rmi_trace.specs.declared.line.Line.{Line}
 use Rattle.rmi_trace.specs.declared.line.Line.TheVariants as line
 use Rattle.rmi_trace.specs.declared.request.Request.TheVariants.{Command, Reading}
-use Rattle.trace_program.specs.Session.{Now, IsAnswer, written_with}
-use Rattle.trace_program.specs.Input.{lines_in, kept_of}
+use Rattle.trace_program.specs.Session.{Now, IsTraceAnswer, written_with}
+use Rattle.input_lines.specs.Lines.{lines_in}
+use Rattle.trace_program.specs.Input.{kept_of_line}
 use Rattle.trace_program.specs.declared.checking.Verdict.{Verdict}
 use Rattle.trace_program.specs.declared.checking.Verdict.TheVariants.{Agree, NoAnswers, Differ}
 
@@ -22,7 +23,7 @@ stated_with bytes line.Remark = None
 stated_with bytes _ = answer_in (text_of bytes)
 
 abbrev pub stated_in : List ℕ → Option (List ℕ)
-stated_in bytes = stated_with bytes (line_of bytes)
+stated_in bytes = stated_with bytes (line_of_trace bytes)
 
 abbrev pub has_answer : List ℕ → Bool
 has_answer bytes = is_some (stated_in bytes)
@@ -34,27 +35,27 @@ is_command_or_reading _ = false
 
 -- a command or a reading that has no answer: there is nothing to compare
 abbrev pub is_only_performed : List ℕ → Bool
-is_only_performed bytes = is_command_or_reading (line_of bytes) && is_none (stated_in bytes)
+is_only_performed bytes = is_command_or_reading (line_of_trace bytes) && is_none (stated_in bytes)
 
 -- A line that is answered `no command` has to say so. Any other may be without an answer; the one that it has is the one that the rules give.
 abbrev pub IsRight : Option (List ℕ) → Option Answer → Type 0
 IsRight None given = ¬ (given ≡ Some NoCommand)
 IsRight (Some stated) None = ⊥
-IsRight (Some stated) (Some a) = stated ≡ answer_text a
+IsRight (Some stated) (Some a) = stated ≡ trace_answer_text a
 
 -- the line is performed, and it is right
 pub record IsAgreed (old : Now) (bytes : List ℕ) (new : Now) : Type 0 where
   pub given : Option Answer
-  pub answer : IsAnswer (line_of bytes) old given new
+  pub answer : IsTraceAnswer (line_of_trace bytes) old given new
   pub right : IsRight (stated_in bytes) given
 
 -- The line is performed, and it is wrong. What is said of it is its number, the line, and the line as it is answered.
-pub record Differs (old : Now) (number : ℕ) (bytes text : List ℕ) : Type 0 where
+pub record LineDiffers (old : Now) (number : ℕ) (bytes text : List ℕ) : Type 0 where
   pub new : Now
   pub given : Option Answer
-  pub answer : IsAnswer (line_of bytes) old given new
+  pub answer : IsTraceAnswer (line_of_trace bytes) old given new
   pub wrong : ¬ IsRight (stated_in bytes) given
-  pub told : text ≡ codes "line " ++ repeated_line (decimal number) ++ repeated_line bytes ++ written_with bytes (line_of bytes) given
+  pub told : text ≡ codes "line " ++ repeated_line (decimal number) ++ repeated_line bytes ++ written_with bytes (line_of_trace bytes) given
 
 -- ---- lines in their order
 
@@ -87,7 +88,7 @@ pub record LastDiffers (lines : List (List ℕ)) (text : List ℕ) : Type 0 wher
   pub split : lines ≡ before ++ bytes ∷ []
   pub bench : Now
   pub agreed : AreAgreed None before bench
-  pub differs : Differs bench (length before + 1) bytes text
+  pub differs : LineDiffers bench (length before + 1) bytes text
 
 -- ---- an input
 
@@ -100,16 +101,16 @@ pub record HasDifference (left : Option (List ℕ)) (read text : List ℕ) : Typ
   pub ahead : List ℕ
   pub split : read ≡ front ++ ahead
   pub ends : EndsWithFeed front ⊎ (IsAtEnd left × (ahead ≡ []))
-  pub first : LastDiffers (map kept_of (lines_in front)) text
+  pub first : LastDiffers (map kept_of_line (lines_in front)) text
 
 -- The verdict on what was read, and its text. Where no line is wrong, the input was read to its end. Where none has an answer, nothing was compared, and that is no agreement.
 abbrev pub IsVerdict : Verdict → Option (List ℕ) → List ℕ → List ℕ → Type 0
-IsVerdict Agree left read text = IsAtEnd left × AllAgree (map kept_of (lines_in read)) text × (0 < answers_in (map kept_of (lines_in read)))
-IsVerdict NoAnswers left read text = IsAtEnd left × AllAgree (map kept_of (lines_in read)) text × (answers_in (map kept_of (lines_in read)) ≡ 0)
+IsVerdict Agree left read text = IsAtEnd left × AllAgree (map kept_of_line (lines_in read)) text × (0 < answers_in (map kept_of_line (lines_in read)))
+IsVerdict NoAnswers left read text = IsAtEnd left × AllAgree (map kept_of_line (lines_in read)) text × (answers_in (map kept_of_line (lines_in read)) ≡ 0)
 IsVerdict Differ left read text = HasDifference left read text
 
 -- an input was read as far as it takes for the verdict
-pub record IsJudged (input left : Option (List ℕ)) (verdict : Verdict) (text : List ℕ) : Type 0 where
+pub record IsTraceJudged (input left : Option (List ℕ)) (verdict : Verdict) (text : List ℕ) : Type 0 where
   pub read : List ℕ
   pub consumed : Consumes input left read
   pub judged : IsVerdict verdict left read text
@@ -117,12 +118,12 @@ pub record IsJudged (input left : Option (List ℕ)) (verdict : Verdict) (text :
 -- and the verdict's text was written
 pub record IsChecked (input left old new : Option (List ℕ)) (verdict : Verdict) : Type 0 where
   pub text : List ℕ
-  pub judged : IsJudged input left verdict text
+  pub judged : IsTraceJudged input left verdict text
   pub written : Appends old new text
 
 -- or a prefix of it
 pub record IsCheckedInPart (input left old new : Option (List ℕ)) : Type 0 where
   pub verdict : Verdict
   pub text : List ℕ
-  pub judged : IsJudged input left verdict text
+  pub judged : IsTraceJudged input left verdict text
   pub written : AppendsFront old new text

@@ -1,8 +1,8 @@
 //! Lines in, the same lines with their answers out.
 ghost use Rattle.std.specs.Prelude.{◌≡◌, ◌≤◌, ◌+◌, ◌-◌, ◌^◌, ◌++◌, ◌⊎◌, ℕ, min, List, [], ◌∷◌, Option, false, true, ◌↔◌, Err, IfOk, OnOk, OnErr};
 ghost use Rattle.std.specs.Io.KnownBytes.{Keeps, IsAtEnd};
-ghost use Rattle.trace_program.specs.Answering.{IsSoFar, IsUnderway, GoesOn, Writes, WritesFront};
-ghost use Rattle.trace_program.specs.Input.{kept_of, AreAnswered, IsCutShort, AreCutShort};
+ghost use Rattle.trace_program.specs.Answering.{IsSoFar, IsUnderway, AnsweringGoesOn, Writes, WritesFront};
+ghost use Rattle.trace_program.specs.Input.{kept_of_line, AreLinesAnswered, IsCutShort, AreAnswersCutShort};
 ghost use Rattle.trace_program.specs.declared.fault.Fault.TheVariants.{Device};
 
 use crate::{Fault, Session};
@@ -16,7 +16,7 @@ const KEPT: usize = MOST_LINE + 1;
 
 // Keeps a byte of a line, unless enough of it is kept.
 pub(crate) fn keep(line: &mut Vec<u8>, byte: u8) -> Result<(), AllocError>
-    ensures { OnOk result ((rest : List ℕ) → line.old.items ≡ kept_of rest → line.new.items ≡ kept_of (rest ++ byte ∷ [])) }
+    ensures { OnOk result ((rest : List ℕ) → line.old.items ≡ kept_of_line rest → line.new.items ≡ kept_of_line (rest ++ byte ∷ [])) }
 {
     if line.len() < KEPT {
         line.push(byte)?;
@@ -99,9 +99,9 @@ impl Answering {
     fn end<W: Write>(&mut self, alloc: Global, output: &mut Told<W>) -> Result<(), Fault>
         requires { output.old.failed ≡ false }
         ensures ok { (input left start : Option (List ℕ)) → IsUnderway input left start (W.contents output.old.device) self.old.session.bench self.old.line.items
-            → IsAtEnd left → OnOk result (AreAnswered input left start (W.contents output.new.device)) }
+            → IsAtEnd left → OnOk result (AreLinesAnswered input left start (W.contents output.new.device)) }
         ensures err { (input left start : Option (List ℕ)) → IsUnderway input left start (W.contents output.old.device) self.old.session.bench self.old.line.items
-            → OnErr result (AreCutShort input left start (W.contents output.new.device)) }
+            → OnErr result (AreAnswersCutShort input left start (W.contents output.new.device)) }
         ensures told { (output.new.failed ≡ true) ↔ (result ≡ Err Device) }
     {
         if self.line.is_empty() {
@@ -122,9 +122,9 @@ impl Answering {
         requires readable { input.old.failed ≡ false }
         requires writable { output.old.failed ≡ false }
         ensures ok { (begin start : Option (List ℕ)) → IsUnderway begin (R.remaining input.old.device) start (W.contents output.old.device) self.old.session.bench self.old.line.items
-            → IfOk result (λ more. GoesOn more begin (R.remaining input.new.device) start (W.contents output.new.device) self.new.session.bench self.new.line.items) }
+            → IfOk result (λ more. AnsweringGoesOn more begin (R.remaining input.new.device) start (W.contents output.new.device) self.new.session.bench self.new.line.items) }
         ensures err { (begin start : Option (List ℕ)) → IsUnderway begin (R.remaining input.old.device) start (W.contents output.old.device) self.old.session.bench self.old.line.items
-            → OnErr result (AreCutShort begin (R.remaining input.new.device) start (W.contents output.new.device)) }
+            → OnErr result (AreAnswersCutShort begin (R.remaining input.new.device) start (W.contents output.new.device)) }
         ensures told { ((input.new.failed ≡ true) ⊎ (output.new.failed ≡ true)) ↔ (result ≡ Err Device) }
         ensures fine { IfOk result (λ more. more ≡ true → (input.new.failed ≡ false) × (output.new.failed ≡ false)) }
         ensures counted { input.new.reads ≡ min (input.old.reads + 1) (2 ^ 64 - 1) }
@@ -151,9 +151,9 @@ pub fn answer<R: Read, W: Write>(
 ) -> Result<(), Fault>
     requires readable { input.old.failed ≡ false }
     requires writable { output.old.failed ≡ false }
-    ensures ok { OnOk result (AreAnswered (R.remaining input.old.device) (R.remaining input.new.device)
+    ensures ok { OnOk result (AreLinesAnswered (R.remaining input.old.device) (R.remaining input.new.device)
         (W.contents output.old.device) (W.contents output.new.device)) }
-    ensures err { OnErr result (AreCutShort (R.remaining input.old.device) (R.remaining input.new.device)
+    ensures err { OnErr result (AreAnswersCutShort (R.remaining input.old.device) (R.remaining input.new.device)
         (W.contents output.old.device) (W.contents output.new.device)) }
     ensures failed { ((input.new.failed ≡ true) ⊎ (output.new.failed ≡ true)) → result ≡ Err Device }
     ensures device { result ≡ Err Device → (input.new.failed ≡ true) ⊎ (output.new.failed ≡ true) ⊎ (2 ^ 64 ≤ input.new.reads + 1) }

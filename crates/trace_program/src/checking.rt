@@ -4,7 +4,7 @@ ghost use Rattle.std.specs.Option.{option_copied};
 ghost use Rattle.std.specs.Io.KnownBytes.{Keeps, IsAtEnd};
 ghost use Rattle.rmi_trace.specs.Answers.{repeated_line};
 ghost use Rattle.trace_program.specs.Session.{written_with};
-ghost use Rattle.trace_program.specs.Verdict.{stated_with, IsRight, is_command_or_reading, agreement_text, Differs, IsJudged, IsChecked, IsCheckedInPart};
+ghost use Rattle.trace_program.specs.Verdict.{stated_with, IsRight, is_command_or_reading, agreement_text, LineDiffers, IsTraceJudged, IsChecked, IsCheckedInPart};
 ghost use Rattle.trace_program.specs.Checking.{CountsLine, IsAgreedSoFar, IsAgreedUnderway, StopsAtFeed};
 ghost use Rattle.trace_program.specs.declared.fault.Fault.TheVariants.{Memory, Device};
 ghost use Rattle.trace_program.specs.declared.checking.Verdict.TheVariants.{Agree, NoAnswers};
@@ -135,7 +135,7 @@ impl Checking {
             self.new.session.bench self.new.counts self.new.line.items)) }
         ensures few { IfOk result (λ d. IfNone d (self.new.counts.answers + self.new.counts.performed ≤ self.new.counts.lines)) }
         ensures one { IfOk result (λ d. IfNone d (self.new.counts.lines ≤ self.old.counts.lines + 1)) }
-        ensures differs { IfOk result (λ d. IfSome d (λ text. Differs self.old.session.bench (self.old.counts.lines + 1) self.old.line.items text.items)) }
+        ensures differs { IfOk result (λ d. IfSome d (λ text. LineDiffers self.old.session.bench (self.old.counts.lines + 1) self.old.line.items text.items)) }
     {
         let line = parse(&self.line);
         let given = self.session.answer(alloc, &line)?;
@@ -196,7 +196,7 @@ impl Checking {
         requires few { self.old.counts.answers + self.old.counts.performed ≤ self.old.counts.lines }
         requires room { self.old.counts.lines + 1 < 2 ^ 100 }
         ensures { (input left : Option (List ℕ)) → IsAgreedUnderway input left self.old.session.bench self.old.counts self.old.line.items
-            → IsAtEnd left → IfOk result (λ judged. IsJudged input left judged.verdict judged.text.items) }
+            → IsAtEnd left → IfOk result (λ judged. IsTraceJudged input left judged.verdict judged.text.items) }
     {
         if self.line.is_empty() {
             return agreement(alloc, self.counts);
@@ -223,7 +223,7 @@ impl Checking {
         ensures agreed { (begin : Option (List ℕ)) → IsAgreedUnderway begin (R.remaining input.old.device) self.old.session.bench self.old.counts self.old.line.items
             → IfOk result (λ d. IfNone d (IsAgreedUnderway begin (R.remaining input.new.device) self.new.session.bench self.new.counts self.new.line.items)) }
         ensures judged { (begin : Option (List ℕ)) → IsAgreedUnderway begin (R.remaining input.old.device) self.old.session.bench self.old.counts self.old.line.items
-            → IfOk result (λ d. IfSome d (λ judged. IsJudged begin (R.remaining input.new.device) judged.verdict judged.text.items)) }
+            → IfOk result (λ d. IfSome d (λ judged. IsTraceJudged begin (R.remaining input.new.device) judged.verdict judged.text.items)) }
         ensures few { IfOk result (λ d. IfNone d (self.new.counts.answers + self.new.counts.performed ≤ self.new.counts.lines)) }
         ensures most { IfOk result (λ d. IfNone d (self.new.counts.lines ≤ self.old.counts.lines + 4096)) }
         ensures told { (input.new.failed ≡ true) ↔ (result ≡ Err Device) }
@@ -246,7 +246,7 @@ impl Checking {
 // Reads the lines of a trace, up to the first that is wrong, or to their end.
 fn judge<R: Read>(alloc: Global, input: &mut Told<R>) -> Result<Judged, Fault>
     requires { input.old.failed ≡ false }
-    ensures judged { IfOk result (λ judged. IsJudged (R.remaining input.old.device) (R.remaining input.new.device) judged.verdict judged.text.items) }
+    ensures judged { IfOk result (λ judged. IsTraceJudged (R.remaining input.old.device) (R.remaining input.new.device) judged.verdict judged.text.items) }
     ensures failed { (input.new.failed ≡ true) → result ≡ Err Device }
     ensures device { result ≡ Err Device → (input.new.failed ≡ true) ⊎ (2 ^ 64 ≤ input.new.reads + 1) }
 {

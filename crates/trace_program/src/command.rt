@@ -2,7 +2,7 @@
 ghost use Rattle.std.specs.Prelude.{◌≡◌, None};
 ghost use Rattle.realm_model.specs.Update.{Outcome};
 ghost use Rattle.rmi_monitor.specs.View.{Answers, after_command};
-ghost use Rattle.trace_program.specs.Commands.{outcome_of, answer_with, answer_to};
+ghost use Rattle.trace_program.specs.Commands.{command_outcome, answer_with, answer_to};
 
 use realm_model::Rmi;
 use rmi_bench::Bench;
@@ -21,7 +21,7 @@ fn told(call: Result<(), Rmi>) -> Answer
 /// Performs a command on the bench, and gives its answer.
 pub fn perform(bench: &mut Bench, command: &Command) -> Answer
     ensures answer { result ≡ answer_to command.now bench.old }
-    ensures machine { bench.new ≡ after_command (outcome_of command.now bench.old) bench.old }
+    ensures machine { bench.new ≡ after_command (command_outcome command.now bench.old) bench.old }
 {
     match command {
         Command::GranuleDelegate { granule } => told(bench.granule_delegate(*granule)),

@@ -19,9 +19,9 @@ pub enum Fault {
 }
 
 impl Reason for Fault {
-    ghost use Rattle.trace_program.specs.Stop.{status_of};
+    ghost use Rattle.trace_program.specs.Stop.{trace_status_of};
 
-    ghost status_of = { status_of };
+    ghost status_of = { trace_status_of };
 
     ghost memory = { Memory };
 

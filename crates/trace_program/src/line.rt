@@ -2,7 +2,7 @@
 ghost use Rattle.std.specs.Prelude.{◌≡◌, IfOk, false, map, string_bytes};
 ghost use Rattle.clap.specs.Words.{FailsBy, app_of, fault_of, new_app, subcommand_of, subcommand_rows_of};
 ghost use Rattle.clap.specs.declared.builder.command.Command.TheViews.{out-Command as fields_of};
-ghost use Rattle.trace_program.specs.Program.{program, rmitrace};
+ghost use Rattle.trace_program.specs.Program.{rmitrace_alone, rmitrace};
 
 use clap::{ArgMatches, Command, Error};
 use std::alloc::{AllocError, Global};
@@ -35,7 +35,7 @@ fn subcommand_named<'a>(alloc: Global, name: &'a str, about: &'a str) -> Command
 
 // The program, but for its subcommands.
 fn program<'a>(alloc: Global) -> Command<'a>
-    ensures { app_of result ≡ program }
+    ensures { app_of result ≡ rmitrace_alone }
 {
     let named = Command::new(alloc, "rmitrace")
         .version("0.1.0")
@@ -63,12 +63,12 @@ fn parsed<'a>(alloc: Global, words: &'a [String]) -> Result<ArgMatches<'a>, Erro
 }
 
 impl Asked {
-    ghost use Rattle.trace_program.specs.Program.{IsAsked};
+    ghost use Rattle.trace_program.specs.Program.{IsTraceSubcommand};
 
     /// What the words ask for. The first word is the program's name.
     pub fn of(alloc: Global, words: &[String]) -> Result<Asked, Error>
         // What clap's definition of a simple command gives for the words.
-        ensures ok { IfOk result (IsAsked (subcommand_of rmitrace (map string_bytes words.now))) }
+        ensures ok { IfOk result (IsTraceSubcommand (subcommand_of rmitrace (map string_bytes words.now))) }
         // Which kind an error has: one that the definition names, or that allocation failed.
         ensures kinds { FailsBy (fault_of rmitrace (map string_bytes words.now)) result }
     {

@@ -1,6 +1,6 @@
 //! What the command line asks for is done.
 ghost use Rattle.std.specs.Prelude.{◌≡◌, ◌⊎◌, ◌+◌, ◌^◌, ◌≤◌, false, true, Err, IfOk};
-ghost use Rattle.trace_program.specs.Input.{AreAnswered};
+ghost use Rattle.trace_program.specs.Input.{AreLinesAnswered};
 ghost use Rattle.trace_program.specs.Verdict.{IsChecked};
 ghost use Rattle.trace_program.specs.declared.checking.Verdict.TheVariants.{Agree};
 ghost use Rattle.trace_program.specs.declared.fault.Fault.TheVariants.{Device};
@@ -20,7 +20,7 @@ pub fn run<R: Read, W: Write>(
 ) -> Result<Verdict, Fault>
     requires readable { input.old.failed ≡ false }
     requires writable { output.old.failed ≡ false }
-    ensures answered { asked ≡ Answer → IfOk result (λ verdict. (verdict ≡ Agree) × AreAnswered (R.remaining input.old.device) (R.remaining input.new.device)
+    ensures answered { asked ≡ Answer → IfOk result (λ verdict. (verdict ≡ Agree) × AreLinesAnswered (R.remaining input.old.device) (R.remaining input.new.device)
         (W.contents output.old.device) (W.contents output.new.device)) }
     ensures checked { asked ≡ Check → IfOk result (IsChecked (R.remaining input.old.device) (R.remaining input.new.device)
         (W.contents output.old.device) (W.contents output.new.device)) }

@@ -1,6 +1,6 @@
 //! The lines of a trace, one after another.
 ghost use Rattle.std.specs.Prelude.{◌≡◌, ◌++◌, List, ℕ, None, IfOk, OnOk, OnErr};
-ghost use Rattle.trace_program.specs.Session.{IsOpening, IsPerformed, IsAnswer, IsTold, written_with};
+ghost use Rattle.trace_program.specs.Session.{IsOpening, IsRequestPerformed, IsTraceAnswer, IsLineTold, written_with};
 ghost use Rattle.rmi_bench.specs.Machine.{is_machine};
 
 use crate::{perform, read};
@@ -61,7 +61,7 @@ impl Session {
 
     // Does what is asked.
     fn perform(&mut self, alloc: Global, request: &Request) -> Result<Option<Answer>, AllocError>
-        ensures ok { IfOk result (λ given. IsPerformed request.now self.old.bench given self.new.bench) }
+        ensures ok { IfOk result (λ given. IsRequestPerformed request.now self.old.bench given self.new.bench) }
         ensures err { OnErr result (self.new.bench ≡ self.old.bench) }
     {
         match request {
@@ -79,7 +79,7 @@ impl Session {
 
     /// The answer to a line, if it gets one. Memory is taken for a fresh machine alone; where there is none, nothing changes.
     pub fn answer(&mut self, alloc: Global, line: &Line) -> Result<Option<Answer>, AllocError>
-        ensures ok { IfOk result (λ given. IsAnswer line.now self.old.bench given self.new.bench) }
+        ensures ok { IfOk result (λ given. IsTraceAnswer line.now self.old.bench given self.new.bench) }
         ensures err { OnErr result (self.new.bench ≡ self.old.bench) }
     {
         match line {
@@ -96,7 +96,7 @@ impl Session {
         bytes: &[u8],
         text: &mut Vec<u8>,
     ) -> Result<(), AllocError>
-        ensures ok { OnOk result ((told : List ℕ) × (text.new.items ≡ text.old.items ++ told) × IsTold self.old.bench bytes.now told self.new.bench) }
+        ensures ok { OnOk result ((told : List ℕ) × (text.new.items ≡ text.old.items ++ told) × IsLineTold self.old.bench bytes.now told self.new.bench) }
         ensures err { OnErr result (text.new.items ≡ text.old.items) }
     {
         let line = parse(bytes);

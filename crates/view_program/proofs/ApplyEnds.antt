@@ -9,9 +9,9 @@ use Rattle.input_lines.specs.Lines.{lines_in, IsLine, HasLongLine}
 use Rattle.history_text.specs.Histories.{IsOpeningText}
 use Rattle.history_text.specs.declared.opening.Opening.{Opening}
 use Rattle.history_text.proofs.Short.{opening_is_short}
-use Rattle.view_program.specs.Applied.{opened, IsHistoryIn, IsNoEvent, IsRefused, StopsAt, IsNoHistoryIn, IsMap, HasNoMap}
+use Rattle.view_program.specs.Applied.{host_of_opening, IsHistoryIn, IsNoEvent, IsEventRefused, StopsAt, IsNoHistoryIn, IsMap, HasNoMap}
 use Rattle.view_program.specs.Printed.{IsApplyEnd, IsMapPrinted}
-use Rattle.view_program.specs.Taking.{AreAllTaken, AreCutShort, AreNotTaken}
+use Rattle.view_program.specs.Taking.{AreLinesTaken, AreCutShort, AreNotTaken}
 use Rattle.view_program.specs.declared.fault.Fault.{Fault}
 use Rattle.view_program.specs.declared.fault.Fault.TheVariants.{Plan, NoOpening, NoEvent, Refused, EraseNamesNoBuild, Memory, Device}
 use Rattle.view_program.proofs.Takings.{length-taken}
@@ -39,7 +39,7 @@ opens_none_end (Some xs) end = rw end tt
 -- ---- the lines behind it
 
 module _ (first : List ℕ) (o : Opening) (opens : IsOpeningText first o) where
-  pub is_history_in : (input ahead : Option (List ℕ)) (host : HostView) → IsLine input first ahead → AreAllTaken ahead (opened o) host → IsHistoryIn input o host
+  pub is_history_in : (input ahead : Option (List ℕ)) (host : HostView) → IsLine input first ahead → AreLinesTaken ahead (host_of_opening o) host → IsHistoryIn input o host
   is_history_in input ahead host is all = record {
     lines = first ∷ all.lines;
     of_input = of_input input ahead is all.of_input;
@@ -51,7 +51,7 @@ module _ (first : List ℕ) (o : Opening) (opens : IsOpeningText first o) where
       of_input (Some xs) None is' more = absurd is'
       of_input (Some xs) (Some ys) is' more = is' ∙ ap (λ (t : List (List ℕ)). first ∷ t) more
 
-  stops_no_event : (lines more : List (List ℕ)) (number : ℕ) → lines ≡ first ∷ more → AreCutShort (opened o) more (NoEvent number) → StopsAt (λ host line. IsNoEvent line) lines number
+  stops_no_event : (lines more : List (List ℕ)) (number : ℕ) → lines ≡ first ∷ more → AreCutShort (host_of_opening o) more (NoEvent number) → StopsAt (λ host line. IsNoEvent line) lines number
   stops_no_event lines more number are cut = record {
     o = o;
     host = cut.mid;
@@ -60,11 +60,11 @@ module _ (first : List ℕ) (o : Opening) (opens : IsOpeningText first o) where
     after = cut.after;
     split = are ∙ ap (λ (t : List (List ℕ)). first ∷ t) cut.split;
     history = record { first = first; events = cut.before; lines_are = refl; opens = opens; taken = cut.taken };
-    number_is = let long = length-taken (opened o) cut.before cut.mid cut.taken in let same = cut.untaken.0 in omega (arith, long, same);
+    number_is = let long = length-taken (host_of_opening o) cut.before cut.mid cut.taken in let same = cut.untaken.0 in omega (arith, long, same);
     reason = cut.untaken.1;
   }
 
-  stops_refused : (lines more : List (List ℕ)) (number : ℕ) (why : WhyNot) → lines ≡ first ∷ more → AreCutShort (opened o) more (Refused number why) → StopsAt (IsRefused why) lines number
+  stops_refused : (lines more : List (List ℕ)) (number : ℕ) (why : WhyNot) → lines ≡ first ∷ more → AreCutShort (host_of_opening o) more (Refused number why) → StopsAt (IsEventRefused why) lines number
   stops_refused lines more number why are cut = record {
     o = o;
     host = cut.mid;
@@ -73,11 +73,11 @@ module _ (first : List ℕ) (o : Opening) (opens : IsOpeningText first o) where
     after = cut.after;
     split = are ∙ ap (λ (t : List (List ℕ)). first ∷ t) cut.split;
     history = record { first = first; events = cut.before; lines_are = refl; opens = opens; taken = cut.taken };
-    number_is = let long = length-taken (opened o) cut.before cut.mid cut.taken in let same = cut.untaken.0 in omega (arith, long, same);
+    number_is = let long = length-taken (host_of_opening o) cut.before cut.mid cut.taken in let same = cut.untaken.0 in omega (arith, long, same);
     reason = cut.untaken.1;
   }
 
-  pub no_history_in : (input ahead : Option (List ℕ)) (fault : Fault) → IsLine input first ahead → AreNotTaken ahead (opened o) fault → IsNoHistoryIn input fault
+  pub no_history_in : (input ahead : Option (List ℕ)) (fault : Fault) → IsLine input first ahead → AreNotTaken ahead (host_of_opening o) fault → IsNoHistoryIn input fault
   no_history_in input ahead (Plan fault) is none = absurd none
   no_history_in input ahead NoOpening is none = absurd none
   no_history_in None ahead (NoEvent number) is none = tt

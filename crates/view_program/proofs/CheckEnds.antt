@@ -10,7 +10,7 @@ use Rattle.told_device.specs.Whole.{AppendsFront}
 use Rattle.told_device.proofs.Read.{keeps_same}
 use Rattle.plan_check.specs.Texts.{IsReport}
 use Rattle.plan_check.specs.declared.report.Report.{Report}
-use Rattle.view_program.specs.Stop.{fault_of_read}
+use Rattle.view_program.specs.Stop.{view_fault_of_read}
 use Rattle.view_program.specs.Checked.{verdict_of, IsReportOn, IsVerdictOn, IsCheckEnd}
 use Rattle.view_program.specs.declared.fault.Fault.TheVariants.{Device}
 
@@ -26,7 +26,7 @@ verdict_from_kept (Some xs) bytes report kept is =
 
 -- nothing was read
 pub unreported : (unread : Bool) (input output : Option (List ℕ)) (error : ReadError) → (error ≡ read_error.Device → unread ≡ true)
-    → IsCheckEnd unread input output output (Err (fault_of_read error))
+    → IsCheckEnd unread input output output (Err (view_fault_of_read error))
 unreported unread input output read_error.Memory read = keeps_same output
 unreported unread input output read_error.Device read = rw (read refl) (keeps_same output)
 

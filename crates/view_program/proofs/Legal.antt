@@ -6,7 +6,7 @@ use Rattle.realm_model.specs.Machine.{Limits}
 use Rattle.realm_model.specs.History.{after, IsLegal}
 use Rattle.build_books.specs.View.{HostView}
 use Rattle.history_text.specs.declared.opening.Opening.{Opening}
-use Rattle.view_program.specs.Applied.{opened, AreTaken, AreTexts, IsHistory, IsLegalText}
+use Rattle.view_program.specs.Applied.{host_of_opening, AreTaken, AreTexts, IsHistory, IsLegalText}
 
 legal-nil : (limits : Limits) → IsLegal limits []
 unfolding after
@@ -36,11 +36,11 @@ added old (line ∷ more) new taken =
 
 pub legal_text : (lines : List (List ℕ)) (o : Opening) (host : HostView) → IsHistory lines o host → IsLegalText lines host
 legal_text lines o host history =
-    let all = added (opened o) history.events host history.taken in
+    let all = added (host_of_opening o) history.events host history.taken in
     record {
       first = history.first;
       events = history.events;
       lines_are = history.lines_are;
       texts = subst (AreTexts history.events) (sym all.grows) all.texts;
-      legal = legal_taken (opened o) history.events host (legal-nil (opened o).limits) history.taken;
+      legal = legal_taken (host_of_opening o) history.events host (legal-nil (host_of_opening o).limits) history.taken;
     }

@@ -8,13 +8,13 @@ use Rattle.history_text.specs.declared.opening.Opening.{Opening}
 use Rattle.history_text.proofs.EventTexts.{written_once}
 use Rattle.history_text.proofs.OpeningTexts.{five_numbers, same_numbers, same_opening}
 use Rattle.realm_host.specs.declared.why_not.WhyNot.{WhyNot}
-use Rattle.view_program.specs.Applied.{opened, IsTaken, AreTaken, IsHistory, OpensNone, IsNoEvent, IsRefused, StopsAt}
+use Rattle.view_program.specs.Applied.{host_of_opening, IsLineTaken, AreTaken, IsHistory, OpensNone, IsNoEvent, IsEventRefused, StopsAt}
 
 one_opening : (text : List ℕ) (a b : Opening) → IsOpeningText text a → IsOpeningText text b → a ≡ b
 one_opening text a b is other =
     same_opening a b (same_numbers text _ (opening_numbers a) b (five_numbers a is.size.at_most) is.is_written refl other)
 
-one_taken : (old : HostView) (line : List ℕ) (a b : HostView) → IsTaken old line a → IsTaken old line b → a ≡ b
+one_taken : (old : HostView) (line : List ℕ) (a b : HostView) → IsLineTaken old line a → IsLineTaken old line b → a ≡ b
 one_taken old line a b is other =
     is.grows ∙ ap (λ (event : Event). with_event old event.build event.act) (written_once line is.event other.event is.is_text other.is_text) ∙ sym other.grows
 
@@ -26,10 +26,10 @@ taken_once old (line ∷ more) a b taken other =
 -- where more lines are taken, so is the one behind those before it
 record IsNext (host : HostView) (line : List ℕ) : Type 0 where
   new : HostView
-  taken : IsTaken host line new
+  taken : IsLineTaken host line new
 
 next : (old : HostView) (before : List (List ℕ)) (line : List ℕ) (after : List (List ℕ)) (last mid : HostView) → AreTaken old (before ++ line ∷ after) last → AreTaken old before mid → IsNext mid line
-next old [] line after last mid taken here = record { new = taken.0; taken = subst (λ (host : HostView). IsTaken host line taken.0) (sym here) taken.1 }
+next old [] line after last mid taken here = record { new = taken.0; taken = subst (λ (host : HostView). IsLineTaken host line taken.0) (sym here) taken.1 }
 next old (first ∷ more) line after last mid taken here =
     next here.0 more line after last mid (subst (λ (host : HostView). AreTaken host (more ++ line ∷ after) last) (one_taken old first taken.0 here.0 taken.1 here.1) taken.2) here.2
 
@@ -49,9 +49,9 @@ one_machine lines o p host other is also =
 pub one_host : (lines : List (List ℕ)) (o p : Opening) (host other : HostView) → IsHistory lines o host → IsHistory lines p other → host ≡ other
 one_host lines o p host other is also =
     let same : is.events ≡ also.events = cc in
-    taken_once (opened o) is.events host other is.taken
-    (subst (λ (events : List (List ℕ)). AreTaken (opened o) events other) (sym same)
-    (subst (λ (it : Opening). AreTaken (opened it) also.events other) (sym (one_machine lines o p host other is also)) also.taken))
+    taken_once (host_of_opening o) is.events host other is.taken
+    (subst (λ (events : List (List ℕ)). AreTaken (host_of_opening o) events other) (sym same)
+    (subst (λ (it : Opening). AreTaken (host_of_opening it) also.events other) (sym (one_machine lines o p host other is also)) also.taken))
 
 next_of : (IsReason : HostView → List ℕ → Type 0) (lines : List (List ℕ)) (o : Opening) (host : HostView) (number : ℕ) → IsHistory lines o host → (stop : StopsAt IsReason lines number) → IsNext stop.host stop.line
 next_of IsReason lines o host number history stop =
@@ -60,17 +60,17 @@ next_of IsReason lines o host number history stop =
     let same : history.first ≡ here.first = cc in
     let events : history.events ≡ here.events ++ stop.line ∷ stop.after = cc in
     let machine : stop.o ≡ o = one_opening here.first stop.o o here.opens (subst (λ line. IsOpeningText line o) same history.opens) in
-    next (opened o) here.events stop.line stop.after host stop.host
-    (subst (λ (lines' : List (List ℕ)). AreTaken (opened o) lines' host) events history.taken)
-    (subst (λ (it : Opening). AreTaken (opened it) here.events stop.host) machine here.taken)
+    next (host_of_opening o) here.events stop.line stop.after host stop.host
+    (subst (λ (lines' : List (List ℕ)). AreTaken (host_of_opening o) lines' host) events history.taken)
+    (subst (λ (it : Opening). AreTaken (host_of_opening it) here.events stop.host) machine here.taken)
 
 pub stops_at_no_event : (lines : List (List ℕ)) (o : Opening) (host : HostView) (number : ℕ) → IsHistory lines o host → StopsAt (λ it line. IsNoEvent line) lines number → ⊥
 stops_at_no_event lines o host number history stop =
     let it = next_of (λ it line. IsNoEvent line) lines o host number history stop in
     stop.reason it.taken.event it.taken.is_text
 
-pub stops_at_refused : (lines : List (List ℕ)) (o : Opening) (host : HostView) (number : ℕ) (why : WhyNot) → IsHistory lines o host → StopsAt (IsRefused why) lines number → ⊥
+pub stops_at_refused : (lines : List (List ℕ)) (o : Opening) (host : HostView) (number : ℕ) (why : WhyNot) → IsHistory lines o host → StopsAt (IsEventRefused why) lines number → ⊥
 stops_at_refused lines o host number why history stop =
-    let it = next_of (IsRefused why) lines o host number history stop in
+    let it = next_of (IsEventRefused why) lines o host number history stop in
     let refused = stop.reason in
     refused.cannot (subst (λ (event : Event). CanApply stop.host event) (written_once stop.line it.taken.event refused.event it.taken.is_text refused.is_text) it.taken.can)

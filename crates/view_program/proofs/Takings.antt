@@ -5,8 +5,8 @@ use Rattle.build_books.specs.View.{HostView}
 use Rattle.realm_host.specs.Recorded.{fresh_like}
 use Rattle.input_lines.specs.Lines.{lines_in, IsLine, HasLongLine}
 use Rattle.history_text.proofs.Short.{event_is_short}
-use Rattle.view_program.specs.Applied.{IsTaken, AreTaken, IsNoEvent}
-use Rattle.view_program.specs.Taking.{AreAllTaken, IsUntaken, AreCutShort, AreNotTaken}
+use Rattle.view_program.specs.Applied.{IsLineTaken, AreTaken, IsNoEvent}
+use Rattle.view_program.specs.Taking.{AreLinesTaken, IsUntaken, AreCutShort, AreNotTaken}
 use Rattle.view_program.specs.declared.fault.Fault.{Fault}
 use Rattle.view_program.specs.declared.fault.Fault.TheVariants.{Plan, NoOpening, NoEvent, Refused, EraseNamesNoBuild, Memory, Device}
 
@@ -29,11 +29,11 @@ took_more (Some xs) (Some ys) (Some zs) lines line h k = h ∙ ap (λ (t : List 
 
 -- ---- what was taken
 
-taken_more : (old : HostView) (lines : List (List ℕ)) (mid : HostView) (line : List ℕ) (new : HostView) → AreTaken old lines mid → IsTaken mid line new → AreTaken old (lines ++ line ∷ []) new
-taken_more old [] mid line new h k = (new, subst (λ (it : HostView). IsTaken it line new) h k, refl)
+taken_more : (old : HostView) (lines : List (List ℕ)) (mid : HostView) (line : List ℕ) (new : HostView) → AreTaken old lines mid → IsLineTaken mid line new → AreTaken old (lines ++ line ∷ []) new
+taken_more old [] mid line new h k = (new, subst (λ (it : HostView). IsLineTaken it line new) h k, refl)
 taken_more old (first ∷ more) mid line new h k = (h.0, h.1, taken_more h.0 more mid line new h.2 k)
 
-pub length-taken_one : (old : HostView) (line : List ℕ) (new : HostView) → IsTaken old line new → length new.history ≡ length old.history + 1
+pub length-taken_one : (old : HostView) (line : List ℕ) (new : HostView) → IsLineTaken old line new → length new.history ≡ length old.history + 1
 length-taken_one old line new is = ap (λ (it : HostView). length it.history) is.grows ∙ length-append old.history (is.event ∷ [])
 
 pub length-taken : (old : HostView) (lines : List (List ℕ)) (new : HostView) → AreTaken old lines new → length new.history ≡ length old.history + length lines
@@ -58,7 +58,7 @@ pub so_far_none : (start : Option (List ℕ)) (old : HostView) → SoFar start s
 so_far_none start old = record { lines = []; took = took_none start; taken = refl }
 
 module _ (start now : Option (List ℕ)) (old mid : HostView) (s : SoFar start now old mid) where
-  pub so_far_more : (next : Option (List ℕ)) (line : List ℕ) (new : HostView) → IsLine now line next → IsTaken mid line new → SoFar start next old new
+  pub so_far_more : (next : Option (List ℕ)) (line : List ℕ) (new : HostView) → IsLine now line next → IsLineTaken mid line new → SoFar start next old new
   so_far_more next line new is taken = record {
     lines = s.lines ++ line ∷ [];
     took = took_more start now next s.lines line s.took is;
@@ -70,7 +70,7 @@ module _ (start now : Option (List ℕ)) (old mid : HostView) (s : SoFar start n
   at_end (Some xs) None took end = absurd took
   at_end (Some xs) (Some ys) took end = took ∙ ap (λ (t : List (List ℕ)). s.lines ++ t) end ∙ append-nil s.lines
 
-  pub all_taken : IfSome now (λ bytes. lines_in bytes ≡ []) → AreAllTaken start old mid
+  pub all_taken : IfSome now (λ bytes. lines_in bytes ≡ []) → AreLinesTaken start old mid
   all_taken end = record { lines = s.lines; of_input = at_end start now s.took end; taken = s.taken }
 
   -- ---- up to a line that is not taken

@@ -8,7 +8,7 @@ use Rattle.command_line.proofs.Passed.{Each, IsPassed}
 use Rattle.command_line.proofs.Subcommands.{NamesOne, is_entered, is_one, name_in, values_passed}
 use Rattle.realmhost_line.specs.Line.{IsErase}
 use Rattle.realmhost_line.proofs.Words.{built_erase}
-use Rattle.view_program.specs.Line.{IsAsked}
+use Rattle.view_program.specs.Line.{IsViewSubcommand}
 use Rattle.view_program.specs.Program.{realmview}
 use Rattle.view_program.specs.declared.line.Asked.TheVariants.{History, Apply, Check}
 
@@ -27,7 +27,7 @@ named t (inr (inr (inl check))) = inr (inr check)
 named t (inr (inr (inr more))) = absurd more
 
 check_from : (sub : Option (Text × List Row)) → is_some sub ≡ true → ((r : Text × List Row) → sub ≡ Some r → (r.0 ≡ codes "history") ⊎ ((r.0 ≡ codes "apply") ⊎ (r.0 ≡ codes "check")))
-    → ¬ (name_in sub ≡ Some (codes "history")) → ¬ (name_in sub ≡ Some (codes "apply")) → IsAsked sub Check
+    → ¬ (name_in sub ≡ Some (codes "history")) → ¬ (name_in sub ≡ Some (codes "apply")) → IsViewSubcommand sub Check
 check_from None has names no_history no_apply = absurd (false≢true has)
 check_from (Some r) has names no_history no_apply = elim (names r refl) [
   | inl history ↦ absurd (no_history (ap Some history))
@@ -37,7 +37,7 @@ check_from (Some r) has names no_history no_apply = elim (names r refl) [
 
 -- words that have no fault, and ask neither for a history nor to apply one, ask for a check
 pub check_is_asked : (words : List Text) → fault_of realmview words ≡ [] → ¬ (name_in (subcommand_of realmview words) ≡ Some (codes "history")) → ¬ (name_in (subcommand_of realmview words) ≡ Some (codes "apply"))
-    → IsAsked (subcommand_of realmview words) Check
+    → IsViewSubcommand (subcommand_of realmview words) Check
 check_is_asked words e no_history no_apply =
     check_from (subcommand_of realmview words) (is_entered realmview words e refl) (λ r is. named r.0 (is_one realmview words r is)) no_history no_apply
 
@@ -48,20 +48,20 @@ pub erase_passed : (words : List Text) → fault_of realmview words ≡ [] → (
 erase_passed words e = values_passed realmview words e built_erase refl ((inl refl, (inr (refl, refl), tt)), ((inl refl, (inr (refl, refl), tt)), ((inr (refl, refl), tt), tt)))
 
 module _ (sub : Option (Text × List Row)) (rows : List Row) (b : Option ℕ) where
-  pub history_is_asked : name_in sub ≡ Some (codes "history") → option_map (λ p. p.1) sub ≡ Some rows → IsErase (one_of (codes "erase") rows) b → IsAsked sub (History b)
+  pub history_is_asked : name_in sub ≡ Some (codes "history") → option_map (λ p. p.1) sub ≡ Some rows → IsErase (one_of (codes "erase") rows) b → IsViewSubcommand sub (History b)
   history_is_asked name found erase = asked sub name found
     where
-      asked : (s : Option (Text × List Row)) → name_in s ≡ Some (codes "history") → option_map (λ p. p.1) s ≡ Some rows → IsAsked s (History b)
+      asked : (s : Option (Text × List Row)) → name_in s ≡ Some (codes "history") → option_map (λ p. p.1) s ≡ Some rows → IsViewSubcommand s (History b)
       asked None name found = absurd (cc)
       asked (Some s) name found =
           let same_name : s.0 ≡ codes "history" = cc in
           let same_rows : s.1 ≡ rows = cc in
           (same_name, rw same_rows erase)
 
-  pub apply_is_asked : name_in sub ≡ Some (codes "apply") → option_map (λ p. p.1) sub ≡ Some rows → IsErase (one_of (codes "erase") rows) b → IsAsked sub (Apply b)
+  pub apply_is_asked : name_in sub ≡ Some (codes "apply") → option_map (λ p. p.1) sub ≡ Some rows → IsErase (one_of (codes "erase") rows) b → IsViewSubcommand sub (Apply b)
   apply_is_asked name found erase = asked sub name found
     where
-      asked : (s : Option (Text × List Row)) → name_in s ≡ Some (codes "apply") → option_map (λ p. p.1) s ≡ Some rows → IsAsked s (Apply b)
+      asked : (s : Option (Text × List Row)) → name_in s ≡ Some (codes "apply") → option_map (λ p. p.1) s ≡ Some rows → IsViewSubcommand s (Apply b)
       asked None name found = absurd (cc)
       asked (Some s) name found =
           let same_name : s.0 ≡ codes "apply" = cc in

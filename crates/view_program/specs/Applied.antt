@@ -15,13 +15,13 @@ use Rattle.view_program.specs.declared.fault.Fault.{Fault}
 use Rattle.view_program.specs.declared.fault.Fault.TheVariants.{NoOpening, NoEvent, Refused, EraseNamesNoBuild, Memory, Device}
 
 -- a host of that size, before any event
-abbrev pub opened : Opening → HostView
-opened o = booted o.pages o.vmids o.aux o.builds o.history
+abbrev pub host_of_opening : Opening → HostView
+host_of_opening o = booted o.pages o.vmids o.aux o.builds o.history
 
 -- ---- lines that are taken
 
 -- the line is an event that can be applied, and it is the last of the history then
-pub record IsTaken (old : HostView) (line : List ℕ) (new : HostView) : Type 0 where
+pub record IsLineTaken (old : HostView) (line : List ℕ) (new : HostView) : Type 0 where
   pub event : Event
   pub is_text : IsEventText line event
   pub can : CanApply old event
@@ -30,7 +30,7 @@ pub record IsTaken (old : HostView) (line : List ℕ) (new : HostView) : Type 0 
 -- lines one after another
 abbrev pub AreTaken : HostView → List (List ℕ) → HostView → Type 0
 AreTaken old [] new = new ≡ old
-AreTaken old (line ∷ lines) new = (mid : HostView) × IsTaken old line mid × AreTaken mid lines new
+AreTaken old (line ∷ lines) new = (mid : HostView) × IsLineTaken old line mid × AreTaken mid lines new
 
 -- The lines are a history: the first opens a machine, and the others are events, each of which can be applied after those
 -- before it. They lead to this host.
@@ -39,7 +39,7 @@ pub record IsHistory (lines : List (List ℕ)) (o : Opening) (host : HostView) :
   pub events : List (List ℕ)
   pub lines_are : lines ≡ first ∷ events
   pub opens : IsOpeningText first o
-  pub taken : AreTaken (opened o) events host
+  pub taken : AreTaken (host_of_opening o) events host
 
 -- each line is the text of the event at its place
 abbrev pub AreTexts : List (List ℕ) → List Event → Type 0
@@ -73,7 +73,7 @@ abbrev pub IsNoEvent : List ℕ → Type 0
 IsNoEvent line = (event : Event) → IsEventText line event → ⊥
 
 -- the line is an event that cannot be applied, for this reason
-pub record IsRefused (why : WhyNot) (host : HostView) (line : List ℕ) : Type 0 where
+pub record IsEventRefused (why : WhyNot) (host : HostView) (line : List ℕ) : Type 0 where
   pub event : Event
   pub is_text : IsEventText line event
   pub cannot : CanApply host event → ⊥
@@ -95,7 +95,7 @@ pub record StopsAt (IsReason : HostView → List ℕ → Type 0) (lines : List (
 abbrev pub IsNoHistoryIn : Option (List ℕ) → Fault → Type 0
 IsNoHistoryIn input NoOpening = IfSome input (λ bytes. OpensNone (lines_in bytes))
 IsNoHistoryIn input (NoEvent number) = IfSome input (λ bytes. StopsAt (λ host line. IsNoEvent line) (lines_in bytes) number)
-IsNoHistoryIn input (Refused number why) = IfSome input (λ bytes. StopsAt (IsRefused why) (lines_in bytes) number)
+IsNoHistoryIn input (Refused number why) = IfSome input (λ bytes. StopsAt (IsEventRefused why) (lines_in bytes) number)
 IsNoHistoryIn input Memory = Unit {0}
 IsNoHistoryIn input Device = Unit {0}
 IsNoHistoryIn input fault = ⊥
@@ -103,7 +103,7 @@ IsNoHistoryIn input fault = ⊥
 -- ---- the map
 
 -- The map of the host, or of a host that has its history without a build's events.
-pub record IsMapWithout (o : Opening) (host : HostView) (build : ℕ) (text : List ℕ) : Type 0 where
+pub record IsMapOfHistoryWithout (o : Opening) (host : HostView) (build : ℕ) (text : List ℕ) : Type 0 where
   pub of_machine : build < o.builds
   pub fresh : HostView
   pub without : IsWithout host build fresh
@@ -111,7 +111,7 @@ pub record IsMapWithout (o : Opening) (host : HostView) (build : ℕ) (text : Li
 
 abbrev pub IsMap : Option ℕ → Opening → HostView → List ℕ → Type 0
 IsMap None o host text = text ≡ map_text host
-IsMap (Some build) o host text = IsMapWithout o host build text
+IsMap (Some build) o host text = IsMapOfHistoryWithout o host build text
 
 -- Why there is no map: allocation failed, or the build to be left out is none of the machine's.
 abbrev pub HasNoMap : Option ℕ → Opening → Fault → Type 0

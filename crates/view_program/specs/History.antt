@@ -14,13 +14,13 @@ abbrev pub opening_of : Plan → Opening
 opening_of plan = record { pages = plan.pages; vmids = plan.vmids; aux = plan.aux; history = plan.history; builds = length plan.builds }
 
 -- a build that is left out is one of the plan's
-abbrev pub IsBuildOf : Option ℕ → Plan → Type 0
-IsBuildOf None plan = Unit {0}
-IsBuildOf (Some build) plan = build < length plan.builds
+abbrev pub IsBuildOfPlan : Option ℕ → Plan → Type 0
+IsBuildOfPlan None plan = Unit {0}
+IsBuildOfPlan (Some build) plan = build < length plan.builds
 
 -- The text of the history of some run of the plan, all of it or without a build's events.
 pub record IsHistoryText (erase : Option ℕ) (plan : Plan) (text : List ℕ) : Type 0 where
-  pub of_plan : IsBuildOf erase plan
+  pub of_plan : IsBuildOfPlan erase plan
   pub last : HostView
   pub lines : List ℕ
   pub run : IsToldRun plan (opening_host plan) last [] lines

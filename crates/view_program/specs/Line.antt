@@ -5,8 +5,8 @@ use Rattle.realmhost_line.specs.Line.{IsErase}
 use Rattle.view_program.specs.declared.line.Asked.{Asked}
 use Rattle.view_program.specs.declared.line.Asked.TheVariants.{History, Apply, Check}
 
-abbrev pub IsAsked : Option (Text × List Row) → Asked → Type 0
-IsAsked None asked = ⊥
-IsAsked (Some found) (History erase) = (found.0 ≡ codes "history") × IsErase (one_of (codes "erase") found.1) erase
-IsAsked (Some found) (Apply erase) = (found.0 ≡ codes "apply") × IsErase (one_of (codes "erase") found.1) erase
-IsAsked (Some found) Check = found.0 ≡ codes "check"
+abbrev pub IsViewSubcommand : Option (Text × List Row) → Asked → Type 0
+IsViewSubcommand None asked = ⊥
+IsViewSubcommand (Some found) (History erase) = (found.0 ≡ codes "history") × IsErase (one_of (codes "erase") found.1) erase
+IsViewSubcommand (Some found) (Apply erase) = (found.0 ≡ codes "apply") × IsErase (one_of (codes "erase") found.1) erase
+IsViewSubcommand (Some found) Check = found.0 ≡ codes "check"

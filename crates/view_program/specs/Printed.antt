@@ -42,9 +42,9 @@ pub record NamesNoBuild (erase : Option ℕ) (input : Option (List ℕ)) : Type 
   pub none : HasNoMap erase o EraseNamesNoBuild
 
 -- where a device failed: nothing was written where it was a read, and a prefix of the map where it was a write
-abbrev pub IsEndOfDevice : Option ℕ → Bool → Option (List ℕ) → Option (List ℕ) → Option (List ℕ) → Type 0
-IsEndOfDevice erase true input old new = Keeps old new
-IsEndOfDevice erase false input old new = IsMapCut erase input old new
+abbrev pub IsApplyEndOfDevice : Option ℕ → Bool → Option (List ℕ) → Option (List ℕ) → Option (List ℕ) → Type 0
+IsApplyEndOfDevice erase true input old new = Keeps old new
+IsApplyEndOfDevice erase false input old new = IsMapCut erase input old new
 
 -- The map is printed whole, or nothing, but that a write may fail between. `unread` is whether a read failed.
 abbrev pub IsApplyEnd : Option ℕ → Bool → Option (List ℕ) → Option (List ℕ) → Option (List ℕ) → Result (Unit {0}) Fault → Type 0
@@ -54,7 +54,7 @@ IsApplyEnd erase unread input old new (Err (NoEvent line)) = IsNoHistoryIn input
 IsApplyEnd erase unread input old new (Err (Refused line why)) = IsNoHistoryIn input (Refused line why) × Keeps old new
 IsApplyEnd erase unread input old new (Err EraseNamesNoBuild) = NamesNoBuild erase input × Keeps old new
 IsApplyEnd erase unread input old new (Err Memory) = Keeps old new
-IsApplyEnd erase unread input old new (Err Device) = IsEndOfDevice erase unread input old new
+IsApplyEnd erase unread input old new (Err Device) = IsApplyEndOfDevice erase unread input old new
 IsApplyEnd erase unread input old new (Err fault) = ⊥
 
 -- ---- what is asked

@@ -2,12 +2,12 @@
 use Rattle.std.specs.Prelude.{◌≡◌, ◌+◌, ℕ, List, ◌∷◌, ◌++◌, length, Option, IfSome}
 use Rattle.build_books.specs.View.{HostView}
 use Rattle.input_lines.specs.Lines.{lines_in}
-use Rattle.view_program.specs.Applied.{AreTaken, IsNoEvent, IsRefused}
+use Rattle.view_program.specs.Applied.{AreTaken, IsNoEvent, IsEventRefused}
 use Rattle.view_program.specs.declared.fault.Fault.{Fault}
 use Rattle.view_program.specs.declared.fault.Fault.TheVariants.{NoEvent, Refused, Memory, Device}
 
 -- all lines to come are taken
-pub record AreAllTaken (input : Option (List ℕ)) (old new : HostView) : Type 0 where
+pub record AreLinesTaken (input : Option (List ℕ)) (old new : HostView) : Type 0 where
   pub lines : List (List ℕ)
   pub of_input : IfSome input (λ bytes. lines_in bytes ≡ lines)
   pub taken : AreTaken old lines new
@@ -15,7 +15,7 @@ pub record AreAllTaken (input : Option (List ℕ)) (old new : HostView) : Type 0
 -- a host does not take this line, whose number follows from how many events it has
 abbrev pub IsUntaken : HostView → List ℕ → Fault → Type 0
 IsUntaken host line (NoEvent number) = (number ≡ length host.history + 2) × IsNoEvent line
-IsUntaken host line (Refused number why) = (number ≡ length host.history + 2) × IsRefused why host line
+IsUntaken host line (Refused number why) = (number ≡ length host.history + 2) × IsEventRefused why host line
 IsUntaken host line fault = ⊥
 
 pub record AreCutShort (old : HostView) (lines : List (List ℕ)) (fault : Fault) : Type 0 where

@@ -2,7 +2,7 @@
 ghost use Rattle.std.specs.Prelude.{◌≡◌, ◌<◌, ◌↔◌, ◌⊎◌, false, true, Err, IfOk, IfErr, string_bytes};
 ghost use Rattle.realm_host.specs.Recorded.{fresh_like};
 ghost use Rattle.history_text.specs.Histories.{IsSize};
-ghost use Rattle.view_program.specs.Applied.{opened, IsHistoryIn, IsNoHistoryIn, IsMap, HasNoMap};
+ghost use Rattle.view_program.specs.Applied.{host_of_opening, IsHistoryIn, IsNoHistoryIn, IsMap, HasNoMap};
 ghost use Rattle.view_program.specs.Printed.{IsApplyEnd};
 ghost use Rattle.view_program.specs.declared.fault.Fault.TheVariants.{Device};
 
@@ -46,7 +46,7 @@ fn map_without(
 ) -> Result<String, AllocError>
     requires size { IsSize opening.now }
     requires build { build < opening.now.builds }
-    requires machine { fresh_like host.now ≡ opened opening.now }
+    requires machine { fresh_like host.now ≡ host_of_opening opening.now }
     ensures { IfOk result (λ text. IsMap (Some build) opening.now host.now (string_bytes text)) }
 {
     let mut fresh = boot(alloc, opening)?;
@@ -63,7 +63,7 @@ fn asked_map(
     erase: Option<BuildId>,
 ) -> Result<String, Fault>
     requires size { IsSize opening.now }
-    requires machine { fresh_like host.now ≡ opened opening.now }
+    requires machine { fresh_like host.now ≡ host_of_opening opening.now }
     ensures ok { IfOk result (λ text. IsMap erase opening.now host.now (string_bytes text)) }
     ensures err { IfErr result (HasNoMap erase opening.now) }
 {

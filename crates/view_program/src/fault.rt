@@ -38,9 +38,9 @@ pub enum Fault {
 }
 
 impl Reason for Fault {
-    ghost use Rattle.view_program.specs.Stop.{status_of};
+    ghost use Rattle.view_program.specs.Stop.{view_status_of};
 
-    ghost status_of = { status_of };
+    ghost status_of = { view_status_of };
 
     ghost memory = { Memory };
 
@@ -83,9 +83,9 @@ impl From<LineError> for Fault {
 
 impl From<ReadError> for Fault {
     ghost use Rattle.std.specs.Prelude.{◌≡◌};
-    ghost use Rattle.view_program.specs.Stop.{fault_of_read};
+    ghost use Rattle.view_program.specs.Stop.{view_fault_of_read};
 
-    ghost from_gives = { λ error fault. fault ≡ fault_of_read error };
+    ghost from_gives = { λ error fault. fault ≡ view_fault_of_read error };
 
     fn from(error: ReadError) -> Fault {
         match error {

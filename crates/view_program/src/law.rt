@@ -4,7 +4,7 @@ ghost use Rattle.realm_model.specs.History.{IsLegal};
 ghost use Rattle.build_books.specs.View.{HostView};
 ghost use Rattle.history_text.specs.declared.opening.Opening.{Opening};
 ghost use Rattle.realm_host.specs.declared.why_not.WhyNot.{WhyNot};
-ghost use Rattle.view_program.specs.Applied.{IsHistory, IsLegalText, OpensNone, IsNoEvent, IsRefused, StopsAt};
+ghost use Rattle.view_program.specs.Applied.{IsHistory, IsLegalText, OpensNone, IsNoEvent, IsEventRefused, StopsAt};
 
 /// Lines that are a history are the texts of the events of their host, in their order, and these are a legal history.
 pub fn what_is_applied_is_legal()
@@ -18,5 +18,5 @@ pub fn histories_do_not_stop()
     ensures host { (lines : List (List ℕ)) (o p : Opening) (host other : HostView) → IsHistory lines o host → IsHistory lines p other → host ≡ other }
     ensures opens { (lines : List (List ℕ)) (o : Opening) (host : HostView) → IsHistory lines o host → OpensNone lines → ⊥ }
     ensures events { (lines : List (List ℕ)) (o : Opening) (host : HostView) (number : ℕ) → IsHistory lines o host → StopsAt (λ it line. IsNoEvent line) lines number → ⊥ }
-    ensures accepted { (lines : List (List ℕ)) (o : Opening) (host : HostView) (number : ℕ) (why : WhyNot) → IsHistory lines o host → StopsAt (IsRefused why) lines number → ⊥ }
+    ensures accepted { (lines : List (List ℕ)) (o : Opening) (host : HostView) (number : ℕ) (why : WhyNot) → IsHistory lines o host → StopsAt (IsEventRefused why) lines number → ⊥ }
 {}

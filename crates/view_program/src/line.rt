@@ -2,8 +2,8 @@
 ghost use Rattle.std.specs.Prelude.{◌≡◌, IfOk, false, nat_lt, if◌then◌else◌, Some, None, option_and_then};
 ghost use Rattle.clap.specs.Words.{app_of, rule_of};
 ghost use Rattle.clap.specs.declared.builder.command.Command.TheViews.{out-Command as fields_of};
-ghost use Rattle.realmhost_line.specs.Program.{erase};
-ghost use Rattle.view_program.specs.Program.{history, apply, check, program, realmview};
+ghost use Rattle.realmhost_line.specs.Program.{erase_option};
+ghost use Rattle.view_program.specs.Program.{history_subcommand, apply_subcommand, check_subcommand, realmview_alone, realmview};
 
 use clap::{Arg, ArgAction, Command, Error, value_parser};
 use granule_addr::BuildId;
@@ -43,7 +43,7 @@ const ERASE: &str = "Leaves the events of build B out";
 
 // The option by which a build is left out.
 fn erase<'a>(alloc: Global) -> Arg<'a>
-    ensures rule { rule_of result ≡ erase }
+    ensures rule { rule_of result ≡ erase_option }
     ensures local { result.global ≡ false }
 {
     Arg::new(alloc, "erase")
@@ -55,7 +55,7 @@ fn erase<'a>(alloc: Global) -> Arg<'a>
 }
 
 fn history<'a>(alloc: Global) -> Result<Command<'a>, AllocError>
-    ensures { IfOk result (λ c. (app_of c ≡ history) × ((fields_of c).has_globals ≡ false)) }
+    ensures { IfOk result (λ c. (app_of c ≡ history_subcommand) × ((fields_of c).has_globals ≡ false)) }
 {
     let history = Command::new(alloc, "history")
         .about(HISTORY)
@@ -64,7 +64,7 @@ fn history<'a>(alloc: Global) -> Result<Command<'a>, AllocError>
 }
 
 fn apply<'a>(alloc: Global) -> Result<Command<'a>, AllocError>
-    ensures { IfOk result (λ c. (app_of c ≡ apply) × ((fields_of c).has_globals ≡ false)) }
+    ensures { IfOk result (λ c. (app_of c ≡ apply_subcommand) × ((fields_of c).has_globals ≡ false)) }
 {
     let apply = Command::new(alloc, "apply")
         .about(APPLY)
@@ -73,7 +73,7 @@ fn apply<'a>(alloc: Global) -> Result<Command<'a>, AllocError>
 }
 
 fn check<'a>(alloc: Global) -> Command<'a>
-    ensures app { app_of result ≡ check }
+    ensures app { app_of result ≡ check_subcommand }
     ensures local { (fields_of result).has_globals ≡ false }
 {
     let check = Command::new(alloc, "check").about(CHECK);
@@ -81,7 +81,7 @@ fn check<'a>(alloc: Global) -> Command<'a>
 }
 
 fn program<'a>(alloc: Global) -> Command<'a>
-    ensures { app_of result ≡ program }
+    ensures { app_of result ≡ realmview_alone }
 {
     let named = Command::new(alloc, "realmview")
         .version("0.1.0")
@@ -111,12 +111,12 @@ fn build_of(number: Option<u8>) -> Option<BuildId>
 impl Asked {
     ghost use Rattle.std.specs.Prelude.{map, string_bytes};
     ghost use Rattle.clap.specs.Words.{FailsBy, fault_of, subcommand_of};
-    ghost use Rattle.view_program.specs.Line.{IsAsked};
+    ghost use Rattle.view_program.specs.Line.{IsViewSubcommand};
 
     /// What the words ask for. The first word is the program's name.
     pub fn of(alloc: Global, words: &[String]) -> Result<Asked, Error>
         // What clap's definition of a simple command gives for the words.
-        ensures ok { IfOk result (IsAsked (subcommand_of realmview (map string_bytes words.now))) }
+        ensures ok { IfOk result (IsViewSubcommand (subcommand_of realmview (map string_bytes words.now))) }
         // Which kind an error has: one that the definition names, or that allocation failed.
         ensures kinds { FailsBy (fault_of realmview (map string_bytes words.now)) result }
     {

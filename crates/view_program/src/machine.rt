@@ -1,7 +1,7 @@
 //! The machine that a history is of.
 ghost use Rattle.std.specs.Prelude.{◌≡◌, IfOk};
 ghost use Rattle.history_text.specs.Histories.{IsSize};
-ghost use Rattle.view_program.specs.Applied.{opened};
+ghost use Rattle.view_program.specs.Applied.{host_of_opening};
 
 use buddy::BuddyArena;
 use history_text::Opening;
@@ -12,7 +12,7 @@ use std::alloc::{AllocError, Global};
 /// A host of that size, over pages that are all free.
 pub fn boot(alloc: Global, opening: &Opening) -> Result<Host<BuddyArena>, AllocError>
     requires { IsSize opening.now }
-    ensures { IfOk result (λ host. host ≡ opened opening.now) }
+    ensures { IfOk result (λ host. host ≡ host_of_opening opening.now) }
 {
     let settings = Settings::new(
         opening.vmids,

@@ -4,7 +4,7 @@ ghost use Rattle.realm_plan.specs.PlanView.{plan_view};
 ghost use Rattle.realm_program.specs.Printed.{IsEnd};
 ghost use Rattle.realm_program.specs.Replay.{opening_host};
 ghost use Rattle.realm_program.specs.declared.fault.Fault.TheVariants.{Device};
-ghost use Rattle.view_program.specs.History.{opening_of, IsBuildOf, IsHistoryText, IsWithoutHistory};
+ghost use Rattle.view_program.specs.History.{opening_of, IsBuildOfPlan, IsHistoryText, IsWithoutHistory};
 
 use buddy::BuddyArena;
 use granule_addr::BuildId;
@@ -32,7 +32,7 @@ fn opening_of(plan: &Plan) -> Opening
 
 // The build to be left out, which is one of the plan's.
 fn checked_erase(plan: &Plan, erase: Option<BuildId>) -> Result<Option<BuildId>, Fault>
-    ensures ok { IfOk result (λ checked. (checked ≡ erase) × IsBuildOf erase (plan_view plan.now)) }
+    ensures ok { IfOk result (λ checked. (checked ≡ erase) × IsBuildOfPlan erase (plan_view plan.now)) }
     ensures err { IfErr result (IsWithoutHistory erase (plan_view plan.now)) }
 {
     let Some(build) = erase else {
@@ -52,7 +52,7 @@ fn text_after_run(
     erase: Option<BuildId>,
 ) -> Result<String, AllocError>
     requires fresh { host.old ≡ opening_host (plan_view plan.now) }
-    requires build { IsBuildOf erase (plan_view plan.now) }
+    requires build { IsBuildOfPlan erase (plan_view plan.now) }
     ensures { IfOk result (λ text. IsHistoryText erase (plan_view plan.now) (string_bytes text)) }
 {
     let mut lines = String::new(alloc);
@@ -65,7 +65,7 @@ fn text_after_run(
 
 // The history of a run of the plan, without one of its builds or whole.
 fn run_text(alloc: Global, plan: &Plan, erase: Option<BuildId>) -> Result<String, AllocError>
-    requires { IsBuildOf erase (plan_view plan.now) }
+    requires { IsBuildOfPlan erase (plan_view plan.now) }
     ensures { IfOk result (λ text. IsHistoryText erase (plan_view plan.now) (string_bytes text)) }
 {
     let mut host = boot::<BuddyArena>(alloc, plan)?;

@@ -3,8 +3,8 @@ ghost use Rattle.std.specs.Prelude.{◌≡◌, ◌↔◌, ◌+◌, true, false, 
 ghost use Rattle.std.specs.Io.KnownBytes.{prepend_known};
 ghost use Rattle.input_lines.specs.Lines.{IsLine};
 ghost use Rattle.history_text.specs.Histories.{IsOpeningText};
-ghost use Rattle.view_program.specs.Applied.{IsTaken, IsNoHistoryIn};
-ghost use Rattle.view_program.specs.Taking.{AreAllTaken, IsUntaken, AreNotTaken};
+ghost use Rattle.view_program.specs.Applied.{IsLineTaken, IsNoHistoryIn};
+ghost use Rattle.view_program.specs.Taking.{AreLinesTaken, IsUntaken, AreNotTaken};
 ghost use Rattle.view_program.specs.declared.fault.Fault.TheVariants.{Device};
 
 use crate::fault::Fault;
@@ -24,7 +24,7 @@ fn next_number<S: PageStore>(host: &Host<S>) -> usize
 
 // Applies the event that a line is.
 fn take_line<S: PageStore>(host: &mut Host<S>, line: &[u8]) -> Result<(), Fault>
-    ensures ok { OnOk result (IsTaken host.old line.now host.new) }
+    ensures ok { OnOk result (IsLineTaken host.old line.now host.new) }
     ensures err { IfErr result (IsUntaken host.old line.now) }
 {
     let Some(event) = parse_event(line) else {
@@ -46,7 +46,7 @@ pub fn take_lines<R: Read, S: PageStore>(
 ) -> Result<(), Fault>
     requires { input.old.failed ≡ false }
     ensures told { (input.new.failed ≡ true) ↔ (result ≡ Err Device) }
-    ensures ok { OnOk result (AreAllTaken (prepend_known lines.old (R.remaining input.old.device)) host.old host.new) }
+    ensures ok { OnOk result (AreLinesTaken (prepend_known lines.old (R.remaining input.old.device)) host.old host.new) }
     ensures err { IfErr result (AreNotTaken (prepend_known lines.old (R.remaining input.old.device)) host.old) }
 {
     for _ in 0..u64::MAX {

@@ -11,7 +11,7 @@ use Rattle.workers.specs.Asked.{told, question_of, line, ArePut, all_put, cut_sh
 use Rattle.workers.specs.Events.{is_done, is_accepted, question_of_step, question_at, IsLineOf, AcceptedTellEvents}
 use Rattle.workers.specs.Exchange.{Exchange, Did, Undid, KeptMark, LookedBack, is_event}
 use Rattle.workers.specs.Report as report
-use Rattle.workers.specs.Report.{IsTold, AreUndone, IsAbort, IsWayBack, IsBack, IsStep, IsReport, clearing, exit_of, opened}
+use Rattle.workers.specs.Report.{IsTold, AreUndone, IsAbort, IsWayBack, IsStepBack, IsStepTold, IsWorkerReport, clearing, exit_of, opened}
 use Rattle.workers.specs.Standing.{StandingView, standing_after}
 use Rattle.workers.specs.declared.report.Asked.{Asked}
 use Rattle.workers.specs.declared.report.Asked.TheVariants as asked
@@ -116,11 +116,11 @@ Fit-way_back steps place at (report.refused refusal) = record { one_by_one = tt 
 Fit-way_back steps place {journal = journal} {end = end} at (opened count {exchanges = exchanges} {lines = lines} undone) =
     let rest : Fit steps lines exchanges = Fit-undone steps place (min count journal) end at undone in record { one_by_one = rest.one_by_one }
 
-Fit-back : (steps : List Step) (place : ℕ) (mark : Option Mark) (journal : ℕ) {exchanges : List Exchange} {lines : List Line} (end : Ending) → Some question.Undo ≡ question_at steps (asked.Step place) → IsBack place mark journal exchanges lines end → Fit steps lines exchanges
+Fit-back : (steps : List Step) (place : ℕ) (mark : Option Mark) (journal : ℕ) {exchanges : List Exchange} {lines : List Line} (end : Ending) → Some question.Undo ≡ question_at steps (asked.Step place) → IsStepBack place mark journal exchanges lines end → Fit steps lines exchanges
 Fit-back steps place None journal end at tells = Fit-told steps place (Refused NothingToUndo) refl tells
 Fit-back steps place (Some mark) journal end at way = Fit-way_back steps place at way
 
-Fit-step : (steps : List Step) (place : ℕ) (standing : StandingView) (taken : Step) {exchanges : List Exchange} {lines : List Line} (end : Ending) → slice_get steps place ≡ Some taken → IsStep place standing taken exchanges lines end → Fit steps lines exchanges
+Fit-step : (steps : List Step) (place : ℕ) (standing : StandingView) (taken : Step) {exchanges : List Exchange} {lines : List Line} (end : Ending) → slice_get steps place ≡ Some taken → IsStepTold place standing taken exchanges lines end → Fit steps lines exchanges
 Fit-step steps place standing (step.Ask cmd) end at put = Fit-put steps (sym (ap (option_map question_of_step) at), tt) put
 Fit-step steps place standing step.Undo end at put = Fit-put steps (sym (ap (option_map question_of_step) at), tt) put
 Fit-step steps place standing step.Abort end at abort = Fit-abort steps place standing.running standing.journal end (sym (ap (option_map question_of_step) at)) abort
@@ -137,7 +137,7 @@ step_there : (steps front : List Step) (taken : Step) (rest : List Step) (place 
 step_there steps front taken rest place is at =
     ap (slice_get steps) at ∙ ap (λ xs. slice_get xs (length front)) is ∙ slice_get-front front taken rest
 
-Fit-whole : (steps front rest : List Step) (place : ℕ) (standing : StandingView) {exchanges : List Exchange} {lines : List Line} {ended : Bool} → steps ≡ front ++ rest → place ≡ length front → IsReport place standing rest exchanges lines ended → Fit steps lines exchanges
+Fit-whole : (steps front rest : List Step) (place : ℕ) (standing : StandingView) {exchanges : List Exchange} {lines : List Line} {ended : Bool} → steps ≡ front ++ rest → place ≡ length front → IsWorkerReport place standing rest exchanges lines ended → Fit steps lines exchanges
 Fit-whole steps front _ place standing is at report.no_step_left = Fit-none steps
 Fit-whole steps front _ place standing is at (report.accepted {step = taken} {steps = rest} first more its its_more one others es ls) =
     let next : place + 1 ≡ length (front ++ taken ∷ []) = omega (arith, length-append front (taken ∷ [])) in

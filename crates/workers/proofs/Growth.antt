@@ -11,9 +11,9 @@ use Rattle.build_commands.specs.declared.cmd.Step.{Step}
 use Rattle.build_commands.specs.declared.cmd.Step.TheVariants as step
 use Rattle.workers.specs.Asked.{told, is_refused, ArePut, question_of, all_put, cut_short, refused, accepted}
 use Rattle.workers.specs.Exchange.{Exchange, Did, Undid, KeptMark, LookedBack}
-use Rattle.workers.specs.Report.{IsTold, AreUndone, IsAbort, IsWayBack, opened, IsBack, IsStep}
+use Rattle.workers.specs.Report.{IsTold, AreUndone, IsAbort, IsWayBack, opened, IsStepBack, IsStepTold}
 use Rattle.workers.specs.Report as report
-use Rattle.workers.specs.Standing.{StandingView, with_number, without_number, after_command, after_exchange, standing_after, left_to_clear}
+use Rattle.workers.specs.Standing.{StandingView, with_number, without_number, standing_after_command, after_exchange, standing_after, left_to_clear}
 use Rattle.workers.specs.Stretch.{IsStretch}
 use Rattle.workers.specs.declared.report.Asked.{Asked}
 use Rattle.workers.specs.declared.report.Asked.TheVariants as asked
@@ -43,25 +43,25 @@ length-without_number number numbers =
 
 -- ---- one exchange
 
-left-after_command : (cmd : Cmd) (standing : StandingView) → left_to_clear (after_command cmd standing) ≤ left_to_clear standing + 1
-unfolding after_command needs_of
-left-after_command (Take order) standing = omega arith
-left-after_command (Fill page value) standing = omega arith
-left-after_command (Peek page offset) standing = omega arith
-left-after_command (Delegate page) standing = omega arith
-left-after_command (Realm rd root width) standing = omega arith
-left-after_command (Rtt page ipa level) standing = omega arith
-left-after_command (Ripas ipa count) standing = omega arith
-left-after_command (Data page ipa source) standing = omega arith
-left-after_command (Unknown page ipa) standing = omega arith
-left-after_command (Rec page auxiliaries) standing = omega arith
-left-after_command Activate standing = omega arith
-left-after_command (Enter number) standing = omega (arith, length-with_number number standing.running)
-left-after_command (Exit number) standing = omega (arith, length-without_number number standing.running)
-left-after_command (Poke number ipa offset value) standing = omega arith
+left-standing_after_command : (cmd : Cmd) (standing : StandingView) → left_to_clear (standing_after_command cmd standing) ≤ left_to_clear standing + 1
+unfolding standing_after_command needs_of
+left-standing_after_command (Take order) standing = omega arith
+left-standing_after_command (Fill page value) standing = omega arith
+left-standing_after_command (Peek page offset) standing = omega arith
+left-standing_after_command (Delegate page) standing = omega arith
+left-standing_after_command (Realm rd root width) standing = omega arith
+left-standing_after_command (Rtt page ipa level) standing = omega arith
+left-standing_after_command (Ripas ipa count) standing = omega arith
+left-standing_after_command (Data page ipa source) standing = omega arith
+left-standing_after_command (Unknown page ipa) standing = omega arith
+left-standing_after_command (Rec page auxiliaries) standing = omega arith
+left-standing_after_command Activate standing = omega arith
+left-standing_after_command (Enter number) standing = omega (arith, length-with_number number standing.running)
+left-standing_after_command (Exit number) standing = omega (arith, length-without_number number standing.running)
+left-standing_after_command (Poke number ipa offset value) standing = omega arith
 
 left-after_exchange : (exchange : Exchange) (standing : StandingView) → left_to_clear (after_exchange exchange standing) ≤ left_to_clear standing + 1
-left-after_exchange (Did cmd (Ok reply)) standing = left-after_command cmd (record standing { turn = standing.turn + 1 })
+left-after_exchange (Did cmd (Ok reply)) standing = left-standing_after_command cmd (record standing { turn = standing.turn + 1 })
 left-after_exchange (Did cmd (Err refusal)) standing = omega arith
 left-after_exchange (Undid (Ok undone)) standing = omega arith
 left-after_exchange (Undid (Err refusal)) standing = omega arith
@@ -90,15 +90,15 @@ undo_closes (Undid (Err refusal)) standing is = omega arith
 undo_closes (KeptMark result) standing is = absurd (cc)
 undo_closes (LookedBack mark result) standing is = absurd (cc)
 
-left-exit : (number : ℕ) (standing : StandingView) → left_to_clear (after_command (Exit number) standing) ≤ left_to_clear standing
-unfolding after_command needs_of
+left-exit : (number : ℕ) (standing : StandingView) → left_to_clear (standing_after_command (Exit number) standing) ≤ left_to_clear standing
+unfolding standing_after_command needs_of
 left-exit number standing = omega (arith, length-without_number number standing.running)
 
 pub exit_closes : (number : ℕ) → IsCloser (question.Do (cmd.Exit number))
 exit_closes number (Did cmd (Ok reply)) standing is =
     let now = record standing { turn = standing.turn + 1 } in
     let same : cmd ≡ Exit number = cc in
-    subst (λ c. left_to_clear (after_command c now) ≤ left_to_clear standing) (sym same) (left-exit number now)
+    subst (λ c. left_to_clear (standing_after_command c now) ≤ left_to_clear standing) (sym same) (left-exit number now)
 exit_closes number (Did cmd (Err refusal)) standing is = omega arith
 exit_closes number (Undid result) standing is = absurd (cc)
 exit_closes number (KeptMark result) standing is = absurd (cc)
@@ -182,11 +182,11 @@ IsGrowth-way_back {place = place} {end = end} standing (opened count undone) =
     let rest = IsGrowth-undone place (min count standing.journal) end now (omega arith) undone in
     record { left = rest.0.left; with_lines = rest.0.with_lines; turns = omega (arith, rest.1); if_refused = rest.0.if_refused }
 
-IsGrowth-back : (place : ℕ) (mark : Option Mark) (end : Ending) {exchanges : List Exchange} {lines : List Line} (standing : StandingView) → IsBack place mark standing.journal exchanges lines end → IsGrowth standing exchanges lines end
+IsGrowth-back : (place : ℕ) (mark : Option Mark) (end : Ending) {exchanges : List Exchange} {lines : List Line} (standing : StandingView) → IsStepBack place mark standing.journal exchanges lines end → IsGrowth standing exchanges lines end
 IsGrowth-back place None end standing tells = IsGrowth-told standing tells
 IsGrowth-back place (Some mark) end standing way = IsGrowth-way_back standing way
 
-pub IsGrowth-step : (place : ℕ) (taken : Step) (end : Ending) {exchanges : List Exchange} {lines : List Line} (standing : StandingView) → IsStep place standing taken exchanges lines end → IsGrowth standing exchanges lines end
+pub IsGrowth-step : (place : ℕ) (taken : Step) (end : Ending) {exchanges : List Exchange} {lines : List Line} (standing : StandingView) → IsStepTold place standing taken exchanges lines end → IsGrowth standing exchanges lines end
 IsGrowth-step place (step.Ask cmd) end standing put = IsGrowth-asked standing put
 IsGrowth-step place step.Undo end standing put = IsGrowth-asked standing put
 IsGrowth-step place step.Abort end standing abort = IsGrowth-abort place standing.running end standing abort

@@ -4,7 +4,7 @@ use Rattle.std.proofs.lemmas.List.{append-nil}
 use Rattle.build_commands.specs.declared.cmd.Step.{Step}
 use Rattle.workers.specs.Asked.{ArePut}
 use Rattle.workers.specs.Exchange.{Exchange}
-use Rattle.workers.specs.Report.{IsStep, IsReport, IsWork, clearing, is_over, no_step_left, accepted, refused, cut_short}
+use Rattle.workers.specs.Report.{IsStepTold, IsWorkerReport, IsWork, clearing, is_over, no_step_left, accepted, refused, cut_short}
 use Rattle.workers.specs.Standing.{StandingView, first_standing, left_to_clear, standing_after}
 use Rattle.workers.specs.Stretch.{IsStretch}
 use Rattle.workers.specs.declared.report.Line.{Line}
@@ -15,15 +15,15 @@ use Rattle.workers.proofs.Stretches.{IsStretch-append, IsStretch-so, turn-standi
 
 -- What is reported next makes the report of the plan.
 pub record LeadsOn (place : ℕ) (standing : StandingView) (rest : List Step) (start : StandingView) (steps : List Step) (exchanges : List Exchange) (lines : List Line) : Type 0 where
-  pub on : (more : List Exchange) (its : List Line) (ended : Bool) → IsReport place standing rest more its ended → IsReport 0 start steps (exchanges ++ more) (lines ++ its) ended
+  pub on : (more : List Exchange) (its : List Line) (ended : Bool) → IsWorkerReport place standing rest more its ended → IsWorkerReport 0 start steps (exchanges ++ more) (lines ++ its) ended
 
 pub LeadsOn-none : (start : StandingView) (steps : List Step) → LeadsOn 0 start steps start steps [] []
 LeadsOn-none start steps = record { on = λ more its ended report. report }
 
-report_along : (start : StandingView) (steps : List Step) (ended : Bool) {es es' : List Exchange} {ls ls' : List Line} → es ≡ es' → ls ≡ ls' → IsReport 0 start steps es ls ended → IsReport 0 start steps es' ls' ended
-report_along start steps ended {es} {es'} {ls} {ls'} e l h = subst (λ x. IsReport 0 start steps es' x ended) l (subst (λ x. IsReport 0 start steps x ls ended) e h)
+report_along : (start : StandingView) (steps : List Step) (ended : Bool) {es es' : List Exchange} {ls ls' : List Line} → es ≡ es' → ls ≡ ls' → IsWorkerReport 0 start steps es ls ended → IsWorkerReport 0 start steps es' ls' ended
+report_along start steps ended {es} {es'} {ls} {ls'} e l h = subst (λ x. IsWorkerReport 0 start steps es' x ended) l (subst (λ x. IsWorkerReport 0 start steps x ls ended) e h)
 
-LeadsOn-next : (place : ℕ) (standing start : StandingView) (step : Step) (rest steps : List Step) (exchanges more : List Exchange) (lines its : List Line) → LeadsOn place standing (step ∷ rest) start steps exchanges lines → IsStep place standing step more its ending.Done → LeadsOn (place + 1) (standing_after more standing) rest start steps (exchanges ++ more) (lines ++ its)
+LeadsOn-next : (place : ℕ) (standing start : StandingView) (step : Step) (rest steps : List Step) (exchanges more : List Exchange) (lines its : List Line) → LeadsOn place standing (step ∷ rest) start steps exchanges lines → IsStepTold place standing step more its ending.Done → LeadsOn (place + 1) (standing_after more standing) rest start steps (exchanges ++ more) (lines ++ its)
 LeadsOn-next place standing start step rest steps exchanges more lines its leads taken = record {
   on = λ after after_lines ended report.
       report_along start steps ended (sym (append_assoc exchanges more after)) (sym (append_assoc lines its after_lines))
@@ -34,7 +34,7 @@ LeadsOn-next place standing start step rest steps exchanges more lines its leads
 pub steps_next : {before between after : List Exchange → Type 0} {passes stops : ℕ → Type 0} {old mid new : StandingView} {old_lines mid_lines new_lines : List Line} (place : ℕ) (step : Step) (from rest steps : List Step)
     → from ≡ step ∷ rest
     → IsStretch before between passes stops old mid old_lines mid_lines ending.Done (LeadsOn place mid from old steps)
-    → IsStretch between after passes stops mid new mid_lines new_lines ending.Done (λ exchanges lines. IsStep place mid step exchanges lines ending.Done)
+    → IsStretch between after passes stops mid new mid_lines new_lines ending.Done (λ exchanges lines. IsStepTold place mid step exchanges lines ending.Done)
     → IsStretch before after passes stops old new old_lines new_lines ending.Done (LeadsOn (place + 1) new rest old steps)
 steps_next {old = old} {mid = mid} place step from rest steps is so_far taken =
     IsStretch-append so_far taken (λ exchanges lines more its _ counts leads one.
@@ -44,8 +44,8 @@ steps_next {old = old} {mid = mid} place step from rest steps is so_far taken =
 -- the rest is reported
 reported : {before between after : List Exchange → Type 0} {passes stops : ℕ → Type 0} {old mid new : StandingView} {old_lines mid_lines new_lines : List Line} {end : Ending} (place : ℕ) (from steps : List Step) (ended : Bool)
     → IsStretch before between passes stops old mid old_lines mid_lines ending.Done (LeadsOn place mid from old steps)
-    → IsStretch between after passes stops mid new mid_lines new_lines end (λ exchanges lines. IsReport place mid from exchanges lines ended)
-    → IsStretch before after passes stops old new old_lines new_lines end (λ exchanges lines. IsReport 0 old steps exchanges lines ended)
+    → IsStretch between after passes stops mid new mid_lines new_lines end (λ exchanges lines. IsWorkerReport place mid from exchanges lines ended)
+    → IsStretch before after passes stops old new old_lines new_lines end (λ exchanges lines. IsWorkerReport 0 old steps exchanges lines ended)
 reported place from steps ended so_far rest =
     IsStretch-append so_far rest (λ exchanges lines more its _ _ leads report. leads.on more its ended report)
 
@@ -53,34 +53,34 @@ reported place from steps ended so_far rest =
 pub steps_cleared : {before between further after : List Exchange → Type 0} {passes stops : ℕ → Type 0} {old mid later new : StandingView} {old_lines mid_lines later_lines new_lines : List Line} {end : Ending} (place : ℕ) (step : Step) (from rest steps : List Step)
     → from ≡ step ∷ rest
     → IsStretch before between passes stops old mid old_lines mid_lines ending.Done (LeadsOn place mid from old steps)
-    → IsStretch between further passes stops mid later mid_lines later_lines ending.Refused (λ exchanges lines. IsStep place mid step exchanges lines ending.Refused)
+    → IsStretch between further passes stops mid later mid_lines later_lines ending.Refused (λ exchanges lines. IsStepTold place mid step exchanges lines ending.Refused)
     → IsStretch further after passes stops later new later_lines new_lines end (λ exchanges lines. ArePut (clearing later) exchanges lines end)
-    → IsStretch before after passes stops old new old_lines new_lines end (λ exchanges lines. IsReport 0 old steps exchanges lines (is_over end))
+    → IsStretch before after passes stops old new old_lines new_lines end (λ exchanges lines. IsWorkerReport 0 old steps exchanges lines (is_over end))
 steps_cleared {mid = mid} {end = end} place step from rest steps is so_far taken clear =
     reported place from steps (is_over end) so_far
     (IsStretch-append taken clear (λ exchanges lines more its counts _ one cleared.
-    subst (λ xs. IsReport place mid xs (exchanges ++ more) (lines ++ its) (is_over end)) (sym is)
+    subst (λ xs. IsWorkerReport place mid xs (exchanges ++ more) (lines ++ its) (is_over end)) (sym is)
     (refused exchanges more lines its one (subst (λ s. ArePut (clearing s) more its end) counts cleared) refl refl)))
 
 -- the next step waits for a turn that does not come
 pub steps_cut : {before between after : List Exchange → Type 0} {passes stops : ℕ → Type 0} {old mid new : StandingView} {old_lines mid_lines new_lines : List Line} (place : ℕ) (step : Step) (from rest steps : List Step)
     → from ≡ step ∷ rest
     → IsStretch before between passes stops old mid old_lines mid_lines ending.Done (LeadsOn place mid from old steps)
-    → IsStretch between after passes stops mid new mid_lines new_lines ending.Cut (λ exchanges lines. IsStep place mid step exchanges lines ending.Cut)
-    → IsStretch before after passes stops old new old_lines new_lines ending.Cut (λ exchanges lines. IsReport 0 old steps exchanges lines false)
+    → IsStretch between after passes stops mid new mid_lines new_lines ending.Cut (λ exchanges lines. IsStepTold place mid step exchanges lines ending.Cut)
+    → IsStretch before after passes stops old new old_lines new_lines ending.Cut (λ exchanges lines. IsWorkerReport 0 old steps exchanges lines false)
 steps_cut {mid = mid} place step from rest steps is so_far taken =
     reported place from steps false so_far
-    (IsStretch-so taken (λ exchanges lines _ one. subst (λ xs. IsReport place mid xs exchanges lines false) (sym is) (cut_short one)))
+    (IsStretch-so taken (λ exchanges lines _ one. subst (λ xs. IsWorkerReport place mid xs exchanges lines false) (sym is) (cut_short one)))
 
 -- no step is left
 pub steps_done : {before after : List Exchange → Type 0} {passes stops : ℕ → Type 0} {old new : StandingView} {old_lines new_lines : List Line} (place : ℕ) (from steps : List Step)
     → from ≡ []
     → IsStretch before after passes stops old new old_lines new_lines ending.Done (LeadsOn place new from old steps)
-    → IsStretch before after passes stops old new old_lines new_lines ending.Done (λ exchanges lines. IsReport 0 old steps exchanges lines true)
+    → IsStretch before after passes stops old new old_lines new_lines ending.Done (λ exchanges lines. IsWorkerReport 0 old steps exchanges lines true)
 steps_done {old = old} {new = new} place from steps is so_far =
     IsStretch-so so_far (λ exchanges lines _ leads.
     report_along old steps true (append-nil exchanges) (append-nil lines)
-    (leads.on [] [] true (subst (λ xs. IsReport place new xs [] [] true) (sym is) no_step_left)))
+    (leads.on [] [] true (subst (λ xs. IsWorkerReport place new xs [] [] true) (sym is) no_step_left)))
 
 -- ---- the steps that are left
 
@@ -96,7 +96,7 @@ drop-none steps place end = drop_of_length-le steps end
 
 -- So much more there is to clear at most, so many more lines, and so many turns were taken.
 pub grown_step : {before after : List Exchange → Type 0} {passes stops : ℕ → Type 0} {old new : StandingView} {old_lines new_lines : List Line} {end : Ending} (place : ℕ) (step : Step)
-    → IsStretch before after passes stops old new old_lines new_lines end (λ exchanges lines. IsStep place old step exchanges lines end)
+    → IsStretch before after passes stops old new old_lines new_lines end (λ exchanges lines. IsStepTold place old step exchanges lines end)
     → (left_to_clear new ≤ left_to_clear old + 1) × (length new_lines + left_to_clear new ≤ length old_lines + left_to_clear old + 2) × (new.turn + length old_lines ≤ old.turn + length new_lines + 1)
 grown_step {old = old} {old_lines = old_lines} {end = end} place step taken =
     let growth = IsGrowth-step place step end old taken.are_those in
@@ -106,7 +106,7 @@ grown_step {old = old} {old_lines = old_lines} {end = end} place step taken =
     (omega (arith, growth.left, left), omega (arith, growth.with_lines, left, lines), omega (arith, growth.turns, lines, turns))
 
 pub left_if_refused : {before after : List Exchange → Type 0} {passes stops : ℕ → Type 0} {old new : StandingView} {old_lines new_lines : List Line} (place : ℕ) (step : Step)
-    → IsStretch before after passes stops old new old_lines new_lines ending.Refused (λ exchanges lines. IsStep place old step exchanges lines ending.Refused)
+    → IsStretch before after passes stops old new old_lines new_lines ending.Refused (λ exchanges lines. IsStepTold place old step exchanges lines ending.Refused)
     → left_to_clear new ≤ left_to_clear old
 left_if_refused {old = old} place step taken =
     let growth = IsGrowth-step place step ending.Refused old taken.are_those in
@@ -130,7 +130,7 @@ pub IsWork-stretch : {before after : List Exchange → Type 0} {passes stops : �
     → old ≡ first_standing
     → old_lines ≡ []
     → is_over end ≡ ended
-    → IsStretch before after passes stops old new old_lines new_lines end (λ exchanges lines. IsReport 0 old steps exchanges lines (is_over end))
+    → IsStretch before after passes stops old new old_lines new_lines end (λ exchanges lines. IsWorkerReport 0 old steps exchanges lines (is_over end))
     → IsWork before after passes stops steps new_lines ended
 IsWork-stretch {stops = stops} {old = old} {new = new} {old_lines = old_lines} {new_lines = new_lines} {end = end} steps ended first empty over stretch =
     let zero : old.turn ≡ 0 = ap (λ (s : StandingView). s.turn) first in
@@ -143,15 +143,15 @@ IsWork-stretch {stops = stops} {old = old} {new = new} {old_lines = old_lines} {
       passed = λ turn below. stretch.passed turn (omega arith) (omega arith);
       stopped = λ is. subst stops last (stretch.stopped (cut_if_not_over end (over ∙ is)));
       is_report =
-          subst (λ s. IsReport 0 s steps stretch.exchanges new_lines ended) first
-          (subst (λ ls. IsReport 0 old steps stretch.exchanges ls ended) (sym all)
-          (subst (λ e. IsReport 0 old steps stretch.exchanges stretch.lines e) over stretch.are_those));
+          subst (λ s. IsWorkerReport 0 s steps stretch.exchanges new_lines ended) first
+          (subst (λ ls. IsWorkerReport 0 old steps stretch.exchanges ls ended) (sym all)
+          (subst (λ e. IsWorkerReport 0 old steps stretch.exchanges stretch.lines e) over stretch.are_those));
     }
 
 pub IsWork-ended : {before after : List Exchange → Type 0} {passes stops : ℕ → Type 0} {old new : StandingView} {old_lines new_lines : List Line} {end : Ending} (steps : List Step)
     → old ≡ first_standing
     → old_lines ≡ []
     → (end ≡ ending.Cut → ⊥)
-    → IsStretch before after passes stops old new old_lines new_lines end (λ exchanges lines. IsReport 0 old steps exchanges lines (is_over end))
+    → IsStretch before after passes stops old new old_lines new_lines end (λ exchanges lines. IsWorkerReport 0 old steps exchanges lines (is_over end))
     → IsWork before after passes stops steps new_lines true
 IsWork-ended {end = end} steps first empty goes stretch = IsWork-stretch steps true first empty (over_unless_cut end goes) stretch

@@ -6,7 +6,7 @@ use Rattle.std.proofs.lemmas.Bool.{ltb-true, ltb-false}
 use Rattle.workers.specs.Asked.{told, question_of, is_refused, line, ArePut, refused, accepted, all_put}
 use Rattle.workers.specs.Exchange.{Exchange, Did, Undid, KeptMark, LookedBack}
 use Rattle.workers.specs.Report.{ending_of}
-use Rattle.workers.specs.Standing.{StandingView, after_answer, after_exchange, after_command, standing_after}
+use Rattle.workers.specs.Standing.{StandingView, after_answer, after_exchange, standing_after_command, standing_after}
 use Rattle.workers.specs.Stretch.{IsExchange, IsStretch}
 use Rattle.workers.specs.declared.report.Answer.{Answer}
 use Rattle.workers.specs.declared.report.Asked.{Asked}
@@ -16,7 +16,7 @@ use Rattle.workers.specs.declared.ask.Ending.{Ending}
 use Rattle.workers.specs.declared.ask.Ending.TheVariants as ending
 
 turn-after_answer : (exchange : Exchange) (standing : StandingView) → (after_answer exchange standing).turn ≡ standing.turn
-unfolding after_command
+unfolding standing_after_command
 turn-after_answer (Did cmd (Ok reply)) standing = refl
 turn-after_answer (Did cmd (Err refusal)) standing = refl
 turn-after_answer (Undid (Ok undone)) standing = refl

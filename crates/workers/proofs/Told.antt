@@ -7,7 +7,7 @@ use Rattle.build_commands.specs.declared.refusal.Refusal.{Refusal}
 use Rattle.build_commands.specs.declared.refusal.Refusal.TheVariants.{RecRunning, NothingToUndo}
 use Rattle.workers.specs.Asked.{line}
 use Rattle.workers.specs.Exchange.{Exchange, LookedBack}
-use Rattle.workers.specs.Report.{IsTold, AreUndone, IsAbort, IsBack, IsWayBack, opened, refused, ending_of}
+use Rattle.workers.specs.Report.{IsTold, AreUndone, IsAbort, IsStepBack, IsWayBack, opened, refused, ending_of}
 use Rattle.workers.specs.Standing.{StandingView, after_exchange}
 use Rattle.workers.specs.Stretch.{IsStretch}
 use Rattle.workers.specs.declared.report.Asked.TheVariants as asked
@@ -44,13 +44,13 @@ IsAbort-running {end = end} place journal running some is adds =
     IsStretch-told (asked.Step place) (Refused RecRunning) is adds (running_refuses place journal running [] (line (asked.Step place) (Refused RecRunning) ∷ []) end some (told_alone place (Refused RecRunning) end is))
 
 -- a step back without a mark
-pub IsBack-none : {before : List Exchange → Type 0} {passes stops : ℕ → Type 0} {standing : StandingView} {old_lines new_lines : List Line} {end : Ending} (place journal : ℕ) (mark : Option Mark)
+pub IsStepBack-none : {before : List Exchange → Type 0} {passes stops : ℕ → Type 0} {standing : StandingView} {old_lines new_lines : List Line} {end : Ending} (place journal : ℕ) (mark : Option Mark)
     → mark ≡ None
     → end ≡ ending_of (Refused NothingToUndo)
     → new_lines ≡ old_lines ++ line (asked.Step place) (Refused NothingToUndo) ∷ []
-    → IsStretch before before passes stops standing standing old_lines new_lines end (λ exchanges lines. IsBack place mark journal exchanges lines end)
-IsBack-none {end = end} place journal mark none is adds =
-    IsStretch-told (asked.Step place) (Refused NothingToUndo) is adds (subst (λ m. IsBack place m journal [] (line (asked.Step place) (Refused NothingToUndo) ∷ []) end) (sym none) (told_alone place (Refused NothingToUndo) end is))
+    → IsStretch before before passes stops standing standing old_lines new_lines end (λ exchanges lines. IsStepBack place mark journal exchanges lines end)
+IsStepBack-none {end = end} place journal mark none is adds =
+    IsStretch-told (asked.Step place) (Refused NothingToUndo) is adds (subst (λ m. IsStepBack place m journal [] (line (asked.Step place) (Refused NothingToUndo) ∷ []) end) (sym none) (told_alone place (Refused NothingToUndo) end is))
 
 -- a way back that is refused
 pub IsWayBack-refused : {before after : List Exchange → Type 0} {passes stops : ℕ → Type 0} {old new : StandingView} {old_lines new_lines : List Line} {end : Ending} {turn : ℕ} (place : ℕ) (mark : Mark) (journal : ℕ) (refusal : Refusal)

@@ -6,7 +6,7 @@ use Rattle.build_commands.specs.declared.cmd.Step.{Step}
 use Rattle.build_commands.specs.declared.cmd.Step.TheVariants as step
 use Rattle.workers.specs.Asked.{told, question_of}
 use Rattle.workers.specs.Exchange.{Exchange, is_event}
-use Rattle.workers.specs.Report.{IsReport}
+use Rattle.workers.specs.Report.{IsWorkerReport}
 use Rattle.workers.specs.Standing.{StandingView}
 use Rattle.workers.specs.declared.report.Asked.{Asked}
 use Rattle.workers.specs.declared.report.Asked.TheVariants as asked
@@ -49,4 +49,4 @@ pub record IsLineOf (steps : List Step) (line : Line) (exchange : Exchange) : Ty
 -- The accepted lines of a report tell the events one by one, in their order.
 abbrev pub AcceptedTellEvents : StandingView → List Step → List Exchange → List Line → Bool → Type 0
 AcceptedTellEvents standing steps exchanges lines ended =
-    IsReport 0 standing steps exchanges lines ended → AllZip (IsLineOf steps) (filter is_accepted lines) (filter is_event exchanges)
+    IsWorkerReport 0 standing steps exchanges lines ended → AllZip (IsLineOf steps) (filter is_accepted lines) (filter is_event exchanges)

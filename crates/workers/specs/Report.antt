@@ -31,8 +31,8 @@ pub record IsTold (place : ℕ) (answer : Answer) (exchanges : List Exchange) (l
   pub end_is : end ≡ ending_of answer
 
 -- A step asks one question.
-abbrev pub IsAsked : ℕ → Question → List Exchange → List Line → Ending → Type 0
-IsAsked place question exchanges lines end = ArePut ((asked.Step place, question) ∷ []) exchanges lines end
+abbrev pub IsQuestionAsked : ℕ → Question → List Exchange → List Line → Ending → Type 0
+IsQuestionAsked place question exchanges lines end = ArePut ((asked.Step place, question) ∷ []) exchanges lines end
 
 -- A step undoes so many, with a line for each. With none its line says so.
 abbrev pub AreUndone : ℕ → ℕ → List Exchange → List Line → Ending → Type 0
@@ -55,17 +55,17 @@ pub data IsWayBack (place : ℕ) (mark : Mark) (journal : ℕ) : List Exchange �
       → IsWayBack place mark journal (LookedBack mark (Ok count) ∷ exchanges) lines end
 
 -- A step back is refused, with nothing asked, where there is no mark.
-abbrev pub IsBack : ℕ → Option Mark → ℕ → List Exchange → List Line → Ending → Type 0
-IsBack place None journal exchanges lines end = IsTold place (Refused NothingToUndo) exchanges lines end
-IsBack place (Some mark) journal exchanges lines end = IsWayBack place mark journal exchanges lines end
+abbrev pub IsStepBack : ℕ → Option Mark → ℕ → List Exchange → List Line → Ending → Type 0
+IsStepBack place None journal exchanges lines end = IsTold place (Refused NothingToUndo) exchanges lines end
+IsStepBack place (Some mark) journal exchanges lines end = IsWayBack place mark journal exchanges lines end
 
 -- What a step at that place of the plan asks, and what is told of it.
-abbrev pub IsStep : ℕ → StandingView → Step → List Exchange → List Line → Ending → Type 0
-IsStep place standing (step.Ask cmd) exchanges lines end = IsAsked place (question.Do cmd) exchanges lines end
-IsStep place standing step.Undo exchanges lines end = IsAsked place question.Undo exchanges lines end
-IsStep place standing step.Abort exchanges lines end = IsAbort place standing.running standing.journal exchanges lines end
-IsStep place standing step.Mark exchanges lines end = IsAsked place question.Mark exchanges lines end
-IsStep place standing step.Back exchanges lines end = IsBack place standing.mark standing.journal exchanges lines end
+abbrev pub IsStepTold : ℕ → StandingView → Step → List Exchange → List Line → Ending → Type 0
+IsStepTold place standing (step.Ask cmd) exchanges lines end = IsQuestionAsked place (question.Do cmd) exchanges lines end
+IsStepTold place standing step.Undo exchanges lines end = IsQuestionAsked place question.Undo exchanges lines end
+IsStepTold place standing step.Abort exchanges lines end = IsAbort place standing.running standing.journal exchanges lines end
+IsStepTold place standing step.Mark exchanges lines end = IsQuestionAsked place question.Mark exchanges lines end
+IsStepTold place standing step.Back exchanges lines end = IsStepBack place standing.mark standing.journal exchanges lines end
 
 -- ---- the whole
 
@@ -84,23 +84,23 @@ is_over ending.Cut = false
 
 -- The report of the steps from a place and a standing on: they are taken in order, and after the first refusal the
 -- build is cleared.
-pub data IsReport : ℕ → StandingView → List Step → List Exchange → List Line → Bool → Type 0 where
-  no_step_left : {place : ℕ} {standing : StandingView} → IsReport place standing [] [] [] true
+pub data IsWorkerReport : ℕ → StandingView → List Step → List Exchange → List Line → Bool → Type 0 where
+  no_step_left : {place : ℕ} {standing : StandingView} → IsWorkerReport place standing [] [] [] true
   accepted : {place : ℕ} {standing : StandingView} {step : Step} {steps : List Step} {exchanges : List Exchange} {lines : List Line} {ended : Bool} (first more : List Exchange) (its its_more : List Line)
-      → IsStep place standing step first its ending.Done
-      → IsReport (place + 1) (standing_after first standing) steps more its_more ended
+      → IsStepTold place standing step first its ending.Done
+      → IsWorkerReport (place + 1) (standing_after first standing) steps more its_more ended
       → exchanges ≡ first ++ more
       → lines ≡ its ++ its_more
-      → IsReport place standing (step ∷ steps) exchanges lines ended
+      → IsWorkerReport place standing (step ∷ steps) exchanges lines ended
   refused : {place : ℕ} {standing : StandingView} {step : Step} {steps : List Step} {exchanges : List Exchange} {lines : List Line} {end : Ending} (first more : List Exchange) (its its_more : List Line)
-      → IsStep place standing step first its ending.Refused
+      → IsStepTold place standing step first its ending.Refused
       → ArePut (clearing (standing_after first standing)) more its_more end
       → exchanges ≡ first ++ more
       → lines ≡ its ++ its_more
-      → IsReport place standing (step ∷ steps) exchanges lines (is_over end)
+      → IsWorkerReport place standing (step ∷ steps) exchanges lines (is_over end)
   cut_short : {place : ℕ} {standing : StandingView} {step : Step} {steps : List Step} {exchanges : List Exchange} {lines : List Line}
-      → IsStep place standing step exchanges lines ending.Cut
-      → IsReport place standing (step ∷ steps) exchanges lines false
+      → IsStepTold place standing step exchanges lines ending.Cut
+      → IsWorkerReport place standing (step ∷ steps) exchanges lines false
 
 -- A worker has done its work, or waits for a turn that does not come. The teller was asked just this, the gate let the turn
 -- of each question pass, and the report tells it.
@@ -109,4 +109,4 @@ pub record IsWork (before after : List Exchange → Type 0) (passes stops : ℕ 
   pub told : (earlier : List Exchange) → before earlier → after (earlier ++ exchanges)
   pub passed : (turn : ℕ) → turn < length exchanges → passes turn
   pub stopped : ended ≡ false → stops (length exchanges)
-  pub is_report : IsReport 0 first_standing steps exchanges lines ended
+  pub is_report : IsWorkerReport 0 first_standing steps exchanges lines ended

@@ -30,21 +30,21 @@ with_number number (first ∷ rest) =
 abbrev pub without_number : ℕ → List ℕ → List ℕ
 without_number number numbers = filter (λ other. not (other == number)) numbers
 
-abbrev pub running_after : Cmd → List ℕ → List ℕ
-running_after (Enter number) running = with_number number running
-running_after (Exit number) running = without_number number running
-running_after _ running = running
+abbrev pub numbers_running_after : Cmd → List ℕ → List ℕ
+numbers_running_after (Enter number) running = with_number number running
+numbers_running_after (Exit number) running = without_number number running
+numbers_running_after _ running = running
 
 -- An accepted command: a paired one is one more to undo, an entered REC runs until it exits.
-unfoldable pub after_command : Cmd → StandingView → StandingView
-after_command cmd standing = record standing {
+unfoldable pub standing_after_command : Cmd → StandingView → StandingView
+standing_after_command cmd standing = record standing {
   journal = if (needs_of cmd).paired then standing.journal + 1 else standing.journal;
-  running = running_after cmd standing.running;
+  running = numbers_running_after cmd standing.running;
 }
 
 -- what an answer changes; a refusal changes nothing
 abbrev pub after_answer : Exchange → StandingView → StandingView
-after_answer (Did cmd (Ok reply)) standing = after_command cmd standing
+after_answer (Did cmd (Ok reply)) standing = standing_after_command cmd standing
 after_answer (Did cmd (Err refusal)) standing = standing
 after_answer (Undid (Ok undone)) standing = record standing { journal = standing.journal - 1 }
 after_answer (Undid (Err refusal)) standing = standing

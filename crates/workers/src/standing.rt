@@ -1,6 +1,6 @@
 //! What a worker knows of its build by its own replies.
 ghost use Rattle.std.specs.Prelude.{◌≡◌, ◌+◌, ◌-◌, ◌^◌, ◌<◌, ◌≤◌, ◌++◌, length, take, drop, slice_index, Some};
-ghost use Rattle.workers.specs.Standing.{first_standing, with_number, without_number, after_command, left_to_clear};
+ghost use Rattle.workers.specs.Standing.{first_standing, with_number, without_number, standing_after_command, left_to_clear};
 
 use arrayvec::ArrayVec;
 use build_books::Mark;
@@ -111,10 +111,10 @@ impl Standing {
     }
 
     /// A command is accepted.
-    #[tactic(auto, unfolding(crate::specs::Standing::after_command))]
+    #[tactic(auto, unfolding(crate::specs::Standing::standing_after_command))]
     pub(crate) fn count_command(&mut self, cmd: &Cmd)
         requires { left_to_clear self.old < 1024 }
-        ensures { self.new ≡ after_command cmd.now self.old }
+        ensures { self.new ≡ standing_after_command cmd.now self.old }
     {
         if cmd.needs().paired {
             self.journal += 1;

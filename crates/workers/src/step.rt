@@ -2,7 +2,7 @@
 ghost use Rattle.std.specs.Prelude.{◌≡◌, ◌+◌, ◌^◌, ◌<◌, ◌≤◌, List, [], ◌∷◌, ◌++◌, replicate, vec_len, vec_capacity};
 ghost use Rattle.workers.specs.Asked.{ArePut};
 ghost use Rattle.workers.specs.Exchange.{Exchange, LookedBack};
-ghost use Rattle.workers.specs.Report.{AreUndone, IsAbort, IsWayBack, IsBack, IsStep};
+ghost use Rattle.workers.specs.Report.{AreUndone, IsAbort, IsWayBack, IsStepBack, IsStepTold};
 ghost use Rattle.workers.specs.Standing.{left_to_clear, after_exchange};
 ghost use Rattle.workers.specs.Stretch.{IsStretch};
 
@@ -150,7 +150,7 @@ fn back<T: Teller, G: Gate>(
     ensures gone { IsStretch (T.tells teller.old) (T.tells teller.new)
         (G.passes gate.now report.old.build) (G.stops gate.now report.old.build)
         standing.old standing.new report.old.lines.items report.new.lines.items result
-        (λ exchanges lines. IsBack place standing.old.mark standing.old.journal exchanges lines result) }
+        (λ exchanges lines. IsStepBack place standing.old.mark standing.old.journal exchanges lines result) }
     ensures loan { T.loan teller.new ≡ T.loan teller.old }
     ensures same { (report.new.build ≡ report.old.build) × (vec_capacity report.new.lines ≡ vec_capacity report.old.lines) }
 {
@@ -179,7 +179,7 @@ pub(crate) fn take_step<T: Teller, G: Gate>(
     ensures taken { IsStretch (T.tells teller.old) (T.tells teller.new)
         (G.passes gate.now report.old.build) (G.stops gate.now report.old.build)
         standing.old standing.new report.old.lines.items report.new.lines.items result
-        (λ exchanges lines. IsStep place standing.old step.now exchanges lines result) }
+        (λ exchanges lines. IsStepTold place standing.old step.now exchanges lines result) }
     ensures loan { T.loan teller.new ≡ T.loan teller.old }
     ensures same { (report.new.build ≡ report.old.build) × (vec_capacity report.new.lines ≡ vec_capacity report.old.lines) }
 {

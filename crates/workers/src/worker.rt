@@ -1,7 +1,7 @@
 //! The work of a build.
 ghost use Rattle.std.specs.Prelude.{◌≡◌, ◌+◌, ◌*◌, ◌^◌, ◌<◌, ◌≤◌, [], length, map, is_ok, vec_len, vec_capacity};
 ghost use Rattle.workers.specs.Asked.{ArePut};
-ghost use Rattle.workers.specs.Report.{clearing, exit_of, is_over, IsReport, IsWork};
+ghost use Rattle.workers.specs.Report.{clearing, exit_of, is_over, IsWorkerReport, IsWork};
 ghost use Rattle.workers.specs.Standing.{left_to_clear, first_standing};
 ghost use Rattle.workers.specs.Stretch.{IsStretch};
 
@@ -102,7 +102,7 @@ fn take_steps<T: Teller, G: Gate>(
     ensures taken { IsStretch (T.tells teller.old) (T.tells teller.new)
         (G.passes gate.now report.old.build) (G.stops gate.now report.old.build)
         standing.old standing.new report.old.lines.items report.new.lines.items result
-        (λ exchanges lines. IsReport 0 standing.old steps.now exchanges lines (is_over result)) }
+        (λ exchanges lines. IsWorkerReport 0 standing.old steps.now exchanges lines (is_over result)) }
     ensures few_lines { vec_len report.new.lines ≤ 2 * length steps.now + 1 }
     ensures loan { T.loan teller.new ≡ T.loan teller.old }
     ensures same { (report.new.build ≡ report.old.build) × (vec_capacity report.new.lines ≡ vec_capacity report.old.lines) }

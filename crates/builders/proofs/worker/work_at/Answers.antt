@@ -1,6 +1,6 @@
 use Rattle.std.proofs.Common.{ℕ, [], false, sym, ◌∙◌, subst, rules, arith}
 use Rattle.builders.specs.Seats.{SeatView}
-use Rattle.builders.specs.Workers.{IsRun}
+use Rattle.builders.specs.Workers.{IsWorkerRun}
 use Rattle.builders.proofs.Working.{is_run}
 use Rattle.builders.proofs.worker.work_at.Goals as goal
 
@@ -11,7 +11,7 @@ returns-clause-run g c =
     let gate = c.args.gate.now in
     let steps = c.args.steps.now in
     let lines = c.work.new.report.lines.items in
-    let Run = (λ (build : ℕ) (seat : SeatView). IsRun g.L.Ledgers.opened (g.G.Gate.passes gate build) (g.G.Gate.stops gate build)
+    let Run = (λ (build : ℕ) (seat : SeatView). IsWorkerRun g.L.Ledgers.opened (g.G.Gate.passes gate build) (g.G.Gate.stops gate build)
     (record { seat = old; steps = steps; lines = []; ended = false }) (record { seat = seat; steps = steps; lines = lines; ended = c.is_ok-ended.result })) in
     subst (Run old.build) (search (rules, arith))
     (subst (λ (build : ℕ). Run build new) c.requires.build

@@ -1,7 +1,7 @@
 use Rattle.std.proofs.Common.{◌≡◌, [], ◌∷◌, Some, None, IsUtf8, sym, ap, ◌∙◌, subst}
 use Rattle.std.proofs.lemmas.Bool.Decides.{Decides-eqb}
 use Rattle.std.proofs.lemmas.Slice.Eq.{strip_prefix_is}
-use Rattle.history_text.specs.Acts.{act_of}
+use Rattle.history_text.specs.Acts.{act_of_text}
 use Rattle.history_text.specs.Events.{IsEventText}
 use Rattle.history_text.specs.Written.{act_text}
 use Rattle.history_text.proofs.ActTexts.{act_from_text, IsUtf8-act_text}
@@ -43,6 +43,6 @@ returns-clause-found c =
     let split = rw c.in-Some-strip_prefix.is at (strip_prefix_is Decides-eqb c.in-Some.rest.now (32 ∷ []) _ c.strip_prefix.ensures.cases) in
     let line = c.in-Some.ensures.cases.0 ∙ ap (λ t. c.in-Some.digit.now ∷ t) split in
     let build = c.in_ok-build.ensures.found in
-    let means : act_of c.in-Some-strip_prefix.act.now ≡ Some c.in_ok-act.act =
-    ap act_of (sym c.in-Ok.ensures.cases.0) ∙ sym c.act_from_text.ensures ∙ c.in_ok-act.was in
+    let means : act_of_text c.in-Some-strip_prefix.act.now ≡ Some c.in_ok-act.act =
+    ap act_of_text (sym c.in-Ok.ensures.cases.0) ∙ sym c.act_from_text.ensures ∙ c.in_ok-act.was in
     is_event c.args.line.now c.in-Some.digit.now c.in-Some-strip_prefix.act.now (record { build = c.in_ok-build.build; act = c.in_ok-act.act }) line build.0 build.1 means

@@ -5,7 +5,7 @@ use Rattle.std.proofs.lemmas.List.{take_at}
 use Rattle.builders.specs.Runs.{AreRun}
 use Rattle.builders.specs.Workers.{WorkerView}
 use Rattle.realm_plan.specs.PlanView.{plan_view}
-use Rattle.plan_threads.specs.Threads.{seats_of, IsReportOf}
+use Rattle.plan_threads.specs.Threads.{worker_seats, IsReportOf}
 use Rattle.plan_threads.proofs.Ended.{same_length, is_stuck}
 use Rattle.plan_threads.proofs.Seating.{no_lines}
 use Rattle.plan_threads.proofs.run.work_all.Goals as goal
@@ -34,6 +34,6 @@ returns-clause-ok g c =
       workers = new;
       run = subst (λ ws. AreRun g.L.Ledgers.opened passes stops ws new) (c.as_mut_slice.ensures.value ∙ c.in_ok-workers.ensures) ran;
       ended = c.in_default.ensures.told;
-      seats_are = c.in_ok-ends.ensures.seats ∙ ap (λ ws. seats_of ws) back;
+      seats_are = c.in_ok-ends.ensures.seats ∙ ap (λ ws. worker_seats ws) back;
       reports_are = subst (λ ws. AllZip IsReportOf ws c.in_ok-ends.ends.reports.items) back c.in_ok-ends.ensures.reports;
     }

@@ -1,5 +1,5 @@
 use Rattle.std.proofs.Common.{arith}
-use Rattle.report_audit.proofs.Held.{granule_at-block}
+use Rattle.report_audit.proofs.Held.{granule_of_number-block}
 use Rattle.report_audit.proofs.pages.held_granule.Goals as goal
 
 pub overflow_add-number : goal.overflow_add-number
@@ -7,4 +7,4 @@ overflow_add-number c = omega arith
 
 pub returns-in-Take : goal.returns-in-Take
 returns-in-Take c =
-    granule_at-block c.args.act.now c.in-Take.order c.in-Take.first c.args.place c.number.result c.new.result c.in-Take.is c.number.ensures.value c.requires.there c.new.ensures
+    granule_of_number-block c.args.act.now c.in-Take.order c.in-Take.first c.args.place c.number.result c.new.result c.in-Take.is c.number.ensures.value c.requires.there c.new.ensures

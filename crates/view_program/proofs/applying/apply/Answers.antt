@@ -2,7 +2,7 @@ use Rattle.std.proofs.Common.{Err, ap, sym, ◌∙◌, subst, string_bytes}
 use Rattle.std.specs.Io.KnownBytes.{Appends}
 use Rattle.std.proofs.lemmas.Result.{err_from_is_err_and}
 use Rattle.told_device.specs.Whole.{AppendsFront}
-use Rattle.view_program.specs.Applied.{opened}
+use Rattle.view_program.specs.Applied.{host_of_opening}
 use Rattle.view_program.specs.Printed.{IsApplyEnd}
 use Rattle.view_program.proofs.Takings.{fresh_like-taken}
 use Rattle.view_program.proofs.ApplyEnds.{no_history, no_map, cut_map, printed_map, read_well}
@@ -20,7 +20,7 @@ returns-in_err-found-clause-end g c =
 pub asked_map-requires : goal.asked_map-requires
 asked_map-requires g c =
     let history = c.in_ok-found.ensures.ok.history in
-    record { size = history.opens.size; machine = fresh_like-taken (opened c.in_ok-found.found.0) history.events c.in_ok-found.found.1 history.taken }
+    record { size = history.opens.size; machine = fresh_like-taken (host_of_opening c.in_ok-found.found.0) history.events c.in_ok-found.found.1 history.taken }
 
 pub returns-in_err-text-clause-end : goal.returns-in_err-text-clause-end
 returns-in_err-text-clause-end g c =

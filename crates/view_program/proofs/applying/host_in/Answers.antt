@@ -4,7 +4,7 @@ use Rattle.std.proofs.lemmas.Result.{err_from_is_err_and}
 use Rattle.build_books.specs.View.{HostView}
 use Rattle.input_lines.specs.Lines.{IsLine}
 use Rattle.view_program.specs.Applied.{IsNoHistoryIn}
-use Rattle.view_program.specs.Taking.{AreAllTaken, AreNotTaken}
+use Rattle.view_program.specs.Taking.{AreLinesTaken, AreNotTaken}
 use Rattle.view_program.proofs.ApplyEnds.{ahead_none, is_history_in, no_history_in}
 use Rattle.view_program.proofs.applying.host_in.Goals as goal
 
@@ -36,4 +36,4 @@ returns-clause-ok g c =
     let ahead : prepend_known c.new-lines.result input ≡ input = ap (λ bytes. prepend_known bytes input) c.new-lines.ensures ∙ ahead_none input in
     let line : IsLine input first later = subst (λ known. IsLine known first later) ahead c.in_ok-opening.ensures.line in
     is_history_in first c.in_ok-opening.opening c.in_ok-opening.ensures.ok input later c.take_lines.new.host line
-    (subst (λ (host : HostView). AreAllTaken later host c.take_lines.new.host) c.in_ok-host.ensures c.in_ok-take_lines.ensures.ok)
+    (subst (λ (host : HostView). AreLinesTaken later host c.take_lines.new.host) c.in_ok-host.ensures c.in_ok-take_lines.ensures.ok)

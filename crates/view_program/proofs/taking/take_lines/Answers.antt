@@ -1,7 +1,7 @@
 use Rattle.std.proofs.Common.{IfErr, Err, ap, sym, ◌∙◌, subst, arith}
 use Rattle.std.specs.Io.KnownBytes.{prepend_known}
 use Rattle.std.proofs.lemmas.Result.{err_from_is_err_and}
-use Rattle.view_program.specs.Applied.{IsTaken}
+use Rattle.view_program.specs.Applied.{IsLineTaken}
 use Rattle.view_program.specs.Taking.{IsUntaken, AreNotTaken}
 use Rattle.input_lines.specs.declared.lines.LineError.TheVariants.{Device}
 use Rattle.view_program.proofs.Takings.{length-taken_one, so_far_more, not_taken, too_long, unfailed}
@@ -26,7 +26,7 @@ pub loop-preserved : goal.loop-preserved
 loop-preserved g c =
     let start = prepend_known c.args.lines.now (g.R.Read.remaining c.args.input.now.device) in
     let next = rw c.in-Line.is at c.in_ok-next_line.ensures.next in
-    let taken = subst (λ line. IsTaken c.loop.host line c.take_line.new.host) c.deref.ensures.value c.in_ok-take_line-in-Line.ensures.ok in
+    let taken = subst (λ line. IsLineTaken c.loop.host line c.take_line.new.host) c.deref.ensures.value c.in_ok-take_line-in-Line.ensures.ok in
     let one = length-taken_one c.loop.host c.next_line.new.line.items c.take_line.new.host taken in
     let before = c.loop.invariant.count in
     record {

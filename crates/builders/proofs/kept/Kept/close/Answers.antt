@@ -2,7 +2,7 @@ use Rattle.std.proofs.Common.{◌≡◌, ◌<◌, ◌∙◌, ℕ, get_or, List, 
 use Rattle.std.proofs.lemmas.List.{take_at}
 use Rattle.std.specs.List.{All}
 use Rattle.realm_model.specs.declared.act.Event.{Event}
-use Rattle.builders.specs.Close.{IsMissing, IsWhole, Differs, FitsAll}
+use Rattle.builders.specs.Close.{IsMissing, AreSeatsWhole, Differs, FitsAll}
 use Rattle.builders.specs.Seats.{SeatView}
 use Rattle.builders.proofs.Comparing.{each_fits}
 use Rattle.builders.proofs.kept.Kept.close.Goals as goal
@@ -21,8 +21,8 @@ returns-in-Some-mismatch-clause-fault g c =
     let back = take_at c.audit.new.seats _ c.args.seats.len (ap length same ∙ omega (arith, c.args.seats.ok.0)) ∙ same in
     let seats : c.as_slice.result.now ≡ c.args.seats.items = c.as_slice.ensures.value ∙ back in
     let again : c.as_slice-2.result.now ≡ c.args.seats.items = c.as_slice-2.ensures.value ∙ back in (
-      subst (λ (xs : List SeatView). IsWhole c.self.inside.host.limits.builds xs) seats
-          (subst (λ (n : ℕ). IsWhole n c.as_slice.result.now) c.build_count.ensures.value c.in_default.ensures.none),
+      subst (λ (xs : List SeatView). AreSeatsWhole c.self.inside.host.limits.builds xs) seats
+          (subst (λ (n : ℕ). AreSeatsWhole n c.as_slice.result.now) c.build_count.ensures.value c.in_default.ensures.none),
       subst (λ (xs : List SeatView). Differs c.in-Some-mismatch.build c.self.inside.host.history xs) again
           (subst (λ (h : List Event). Differs c.in-Some-mismatch.build h c.as_slice-2.result.now) c.history.ensures.events c.in-Some-mismatch.ensures.some),
     )
@@ -34,8 +34,8 @@ returns-clause-closed g c =
     let seats : c.as_slice.result.now ≡ c.args.seats.items = c.as_slice.ensures.value ∙ back in
     let again : c.as_slice-2.result.now ≡ c.args.seats.items = c.as_slice-2.ensures.value ∙ back in
     record {
-      whole = subst (λ (xs : List SeatView). IsWhole c.self.inside.host.limits.builds xs) seats
-          (subst (λ (n : ℕ). IsWhole n c.as_slice.result.now) c.build_count.ensures.value c.in_default.ensures.none);
+      whole = subst (λ (xs : List SeatView). AreSeatsWhole c.self.inside.host.limits.builds xs) seats
+          (subst (λ (n : ℕ). AreSeatsWhole n c.as_slice.result.now) c.build_count.ensures.value c.in_default.ensures.none);
       trails = each_fits c.self.inside.host.history c.self.inside.books c.args.seats.items
           (subst (λ (xs : List SeatView). FitsAll c.self.inside.host.history xs) again
           (subst (λ (h : List Event). FitsAll h c.as_slice-2.result.now) c.history.ensures.events c.in_default-mismatch.ensures.none))

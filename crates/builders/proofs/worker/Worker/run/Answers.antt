@@ -1,6 +1,6 @@
 use Rattle.std.proofs.Common.{List, [], false, ap, subst, ◌∙◌}
 use Rattle.build_commands.specs.declared.cmd.Step.{Step}
-use Rattle.builders.specs.Workers.{WorkerView, IsRun}
+use Rattle.builders.specs.Workers.{WorkerView, IsWorkerRun}
 use Rattle.builders.proofs.Working.{no_event, of_worker}
 use Rattle.builders.proofs.worker.Worker.run.Goals as goal
 
@@ -9,7 +9,7 @@ work_at-requires-clause-trail g c = no_event g.L.Ledgers.opened _ c.self.invaria
 
 pub returns : goal.returns
 returns g c =
-    let Run = (λ (old new : WorkerView). IsRun g.L.Ledgers.opened (g.G.Gate.passes c.args.gate.now old.seat.build) (g.G.Gate.stops c.args.gate.now old.seat.build) old new) in
+    let Run = (λ (old new : WorkerView). IsWorkerRun g.L.Ledgers.opened (g.G.Gate.passes c.args.gate.now old.seat.build) (g.G.Gate.stops c.args.gate.now old.seat.build) old new) in
     let inside = c.self.inside in
     let worked : List Step → WorkerView = (λ steps. record { seat = c.work_at.new.seat; steps = steps; lines = c.work_at.new.report.lines.items; ended = c.work_at.result }) in
     subst (λ (old : WorkerView). Run old (worked inside.steps.items)) c.self.view_is
