@@ -82,7 +82,8 @@ module _ {A : Type 0} (monitor : MonitorView) (outcome : Outcome) (granules : Li
   does_outside out result refused = does_unchecked monitor outcome (list_all (is_inside monitor) granules) out result refused
 
   -- a command that is done on granules that are inside
-  pub does_named : list_all (is_inside monitor) granules ≡ true → (result : Result A Rmi) (new : MonitorView) → Does outcome monitor result new → Does (naming granules monitor outcome) monitor result new
+  pub does_named : list_all (is_inside monitor) granules ≡ true → (result : Result A Rmi) (new : MonitorView) → Does outcome monitor result new
+      → Does (naming granules monitor outcome) monitor result new
   does_named within result new does = does_checked monitor outcome (list_all (is_inside monitor) granules) within result new does
 
 -- what the monitor inside does

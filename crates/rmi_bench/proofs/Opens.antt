@@ -70,7 +70,8 @@ module _ (old monitor : MonitorView) (count : ℕ) (below : IsTakenBelow count o
       subst (IsTakenBelow (count + 1) old) (sym (is ∙ (λ i. with_block monitor (single i) (place i)))) newly
   one_more false order first new single place says is same =
       subst (IsTakenBelow (count + 1) old) (sym same)
-      (already (taken_alone monitor.free count fits (λ free. true-false (sym (says.1 (subst (λ f. IsFreeBlock monitor.free order f) (sym place) (subst (λ o. IsFreeBlock monitor.free o count) (sym single) free)))))))
+      (already (taken_alone monitor.free count fits (λ free. true-false
+      (sym (says.1 (subst (λ f. IsFreeBlock monitor.free order f) (sym place) (subst (λ o. IsFreeBlock monitor.free o count) (sym single) free)))))))
 
 -- all are taken
 pub all_below : (old monitor : MonitorView) (count : ℕ) → count ≡ length old.machine → IsTakenBelow count old monitor → monitor ≡ all_taken old

@@ -6,7 +6,7 @@ ghost use Rattle.rmi_bench.specs.Calls.{naming};
 ghost use Rattle.rmi_bench_c.specs.Answers.{fits_u16, fits_u32, Serves};
 
 use crate::Handle;
-use crate::word::{CLOSED, MOST_U16, MOST_U32, word};
+use crate::word::{MOST_U16, MOST_U32};
 use std::alloc::Global;
 
 /// RMI_DATA_CREATE: `page` gets the bytes of `source`.
@@ -25,12 +25,10 @@ pub extern "C" fn rmi_data_create(
     if rd > MOST_U16 || page > MOST_U16 || ipa > MOST_U32 || source > MOST_U16 {
         return handle.refuse();
     }
-    let Some(mut bench) = handle.take(alloc) else {
-        return CLOSED;
-    };
-    let call = bench.data_create(rd as u16, page as u16, ipa as u32, source as u16);
-    handle.give(bench);
-    word(call)
+    handle.perform(
+        alloc,
+        |bench| bench.data_create(rd as u16, page as u16, ipa as u32, source as u16),
+    )
 }
 
 /// RMI_DATA_CREATE_UNKNOWN.
@@ -48,12 +46,10 @@ pub extern "C" fn rmi_data_create_unknown(
     if rd > MOST_U16 || page > MOST_U16 || ipa > MOST_U32 {
         return handle.refuse();
     }
-    let Some(mut bench) = handle.take(alloc) else {
-        return CLOSED;
-    };
-    let call = bench.data_create_unknown(rd as u16, page as u16, ipa as u32);
-    handle.give(bench);
-    word(call)
+    handle.perform(
+        alloc,
+        |bench| bench.data_create_unknown(rd as u16, page as u16, ipa as u32),
+    )
 }
 
 /// RMI_DATA_DESTROY.
@@ -65,10 +61,5 @@ pub extern "C" fn rmi_data_destroy(alloc: Global, handle: &mut Handle, rd: u64, 
     if rd > MOST_U16 || ipa > MOST_U32 {
         return handle.refuse();
     }
-    let Some(mut bench) = handle.take(alloc) else {
-        return CLOSED;
-    };
-    let call = bench.data_destroy(rd as u16, ipa as u32);
-    handle.give(bench);
-    word(call)
+    handle.perform(alloc, |bench| bench.data_destroy(rd as u16, ipa as u32))
 }

@@ -9,7 +9,7 @@ ghost use Rattle.rmi_bench_c.specs.Answers.{fits_u8, fits_u16, Serves};
 
 use crate::Handle;
 use crate::peek::peek;
-use crate::word::{CLOSED, MOST_U8, MOST_U16, word};
+use crate::word::{CLOSED, MOST_U8, MOST_U16};
 use std::alloc::Global;
 
 /// RMI_GRANULE_DELEGATE.
@@ -21,12 +21,7 @@ pub extern "C" fn rmi_granule_delegate(alloc: Global, handle: &mut Handle, granu
     if granule > MOST_U16 {
         return handle.refuse();
     }
-    let Some(mut bench) = handle.take(alloc) else {
-        return CLOSED;
-    };
-    let call = bench.granule_delegate(granule as u16);
-    handle.give(bench);
-    word(call)
+    handle.perform(alloc, |bench| bench.granule_delegate(granule as u16))
 }
 
 /// RMI_GRANULE_UNDELEGATE.
@@ -38,12 +33,7 @@ pub extern "C" fn rmi_granule_undelegate(alloc: Global, handle: &mut Handle, gra
     if granule > MOST_U16 {
         return handle.refuse();
     }
-    let Some(mut bench) = handle.take(alloc) else {
-        return CLOSED;
-    };
-    let call = bench.granule_undelegate(granule as u16);
-    handle.give(bench);
-    word(call)
+    handle.perform(alloc, |bench| bench.granule_undelegate(granule as u16))
 }
 
 /// Writes a value to each byte of an UNDELEGATED granule. This profile's own.
@@ -55,12 +45,7 @@ pub extern "C" fn rmi_host_fill(alloc: Global, handle: &mut Handle, granule: u64
     if granule > MOST_U16 || value > MOST_U8 {
         return handle.refuse();
     }
-    let Some(mut bench) = handle.take(alloc) else {
-        return CLOSED;
-    };
-    let call = bench.host_fill(granule as u16, value as u8);
-    handle.give(bench);
-    word(call)
+    handle.perform(alloc, |bench| bench.host_fill(granule as u16, value as u8))
 }
 
 /// Reads a byte of an UNDELEGATED granule into `byte`, which stays as it is where this is refused. This profile's own. An

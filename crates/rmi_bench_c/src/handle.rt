@@ -1,11 +1,16 @@
 //! What C keeps of a bench.
-ghost use Rattle.std.specs.Prelude.{◌≡◌, None, Some, Err, IfSome, IfNone, is_some};
+ghost use Rattle.std.specs.Prelude.{◌≡◌, Result, None, Some, Err, IfSome, IfNone, is_some};
+ghost use Rattle.std.specs.Fn.{FnOnceReturnsAtMut};
+ghost use Rattle.realm_model.specs.Update.{Outcome};
+ghost use Rattle.realm_model.specs.declared.rmi.Rmi.{Rmi};
 ghost use Rattle.realm_model.specs.Command.Check.{error_input};
+ghost use Rattle.rmi_monitor.specs.View.{MonitorView};
+ghost use Rattle.rmi_bench.specs.Calls.{Does};
 ghost use Rattle.rmi_bench_c.specs.Answers.{Performs};
 
 use crate::Held;
 use crate::parts::Parts;
-use crate::word::CLOSED;
+use crate::word::{CLOSED, word};
 use realm_model::Rmi;
 use rmi_bench::Bench;
 use std::alloc::Global;
@@ -55,6 +60,25 @@ impl Handle {
         ensures same { self.new ≡ self.old }
     {
         self.is_open
+    }
+
+    // Does a command on the bench, and answers its word. A closed handle answers that it is closed.
+    pub(crate) fn perform<F: FnOnce(&mut Bench) -> Result<(), Rmi>>(
+        &mut self,
+        alloc: Global,
+        command: F,
+    ) -> u64
+        requires { F.IsAlwaysCallable command }
+        ensures { (outcome : MonitorView → Outcome)
+            → ((old new : MonitorView) (call : Result (Unit {0}) Rmi) → FnOnceReturnsAtMut F.FnOnce command old call new → Does (outcome old) old call new)
+            → Performs outcome self.old.held.bench result self.new.held.bench }
+    {
+        let Some(mut bench) = self.take(alloc) else {
+            return CLOSED;
+        };
+        let call = command(&mut bench);
+        self.give(bench);
+        word(call)
     }
 
     // What is answered where an operand fits no field: an input error, and on a closed handle that it is closed.

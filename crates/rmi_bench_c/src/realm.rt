@@ -6,7 +6,7 @@ ghost use Rattle.rmi_bench.specs.Calls.{naming};
 ghost use Rattle.rmi_bench_c.specs.Answers.{fits_u8, fits_u16, Serves};
 
 use crate::Handle;
-use crate::word::{CLOSED, MOST_U8, MOST_U16, word};
+use crate::word::{MOST_U8, MOST_U16};
 use std::alloc::Global;
 
 /// RMI_REALM_CREATE. `root` is the first of 2^(width - 39) starting tables.
@@ -25,12 +25,10 @@ pub extern "C" fn rmi_realm_create(
     if rd > MOST_U16 || root > MOST_U16 || vmid > MOST_U8 || width > MOST_U8 {
         return handle.refuse();
     }
-    let Some(mut bench) = handle.take(alloc) else {
-        return CLOSED;
-    };
-    let call = bench.realm_create(rd as u16, root as u16, vmid as u8, width as u8);
-    handle.give(bench);
-    word(call)
+    handle.perform(
+        alloc,
+        |bench| bench.realm_create(rd as u16, root as u16, vmid as u8, width as u8),
+    )
 }
 
 /// RMI_REALM_ACTIVATE.
@@ -42,12 +40,7 @@ pub extern "C" fn rmi_realm_activate(alloc: Global, handle: &mut Handle, rd: u64
     if rd > MOST_U16 {
         return handle.refuse();
     }
-    let Some(mut bench) = handle.take(alloc) else {
-        return CLOSED;
-    };
-    let call = bench.realm_activate(rd as u16);
-    handle.give(bench);
-    word(call)
+    handle.perform(alloc, |bench| bench.realm_activate(rd as u16))
 }
 
 /// RMI_REALM_DESTROY.
@@ -59,10 +52,5 @@ pub extern "C" fn rmi_realm_destroy(alloc: Global, handle: &mut Handle, rd: u64)
     if rd > MOST_U16 {
         return handle.refuse();
     }
-    let Some(mut bench) = handle.take(alloc) else {
-        return CLOSED;
-    };
-    let call = bench.realm_destroy(rd as u16);
-    handle.give(bench);
-    word(call)
+    handle.perform(alloc, |bench| bench.realm_destroy(rd as u16))
 }

@@ -8,7 +8,7 @@ ghost use Rattle.rmi_bench_c.specs.Answers.{fits_u8, fits_u16, fits_u32, fit_aux
 
 use crate::Handle;
 use crate::made::{create, narrowed};
-use crate::word::{CLOSED, MOST_U8, MOST_U16, MOST_U32, word};
+use crate::word::{CLOSED, MOST_U8, MOST_U16, MOST_U32};
 use std::alloc::Global;
 
 /// RMI_REC_CREATE, with these auxiliary granules. `number` becomes the REC's, and stays as it is where this is refused.
@@ -53,12 +53,7 @@ pub extern "C" fn rmi_rec_enter(alloc: Global, handle: &mut Handle, rec: u64) ->
     if rec > MOST_U16 {
         return handle.refuse();
     }
-    let Some(mut bench) = handle.take(alloc) else {
-        return CLOSED;
-    };
-    let call = bench.rec_enter(rec as u16);
-    handle.give(bench);
-    word(call)
+    handle.perform(alloc, |bench| bench.rec_enter(rec as u16))
 }
 
 /// REC exit; as a command of its own it is this profile's.
@@ -70,12 +65,7 @@ pub extern "C" fn rmi_rec_exit(alloc: Global, handle: &mut Handle, rec: u64) -> 
     if rec > MOST_U16 {
         return handle.refuse();
     }
-    let Some(mut bench) = handle.take(alloc) else {
-        return CLOSED;
-    };
-    let call = bench.rec_exit(rec as u16);
-    handle.give(bench);
-    word(call)
+    handle.perform(alloc, |bench| bench.rec_exit(rec as u16))
 }
 
 /// RMI_REC_DESTROY.
@@ -87,12 +77,7 @@ pub extern "C" fn rmi_rec_destroy(alloc: Global, handle: &mut Handle, rec: u64) 
     if rec > MOST_U16 {
         return handle.refuse();
     }
-    let Some(mut bench) = handle.take(alloc) else {
-        return CLOSED;
-    };
-    let call = bench.rec_destroy(rec as u16);
-    handle.give(bench);
-    word(call)
+    handle.perform(alloc, |bench| bench.rec_destroy(rec as u16))
 }
 
 /// Lets a RUNNING REC write a byte of a page of its realm. This profile's own. An offset above 4,095 is an input error.
@@ -112,10 +97,8 @@ pub extern "C" fn rmi_guest_write(
     if rec > MOST_U16 || ipa > MOST_U32 || offset > MOST_U16 || value > MOST_U8 {
         return handle.refuse();
     }
-    let Some(mut bench) = handle.take(alloc) else {
-        return CLOSED;
-    };
-    let call = bench.guest_write(rec as u16, ipa as u32, offset as u16, value as u8);
-    handle.give(bench);
-    word(call)
+    handle.perform(
+        alloc,
+        |bench| bench.guest_write(rec as u16, ipa as u32, offset as u16, value as u8),
+    )
 }

@@ -6,7 +6,7 @@ ghost use Rattle.rmi_bench.specs.Calls.{naming};
 ghost use Rattle.rmi_bench_c.specs.Answers.{fits_u8, fits_u16, fits_u32, Serves};
 
 use crate::Handle;
-use crate::word::{CLOSED, MOST_U8, MOST_U16, MOST_U32, word};
+use crate::word::{MOST_U8, MOST_U16, MOST_U32};
 use std::alloc::Global;
 
 /// RMI_RTT_CREATE. `ipa` is the first IPA granule that the table serves.
@@ -25,12 +25,10 @@ pub extern "C" fn rmi_rtt_create(
     if rd > MOST_U16 || table > MOST_U16 || ipa > MOST_U32 || level > MOST_U8 {
         return handle.refuse();
     }
-    let Some(mut bench) = handle.take(alloc) else {
-        return CLOSED;
-    };
-    let call = bench.rtt_create(rd as u16, table as u16, ipa as u32, level as u8);
-    handle.give(bench);
-    word(call)
+    handle.perform(
+        alloc,
+        |bench| bench.rtt_create(rd as u16, table as u16, ipa as u32, level as u8),
+    )
 }
 
 /// RMI_RTT_DESTROY. `ipa` is the first IPA granule that the table serves.
@@ -48,12 +46,10 @@ pub extern "C" fn rmi_rtt_destroy(
     if rd > MOST_U16 || ipa > MOST_U32 || level > MOST_U8 {
         return handle.refuse();
     }
-    let Some(mut bench) = handle.take(alloc) else {
-        return CLOSED;
-    };
-    let call = bench.rtt_destroy(rd as u16, ipa as u32, level as u8);
-    handle.give(bench);
-    word(call)
+    handle.perform(
+        alloc,
+        |bench| bench.rtt_destroy(rd as u16, ipa as u32, level as u8),
+    )
 }
 
 /// RMI_RTT_INIT_RIPAS: RAM at `count` IPA granules from `ipa` on.
@@ -71,10 +67,8 @@ pub extern "C" fn rmi_rtt_init_ripas(
     if rd > MOST_U16 || ipa > MOST_U32 || count > MOST_U16 {
         return handle.refuse();
     }
-    let Some(mut bench) = handle.take(alloc) else {
-        return CLOSED;
-    };
-    let call = bench.rtt_init_ripas(rd as u16, ipa as u32, count as u16);
-    handle.give(bench);
-    word(call)
+    handle.perform(
+        alloc,
+        |bench| bench.rtt_init_ripas(rd as u16, ipa as u32, count as u16),
+    )
 }

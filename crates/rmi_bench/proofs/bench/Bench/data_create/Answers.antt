@@ -9,19 +9,22 @@ use Rattle.rmi_bench.proofs.bench.Bench.data_create.Goals as goal
 pub returns-in_err-rd : goal.returns-in_err-rd
 returns-in_err-rd c =
     let told = err_from_is_err_and c.from_residual.result c.from_residual.ensures.1 in
-    does_outside c.args.self.now (data_create (seen_in c.args.self.now c.args.rd) (seen_in c.args.self.now c.args.page) c.args.ipa (seen_in c.args.self.now c.args.source)) (c.args.rd ∷ c.args.page ∷ c.args.source ∷ []) (out_first c.args.self.now c.args.rd (c.args.page ∷ c.args.source ∷ []) c.in_err-rd.ensures.outside.1)
+    does_outside c.args.self.now (data_create (seen_in c.args.self.now c.args.rd) (seen_in c.args.self.now c.args.page) c.args.ipa (seen_in c.args.self.now c.args.source))
+    (c.args.rd ∷ c.args.page ∷ c.args.source ∷ []) (out_first c.args.self.now c.args.rd (c.args.page ∷ c.args.source ∷ []) c.in_err-rd.ensures.outside.1)
     c.from_residual.result (told.1 ∙ ap Err (told.2 ∙ c.in_err-rd.ensures.outside.0))
 
 pub returns-in_err-page : goal.returns-in_err-page
 returns-in_err-page c =
     let told = err_from_is_err_and c.from_residual-in_err-page.result c.from_residual-in_err-page.ensures.1 in
-    does_outside c.args.self.now (data_create (seen_in c.args.self.now c.args.rd) (seen_in c.args.self.now c.args.page) c.args.ipa (seen_in c.args.self.now c.args.source)) (c.args.rd ∷ c.args.page ∷ c.args.source ∷ []) (out_second c.args.self.now c.args.rd c.args.page (c.args.source ∷ []) c.in_err-page.ensures.outside.1)
+    does_outside c.args.self.now (data_create (seen_in c.args.self.now c.args.rd) (seen_in c.args.self.now c.args.page) c.args.ipa (seen_in c.args.self.now c.args.source))
+    (c.args.rd ∷ c.args.page ∷ c.args.source ∷ []) (out_second c.args.self.now c.args.rd c.args.page (c.args.source ∷ []) c.in_err-page.ensures.outside.1)
     c.from_residual-in_err-page.result (told.1 ∙ ap Err (told.2 ∙ c.in_err-page.ensures.outside.0))
 
 pub returns-in_err-source : goal.returns-in_err-source
 returns-in_err-source c =
     let told = err_from_is_err_and c.from_residual-in_err-source.result c.from_residual-in_err-source.ensures.1 in
-    does_outside c.args.self.now (data_create (seen_in c.args.self.now c.args.rd) (seen_in c.args.self.now c.args.page) c.args.ipa (seen_in c.args.self.now c.args.source)) (c.args.rd ∷ c.args.page ∷ c.args.source ∷ []) (out_third c.args.self.now c.args.rd c.args.page c.args.source [] c.in_err-source.ensures.outside.1)
+    does_outside c.args.self.now (data_create (seen_in c.args.self.now c.args.rd) (seen_in c.args.self.now c.args.page) c.args.ipa (seen_in c.args.self.now c.args.source))
+    (c.args.rd ∷ c.args.page ∷ c.args.source ∷ []) (out_third c.args.self.now c.args.rd c.args.page c.args.source [] c.in_err-source.ensures.outside.1)
     c.from_residual-in_err-source.result (told.1 ∙ ap Err (told.2 ∙ c.in_err-source.ensures.outside.0))
 
 pub invariant_of-self : goal.invariant_of-self
@@ -29,5 +32,9 @@ invariant_of-self c = bench_after _ _ _ c.data_create.ensures.machine c.self.inv
 
 pub returns : goal.returns
 returns c =
-    does_named c.args.self.now (data_create (seen_in c.args.self.now c.args.rd) (seen_in c.args.self.now c.args.page) c.args.ipa (seen_in c.args.self.now c.args.source)) (c.args.rd ∷ c.args.page ∷ c.args.source ∷ []) (in_three c.args.self.now c.args.rd c.args.page c.args.source c.in_ok-rd.ensures.inside.1 c.in_ok-page.ensures.inside.1 c.in_ok-source.ensures.inside.1) c.data_create.result _
-    (does_inside _ c.args.self.now _ _ c.data_create.result _ c.self.view_is (λ i. data_create (seen_in (c.self.view_is i) (c.in_ok-rd.ensures.inside.0 i)) (seen_in (c.self.view_is i) (c.in_ok-page.ensures.inside.0 i)) c.args.ipa (seen_in (c.self.view_is i) (c.in_ok-source.ensures.inside.0 i))) c.data_create.ensures.answer c.data_create.ensures.machine)
+    does_named c.args.self.now (data_create (seen_in c.args.self.now c.args.rd) (seen_in c.args.self.now c.args.page) c.args.ipa (seen_in c.args.self.now c.args.source))
+    (c.args.rd ∷ c.args.page ∷ c.args.source ∷ []) (in_three c.args.self.now c.args.rd c.args.page c.args.source c.in_ok-rd.ensures.inside.1 c.in_ok-page.ensures.inside.1
+    c.in_ok-source.ensures.inside.1) c.data_create.result _
+    (does_inside _ c.args.self.now _ _ c.data_create.result _ c.self.view_is
+    (λ i. data_create (seen_in (c.self.view_is i) (c.in_ok-rd.ensures.inside.0 i)) (seen_in (c.self.view_is i) (c.in_ok-page.ensures.inside.0 i)) c.args.ipa
+    (seen_in (c.self.view_is i) (c.in_ok-source.ensures.inside.0 i))) c.data_create.ensures.answer c.data_create.ensures.machine)

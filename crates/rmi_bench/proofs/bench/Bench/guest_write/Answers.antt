@@ -16,7 +16,8 @@ pub returns-in_err-rec : goal.returns-in_err-rec
 returns-in_err-rec c =
     let told = err_from_is_err_and c.from_residual.result c.from_residual.ensures.1 in
     let comes = on_rec (λ rd number. guest_write rd number c.args.ipa c.args.offset c.args.value) c.args.self.now c.args.rec in
-    does_checked c.args.self.now (naming (c.args.rec ∷ []) c.args.self.now comes) (nat_lt c.args.offset 4096) (given (nat_lt c.args.offset 4096) c.args.offset c.in-Some.offset c.new.result c.new.ensures c.in-Some.is).0 c.from_residual.result c.args.self.now
+    does_checked c.args.self.now (naming (c.args.rec ∷ []) c.args.self.now comes) (nat_lt c.args.offset 4096)
+    (given (nat_lt c.args.offset 4096) c.args.offset c.in-Some.offset c.new.result c.new.ensures c.in-Some.is).0 c.from_residual.result c.args.self.now
     (does_outside c.args.self.now comes (c.args.rec ∷ []) (out_first c.args.self.now c.args.rec [] c.in_err-rec.ensures.outside.1)
     c.from_residual.result (told.1 ∙ ap Err (told.2 ∙ c.in_err-rec.ensures.outside.0)))
 
@@ -29,5 +30,7 @@ returns c =
     let comes = on_rec (λ rd number. guest_write rd number c.args.ipa c.args.offset c.args.value) c.args.self.now c.args.rec in
     does_checked c.args.self.now (naming (c.args.rec ∷ []) c.args.self.now comes) (nat_lt c.args.offset 4096) offset.0 c.guest_write.result _
     (does_named c.args.self.now comes (c.args.rec ∷ []) (in_one c.args.self.now c.args.rec c.in_ok-rec.ensures.inside.1) c.guest_write.result _
-    (subst (λ (at : ℕ). Does (on_rec (λ rd number. guest_write rd number c.args.ipa at c.args.value) c.args.self.now c.args.rec) c.args.self.now c.guest_write.result c.guest_write.new.self) (sym offset.1)
-    (does_rec_inside (λ rd number. guest_write rd number c.args.ipa c.in-Some.offset c.args.value) _ _ c.args.self.now c.args.rec c.guest_write.result _ c.self.view_is c.in_ok-rec.ensures.inside.0 c.guest_write.ensures)))
+    (subst (λ (at : ℕ). Does (on_rec (λ rd number. guest_write rd number c.args.ipa at c.args.value) c.args.self.now c.args.rec) c.args.self.now c.guest_write.result c.guest_write.new.self)
+    (sym offset.1)
+    (does_rec_inside (λ rd number. guest_write rd number c.args.ipa c.in-Some.offset c.args.value) _ _ c.args.self.now c.args.rec c.guest_write.result _ c.self.view_is c.in_ok-rec.ensures.inside.0
+    c.guest_write.ensures)))

@@ -23,7 +23,8 @@ pub returns-in_default : goal.returns-in_default
 returns-in_default c =
     let outcome = make_realm c.args.self.now c.args.rd (record { first = c.args.root; width = c.args.width }) c.args.vmid in
     does_named c.args.self.now outcome (c.args.rd ∷ c.args.root ∷ []) (in_two c.args.self.now c.args.rd c.args.root c.in_ok-rd.ensures.inside.1 c.in_ok-root.ensures.inside.1) _ _
-    (does_refused c.args.self.now outcome (no_vmid c.args.self.now c.args.rd (record { first = c.args.root; width = c.args.width }) c.args.vmid (test_failed (nat_le 1 c.args.vmid) c.args.vmid c.new.result c.new.ensures c.in_default.is)) _ refl)
+    (does_refused c.args.self.now outcome (no_vmid c.args.self.now c.args.rd (record { first = c.args.root; width = c.args.width }) c.args.vmid
+    (test_failed (nat_le 1 c.args.vmid) c.args.vmid c.new.result c.new.ensures c.in_default.is)) _ refl)
 
 pub invariant_of-self : goal.invariant_of-self
 invariant_of-self c = bench_after _ _ _ c.realm_create.ensures.machine c.self.invariant

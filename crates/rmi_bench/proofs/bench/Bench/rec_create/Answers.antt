@@ -12,14 +12,16 @@ use Rattle.rmi_bench.proofs.bench.Bench.rec_create.Goals.{in-Ok, in-Err}
 pub returns-in_err-rd-clause-done : goal.returns-in_err-rd-clause-done
 returns-in_err-rd-clause-done c =
     let told = err_from_is_err_and c.from_residual.result c.from_residual.ensures.1 in
-    does_outside c.args.self.now (numbered (seen_in c.args.self.now c.args.rd) (rec_created c.args.self.now c.args.rd c.args.rec c.args.auxiliaries.now)) (c.args.rd ∷ c.args.rec ∷ c.args.auxiliaries.now)
+    does_outside c.args.self.now (numbered (seen_in c.args.self.now c.args.rd) (rec_created c.args.self.now c.args.rd c.args.rec c.args.auxiliaries.now))
+    (c.args.rd ∷ c.args.rec ∷ c.args.auxiliaries.now)
     (out_first c.args.self.now c.args.rd (c.args.rec ∷ c.args.auxiliaries.now) c.in_err-rd.ensures.outside.1)
     c.from_residual.result (told.1 ∙ ap Err (told.2 ∙ c.in_err-rd.ensures.outside.0))
 
 pub returns-in_err-rec-clause-done : goal.returns-in_err-rec-clause-done
 returns-in_err-rec-clause-done c =
     let told = err_from_is_err_and c.from_residual-in_err-rec.result c.from_residual-in_err-rec.ensures.1 in
-    does_outside c.args.self.now (numbered (seen_in c.args.self.now c.args.rd) (rec_created c.args.self.now c.args.rd c.args.rec c.args.auxiliaries.now)) (c.args.rd ∷ c.args.rec ∷ c.args.auxiliaries.now)
+    does_outside c.args.self.now (numbered (seen_in c.args.self.now c.args.rd) (rec_created c.args.self.now c.args.rd c.args.rec c.args.auxiliaries.now))
+    (c.args.rd ∷ c.args.rec ∷ c.args.auxiliaries.now)
     (out_second c.args.self.now c.args.rd c.args.rec c.args.auxiliaries.now c.in_err-rec.ensures.outside.1)
     c.from_residual-in_err-rec.result (told.1 ∙ ap Err (told.2 ∙ c.in_err-rec.ensures.outside.0))
 
@@ -31,7 +33,8 @@ returns-then-auxiliaries-gt-MOST_AUXILIARIES-clause-done c =
 pub returns-in_err-auxiliaries-clause-done : goal.returns-in_err-auxiliaries-clause-done
 returns-in_err-auxiliaries-clause-done c =
     let told = err_from_is_err_and c.from_residual-in_err-auxiliaries.result c.from_residual-in_err-auxiliaries.ensures.1 in
-    does_outside c.args.self.now (numbered (seen_in c.args.self.now c.args.rd) (rec_created c.args.self.now c.args.rd c.args.rec c.args.auxiliaries.now)) (c.args.rd ∷ c.args.rec ∷ c.args.auxiliaries.now)
+    does_outside c.args.self.now (numbered (seen_in c.args.self.now c.args.rd) (rec_created c.args.self.now c.args.rd c.args.rec c.args.auxiliaries.now))
+    (c.args.rd ∷ c.args.rec ∷ c.args.auxiliaries.now)
     (out_rest c.args.self.now c.args.rd c.args.rec c.args.auxiliaries.now c.in_err-auxiliaries.ensures.outside.1)
     c.from_residual-in_err-auxiliaries.result (told.1 ∙ ap Err (told.2 ∙ c.in_err-auxiliaries.ensures.outside.0))
 
@@ -52,13 +55,15 @@ returns-clause-done c =
     let some : has_number (seen_in c.args.self.now c.args.rd) ≡ true = ap (λ (g : ℕ). has_number (seen_in c.args.self.now g)) (sym c.in_ok-rd.ensures.inside.0) ∙ sym c.if-not-has_number.ensures in
     let did : Does created c.args.self.now c.rec_create.result c.rec_create.new.self =
     does_inside _ c.args.self.now _ created c.rec_create.result _ c.self.view_is
-    (λ i. rec_create (c.self.view_is i).aux (seen_in (c.self.view_is i) (c.in_ok-rd.ensures.inside.0 i)) (seen_in (c.self.view_is i) (c.in_ok-rec.ensures.inside.0 i)) (map (seen_in (c.self.view_is i)) (c.in_ok-auxiliaries.ensures.inside.0 i)))
+    (λ i. rec_create (c.self.view_is i).aux (seen_in (c.self.view_is i) (c.in_ok-rd.ensures.inside.0 i)) (seen_in (c.self.view_is i) (c.in_ok-rec.ensures.inside.0 i))
+    (map (seen_in (c.self.view_is i)) (c.in_ok-auxiliaries.ensures.inside.0 i)))
     c.rec_create.ensures.answer c.rec_create.ensures.machine in
     let answers : Answers c.match-rec_create.result created = elim c.match-rec_create.branch [
       | in-Ok w ↦ alike_ok c.rec_create.result c.match-rec_create.result _ w.number.result created w.in-Ok.is w.result-is did.answer
       | in-Err w ↦ alike_err c.rec_create.result c.match-rec_create.result _ created w.in-Err.is w.result-is did.answer
     ] in
     does_named c.args.self.now (numbered (seen_in c.args.self.now c.args.rd) created) (c.args.rd ∷ c.args.rec ∷ c.args.auxiliaries.now)
-    (in_rest c.args.self.now c.args.rd c.args.rec c.args.auxiliaries.now c.in_ok-rd.ensures.inside.1 c.in_ok-rec.ensures.inside.1 c.in_ok-auxiliaries.ensures.inside.1) c.match-rec_create.result c.rec_create.new.self
+    (in_rest c.args.self.now c.args.rd c.args.rec c.args.auxiliaries.now c.in_ok-rd.ensures.inside.1 c.in_ok-rec.ensures.inside.1 c.in_ok-auxiliaries.ensures.inside.1) c.match-rec_create.result
+    c.rec_create.new.self
     (does_checked c.args.self.now created (has_number (seen_in c.args.self.now c.args.rd)) some c.match-rec_create.result c.rec_create.new.self
     (record { answer = answers; machine = did.machine }))

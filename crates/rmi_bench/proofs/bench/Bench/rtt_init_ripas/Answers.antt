@@ -11,4 +11,5 @@ pub invariant_of-self : goal.invariant_of-self
 invariant_of-self c = bench_after _ _ _ c.rtt_init_ripas.ensures.machine c.self.invariant
 
 pub returns : goal.returns
-returns c = one_inside _ _ _ (λ m g. rtt_init_ripas (seen_in m g) c.args.ipa c.args.count) _ _ _ c.self.view_is c.in_ok-rd.ensures.inside c.rtt_init_ripas.ensures.answer c.rtt_init_ripas.ensures.machine
+returns c = one_inside _ _ _ (λ m g. rtt_init_ripas (seen_in m g) c.args.ipa c.args.count) _ _ _ c.self.view_is c.in_ok-rd.ensures.inside c.rtt_init_ripas.ensures.answer
+    c.rtt_init_ripas.ensures.machine
