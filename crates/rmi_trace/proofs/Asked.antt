@@ -51,7 +51,8 @@ before_answer-alone (b ∷ c ∷ rest) h = before_more b (c ∷ rest) (c ∷ res
 before_answer-answered : (asked answer : List ℕ) → HasNoSign asked → before_answer (asked ++ (32 ∷ 61 ∷ 32 ∷ answer)) ≡ asked
 before_answer-answered [] answer h = refl
 before_answer-answered (b ∷ []) answer h = before_more b (32 ∷ 61 ∷ 32 ∷ answer) [] (begins-false b 32 (61 ∷ 32 ∷ answer) (λ e. omega (arith, e))) refl
-before_answer-answered (b ∷ c ∷ rest) answer h = before_more b (c ∷ (rest ++ (32 ∷ 61 ∷ 32 ∷ answer))) (c ∷ rest) (begins-false b c (rest ++ (32 ∷ 61 ∷ 32 ∷ answer)) h.1.0) (before_answer-answered (c ∷ rest) answer h.1)
+before_answer-answered (b ∷ c ∷ rest) answer h = before_more b (c ∷ (rest ++ (32 ∷ 61 ∷ 32 ∷ answer))) (c ∷ rest) (begins-false b c (rest ++ (32 ∷ 61 ∷ 32 ∷ answer)) h.1.0)
+    (before_answer-answered (c ∷ rest) answer h.1)
 
 pub before_answer-asked : (text asked : List ℕ) → HasNoSign asked → IsAskedIn text asked → before_answer text ≡ asked
 before_answer-asked text asked none (inl alone) = ap before_answer alone ∙ before_answer-alone asked none

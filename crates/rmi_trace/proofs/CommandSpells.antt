@@ -21,46 +21,56 @@ made c at_most counts = record { word_is = refl; numbers_are = refl; in_range = 
 
 granule_spells : (word ns : List ℕ) (c : Command) → granule_command_at word ns ≡ Some c → SpellsCommand word ns c
 granule_spells word ns c =
-    choose SpellsCommand word ns c (codes "granule_delegate") (one u16 (λ k. GranuleDelegate k)) _ (one_makes (SpellsCommand (codes "granule_delegate")) u16 _ (λ k h. made (GranuleDelegate k) (h, tt) tt))
-    (choose SpellsCommand word ns c (codes "granule_undelegate") (one u16 (λ k. GranuleUndelegate k)) _ (one_makes (SpellsCommand (codes "granule_undelegate")) u16 _ (λ k h. made (GranuleUndelegate k) (h, tt) tt))
+    choose SpellsCommand word ns c (codes "granule_delegate") (one u16 (λ k. GranuleDelegate k)) _
+    (one_makes (SpellsCommand (codes "granule_delegate")) u16 _ (λ k h. made (GranuleDelegate k) (h, tt) tt))
+    (choose SpellsCommand word ns c (codes "granule_undelegate") (one u16 (λ k. GranuleUndelegate k)) _
+    (one_makes (SpellsCommand (codes "granule_undelegate")) u16 _ (λ k h. made (GranuleUndelegate k) (h, tt) tt))
     (choose SpellsCommand word ns c (codes "host_fill") (two u16 u8 (λ k l. HostFill k l)) _ (two_makes (SpellsCommand (codes "host_fill")) u16 u8 _ (λ k l h i. made (HostFill k l) (h, (i, tt)) tt))
     (choose SpellsCommand word ns c (codes "host_peek") (two u16 u16 (λ k l. HostPeek k l)) _ (two_makes (SpellsCommand (codes "host_peek")) u16 u16 _ (λ k l h i. made (HostPeek k l) (h, (i, tt)) tt))
     (λ e. absurd (cc)))))
 
 realm_spells : (word ns : List ℕ) (c : Command) → realm_command_at word ns ≡ Some c → SpellsCommand word ns c
 realm_spells word ns c =
-    choose SpellsCommand word ns c (codes "realm_create") (four u16 u16 u8 u8 (λ k l m n. RealmCreate k l m n)) _ (four_makes (SpellsCommand (codes "realm_create")) u16 u16 u8 u8 _ (λ k l m n h i j o. made (RealmCreate k l m n) (h, (i, (j, (o, tt)))) tt))
+    choose SpellsCommand word ns c (codes "realm_create") (four u16 u16 u8 u8 (λ k l m n. RealmCreate k l m n)) _
+    (four_makes (SpellsCommand (codes "realm_create")) u16 u16 u8 u8 _ (λ k l m n h i j o. made (RealmCreate k l m n) (h, (i, (j, (o, tt)))) tt))
     (choose SpellsCommand word ns c (codes "realm_activate") (one u16 (λ k. RealmActivate k)) _ (one_makes (SpellsCommand (codes "realm_activate")) u16 _ (λ k h. made (RealmActivate k) (h, tt) tt))
     (choose SpellsCommand word ns c (codes "realm_destroy") (one u16 (λ k. RealmDestroy k)) _ (one_makes (SpellsCommand (codes "realm_destroy")) u16 _ (λ k h. made (RealmDestroy k) (h, tt) tt))
     (λ e. absurd (cc))))
 
 table_spells : (word ns : List ℕ) (c : Command) → table_command_at word ns ≡ Some c → SpellsCommand word ns c
 table_spells word ns c =
-    choose SpellsCommand word ns c (codes "rtt_create") (four u16 u16 u32 u8 (λ k l m n. RttCreate k l m n)) _ (four_makes (SpellsCommand (codes "rtt_create")) u16 u16 u32 u8 _ (λ k l m n h i j o. made (RttCreate k l m n) (h, (i, (j, (o, tt)))) tt))
-    (choose SpellsCommand word ns c (codes "rtt_destroy") (three u16 u32 u8 (λ k l m. RttDestroy k l m)) _ (three_makes (SpellsCommand (codes "rtt_destroy")) u16 u32 u8 _ (λ k l m h i j. made (RttDestroy k l m) (h, (i, (j, tt))) tt))
-    (choose SpellsCommand word ns c (codes "rtt_init_ripas") (three u16 u32 u16 (λ k l m. RttInitRipas k l m)) _ (three_makes (SpellsCommand (codes "rtt_init_ripas")) u16 u32 u16 _ (λ k l m h i j. made (RttInitRipas k l m) (h, (i, (j, tt))) tt))
+    choose SpellsCommand word ns c (codes "rtt_create") (four u16 u16 u32 u8 (λ k l m n. RttCreate k l m n)) _
+    (four_makes (SpellsCommand (codes "rtt_create")) u16 u16 u32 u8 _ (λ k l m n h i j o. made (RttCreate k l m n) (h, (i, (j, (o, tt)))) tt))
+    (choose SpellsCommand word ns c (codes "rtt_destroy") (three u16 u32 u8 (λ k l m. RttDestroy k l m)) _
+    (three_makes (SpellsCommand (codes "rtt_destroy")) u16 u32 u8 _ (λ k l m h i j. made (RttDestroy k l m) (h, (i, (j, tt))) tt))
+    (choose SpellsCommand word ns c (codes "rtt_init_ripas") (three u16 u32 u16 (λ k l m. RttInitRipas k l m)) _
+    (three_makes (SpellsCommand (codes "rtt_init_ripas")) u16 u32 u16 _ (λ k l m h i j. made (RttInitRipas k l m) (h, (i, (j, tt))) tt))
     (λ e. absurd (cc))))
 
 data_spells : (word ns : List ℕ) (c : Command) → data_command_at word ns ≡ Some c → SpellsCommand word ns c
 data_spells word ns c =
-    choose SpellsCommand word ns c (codes "data_create") (four u16 u16 u32 u16 (λ k l m n. DataCreate k l m n)) _ (four_makes (SpellsCommand (codes "data_create")) u16 u16 u32 u16 _ (λ k l m n h i j o. made (DataCreate k l m n) (h, (i, (j, (o, tt)))) tt))
-    (choose SpellsCommand word ns c (codes "data_create_unknown") (three u16 u16 u32 (λ k l m. DataCreateUnknown k l m)) _ (three_makes (SpellsCommand (codes "data_create_unknown")) u16 u16 u32 _ (λ k l m h i j. made (DataCreateUnknown k l m) (h, (i, (j, tt))) tt))
-    (choose SpellsCommand word ns c (codes "data_destroy") (two u16 u32 (λ k l. DataDestroy k l)) _ (two_makes (SpellsCommand (codes "data_destroy")) u16 u32 _ (λ k l h i. made (DataDestroy k l) (h, (i, tt)) tt))
+    choose SpellsCommand word ns c (codes "data_create") (four u16 u16 u32 u16 (λ k l m n. DataCreate k l m n)) _
+    (four_makes (SpellsCommand (codes "data_create")) u16 u16 u32 u16 _ (λ k l m n h i j o. made (DataCreate k l m n) (h, (i, (j, (o, tt)))) tt))
+    (choose SpellsCommand word ns c (codes "data_create_unknown") (three u16 u16 u32 (λ k l m. DataCreateUnknown k l m)) _
+    (three_makes (SpellsCommand (codes "data_create_unknown")) u16 u16 u32 _ (λ k l m h i j. made (DataCreateUnknown k l m) (h, (i, (j, tt))) tt))
+    (choose SpellsCommand word ns c (codes "data_destroy") (two u16 u32 (λ k l. DataDestroy k l)) _
+    (two_makes (SpellsCommand (codes "data_destroy")) u16 u32 _ (λ k l h i. made (DataDestroy k l) (h, (i, tt)) tt))
     (λ e. absurd (cc))))
 
 rec_create_spells : (ns : List ℕ) (c : Command) → rec_create_at ns ≡ Some c → SpellsCommand (codes "rec_create") ns c
 rec_create_spells [] c e = absurd (cc)
 rec_create_spells (rd ∷ []) c e = absurd (cc)
-rec_create_spells (rd ∷ granule ∷ more) c e = elim (leb rd u16 && leb granule u16) as (λ t. leb rd u16 && leb granule u16 ≡ t → cond t (option_map (λ it. RecCreate rd granule it) (up_to 16 u16 more)) None ≡ Some c → SpellsCommand (codes "rec_create") (rd ∷ granule ∷ more) c) [
-  | true ↦ λ test made_it.
-      let parts = and_parts (leb rd u16) (leb granule u16) test in
-      let found = map_some (λ it. RecCreate rd granule it) (up_to 16 u16 more) c made_it in
-      let are = up_to-some 16 u16 more found.0 found.1 in
-      let same : RecCreate rd granule (record { items = more }) ≡ c = cc in
-      subst (SpellsCommand (codes "rec_create") (rd ∷ granule ∷ more)) same
-      (made (RecCreate rd granule (record { items = more })) (leb-true rd u16 parts.0, (leb-true granule u16 parts.1, are.small)) are.few)
-  | false ↦ λ test made_it. absurd (cc)
-] refl e
+rec_create_spells (rd ∷ granule ∷ more) c e = elim (leb rd u16 && leb granule u16) as
+    (λ t. leb rd u16 && leb granule u16 ≡ t → cond t (option_map (λ it. RecCreate rd granule it) (up_to 16 u16 more)) None ≡ Some c → SpellsCommand (codes "rec_create") (rd ∷ granule ∷ more) c) [
+      | true ↦ λ test made_it.
+          let parts = and_parts (leb rd u16) (leb granule u16) test in
+          let found = map_some (λ it. RecCreate rd granule it) (up_to 16 u16 more) c made_it in
+          let are = up_to-some 16 u16 more found.0 found.1 in
+          let same : RecCreate rd granule (record { items = more }) ≡ c = cc in
+          subst (SpellsCommand (codes "rec_create") (rd ∷ granule ∷ more)) same
+          (made (RecCreate rd granule (record { items = more })) (leb-true rd u16 parts.0, (leb-true granule u16 parts.1, are.small)) are.few)
+      | false ↦ λ test made_it. absurd (cc)
+    ] refl e
 
 rec_spells : (word ns : List ℕ) (c : Command) → rec_command_at word ns ≡ Some c → SpellsCommand word ns c
 rec_spells word ns c =
@@ -68,7 +78,8 @@ rec_spells word ns c =
     (choose SpellsCommand word ns c (codes "rec_enter") (one u16 (λ k. RecEnter k)) _ (one_makes (SpellsCommand (codes "rec_enter")) u16 _ (λ k h. made (RecEnter k) (h, tt) tt))
     (choose SpellsCommand word ns c (codes "rec_exit") (one u16 (λ k. RecExit k)) _ (one_makes (SpellsCommand (codes "rec_exit")) u16 _ (λ k h. made (RecExit k) (h, tt) tt))
     (choose SpellsCommand word ns c (codes "rec_destroy") (one u16 (λ k. RecDestroy k)) _ (one_makes (SpellsCommand (codes "rec_destroy")) u16 _ (λ k h. made (RecDestroy k) (h, tt) tt))
-    (choose SpellsCommand word ns c (codes "guest_write") (four u16 u32 u16 u8 (λ k l m n. GuestWrite k l m n)) _ (four_makes (SpellsCommand (codes "guest_write")) u16 u32 u16 u8 _ (λ k l m n h i j o. made (GuestWrite k l m n) (h, (i, (j, (o, tt)))) tt))
+    (choose SpellsCommand word ns c (codes "guest_write") (four u16 u32 u16 u8 (λ k l m n. GuestWrite k l m n)) _
+    (four_makes (SpellsCommand (codes "guest_write")) u16 u32 u16 u8 _ (λ k l m n h i j o. made (GuestWrite k l m n) (h, (i, (j, (o, tt)))) tt))
     (λ e. absurd (cc))))))
 
 pub command_spells : (word ns : List ℕ) (c : Command) → command_at word ns ≡ Some c → SpellsCommand word ns c

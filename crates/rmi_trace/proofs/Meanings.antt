@@ -62,7 +62,8 @@ line_of_trace-not_readable bytes is_not = rw (test-from_not_readable bytes is_no
 pub line_of_trace-remark : (bytes : List ℕ) → IsReadable bytes → is_remark (text_of bytes) ≡ true → line.Remark ≡ line_of_trace bytes
 line_of_trace-remark bytes is test = rw (test-from_readable bytes is, test) refl
 
-pub line_of_trace-asked : (bytes : List ℕ) (found : Option Request) → IsReadable bytes → is_remark (text_of bytes) ≡ false → found ≡ meaning_of_text request_at (asked bytes) → line_of_request found ≡ line_of_trace bytes
+pub line_of_trace-asked : (bytes : List ℕ) (found : Option Request) → IsReadable bytes → is_remark (text_of bytes) ≡ false → found ≡ meaning_of_text request_at (asked bytes)
+    → line_of_request found ≡ line_of_trace bytes
 line_of_trace-asked bytes found is test same =
     ap line_of_request same
     ∙ sym (ap (λ u. cond u (cond (is_remark (text_of bytes)) line.Remark (line_of_request (meaning_of_text request_at (asked bytes)))) line.Neither) (test-from_readable bytes is)

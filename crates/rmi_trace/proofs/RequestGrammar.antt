@@ -45,9 +45,11 @@ reading_spells : (word ns : List ℕ) (r : Reading) → reading_at word ns ≡ S
 reading_spells word ns r =
     choose SpellsReading word ns r (codes "state") (one u16 (λ k. reading.State k)) _ (one_makes (SpellsReading (codes "state")) u16 _ (λ k h. made_reading (reading.State k) (h, tt)))
     (choose SpellsReading word ns r (codes "sum") (one u16 (λ k. reading.Sum k)) _ (one_makes (SpellsReading (codes "sum")) u16 _ (λ k h. made_reading (reading.Sum k) (h, tt)))
-    (choose SpellsReading word ns r (codes "word") (two u16 u16 (λ k l. reading.Word k l)) _ (two_makes (SpellsReading (codes "word")) u16 u16 _ (λ k l h i. made_reading (reading.Word k l) (h, (i, tt))))
+    (choose SpellsReading word ns r (codes "word") (two u16 u16 (λ k l. reading.Word k l)) _
+    (two_makes (SpellsReading (codes "word")) u16 u16 _ (λ k l h i. made_reading (reading.Word k l) (h, (i, tt))))
     (choose SpellsReading word ns r (codes "realm") (one u16 (λ k. reading.Realm k)) _ (one_makes (SpellsReading (codes "realm")) u16 _ (λ k h. made_reading (reading.Realm k) (h, tt)))
-    (choose SpellsReading word ns r (codes "measurement") (one u16 (λ k. reading.Measurement k)) _ (one_makes (SpellsReading (codes "measurement")) u16 _ (λ k h. made_reading (reading.Measurement k) (h, tt)))
+    (choose SpellsReading word ns r (codes "measurement") (one u16 (λ k. reading.Measurement k)) _
+    (one_makes (SpellsReading (codes "measurement")) u16 _ (λ k h. made_reading (reading.Measurement k) (h, tt)))
     (choose SpellsReading word ns r (codes "rec") (one u16 (λ k. reading.Rec k)) _ (one_makes (SpellsReading (codes "rec")) u16 _ (λ k h. made_reading (reading.Rec k) (h, tt)))
     (λ e. absurd (cc)))))))
 
@@ -73,22 +75,24 @@ machine_spells [] o e = absurd (cc)
 machine_spells (p ∷ []) o e = absurd (cc)
 machine_spells (p ∷ v ∷ []) o e = absurd (cc)
 machine_spells (p ∷ v ∷ a ∷ b ∷ ns) o e = absurd (cc)
-machine_spells (p ∷ v ∷ a ∷ []) o e = elim (leb p 4096 && leb v 255 && leb a 16) as (λ t. leb p 4096 && leb v 255 && leb a 16 ≡ t → cond t (cond (leb 1 p && leb 1 v) (Some (record { pages = p; vmids = v; auxiliaries = a })) None) None ≡ Some o → SpellsRequest (codes "machine") (p ∷ v ∷ a ∷ []) (request.Opening o)) [
-  | true ↦ λ test made.
-      let all = and_parts (leb p 4096 && leb v 255) (leb a 16) test in
-      let front = and_parts (leb p 4096) (leb v 255) all.0 in
-      let (least, same) = test_from_some (leb 1 p && leb 1 v) (record { pages = p; vmids = v; auxiliaries = a }) o made in
-      let some = and_parts (leb 1 p) (leb 1 v) least in
-      subst (λ it. SpellsRequest (codes "machine") (p ∷ v ∷ a ∷ []) (request.Opening it)) same (record {
-        word_is = refl;
-        numbers_are = refl;
-        in_range = record {
-          at_most = (leb-true p 4096 front.0, (leb-true v 255 front.1, (leb-true a 16 all.1, tt)));
-          counts = (leb-true 1 p some.0, leb-true 1 v some.1);
-        };
-      })
-  | false ↦ λ test made. absurd (cc)
-] refl e
+machine_spells (p ∷ v ∷ a ∷ []) o e = elim (leb p 4096 && leb v 255 && leb a 16) as
+    (λ t. leb p 4096 && leb v 255 && leb a 16 ≡ t → cond t (cond (leb 1 p && leb 1 v) (Some (record { pages = p; vmids = v; auxiliaries = a })) None) None ≡ Some o
+    → SpellsRequest (codes "machine") (p ∷ v ∷ a ∷ []) (request.Opening o)) [
+      | true ↦ λ test made.
+          let all = and_parts (leb p 4096 && leb v 255) (leb a 16) test in
+          let front = and_parts (leb p 4096) (leb v 255) all.0 in
+          let (least, same) = test_from_some (leb 1 p && leb 1 v) (record { pages = p; vmids = v; auxiliaries = a }) o made in
+          let some = and_parts (leb 1 p) (leb 1 v) least in
+          subst (λ it. SpellsRequest (codes "machine") (p ∷ v ∷ a ∷ []) (request.Opening it)) same (record {
+            word_is = refl;
+            numbers_are = refl;
+            in_range = record {
+              at_most = (leb-true p 4096 front.0, (leb-true v 255 front.1, (leb-true a 16 all.1, tt)));
+              counts = (leb-true 1 p some.0, leb-true 1 v some.1);
+            };
+          })
+      | false ↦ λ test made. absurd (cc)
+    ] refl e
 
 abbrev SpellsOpening : List ℕ → List ℕ → Opening → Type 0
 SpellsOpening word ns o = SpellsRequest word ns (request.Opening o)

@@ -1,5 +1,5 @@
 //! The request that a text is.
-ghost use Rattle.std.specs.Prelude.{◌≡◌, codes, IfSome, IfNone};
+ghost use Rattle.std.specs.Prelude.{◌≡◌, IfSome, IfNone};
 ghost use Rattle.number_text.specs.Grammar.{meaning_of_text};
 ghost use Rattle.rmi_trace.specs.declared.request.Request.{Request};
 ghost use Rattle.rmi_trace.specs.Requests.{reading_at, machine_at, opening_at, request_at};
@@ -18,59 +18,30 @@ const MOST_PAGES: u16 = 4096;
 /// The most auxiliaries of a REC.
 const MOST_AUXILIARIES: u8 = 16;
 
-fn state(numbers: &[u32]) -> Option<Reading>
-    ensures { result ≡ reading_at (codes "state") numbers.now }
-{
-    let granule = one_operand(numbers)?;
-    Some(Reading::State { granule })
-}
-
-fn sum(numbers: &[u32]) -> Option<Reading>
-    ensures { result ≡ reading_at (codes "sum") numbers.now }
-{
-    let granule = one_operand(numbers)?;
-    Some(Reading::Sum { granule })
-}
-
-fn word_of_granule(numbers: &[u32]) -> Option<Reading>
-    ensures { result ≡ reading_at (codes "word") numbers.now }
-{
-    let (granule, index) = two_operands(numbers)?;
-    Some(Reading::Word { granule, index })
-}
-
-fn realm(numbers: &[u32]) -> Option<Reading>
-    ensures { result ≡ reading_at (codes "realm") numbers.now }
-{
-    let granule = one_operand(numbers)?;
-    Some(Reading::Realm { granule })
-}
-
-fn measurement(numbers: &[u32]) -> Option<Reading>
-    ensures { result ≡ reading_at (codes "measurement") numbers.now }
-{
-    let granule = one_operand(numbers)?;
-    Some(Reading::Measurement { granule })
-}
-
-fn rec(numbers: &[u32]) -> Option<Reading>
-    ensures { result ≡ reading_at (codes "rec") numbers.now }
-{
-    let granule = one_operand(numbers)?;
-    Some(Reading::Rec { granule })
-}
-
 // The reading that the word and its numbers are.
 fn reading(word: &str, numbers: &[u32]) -> Option<Reading>
     ensures { result ≡ reading_at word.now numbers.now }
 {
     match word {
-        "state" => state(numbers),
-        "sum" => sum(numbers),
-        "word" => word_of_granule(numbers),
-        "realm" => realm(numbers),
-        "measurement" => measurement(numbers),
-        "rec" => rec(numbers),
+        "state" => Some(Reading::State {
+            granule: one_operand(numbers)?,
+        }),
+        "sum" => Some(Reading::Sum {
+            granule: one_operand(numbers)?,
+        }),
+        "word" => {
+            let (granule, index) = two_operands(numbers)?;
+            Some(Reading::Word { granule, index })
+        }
+        "realm" => Some(Reading::Realm {
+            granule: one_operand(numbers)?,
+        }),
+        "measurement" => Some(Reading::Measurement {
+            granule: one_operand(numbers)?,
+        }),
+        "rec" => Some(Reading::Rec {
+            granule: one_operand(numbers)?,
+        }),
         _ => None,
     }
 }
