@@ -21,9 +21,25 @@ means (Peek g o byte) h = rw (le-leb g granule h.at_most.0, le-leb o offset h.at
 means (Delegate g) h = rw (le-leb g granule h.at_most.0) refl
 means (Undelegate g) h = rw (le-leb g granule h.at_most.0) refl
 means (Realm rd root vmid) h =
-    rw (le-leb rd granule h.at_most.0, le-leb root.first granule h.at_most.1.0, le-leb root.width width h.at_most.1.1.0, le-leb vmid u8 h.at_most.1.1.1.0, le-leb 39 root.width h.bounds.0, le-leb 1 vmid h.bounds.1) refl
+    rw (
+      le-leb rd granule h.at_most.0,
+      le-leb root.first granule h.at_most.1.0,
+      le-leb root.width width h.at_most.1.1.0,
+      le-leb vmid u8 h.at_most.1.1.1.0,
+      le-leb 39 root.width h.bounds.0,
+      le-leb 1
+          vmid h.bounds.1,
+    ) refl
 means (UnRealm rd root vmid) h =
-    rw (le-leb rd granule h.at_most.0, le-leb root.first granule h.at_most.1.0, le-leb root.width width h.at_most.1.1.0, le-leb vmid u8 h.at_most.1.1.1.0, le-leb 39 root.width h.bounds.0, le-leb 1 vmid h.bounds.1) refl
+    rw (
+      le-leb rd granule h.at_most.0,
+      le-leb root.first granule h.at_most.1.0,
+      le-leb root.width width h.at_most.1.1.0,
+      le-leb vmid u8 h.at_most.1.1.1.0,
+      le-leb 39 root.width h.bounds.0,
+      le-leb 1
+          vmid h.bounds.1,
+    ) refl
 means Activate h = refl
 means (Rtt g i l) h = rw (le-leb g granule h.at_most.0, le-leb i ipa h.at_most.1.0, le-leb l level h.at_most.1.1.0, le-leb 1 l h.bounds) refl
 means (UnRtt g i l) h = rw (le-leb g granule h.at_most.0, le-leb i ipa h.at_most.1.0, le-leb l level h.at_most.1.1.0, le-leb 1 l h.bounds) refl

@@ -18,7 +18,8 @@ both_tests false t made value e = absurd (cc)
 
 module _ {A : Type 0} (P : List ℕ → A → Type 0) where
   pub realm_makes : (make : ℕ → Root → ℕ → A)
-      → ((rd first w vmid : ℕ) → (rd ≤ granule) × (first ≤ granule) × (w ≤ width) × (vmid ≤ u8) → (39 ≤ w) × (1 ≤ vmid) → P (rd ∷ first ∷ w ∷ vmid ∷ []) (make rd (record { first = first; width = w }) vmid))
+      → ((rd first w vmid : ℕ) → (rd ≤ granule) × (first ≤ granule) × (w ≤ width) × (vmid ≤ u8) → (39 ≤ w) × (1 ≤ vmid)
+      → P (rd ∷ first ∷ w ∷ vmid ∷ []) (make rd (record { first = first; width = w }) vmid))
       → (ns : List ℕ) (value : A) → realm_row make ns ≡ Some value → P ns value
   realm_makes make good [] value e = absurd (cc)
   realm_makes make good (rd ∷ []) value e = absurd (cc)
@@ -49,16 +50,18 @@ module _ {A : Type 0} (P : List ℕ → A → Type 0) where
   table_makes make good (g ∷ i ∷ l ∷ more ∷ ns) value e = absurd (cc)
 
   pub rec_makes : (make : ℕ → ArrayVec ℕ → ℕ → A)
-      → ((g number : ℕ) (more : List ℕ) → (g ≤ granule) × (number ≤ u16) → length more ≤ 16 → AreAtMost more (replicate (length more) granule) → P (g ∷ number ∷ more) (make g (record { items = more }) number))
+      → ((g number : ℕ) (more : List ℕ) → (g ≤ granule) × (number ≤ u16) → length more ≤ 16 → AreAtMost more (replicate (length more) granule)
+      → P (g ∷ number ∷ more) (make g (record { items = more }) number))
       → (ns : List ℕ) (value : A) → rec_row make ns ≡ Some value → P ns value
   rec_makes make good [] value e = absurd (cc)
   rec_makes make good (g ∷ []) value e = absurd (cc)
-  rec_makes make good (g ∷ number ∷ more) value e = elim (leb g granule && leb number u16) as (λ t. leb g granule && leb number u16 ≡ t → cond t (option_map (λ it. make g it number) (up_to 16 granule more)) None ≡ Some value → P (g ∷ number ∷ more) value) [
-    | true ↦ λ test made_it.
-        let parts = and_parts (leb g granule) (leb number u16) test in
-        let found = map_some (λ it. make g it number) (up_to 16 granule more) value made_it in
-        let are = up_to-some 16 granule more found.0 found.1 in
-        let same : make g (record { items = more }) number ≡ value = cc in
-        subst (P (g ∷ number ∷ more)) same (good g number more (leb-true g granule parts.0, leb-true number u16 parts.1) are.few are.small)
-    | false ↦ λ test made_it. absurd (cc)
-  ] refl e
+  rec_makes make good (g ∷ number ∷ more) value e = elim (leb g granule && leb number u16) as
+      (λ t. leb g granule && leb number u16 ≡ t → cond t (option_map (λ it. make g it number) (up_to 16 granule more)) None ≡ Some value → P (g ∷ number ∷ more) value) [
+        | true ↦ λ test made_it.
+            let parts = and_parts (leb g granule) (leb number u16) test in
+            let found = map_some (λ it. make g it number) (up_to 16 granule more) value made_it in
+            let are = up_to-some 16 granule more found.0 found.1 in
+            let same : make g (record { items = more }) number ≡ value = cc in
+            subst (P (g ∷ number ∷ more)) same (good g number more (leb-true g granule parts.0, leb-true number u16 parts.1) are.few are.small)
+        | false ↦ λ test made_it. absurd (cc)
+      ] refl e

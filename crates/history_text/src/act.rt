@@ -1,5 +1,8 @@
 //! The act that a word and its numbers are.
 ghost use Rattle.std.specs.Prelude.{◌≡◌, ◌≤◌, codes, IfSome, IfNone};
+ghost use Rattle.number_text.specs.Rows.{one, two};
+ghost use Rattle.number_text.specs.Written.{u16};
+ghost use Rattle.history_text.specs.Written.{order, granule, ipa};
 ghost use Rattle.history_text.specs.Acts.{realm_row, table_row, rec_row, page_act_at, realm_act_at, table_act_at, data_act_at, rec_act_at, act_at, act_of_text};
 
 use crate::granules::{GRANULE, IPA, granule_of, granules_of, ipa_of};
@@ -38,24 +41,19 @@ fn offset_of(number: u32) -> PageOff
     PageOff::new(number as u16).unwrap()
 }
 
-fn take(numbers: &[u32]) -> Option<Act>
-    ensures { result ≡ page_act_at (codes "take") numbers.now }
+// The order of a block, and its first granule.
+fn block(numbers: &[u32]) -> Option<(Order, Gran)>
+    ensures { result ≡ two order granule (λ o first. (o, first)) numbers.now }
 {
     let [order, first] = at_most(numbers, [ORDER, GRANULE])?;
-    Some(Act::Take {
-        order: order_of(order),
-        first: granule_of(first),
-    })
+    Some((order_of(order), granule_of(first)))
 }
 
-fn untake(numbers: &[u32]) -> Option<Act>
-    ensures { result ≡ page_act_at (codes "untake") numbers.now }
+fn one_granule(numbers: &[u32]) -> Option<Gran>
+    ensures { result ≡ one granule (λ g. g) numbers.now }
 {
-    let [order, first] = at_most(numbers, [ORDER, GRANULE])?;
-    Some(Act::UnTake {
-        order: order_of(order),
-        first: granule_of(first),
-    })
+    let [granule] = at_most(numbers, [GRANULE])?;
+    Some(granule_of(granule))
 }
 
 fn fill(numbers: &[u32]) -> Option<Act>
@@ -79,34 +77,26 @@ fn peek(numbers: &[u32]) -> Option<Act>
     })
 }
 
-fn delegate(numbers: &[u32]) -> Option<Act>
-    ensures { result ≡ page_act_at (codes "delegate") numbers.now }
-{
-    let [granule] = at_most(numbers, [GRANULE])?;
-    Some(Act::Delegate {
-        granule: granule_of(granule),
-    })
-}
-
-fn undelegate(numbers: &[u32]) -> Option<Act>
-    ensures { result ≡ page_act_at (codes "undelegate") numbers.now }
-{
-    let [granule] = at_most(numbers, [GRANULE])?;
-    Some(Act::Undelegate {
-        granule: granule_of(granule),
-    })
-}
-
 fn page_act(word: &str, numbers: &[u32]) -> Option<Act>
     ensures { result ≡ page_act_at word.now numbers.now }
 {
     match word {
-        "take" => take(numbers),
-        "untake" => untake(numbers),
+        "take" => {
+            let (order, first) = block(numbers)?;
+            Some(Act::Take { order, first })
+        }
+        "untake" => {
+            let (order, first) = block(numbers)?;
+            Some(Act::UnTake { order, first })
+        }
         "fill" => fill(numbers),
         "peek" => peek(numbers),
-        "delegate" => delegate(numbers),
-        "undelegate" => undelegate(numbers),
+        "delegate" => Some(Act::Delegate {
+            granule: one_granule(numbers)?,
+        }),
+        "undelegate" => Some(Act::Undelegate {
+            granule: one_granule(numbers)?,
+        }),
         _ => None,
     }
 }
@@ -185,6 +175,14 @@ fn table_act(word: &str, numbers: &[u32]) -> Option<Act>
     }
 }
 
+// A granule, and the IPA granule that it is mapped at.
+fn mapped(numbers: &[u32]) -> Option<(Gran, IpaGran)>
+    ensures { result ≡ two granule ipa (λ g i. (g, i)) numbers.now }
+{
+    let [granule, ipa] = at_most(numbers, [GRANULE, IPA])?;
+    Some((granule_of(granule), ipa_of(ipa)))
+}
+
 fn data_act(word: &str, numbers: &[u32]) -> Option<Act>
     ensures { result ≡ data_act_at word.now numbers.now }
 {
@@ -198,18 +196,12 @@ fn data_act(word: &str, numbers: &[u32]) -> Option<Act>
             })
         }
         "unknown" => {
-            let [granule, ipa] = at_most(numbers, [GRANULE, IPA])?;
-            Some(Act::Unknown {
-                granule: granule_of(granule),
-                ipa: ipa_of(ipa),
-            })
+            let (granule, ipa) = mapped(numbers)?;
+            Some(Act::Unknown { granule, ipa })
         }
         "undata" => {
-            let [granule, ipa] = at_most(numbers, [GRANULE, IPA])?;
-            Some(Act::UnData {
-                granule: granule_of(granule),
-                ipa: ipa_of(ipa),
-            })
+            let (granule, ipa) = mapped(numbers)?;
+            Some(Act::UnData { granule, ipa })
         }
         _ => None,
     }
@@ -227,22 +219,11 @@ fn rec(numbers: &[u32]) -> Option<(Gran, ArrayVec<Gran, 16>, RecNo)>
     Some((granule_of(granule), auxiliaries, RecNo::new(number as u16)))
 }
 
-fn enter(numbers: &[u32]) -> Option<Act>
-    ensures { result ≡ rec_act_at (codes "enter") numbers.now }
+fn rec_number(numbers: &[u32]) -> Option<RecNo>
+    ensures { result ≡ one u16 (λ number. number) numbers.now }
 {
     let [number] = at_most(numbers, [U16])?;
-    Some(Act::Enter {
-        number: RecNo::new(number as u16),
-    })
-}
-
-fn exit(numbers: &[u32]) -> Option<Act>
-    ensures { result ≡ rec_act_at (codes "exit") numbers.now }
-{
-    let [number] = at_most(numbers, [U16])?;
-    Some(Act::Exit {
-        number: RecNo::new(number as u16),
-    })
+    Some(RecNo::new(number as u16))
 }
 
 fn poke(numbers: &[u32]) -> Option<Act>
@@ -277,8 +258,12 @@ fn rec_act(word: &str, numbers: &[u32]) -> Option<Act>
                 number,
             })
         }
-        "enter" => enter(numbers),
-        "exit" => exit(numbers),
+        "enter" => Some(Act::Enter {
+            number: rec_number(numbers)?,
+        }),
+        "exit" => Some(Act::Exit {
+            number: rec_number(numbers)?,
+        }),
         "poke" => poke(numbers),
         _ => None,
     }
@@ -288,19 +273,11 @@ fn rec_act(word: &str, numbers: &[u32]) -> Option<Act>
 fn act(word: &str, numbers: &[u32]) -> Option<Act>
     ensures { result ≡ act_at word.now numbers.now }
 {
-    if let Some(found) = page_act(word, numbers) {
-        return Some(found);
-    }
-    if let Some(found) = realm_act(word, numbers) {
-        return Some(found);
-    }
-    if let Some(found) = table_act(word, numbers) {
-        return Some(found);
-    }
-    if let Some(found) = data_act(word, numbers) {
-        return Some(found);
-    }
-    rec_act(word, numbers)
+    page_act(word, numbers)
+        .or_else(|| realm_act(word, numbers))
+        .or_else(|| table_act(word, numbers))
+        .or_else(|| data_act(word, numbers))
+        .or_else(|| rec_act(word, numbers))
 }
 
 /// The act that the text is: a word and its numbers, one space before each number and nothing else; the numbers in decimal,

@@ -5,8 +5,9 @@ ghost use Rattle.realm_model.specs.declared.act.Event.{Event};
 ghost use Rattle.history_text.specs.Events.{IsEventText};
 
 use crate::act::act_from_text;
-use crate::spelling::{NumbersText, numbers_of, word_of};
+use crate::spelling::{numbers_of, word_of};
 use granule_addr::BuildId;
+use number_text::NumbersText;
 use realm_model::Event;
 use std::fmt;
 

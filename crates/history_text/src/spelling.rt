@@ -5,7 +5,6 @@ ghost use Rattle.history_text.specs.Written.{written_act};
 use arrayvec::ArrayVec;
 use granule_addr::{Gran, IpaGran, PageOff, RecNo, Root, Vmid};
 use realm_model::Act;
-use std::fmt;
 
 /// As many numbers as an act can have: the granule of a REC, its number, and 16 auxiliary granules.
 const MOST_NUMBERS: usize = 18;
@@ -150,23 +149,5 @@ pub fn numbers_of(act: &Act) -> ArrayVec<u32, MOST_NUMBERS>
             offset,
             value,
         } => poke_numbers(*number, *ipa, *offset, *value),
-    }
-}
-
-/// Each number in decimal behind one space.
-#[derive(Clone, Copy)]
-pub struct NumbersText<'a>(pub &'a [u32]);
-
-impl fmt::Display for NumbersText<'_> {
-    ghost use Rattle.std.specs.Prelude.{Some};
-    ghost use Rattle.number_text.specs.Numbers.{spelled_numbers};
-
-    ghost output = { λ n. Some (spelled_numbers n.0.now) };
-
-    fn fmt<W: fmt::Write>(&self, f: &mut fmt::Formatter<W>) -> fmt::Result {
-        for number in self.0 {
-            write!(f, " {number}")?;
-        }
-        Ok(())
     }
 }

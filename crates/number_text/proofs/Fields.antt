@@ -58,10 +58,12 @@ goes_on_more found ns fields n small is next =
 
 one_more : (found : List ℕ) (n : ℕ) (rest : List ℕ) → spelled_numbers found ++ (32 ∷ (decimal n ++ rest)) ≡ spelled_numbers (found ++ n ∷ []) ++ rest
 one_more [] n rest = ap (λ t. 32 ∷ t) (sym (append_assoc (decimal n) [] rest))
-one_more (m ∷ found) n rest = ap (λ t. 32 ∷ t) (append_assoc (decimal m) (spelled_numbers found) (32 ∷ (decimal n ++ rest)) ∙ ap (λ t. decimal m ++ t) (one_more found n rest) ∙ sym (append_assoc (decimal m) (spelled_numbers (found ++ n ∷ [])) rest))
+one_more (m ∷ found) n rest = ap (λ t. 32 ∷ t) (append_assoc (decimal m) (spelled_numbers found) (32 ∷ (decimal n ++ rest)) ∙ ap (λ t. decimal m ++ t) (one_more found n rest)
+    ∙ sym (append_assoc (decimal m) (spelled_numbers (found ++ n ∷ [])) rest))
 
 -- what is found spells the text up to here
-pub spelled_more : (text found fields rest : List ℕ) (n : ℕ) → text ≡ spelled_numbers found ++ rest → rest ≡ 32 ∷ fields → before_space fields ≡ decimal n → text ≡ spelled_numbers (found ++ n ∷ []) ++ from_space fields
+pub spelled_more : (text found fields rest : List ℕ) (n : ℕ) → text ≡ spelled_numbers found ++ rest → rest ≡ 32 ∷ fields → before_space fields ≡ decimal n
+    → text ≡ spelled_numbers (found ++ n ∷ []) ++ from_space fields
 spelled_more text found fields rest n so_far begins is =
     let joined : fields ≡ decimal n ++ from_space fields = cut_joins fields ∙ ap (λ t. t ++ from_space fields) is in
     so_far ∙ rw begins (ap (λ t. spelled_numbers found ++ 32 ∷ t) joined ∙ one_more found n (from_space fields))

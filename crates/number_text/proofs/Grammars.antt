@@ -73,7 +73,8 @@ number_of_digits-some field n e =
     let parts = and_parts (ltb value (2 ^ 32)) (bytes_eq (decimal value) field) test in
     sym ((bytes_eq-Decides (decimal value) field).0 parts.1) ∙ ap decimal same
 
-joined_more : (word field joined_fields : List ℕ) (ns more : List ℕ) (n : ℕ) → field ≡ decimal n → n ∷ more ≡ ns → joined_fields ≡ field ++ spelled_numbers more → word ++ (32 ∷ joined_fields) ≡ word ++ spelled_numbers ns
+joined_more : (word field joined_fields : List ℕ) (ns more : List ℕ) (n : ℕ) → field ≡ decimal n → n ∷ more ≡ ns → joined_fields ≡ field ++ spelled_numbers more
+    → word ++ (32 ∷ joined_fields) ≡ word ++ spelled_numbers ns
 joined_more word field joined_fields ns more n here same go_on = ap (λ t. word ++ 32 ∷ t) (go_on ∙ rw here refl) ∙ ap (λ t. word ++ spelled_numbers t) same
 
 joined : (word : List ℕ) (fields : List (List ℕ)) (ns : List ℕ) → numbers_of_digits fields ≡ Some ns → join_with_byte 32 (word ∷ fields) ≡ word ++ spelled_numbers ns
@@ -86,27 +87,32 @@ joined word (field ∷ fields) ns e =
 
 -- ---- texts of a grammar
 
-spelled_same : {A : Type 0} {word_of numbers_of : A → List ℕ} {IsInRange : A → Type 0} (word ns : List ℕ) (value : A) → Spells word_of numbers_of IsInRange word ns value → word ++ spelled_numbers ns ≡ spelled (word_of value) (numbers_of value)
+spelled_same : {A : Type 0} {word_of numbers_of : A → List ℕ} {IsInRange : A → Type 0} (word ns : List ℕ) (value : A) → Spells word_of numbers_of IsInRange word ns value
+    → word ++ spelled_numbers ns ≡ spelled (word_of value) (numbers_of value)
 spelled_same word ns value spells = rw (spells.word_is, spells.numbers_are) refl
 
 module _ {A : Type 0} {word_of numbers_of : A → List ℕ} {IsInRange : A → Type 0} {meaning : List ℕ → List ℕ → Option A} {most : ℕ} where
-  pub meaning_of_spelled : IsGrammar word_of numbers_of IsInRange meaning most → (text : List ℕ) (value : A) → text ≡ spelled (word_of value) (numbers_of value) → IsInRange value → meaning_of_text meaning text ≡ Some value
+  pub meaning_of_spelled : IsGrammar word_of numbers_of IsInRange meaning most → (text : List ℕ) (value : A) → text ≡ spelled (word_of value) (numbers_of value) → IsInRange value
+      → meaning_of_text meaning text ≡ Some value
   meaning_of_spelled grammar text value is in_range =
       let are = grammar.few_numbers value in_range in
       rw (is, split_spelled (word_of value) (numbers_of value) (grammar.one_word value) are.1, numbers_of_digits-decimals (numbers_of value) are.1) (grammar.means value in_range)
 
-  spelled_from_fields : IsGrammar word_of numbers_of IsInRange meaning most → (text : List ℕ) (fields : List (List ℕ)) (value : A) → join_with_byte 32 fields ≡ text → meaning_of_fields meaning fields ≡ Some value → (text ≡ spelled (word_of value) (numbers_of value)) × IsInRange value
+  spelled_from_fields : IsGrammar word_of numbers_of IsInRange meaning most → (text : List ℕ) (fields : List (List ℕ)) (value : A) → join_with_byte 32 fields ≡ text
+      → meaning_of_fields meaning fields ≡ Some value → (text ≡ spelled (word_of value) (numbers_of value)) × IsInRange value
   spelled_from_fields grammar text [] value joins e = absurd (cc)
   spelled_from_fields grammar text (word ∷ fields) value joins e =
       let found = bind_some (meaning word) (numbers_of_digits fields) value e in
       let spells = grammar.spells word found.0 value found.2 in
       (sym joins ∙ joined word fields found.0 found.1 ∙ spelled_same word found.0 value spells, spells.in_range)
 
-  pub spelled_from_meaning : IsGrammar word_of numbers_of IsInRange meaning most → (text : List ℕ) (value : A) → meaning_of_text meaning text ≡ Some value → (text ≡ spelled (word_of value) (numbers_of value)) × IsInRange value
+  pub spelled_from_meaning : IsGrammar word_of numbers_of IsInRange meaning most → (text : List ℕ) (value : A) → meaning_of_text meaning text ≡ Some value
+      → (text ≡ spelled (word_of value) (numbers_of value)) × IsInRange value
   spelled_from_meaning grammar text value e = spelled_from_fields grammar text (slice_split (λ b. b == 32) text) value (join_with_byte-slice_split 32 text) e
 
   -- from the word before the first space, and the numbers that the rest spells
-  pub meaning_from_parts : IsGrammar word_of numbers_of IsInRange meaning most → (text ns : List ℕ) (r : Option A) → AllByRecursion (λ n. n < 2 ^ 32) ns → from_space text ≡ spelled_numbers ns → r ≡ meaning (before_space text) ns → r ≡ meaning_of_text meaning text
+  pub meaning_from_parts : IsGrammar word_of numbers_of IsInRange meaning most → (text ns : List ℕ) (r : Option A) → AllByRecursion (λ n. n < 2 ^ 32) ns → from_space text ≡ spelled_numbers ns
+      → r ≡ meaning (before_space text) ns → r ≡ meaning_of_text meaning text
   meaning_from_parts grammar text ns (Some value) small rest is =
       let spells = grammar.spells (before_space text) ns value (sym is) in
       sym (meaning_of_spelled grammar text value (cut_joins text ∙ rw (spells.word_is, rest, spells.numbers_are) refl) spells.in_range)
@@ -122,7 +128,8 @@ module _ {A : Type 0} {word_of numbers_of : A → List ℕ} {IsInRange : A → T
   ] refl
 
   -- where the rest spells no numbers, nothing is meant
-  pub no_meaning_from_rest : IsGrammar word_of numbers_of IsInRange meaning most → (text : List ℕ) → ((ns : List ℕ) → AreNumbers most ns → from_space text ≢ spelled_numbers ns) → None ≡ meaning_of_text meaning text
+  pub no_meaning_from_rest : IsGrammar word_of numbers_of IsInRange meaning most → (text : List ℕ) → ((ns : List ℕ) → AreNumbers most ns → from_space text ≢ spelled_numbers ns)
+      → None ≡ meaning_of_text meaning text
   no_meaning_from_rest grammar text none = elim (meaning_of_text meaning text) as (λ o. meaning_of_text meaning text ≡ o → None ≡ o) [
     | None ↦ λ e. refl
     | Some value ↦ λ e.

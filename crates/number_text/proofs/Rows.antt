@@ -30,7 +30,8 @@ module _ {A : Type 0} (P : List ℕ → A → Type 0) where
       subst (P (k ∷ l ∷ [])) same (good k l (leb-true k a all.0) (leb-true l b all.1))
   two_makes a b make good (k ∷ l ∷ m ∷ ns) value e = absurd (cc)
 
-  pub three_makes : (a b c : ℕ) (make : ℕ → ℕ → ℕ → A) → ((k l m : ℕ) → k ≤ a → l ≤ b → m ≤ c → P (k ∷ l ∷ m ∷ []) (make k l m)) → (ns : List ℕ) (value : A) → three a b c make ns ≡ Some value → P ns value
+  pub three_makes : (a b c : ℕ) (make : ℕ → ℕ → ℕ → A) → ((k l m : ℕ) → k ≤ a → l ≤ b → m ≤ c → P (k ∷ l ∷ m ∷ []) (make k l m)) → (ns : List ℕ) (value : A) → three a b c make ns ≡ Some value
+      → P ns value
   three_makes a b c make good [] value e = absurd (cc)
   three_makes a b c make good (k ∷ []) value e = absurd (cc)
   three_makes a b c make good (k ∷ l ∷ []) value e = absurd (cc)
@@ -41,7 +42,8 @@ module _ {A : Type 0} (P : List ℕ → A → Type 0) where
       subst (P (k ∷ l ∷ m ∷ [])) same (good k l m (leb-true k a front.0) (leb-true l b front.1) (leb-true m c all.1))
   three_makes a b c make good (k ∷ l ∷ m ∷ n ∷ ns) value e = absurd (cc)
 
-  pub four_makes : (a b c d : ℕ) (make : ℕ → ℕ → ℕ → ℕ → A) → ((k l m n : ℕ) → k ≤ a → l ≤ b → m ≤ c → n ≤ d → P (k ∷ l ∷ m ∷ n ∷ []) (make k l m n)) → (ns : List ℕ) (value : A) → four a b c d make ns ≡ Some value → P ns value
+  pub four_makes : (a b c d : ℕ) (make : ℕ → ℕ → ℕ → ℕ → A) → ((k l m n : ℕ) → k ≤ a → l ≤ b → m ≤ c → n ≤ d → P (k ∷ l ∷ m ∷ n ∷ []) (make k l m n)) → (ns : List ℕ) (value : A)
+      → four a b c d make ns ≡ Some value → P ns value
   four_makes a b c d make good [] value e = absurd (cc)
   four_makes a b c d make good (k ∷ []) value e = absurd (cc)
   four_makes a b c d make good (k ∷ l ∷ []) value e = absurd (cc)
@@ -57,7 +59,8 @@ module _ {A : Type 0} (P : List ℕ → A → Type 0) where
 -- ---- the row of this word, or what comes after it
 
 module _ {A : Type 0} (P : List ℕ → List ℕ → A → Type 0) (word ns : List ℕ) (value : A) where
-  pub choose : (here : List ℕ) (row : List ℕ → Option A) (other : Option A) → ((ms : List ℕ) (made : A) → row ms ≡ Some made → P here ms made) → (other ≡ Some value → P word ns value) → cond (bytes_eq word here) (row ns) other ≡ Some value → P word ns value
+  pub choose : (here : List ℕ) (row : List ℕ → Option A) (other : Option A) → ((ms : List ℕ) (made : A) → row ms ≡ Some made → P here ms made) → (other ≡ Some value → P word ns value)
+      → cond (bytes_eq word here) (row ns) other ≡ Some value → P word ns value
   choose here row other makes go_on e =
       elim (cases_Bool (bytes_eq word here)) [
         | inl test ↦

@@ -7,7 +7,9 @@
 mod number;
 mod operands;
 mod range;
+mod spelling;
 
 pub use number::{cut_at_space, numbers_of};
 pub use operands::{Operand, four_operands, one_operand, three_operands, two_operands};
 pub use range::{at_most, up_to};
+pub use spelling::NumbersText;

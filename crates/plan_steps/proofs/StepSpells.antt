@@ -24,7 +24,8 @@ page_spells : (word ns : List ℕ) (s : PlanStep) → page_step_at word ns ≡ S
 page_spells word ns s =
     choose SpellsStep word ns s (codes "take") (one u8 (λ k. whole (Take k))) _ (one_makes (SpellsStep (codes "take")) u8 _ (λ k h. made (whole (Take k)) (h, tt) tt))
     (choose SpellsStep word ns s (codes "fill") (two page u8 (λ k l. whole (Fill k l))) _ (two_makes (SpellsStep (codes "fill")) page u8 _ (λ k l h i. made (whole (Fill k l)) (h, (i, tt)) tt))
-    (choose SpellsStep word ns s (codes "peek") (two page page_offset (λ k l. whole (Peek k l))) _ (two_makes (SpellsStep (codes "peek")) page page_offset _ (λ k l h i. made (whole (Peek k l)) (h, (i, tt)) tt))
+    (choose SpellsStep word ns s (codes "peek") (two page page_offset (λ k l. whole (Peek k l))) _
+    (two_makes (SpellsStep (codes "peek")) page page_offset _ (λ k l h i. made (whole (Peek k l)) (h, (i, tt)) tt))
     (choose SpellsStep word ns s (codes "delegate") (one page (λ k. whole (Delegate k))) _ (one_makes (SpellsStep (codes "delegate")) page _ (λ k h. made (whole (Delegate k)) (h, tt) tt))
     (λ e. absurd (cc)))))
 
@@ -42,10 +43,13 @@ realm_step_spells word ns s =
 
 table_spells : (word ns : List ℕ) (s : PlanStep) → table_step_at word ns ≡ Some s → SpellsStep word ns s
 table_spells word ns s =
-    choose SpellsStep word ns s (codes "rtt") (three page u32 u8 (λ k l m. whole (Rtt k l m))) _ (three_makes (SpellsStep (codes "rtt")) page u32 u8 _ (λ k l m h i j. made (whole (Rtt k l m)) (h, (i, (j, tt))) tt))
+    choose SpellsStep word ns s (codes "rtt") (three page u32 u8 (λ k l m. whole (Rtt k l m))) _
+    (three_makes (SpellsStep (codes "rtt")) page u32 u8 _ (λ k l m h i j. made (whole (Rtt k l m)) (h, (i, (j, tt))) tt))
     (choose SpellsStep word ns s (codes "ripas") (two u32 u16 (λ k l. whole (Ripas k l))) _ (two_makes (SpellsStep (codes "ripas")) u32 u16 _ (λ k l h i. made (whole (Ripas k l)) (h, (i, tt)) tt))
-    (choose SpellsStep word ns s (codes "data") (three page u32 page (λ k l m. whole (Data k l m))) _ (three_makes (SpellsStep (codes "data")) page u32 page _ (λ k l m h i j. made (whole (Data k l m)) (h, (i, (j, tt))) tt))
-    (choose SpellsStep word ns s (codes "unknown") (two page u32 (λ k l. whole (Unknown k l))) _ (two_makes (SpellsStep (codes "unknown")) page u32 _ (λ k l h i. made (whole (Unknown k l)) (h, (i, tt)) tt))
+    (choose SpellsStep word ns s (codes "data") (three page u32 page (λ k l m. whole (Data k l m))) _
+    (three_makes (SpellsStep (codes "data")) page u32 page _ (λ k l m h i j. made (whole (Data k l m)) (h, (i, (j, tt))) tt))
+    (choose SpellsStep word ns s (codes "unknown") (two page u32 (λ k l. whole (Unknown k l))) _
+    (two_makes (SpellsStep (codes "unknown")) page u32 _ (λ k l h i. made (whole (Unknown k l)) (h, (i, tt)) tt))
     (λ e. absurd (cc)))))
 
 rec_spells : (ns : List ℕ) (s : PlanStep) → rec_of_numbers ns ≡ Some s → SpellsStep (codes "rec") ns s
@@ -65,7 +69,8 @@ rec_step_spells word ns s =
     choose SpellsStep word ns s (codes "rec") rec_of_numbers _ rec_spells
     (choose SpellsStep word ns s (codes "enter") (one u16 (λ k. whole (Enter k))) _ (one_makes (SpellsStep (codes "enter")) u16 _ (λ k h. made (whole (Enter k)) (h, tt) tt))
     (choose SpellsStep word ns s (codes "exit") (one u16 (λ k. whole (Exit k))) _ (one_makes (SpellsStep (codes "exit")) u16 _ (λ k h. made (whole (Exit k)) (h, tt) tt))
-    (choose SpellsStep word ns s (codes "poke") (four u16 u32 page_offset u8 (λ k l m n. whole (Poke k l m n))) _ (four_makes (SpellsStep (codes "poke")) u16 u32 page_offset u8 _ (λ k l m n h i j o. made (whole (Poke k l m n)) (h, (i, (j, (o, tt)))) tt))
+    (choose SpellsStep word ns s (codes "poke") (four u16 u32 page_offset u8 (λ k l m n. whole (Poke k l m n))) _
+    (four_makes (SpellsStep (codes "poke")) u16 u32 page_offset u8 _ (λ k l m n h i j o. made (whole (Poke k l m n)) (h, (i, (j, (o, tt)))) tt))
     (λ e. absurd (cc)))))
 
 way_back_spells : (word ns : List ℕ) (s : PlanStep) → way_back_step_at word ns ≡ Some s → SpellsStep word ns s

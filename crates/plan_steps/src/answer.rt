@@ -2,9 +2,10 @@
 ghost use Rattle.std.specs.Prelude.{◌≡◌};
 ghost use Rattle.plan_steps.specs.Answers.{kind_word, refusal_name, refusal_numbers, reply_numbers};
 
-use crate::numbers::{MOST_NUMBERS, NumbersText, one, two};
+use crate::numbers::{MOST_NUMBERS, one, two};
 use arrayvec::ArrayVec;
 use build_commands::{Refusal, Reply};
+use number_text::NumbersText;
 use realm_model::Kind;
 use std::fmt;
 

@@ -19,42 +19,26 @@ fn whole(cmd: Cmd) -> Option<PlanStep>
     Some(PlanStep::Whole(Step::Ask(cmd)))
 }
 
-fn take(numbers: &[u32]) -> Option<PlanStep>
-    ensures { result ≡ page_step_at (codes "take") numbers.now }
-{
-    let order = one_operand(numbers)?;
-    whole(Cmd::Take { order })
-}
-
-fn fill(numbers: &[u32]) -> Option<PlanStep>
-    ensures { result ≡ page_step_at (codes "fill") numbers.now }
-{
-    let (Page(page), value) = two_operands(numbers)?;
-    whole(Cmd::Fill { page, value })
-}
-
-fn peek(numbers: &[u32]) -> Option<PlanStep>
-    ensures { result ≡ page_step_at (codes "peek") numbers.now }
-{
-    let (Page(page), Offset(offset)) = two_operands(numbers)?;
-    whole(Cmd::Peek { page, offset })
-}
-
-fn delegate(numbers: &[u32]) -> Option<PlanStep>
-    ensures { result ≡ page_step_at (codes "delegate") numbers.now }
-{
-    let Page(page) = one_operand(numbers)?;
-    whole(Cmd::Delegate { page })
-}
-
 fn page_step(word: &str, numbers: &[u32]) -> Option<PlanStep>
     ensures { result ≡ page_step_at word.now numbers.now }
 {
     match word {
-        "take" => take(numbers),
-        "fill" => fill(numbers),
-        "peek" => peek(numbers),
-        "delegate" => delegate(numbers),
+        "take" => {
+            let order = one_operand(numbers)?;
+            whole(Cmd::Take { order })
+        }
+        "fill" => {
+            let (Page(page), value) = two_operands(numbers)?;
+            whole(Cmd::Fill { page, value })
+        }
+        "peek" => {
+            let (Page(page), Offset(offset)) = two_operands(numbers)?;
+            whole(Cmd::Peek { page, offset })
+        }
+        "delegate" => {
+            let Page(page) = one_operand(numbers)?;
+            whole(Cmd::Delegate { page })
+        }
         _ => None,
     }
 }
@@ -77,10 +61,7 @@ fn whole_realm(numbers: &[u32]) -> Option<PlanStep>
 fn realm(numbers: &[u32]) -> Option<PlanStep>
     ensures { result ≡ realm_of_numbers numbers.now }
 {
-    match short_realm(numbers) {
-        Some(found) => Some(found),
-        None => whole_realm(numbers),
-    }
+    short_realm(numbers).or_else(|| whole_realm(numbers))
 }
 
 fn realm_step(word: &str, numbers: &[u32]) -> Option<PlanStep>
@@ -93,42 +74,26 @@ fn realm_step(word: &str, numbers: &[u32]) -> Option<PlanStep>
     }
 }
 
-fn rtt(numbers: &[u32]) -> Option<PlanStep>
-    ensures { result ≡ table_step_at (codes "rtt") numbers.now }
-{
-    let (Page(page), ipa, level) = three_operands(numbers)?;
-    whole(Cmd::Rtt { page, ipa, level })
-}
-
-fn ripas(numbers: &[u32]) -> Option<PlanStep>
-    ensures { result ≡ table_step_at (codes "ripas") numbers.now }
-{
-    let (ipa, count) = two_operands(numbers)?;
-    whole(Cmd::Ripas { ipa, count })
-}
-
-fn data_page(numbers: &[u32]) -> Option<PlanStep>
-    ensures { result ≡ table_step_at (codes "data") numbers.now }
-{
-    let (Page(page), ipa, Page(source)) = three_operands(numbers)?;
-    whole(Cmd::Data { page, ipa, source })
-}
-
-fn unknown_page(numbers: &[u32]) -> Option<PlanStep>
-    ensures { result ≡ table_step_at (codes "unknown") numbers.now }
-{
-    let (Page(page), ipa) = two_operands(numbers)?;
-    whole(Cmd::Unknown { page, ipa })
-}
-
 fn table_step(word: &str, numbers: &[u32]) -> Option<PlanStep>
     ensures { result ≡ table_step_at word.now numbers.now }
 {
     match word {
-        "rtt" => rtt(numbers),
-        "ripas" => ripas(numbers),
-        "data" => data_page(numbers),
-        "unknown" => unknown_page(numbers),
+        "rtt" => {
+            let (Page(page), ipa, level) = three_operands(numbers)?;
+            whole(Cmd::Rtt { page, ipa, level })
+        }
+        "ripas" => {
+            let (ipa, count) = two_operands(numbers)?;
+            whole(Cmd::Ripas { ipa, count })
+        }
+        "data" => {
+            let (Page(page), ipa, Page(source)) = three_operands(numbers)?;
+            whole(Cmd::Data { page, ipa, source })
+        }
+        "unknown" => {
+            let (Page(page), ipa) = two_operands(numbers)?;
+            whole(Cmd::Unknown { page, ipa })
+        }
         _ => None,
     }
 }
@@ -143,24 +108,6 @@ fn rec(numbers: &[u32]) -> Option<PlanStep>
     let Page(page) = Page::from_number(*page)?;
     let auxiliaries = up_to::<MOST_AUXILIARIES>(more, MOST_PAGE)?;
     whole(Cmd::Rec { page, auxiliaries })
-}
-
-fn enter(numbers: &[u32]) -> Option<PlanStep>
-    ensures { result ≡ rec_step_at (codes "enter") numbers.now }
-{
-    let number = one_operand(numbers)?;
-    whole(Cmd::Enter {
-        number: RecNo::new(number),
-    })
-}
-
-fn exit(numbers: &[u32]) -> Option<PlanStep>
-    ensures { result ≡ rec_step_at (codes "exit") numbers.now }
-{
-    let number = one_operand(numbers)?;
-    whole(Cmd::Exit {
-        number: RecNo::new(number),
-    })
 }
 
 fn poke(numbers: &[u32]) -> Option<PlanStep>
@@ -180,8 +127,14 @@ fn rec_step(word: &str, numbers: &[u32]) -> Option<PlanStep>
 {
     match word {
         "rec" => rec(numbers),
-        "enter" => enter(numbers),
-        "exit" => exit(numbers),
+        "enter" => {
+            let number = RecNo::new(one_operand(numbers)?);
+            whole(Cmd::Enter { number })
+        }
+        "exit" => {
+            let number = RecNo::new(one_operand(numbers)?);
+            whole(Cmd::Exit { number })
+        }
         "poke" => poke(numbers),
         _ => None,
     }
@@ -213,17 +166,9 @@ fn way_back_step(word: &str, numbers: &[u32]) -> Option<PlanStep>
 pub fn step(word: &str, numbers: &[u32]) -> Option<PlanStep>
     ensures { result ≡ step_at word.now numbers.now }
 {
-    if let Some(found) = page_step(word, numbers) {
-        return Some(found);
-    }
-    if let Some(found) = realm_step(word, numbers) {
-        return Some(found);
-    }
-    if let Some(found) = table_step(word, numbers) {
-        return Some(found);
-    }
-    if let Some(found) = rec_step(word, numbers) {
-        return Some(found);
-    }
-    way_back_step(word, numbers)
+    page_step(word, numbers)
+        .or_else(|| realm_step(word, numbers))
+        .or_else(|| table_step(word, numbers))
+        .or_else(|| rec_step(word, numbers))
+        .or_else(|| way_back_step(word, numbers))
 }

@@ -2,9 +2,10 @@
 ghost use Rattle.std.specs.Prelude.{◌≡◌, ◌++◌, OnOk, string_bytes};
 ghost use Rattle.plan_steps.specs.Lines.{state_word, sum_numbers, realm_word, idle_line, page_line, realm_line, free_line};
 
-use crate::numbers::{MOST_NUMBERS, NumbersText, one};
+use crate::numbers::{MOST_NUMBERS, one};
 use arrayvec::ArrayVec;
 use granule_addr::{BuildId, Vmid};
+use number_text::NumbersText;
 use realm_model::{GranuleState, RealmState};
 use std::alloc::AllocError;
 

@@ -2,7 +2,6 @@
 ghost use Rattle.std.specs.Prelude.{◌≡◌, [], ◌∷◌};
 
 use arrayvec::ArrayVec;
-use std::fmt;
 
 /// As many numbers as a word can have: the page of a REC, and 16 auxiliaries.
 pub const MOST_NUMBERS: usize = 17;
@@ -37,22 +36,4 @@ pub fn four(first: u32, second: u32, third: u32, fourth: u32) -> ArrayVec<u32, M
     let mut numbers = three(first, second, third);
     numbers.push(fourth);
     numbers
-}
-
-/// Each number in decimal behind one space.
-#[derive(Clone, Copy)]
-pub struct NumbersText<'a>(pub &'a [u32]);
-
-impl fmt::Display for NumbersText<'_> {
-    ghost use Rattle.std.specs.Prelude.{Some};
-    ghost use Rattle.number_text.specs.Numbers.{spelled_numbers};
-
-    ghost output = { λ n. Some (spelled_numbers n.0.now) };
-
-    fn fmt<W: fmt::Write>(&self, f: &mut fmt::Formatter<W>) -> fmt::Result {
-        for number in self.0 {
-            write!(f, " {number}")?;
-        }
-        Ok(())
-    }
 }

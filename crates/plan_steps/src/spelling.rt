@@ -2,10 +2,11 @@
 ghost use Rattle.std.specs.Prelude.{◌≡◌, ◌∷◌, ◌≤◌, length};
 ghost use Rattle.plan_steps.specs.Written.{written_cmd, written_step};
 
-use crate::numbers::{MOST_NUMBERS, NumbersText, four, one, three, two};
+use crate::numbers::{MOST_NUMBERS, four, one, three, two};
 use crate::step::PlanStep;
 use arrayvec::ArrayVec;
 use build_commands::{Cmd, Step};
+use number_text::NumbersText;
 use std::fmt;
 
 // The word of a command.

@@ -23,7 +23,8 @@ pub returns-in_err-numbers-2-clause-none : goal.returns-in_err-numbers-2-clause-
 returns-in_err-numbers-2-clause-none c =
     let split = rw c.in-Some.is at (strip_prefix_is Decides-eqb c.args.line.now (codes "history 1") _ c.strip_prefix.ensures.cases) in
     rw c.from_residual-in_err-numbers-2.ensures (λ opening is.
-    let same = same_numbers c.args.line.now c.in-Some.rest.now c.in_ok-numbers.numbers.items opening c.in_ok-numbers.ensures.found.0 split (sym c.in-Ok.ensures.cases.0 ∙ c.in_ok-numbers.ensures.found.1) is in
+    let same = same_numbers c.args.line.now c.in-Some.rest.now c.in_ok-numbers.numbers.items opening c.in_ok-numbers.ensures.found.0 split
+    (sym c.in-Ok.ensures.cases.0 ∙ c.in_ok-numbers.ensures.found.1) is in
     c.in_err-numbers-2.ensures.none (subst (λ ns. AreAtMost ns opening_maxima) (sym (c.as_slice.ensures.value ∙ same)) is.size.at_most))
 
 pub returns-else-has_enough-clause-none : goal.returns-else-has_enough-clause-none

@@ -1,7 +1,7 @@
 use Rattle.std.proofs.Common.{take}
 use Rattle.std.specs.Fmt.{HasWritten, IsPlainFormatter}
 use Rattle.number_text.specs.Numbers.{spelled_numbers}
-use Rattle.history_text.proofs.spelling.NumbersTextDisplay.fmt.Given as goal
+use Rattle.number_text.proofs.spelling.NumbersTextDisplay.fmt.Given as goal
 
 abbrev pub invariant-loop-number : goal.invariant-loop-number
 invariant-loop-number g l =
