@@ -33,7 +33,8 @@ module _ (lines : List (List ℕ)) (rest line : List ℕ) (bench : Now) (kept : 
   pub kept_agreed : (after : Now) → IsAgreed bench line after → AreAgreed None (map kept_of_line (lines ++ rest ∷ [])) after
   kept_agreed after a = rw (kept_with lines rest line kept) (agreed_more None (map kept_of_line lines) line bench after agreed a)
 
-  pub kept_count : (p : List ℕ → Bool) (before after : ℕ) → before ≡ count_of p (map kept_of_line lines) → after ≡ before + count_of p (line ∷ []) → after ≡ count_of p (map kept_of_line (lines ++ rest ∷ []))
+  pub kept_count : (p : List ℕ → Bool) (before after : ℕ) → before ≡ count_of p (map kept_of_line lines) → after ≡ before + count_of p (line ∷ [])
+      → after ≡ count_of p (map kept_of_line (lines ++ rest ∷ []))
   kept_count p before after b a = a ∙ ap (λ n. n + count_of p (line ∷ [])) b ∙ sym (count_more p (map kept_of_line lines) line) ∙ ap (count_of p) (sym (kept_with lines rest line kept))
 
   pub kept_differs : (count : ℕ) (text : List ℕ) → count ≡ length lines → LineDiffers bench (count + 1) line text → LastDiffers (map kept_of_line (lines ++ rest ∷ [])) text

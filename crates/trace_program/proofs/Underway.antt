@@ -108,6 +108,7 @@ module _ (input left old new : Option (List ℕ)) (bench : Now) (line : List ℕ
     };
   }
 
-  pub last_stopped : (after : Option (List ℕ)) → IsUnderway input left old new bench line → 0 < length line → (Keeps new after ⊎ WritesFront new after bench line) → AreAnswersCutShort input left old after
+  pub last_stopped : (after : Option (List ℕ)) → IsUnderway input left old new bench line → 0 < length line → (Keeps new after ⊎ WritesFront new after bench line)
+      → AreAnswersCutShort input left old after
   last_stopped after u some (inl keeps) = stopped_here left after u (keeps_same left) keeps
   last_stopped after u some (inr writes) = stopped_in_last after u some writes
