@@ -30,7 +30,7 @@ pub use host::Host;
 pub use page_arena::{PageStore, PlainStore};
 pub use reading::{GranuleView, RowView};
 pub use realm_model::{
-    Act, EntryState, Event, GranuleState, Kind, RealmState, RecState, Ripas, Rmi,
+    Act, EntryState, Event, GranuleState, Kind, RealmState, RecState, Ripas, Rmi, Status,
 };
 pub use realm_objects::{RealmDesc, Rec};
 pub use reply::Answer;
