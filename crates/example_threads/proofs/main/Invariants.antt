@@ -2,4 +2,4 @@ use Rattle.builders.specs.Names.{names_of}
 use Rattle.example_threads.proofs.main.Given as goal
 
 abbrev pub ghosts-run : goal.ghosts-run
-ghosts-run a = record { opened = a.host; names = names_of a.blanks }
+ghosts-run g a = record { opened = a.host; names = names_of a.blanks }
