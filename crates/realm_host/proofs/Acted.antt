@@ -13,7 +13,7 @@ use Rattle.realm_acts.specs.Performing.{IsReady, outcome_on}
 use Rattle.realm_acts.specs.Mirror.{IsPlaceOf, IsPerformed, HasFewEvents}
 use Rattle.realm_acts.proofs.Ready.{asked_is_ready}
 use Rattle.realm_acts.proofs.Forward.{performed_is_step}
-use Rattle.build_books.specs.View.{HostView, world_of, used}
+use Rattle.build_books.specs.View.{HostView, world_of}
 use Rattle.build_books.specs.Kept.{CanRecord}
 use Rattle.realm_host.specs.Host.{IsWhole}
 use Rattle.realm_host.specs.Acting.{HasRoomFor, CanAct, IsRecorded}

@@ -27,10 +27,10 @@ pub use granule_addr::{
     BuildId, Gran, IpaGran, IpaWidth, Level, Order, PageOff, RecNo, Root, Vmid,
 };
 pub use host::Host;
-pub use page_arena::{PageStore, PlainStore};
+pub use page_arena::{BuildError, PageStore, PlainStore};
 pub use reading::{GranuleView, RowView};
 pub use realm_model::{
-    Act, EntryState, Event, GranuleState, Kind, RealmState, RecState, Ripas, Rmi,
+    Act, EntryState, Event, GranuleState, Kind, RealmState, RecState, Ripas, Rmi, Status,
 };
 pub use realm_objects::{RealmDesc, Rec};
 pub use reply::Answer;

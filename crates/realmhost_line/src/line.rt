@@ -52,7 +52,7 @@ fn program<'a>(alloc: Global) -> Command<'a>
     ensures { app_of result ≡ realmhost_alone }
 {
     let named = Command::new(alloc, "realmhost")
-        .version("0.1.0")
+        .version("0.2.0")
         .about(ABOUT);
     named
         .subcommand_required(true)
