@@ -1,4 +1,4 @@
 pub mod Steps
 pub mod Puts
 pub mod Rows
-pub mod Zeros
+pub mod InSlots

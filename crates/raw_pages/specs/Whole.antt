@@ -1,13 +1,15 @@
--- The pages are one row.
-use Rattle.std.specs.Prelude.{◌≡◌, ℕ, ◌≤◌, List, length}
+-- The pages are one row of slots.
+use Rattle.std.specs.Prelude.{◌≡◌, ℕ, ◌+◌, ◌≤◌, List, length, get_or}
+use Rattle.granule_addr.specs.Page.{zero_page}
 use denote.RawPtr.{Ptr}
 
--- The row begins at its start, has room for all pages, was made by this allocator, and has the pages that are written.
-pub record IsWhole {X A : Type 0} (first at : Ptr) (count written room : ℕ) (items : List X) (alloc from : A) : Type 0 where
+-- The row begins at its start, was made by this allocator, has room for a slot of each page and one more, and has the
+-- slots that are used, of which the first is zero.
+pub record IsWhole {A : Type 0} (first at : Ptr) (slots : List ℕ) (used room : ℕ) (items : List (List ℕ)) (alloc from : A) : Type 0 where
   pub place : at ≡ first
   pub owner : from ≡ alloc
-  pub whole : room ≡ count
-  pub mark : written ≡ length items
-  pub inside : written ≤ count
-  pub some : 1 ≤ count
-  pub few : count ≤ 4096
+  pub whole : room ≡ length slots + 1
+  pub mark : used ≡ length items
+  pub zeros : get_or items 0 zero_page ≡ zero_page
+  pub some : 1 ≤ length slots
+  pub few : length slots ≤ 4096

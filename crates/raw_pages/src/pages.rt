@@ -1,39 +1,38 @@
 //! The pages of a machine.
-ghost use Rattle.std.specs.Prelude.{◌≡◌, ◌≢◌, ◌-◌, ◌+◌, ◌<◌, ◌≤◌, ◌↔◌, ◌⊎◌, ◌++◌, length, replicate, slice_set, IfOk, IsErrOf};
+ghost use Rattle.std.specs.Prelude.{◌≡◌, ◌≢◌, ◌+◌, ◌<◌, ◌≤◌, ◌↔◌, ◌⊎◌, length, replicate, get_or, slice_set, IfOk, IsErrOf};
 ghost use Rattle.std.specs.Borrow.{sem};
 ghost use Rattle.granule_addr.specs.Page.{page_of, zero_page};
 ghost use Rattle.page_arena.specs.Page.{page_at};
 ghost use Rattle.page_arena.specs.Block.{with_run};
+ghost use Rattle.raw_pages.specs.Slots.{pages_in};
+ghost use Rattle.raw_pages.specs.Whole.{IsWhole};
 
 use crate::row::{Row, Start, allocate, release};
+use crate::slots::Slots;
 use granule_addr::MOST_PAGES;
 use page_arena::BuildError;
-use std::alloc::Global;
+use std::alloc::{AllocError, Global};
 use std::marker::Model;
 
-// What is lent of a page that was never written.
-static ZERO_PAGE: [u8; 4096] = [0; 4096];
-
-/// All pages of a machine, of 4,096 bytes each, in one allocation that is given back at the end. The first of them are
-/// written; the others are zero, and nothing is written there yet.
+/// All pages of a machine, of 4,096 bytes each, in one allocation that is given back at the end. The bytes of a page lie
+/// in its slot; the slots that are used come first, and nothing is written yet behind them.
 pub struct RawPages {
     start: Start<[u8; 4096]>,
-    count: usize,
-    written: usize,
+    slots: Slots,
     row: Row<[u8; 4096], Global>,
     alloc: Global,
 }
 
 impl Model for RawPages {
-    ghost use Rattle.std.specs.Prelude.{List, ℕ, ◌-◌, ◌++◌, replicate};
-    ghost use Rattle.granule_addr.specs.Page.{zero_page};
+    ghost use Rattle.std.specs.Prelude.{List, ℕ};
+    ghost use Rattle.raw_pages.specs.Slots.{pages_in};
     ghost use Rattle.raw_pages.specs.Whole.{IsWhole};
 
     ghost Value = { List (List ℕ) };
 
-    ghost view = { λ p. p.row.items ++ replicate (p.count - p.written) zero_page };
+    ghost view = { λ p. pages_in p.row.items p.slots.of.items };
 
-    ghost invariant = { λ p. IsWhole p.start.first p.row.at p.count p.written p.row.room p.row.items p.alloc p.row.alloc };
+    ghost invariant = { λ p. IsWhole p.start.first p.row.at p.slots.of.items p.slots.used p.row.room p.row.items p.alloc p.row.alloc };
 }
 
 impl RawPages {
@@ -48,15 +47,7 @@ impl RawPages {
         if pages < 1 || pages > MOST_PAGES {
             return Err(BuildError::BadSize);
         }
-        let count = pages as usize;
-        let (start, row) = allocate(&alloc, count).map_err(BuildError::Memory)?;
-        Ok(RawPages {
-            start,
-            count,
-            written: 0,
-            row,
-            alloc,
-        })
+        Ok(zero_pages(alloc, pages as usize).map_err(BuildError::Memory)?)
     }
 
     pub fn count(&self) -> u16
@@ -64,7 +55,7 @@ impl RawPages {
         ensures some { 1 ≤ result }
         ensures few { result ≤ 4096 }
     {
-        self.count as u16
+        self.slots.count() as u16
     }
 
     /// Lends a page.
@@ -72,11 +63,7 @@ impl RawPages {
         requires { index < length self.now }
         ensures { result.now ≡ page_at self.now index }
     {
-        if index < self.written {
-            self.row.get(self.start, index)
-        } else {
-            &ZERO_PAGE
-        }
+        self.row.get(self.start, self.slots.slot(index))
     }
 
     /// Lends a page for writing.
@@ -85,10 +72,8 @@ impl RawPages {
         ensures* writes_back { sem 𝓛 (lends_page self.entry index result) }
         ensures value { result.now ≡ page_at self.old index }
     {
-        let upto = self.written.max(index + 1);
-        write_zeros(&mut self.row, self.start, self.written, upto);
-        self.written = upto;
-        self.row.get_mut(self.start, index)
+        let slot = own_slot(&mut self.slots, &mut self.row, self.start, index);
+        self.row.get_mut(self.start, slot)
     }
 
     /// Writes one value to every byte of a page. A page that was never written is not cleared first.
@@ -96,10 +81,13 @@ impl RawPages {
         requires { index < length self.old }
         ensures { self.new ≡ slice_set self.old index (page_of value) }
     {
-        let upto = self.written.max(index);
-        write_zeros(&mut self.row, self.start, self.written, upto);
-        self.row.put(self.start, index, [value; 4096]);
-        self.written = upto.max(index + 1);
+        let slot = self.slots.slot(index);
+        if slot == 0 {
+            let next = self.slots.own(index);
+            self.row.put(self.start, next, [value; 4096]);
+        } else {
+            self.row.put(self.start, slot, [value; 4096]);
+        }
     }
 
     /// Writes the bytes of one page to another.
@@ -109,60 +97,91 @@ impl RawPages {
         requires different { target ≢ source }
         ensures { self.new ≡ slice_set self.old target (page_at self.old source) }
     {
-        let upto = self.written.max(target + 1);
-        write_zeros(&mut self.row, self.start, self.written, upto);
-        self.written = upto;
-        if source < upto {
-            let (read, written) = self.row.two(self.start, source, target);
-            *written = *read;
-        } else {
-            self.row.put(self.start, target, [0; 4096]);
-        }
+        let slot = own_slot(&mut self.slots, &mut self.row, self.start, target);
+        let (read, written) = self.row.two(self.start, self.slots.slot(source), slot);
+        *written = *read;
     }
 
-    /// Clears the `count` pages from `first` on.
+    /// Clears the `count` pages from `first` on. Nothing is written to a page that was never written.
     pub fn clear(&mut self, first: usize, count: usize)
         requires { first + count ≤ length self.old }
         ensures { self.new ≡ with_run self.old first count zero_page }
     {
-        let end = self.written.min(first + count);
-        for i in first..end {
-            self.row.put(self.start, i, [0; 4096]);
+        let _ = &self.slots;
+        for i in first..first + count {
+            clear_page(&self.slots, &mut self.row, self.start, i);
         }
     }
 }
 
-// Writes zeros to the pages from `from` on, which were never written, up to `upto`.
-fn write_zeros(
+// So many pages of zeros. Of their slots one is used: the zeros that all pages share.
+fn zero_pages(alloc: Global, pages: usize) -> Result<RawPages, AllocError>
+    requires some { 1 ≤ pages }
+    requires few { pages ≤ 4096 }
+    ensures { IfOk result (λ raw. raw ≡ replicate pages zero_page) }
+{
+    let slots = Slots::build(alloc, pages)?;
+    let (start, mut row) = allocate(&alloc, pages + 1)?;
+    row.put(start, 0, [0; 4096]);
+    Ok(RawPages {
+        start,
+        slots,
+        row,
+        alloc,
+    })
+}
+
+// A page's own slot; where it has none, it gets the next one, with zeros.
+fn own_slot(
+    slots: &mut Slots,
     row: &mut Row<[u8; 4096], Global>,
     start: Start<[u8; 4096]>,
-    from: usize,
-    upto: usize,
-)
-    requires at { start.first ≡ row.old.at }
-    requires from { from ≡ length row.old.items }
-    requires later { from ≤ upto }
-    requires upto { upto ≤ row.old.room }
-    requires few { row.old.room ≤ 4096 }
-    ensures at { row.new.at ≡ row.old.at }
-    ensures room { row.new.room ≡ row.old.room }
-    ensures alloc { row.new.alloc ≡ row.old.alloc }
-    ensures items { row.new.items ≡ row.old.items ++ replicate (upto - from) zero_page }
+    index: usize,
+) -> usize
+    requires whole { IsWhole start.first row.old.at slots.old.of.items slots.old.used row.old.room row.old.items row.old.alloc row.old.alloc }
+    requires inside { index < length slots.old.of.items }
+    ensures whole { IsWhole start.first row.new.at slots.new.of.items slots.new.used row.new.room row.new.items row.old.alloc row.new.alloc }
+    ensures pages { pages_in row.new.items slots.new.of.items ≡ pages_in row.old.items slots.old.of.items }
+    ensures count { length slots.new.of.items ≡ length slots.old.of.items }
+    ensures slot { result ≡ get_or slots.new.of.items index 0 }
+    ensures own { 1 ≤ result }
 {
-    for i in from..upto {
-        row.put(start, i, [0; 4096]);
+    let slot = slots.slot(index);
+    if slot != 0 {
+        return slot;
     }
+    let next = slots.own(index);
+    row.put(start, next, [0; 4096]);
+    next
+}
+
+// Writes zeros to a page. One that was never written is zero already.
+fn clear_page(
+    slots: &Slots,
+    row: &mut Row<[u8; 4096], Global>,
+    start: Start<[u8; 4096]>,
+    index: usize,
+)
+    requires whole { IsWhole start.first row.old.at slots.now.of.items slots.now.used row.old.room row.old.items row.old.alloc row.old.alloc }
+    requires inside { index < length slots.now.of.items }
+    ensures whole { IsWhole start.first row.new.at slots.now.of.items slots.now.used row.new.room row.new.items row.old.alloc row.new.alloc }
+    ensures pages { pages_in row.new.items slots.now.of.items ≡ slice_set (pages_in row.old.items slots.now.of.items) index zero_page }
+{
+    let slot = slots.slot(index);
+    if slot == 0 {
+        return;
+    }
+    row.put(start, slot, [0; 4096]);
 }
 
 impl Drop for RawPages {
     fn drop(self) {
         let RawPages {
             start,
-            count,
-            written: _,
+            slots,
             row,
             alloc,
         } = self;
-        release(&alloc, start, count, row);
+        release(&alloc, start, slots.count() + 1, row);
     }
 }

@@ -83,6 +83,13 @@ impl<S: PageStore> Host<S> {
         self.books.history()
     }
 
+    /// The books of the host: all that contracts see of a host, and none of its memory.
+    pub fn books(&self) -> &Books
+        ensures { result.now ≡ self.now }
+    {
+        &self.books
+    }
+
     /// How much room each build has in the history.
     pub fn capacity(&self) -> u16
         ensures { result ≡ self.now.capacity }
@@ -172,5 +179,15 @@ impl<S: PageStore> Host<S> {
             Some(rd) => self.monitor.realm(rd),
             None => None,
         }
+    }
+}
+
+impl<S: PageStore + Drop> Host<S> {
+    /// Gives the machine back, with all its memory, and keeps the books.
+    pub fn into_books(self) -> Books
+        ensures { result ≡ self }
+    {
+        let Host { monitor: _, books } = self;
+        books
     }
 }

@@ -21,7 +21,7 @@ mod undo;
 mod why_not;
 mod without;
 
-pub use build_books::Mark;
+pub use build_books::{Books, Mark};
 pub use build_commands::{Cmd, Refusal, Reply, Undone};
 pub use granule_addr::{
     BuildId, Gran, IpaGran, IpaWidth, Level, Order, PageOff, RecNo, Root, Vmid,

@@ -3,22 +3,19 @@ ghost use Rattle.std.specs.Prelude.{◌≡◌, true};
 ghost use Rattle.realm_host.specs.Recorded.{fresh_like, IsWithout};
 
 use crate::Host;
+use build_books::Books;
 use granule_addr::BuildId;
 use page_arena::PageStore;
 
-/// Applies the history of a host without the events of a build to a host that has just been booted, with the same settings
-/// and as many pages. Each event is accepted in turn, so the answer is always `true`: that host has then the history
+/// Applies the history in a host's books without the events of a build to a host that has just been booted, with the same
+/// settings and as many pages. Each event is accepted in turn, so the answer is always `true`: that host has then the history
 /// without the build, and the world without it.
-pub fn apply_without<S: PageStore, T: PageStore>(
-    host: &Host<S>,
-    build: BuildId,
-    fresh: &mut Host<T>,
-) -> bool
-    requires { fresh.old ≡ fresh_like host.now }
+pub fn apply_without<S: PageStore>(books: &Books, build: BuildId, fresh: &mut Host<S>) -> bool
+    requires { fresh.old ≡ fresh_like books.now }
     ensures done { result ≡ true }
-    ensures without { IsWithout host.now build fresh.new }
+    ensures without { IsWithout books.now build fresh.new }
 {
-    for event in host.history() {
+    for event in books.history() {
         if event.build == build {
             continue;
         }

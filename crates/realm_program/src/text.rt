@@ -15,7 +15,7 @@ use crate::source::plan_in;
 use buddy::BuddyArena;
 use granule_addr::BuildId;
 use plan_runs::{map_text, push_map, run_turns};
-use realm_host::{Host, apply_without};
+use realm_host::{Books, Host, apply_without};
 use realm_plan::Plan;
 use std::alloc::{AllocError, Global};
 use std::io::{Read, Write};
@@ -48,26 +48,27 @@ pub fn text_of<S: Built>(alloc: Global, plan: &Plan) -> Result<String, AllocErro
     Ok(text)
 }
 
-// The host after a run of the plan, whose lines are let go.
-fn host_of(alloc: Global, plan: &Plan) -> Result<Host<BuddyArena>, AllocError>
+// The books after a run of the plan. Its lines are let go, and the memory of its machine is given back.
+fn books_of(alloc: Global, plan: &Plan) -> Result<Books, AllocError>
     ensures { IfOk result (RunLeadsTo (plan_view plan.now)) }
 {
     let mut lines = String::new(alloc);
-    run_plan(alloc, plan, &mut lines)
+    let host = run_plan::<BuddyArena>(alloc, plan, &mut lines)?;
+    Ok(host.into_books())
 }
 
 // The map of a host's history without the build's events: it is applied to a fresh host of the plan.
 fn map_without(
     alloc: Global,
     plan: &Plan,
-    host: &Host<BuddyArena>,
+    books: &Books,
     build: BuildId,
 ) -> Result<String, AllocError>
-    requires { opening_host (plan_view plan.now) ≡ fresh_like host.now }
-    ensures { IfOk result (λ text. IsMapWithout host.now build (string_bytes text)) }
+    requires { opening_host (plan_view plan.now) ≡ fresh_like books.now }
+    ensures { IfOk result (λ text. IsMapWithout books.now build (string_bytes text)) }
 {
     let mut fresh = boot::<BuddyArena>(alloc, plan)?;
-    let is_done = apply_without(host, build, &mut fresh);
+    let is_done = apply_without(books, build, &mut fresh);
     prove!(is_done);
     map_text(alloc, &fresh)
 }
@@ -77,8 +78,8 @@ fn run_without(alloc: Global, plan: &Plan, build: BuildId) -> Result<String, All
     requires { build < vec_len plan.now.builds }
     ensures { IfOk result (λ text. IsErasedText (plan_view plan.now) build (string_bytes text)) }
 {
-    let host = host_of(alloc, plan)?;
-    map_without(alloc, plan, &host, build)
+    let books = books_of(alloc, plan)?;
+    map_without(alloc, plan, &books, build)
 }
 
 // The map of a run of the plan with a build left out.

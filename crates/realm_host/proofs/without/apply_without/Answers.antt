@@ -6,7 +6,7 @@ use Rattle.realm_host.proofs.LeftOut.{nothing_yet, can_apply, is_without}
 use Rattle.realm_host.proofs.without.apply_without.Goals as goal
 
 pub loop-event-init : goal.loop-event-init
-loop-event-init g c = nothing_yet c.args.host.now c.args.build c.args.fresh.now c.requires
+loop-event-init g c = nothing_yet c.args.books.now c.args.build c.args.fresh.now c.requires
 
 -- no event that is left is refused
 never : (g : _) (c : goal.Then-not-apply_recorded g) → ⊥
@@ -15,7 +15,7 @@ never g c =
     let apart : c.event-item.result.build ≢ c.args.build =
     λ same. let bad : false ≡ true = c.if-eq.ensures ∙ eq-eqb c.event-item.result.build c.args.build same in cc in
     let can : CanApply c.loop-event.fresh c.event-item.result =
-    can_apply c.args.host.now c.history-event-items.ensures.legal c.history-event-items.ensures.room c.args.build c.loop-event.event-index c.event-item.result
+    can_apply c.args.books.now c.history-event-items.ensures.legal c.history-event-items.ensures.room c.args.build c.loop-event.event-index c.event-item.result
     (subst (λ (es : List Event). c.loop-event.event-index < length es) items c.loop-event-test.true)
     (c.event-item.is ∙ ap (λ (es : List Event). get_or es c.loop-event.event-index c.event-item.result) items)
     c.loop-event.fresh c.loop-event.invariant apart in
@@ -30,6 +30,6 @@ returns-then-not-apply_recorded-clause-without g c = absurd (never g c)
 
 pub returns-clause-without : goal.returns-clause-without
 returns-clause-without g c =
-    is_without c.args.host.now c.history-event-items.ensures.legal c.history-event-items.ensures.room c.args.build c.loop-event.event-index
+    is_without c.args.books.now c.history-event-items.ensures.legal c.history-event-items.ensures.room c.args.build c.loop-event.event-index
     (subst (λ (es : List Event). length es ≤ c.loop-event.event-index) c.history-event-items.ensures.events c.loop-event-test.false)
     c.loop-event.fresh c.loop-event.invariant

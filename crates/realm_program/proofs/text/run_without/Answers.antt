@@ -6,5 +6,5 @@ use Rattle.realm_program.proofs.text.run_without.Goals as goal
 pub map_without-requires : goal.map_without-requires
 map_without-requires c =
     let plan = plan_view c.args.plan.now in
-    let played = c.in_ok-host.ensures in
-    fresh_like-run plan (opening_host plan) c.in_ok-host.host _ _ played.run
+    let played = c.in_ok-books.ensures in
+    fresh_like-run plan (opening_host plan) c.in_ok-books.books _ _ played.run

@@ -1,40 +1,46 @@
-use Rattle.std.proofs.Common.{◌≡◌, ℕ, ◌+◌, ◌-◌, ◌<◌, ◌++◌, List, length, replicate, set, sym, ap, ◌∙◌, subst, arith, length-append, length-set}
-use Rattle.std.proofs.lemmas.List.{length-replicate}
-use Rattle.granule_addr.specs.Page.{page_of, zero_page}
+use Rattle.std.proofs.Common.{◌≡◌, ◌-◌, ℕ, List, length, set, refl, sym, ap, ◌∙◌, arith}
+use Rattle.granule_addr.specs.Page.{zero_page}
 use Rattle.page_arena.specs.Block.{with_run}
-use Rattle.raw_pages.proofs.Puts.{put_inside}
-use Rattle.raw_pages.proofs.Zeros.{IsCleared, cleared_more, all_cleared}
+use Rattle.page_arena.specs.Runs.{with_run_none}
+use Rattle.raw_pages.specs.Slots.{pages_in}
+use Rattle.raw_pages.proofs.InSlots.{length-pages_in, run_more}
 use Rattle.raw_pages.proofs.pages.RawPages.clear.Goals as goal
 
-pub loop-i-preserved : goal.loop-i-preserved
-unfolding page_of
-loop-i-preserved c =
-    let kept = c.loop-i.invariant in let whole = kept.whole in let put = c.put.ensures in let i = c.loop-i.i in
-    let was = c.self.inside.row.items in let pages = c.loop-i.self-inside.row.items in
-    let marked = c.self.invariant.mark in let same = kept.items.same in let lt : i < length was = omega arith in
-    let new : set pages i zero_page ≡ c.put.new.self.items = put_inside pages i zero_page (omega arith) ∙ sym put.3 in
+pub overflow_add-i-end : goal.overflow_add-i-end
+overflow_add-i-end c =
+    let p = c.self.inside in let n = length-pages_in p.row.items p.slots.of.items in let seen = ap length c.self.view_is in let asked = c.requires in let few = c.self.invariant.few in omega arith
+
+pub loop-i-init : goal.loop-i-init
+loop-i-init c =
+    let p = c.self.inside in let pages = pages_in p.row.items p.slots.of.items in let none : c.args.first - c.args.first ≡ 0 = omega arith in
     record {
-      whole = record {
-        place = put.0 ∙ whole.place;
-        owner = put.2 ∙ whole.owner;
-        whole = put.1 ∙ whole.whole;
-        mark = whole.mark ∙ sym (length-set pages i zero_page) ∙ ap length new;
-        inside = whole.inside;
-        some = whole.some;
-        few = whole.few;
-      };
-      count = kept.count;
-      written = kept.written;
-      items = subst (λ (ps : List (List ℕ)). IsCleared zero_page was ps c.args.first (i + 1)) new (cleared_more zero_page was pages c.args.first i kept.items (omega arith) lt);
+      whole = c.self.invariant;
+      slots = refl;
+      cleared = sym (ap (λ (n : ℕ). with_run pages c.args.first n zero_page) none ∙ with_run_none pages c.args.first zero_page);
     }
 
-pub returns : goal.returns
-returns c =
-    let kept = c.loop-i.invariant in let was = c.self.inside in let now = c.loop-i.self-inside in let first = c.args.first in let count = c.args.count in
-    let marked = c.self.invariant.mark in
-    let rest : now.count - now.written ≡ was.count - was.written = (λ i. kept.count i - kept.written i) in
-    let seen = ap length c.self.view_is in let both = length-append was.row.items (replicate (was.count - was.written) zero_page) in
-    let zeros = length-replicate (was.count - was.written) zero_page in let asked = c.requires in
-    ap (λ (k : ℕ). now.row.items ++ replicate k zero_page) rest
-    ∙ all_cleared zero_page was.row.items now.row.items (was.count - was.written) first count c.loop-i.i (omega arith) kept.items (λ j lt low. (λ below. omega arith, λ inner. omega arith))
-    ∙ ap (λ (pages : List (List ℕ)). with_run pages first count zero_page) c.self.view_is
+pub clear_page-requires-clause-inside : goal.clear_page-requires-clause-inside
+clear_page-requires-clause-inside c =
+    let p = c.self.inside in let n = length-pages_in p.row.items p.slots.of.items in let seen = ap length c.self.view_is in let asked = c.requires in
+    let same = ap length c.loop-i.invariant.slots in let test = c.loop-i-test.true in omega arith
+
+pub loop-i-preserved : goal.loop-i-preserved
+loop-i-preserved c =
+    let kept = c.loop-i.invariant in let cleared = c.clear_page.ensures in let now = cleared.whole in
+    let p = c.self.inside in let pages = pages_in p.row.items p.slots.of.items in let n = length-pages_in p.row.items p.slots.of.items in
+    let seen = ap length c.self.view_is in let asked = c.requires in let test = c.loop-i-test.true in
+    record {
+      whole = record {
+        place = now.place;
+        owner = now.owner ∙ kept.whole.owner;
+        whole = now.whole;
+        mark = now.mark;
+        zeros = now.zeros;
+        some = now.some;
+        few = now.few;
+      };
+      slots = kept.slots;
+      cleared = cleared.pages
+          ∙ ap (λ (ps : List (List ℕ)). set ps c.loop-i.i zero_page) kept.cleared
+          ∙ run_more pages c.args.first c.loop-i.i (omega arith) (omega arith);
+    }

@@ -1,15 +1,38 @@
-use Rattle.std.proofs.Common.{ℕ, ◌-◌, ◌++◌, List, length, replicate, set, ap, ◌∙◌, arith, length-append}
-use Rattle.std.proofs.lemmas.List.{length-replicate}
-use Rattle.granule_addr.specs.Page.{page_of, zero_page}
-use Rattle.raw_pages.proofs.Zeros.{one_put}
+use Rattle.std.proofs.Common.{ℕ, List, [], length, set, sym, ap, ◌∙◌, arith}
+use Rattle.granule_addr.specs.Page.{page_of}
+use Rattle.raw_pages.specs.Owned.{put_at}
+use Rattle.raw_pages.proofs.Puts.{put_inside}
+use Rattle.raw_pages.proofs.InSlots.{length-pages_in, slot_inside, used_few, page_written, page_placed}
 use Rattle.raw_pages.proofs.pages.RawPages.fill.Goals as goal
 
-pub returns : goal.returns
+pub slot-slot-requires : goal.slot-slot-requires
+slot-slot-requires c = let p = c.self.inside in let n = length-pages_in p.row.items p.slots.of.items in let seen = ap length c.self.view_is in let asked = c.requires in omega arith
+
+pub own-next-requires-clause-inside : goal.own-next-requires-clause-inside
+own-next-requires-clause-inside c = let p = c.self.inside in let n = length-pages_in p.row.items p.slots.of.items in let seen = ap length c.self.view_is in let asked = c.requires in omega arith
+
+pub put-requires-else-slot-eq0 : goal.put-requires-else-slot-eq0
+put-requires-else-slot-eq0 c =
+    let p = c.self.inside in let whole = c.self.invariant in let n = length-pages_in p.row.items p.slots.of.items in let seen = ap length c.self.view_is in let asked = c.requires in
+    let inside = slot_inside p.row.items p.slots.of.items p.slots.used p.slots.own whole.mark c.args.index (omega arith) [] in let slot = c.slot-slot.ensures in
+    let few = used_few p.slots.of.items p.slots.used p.slots.own in let most = whole.few in let mark = whole.mark in let room = whole.whole in
+    (sym whole.place, omega arith, omega arith, (omega arith, omega arith))
+
+pub returns-then-slot-eq0 : goal.returns-then-slot-eq0
 unfolding page_of
-returns c =
-    let p = c.self.inside in let now = c.write_zeros.new.row.items in let upto = c.max-upto.result in let index = c.args.index in let page = page_of c.args.value in
-    let marked = c.self.invariant.mark in let later = c.max-upto.ensures in let last = c.max-self-inside.ensures in let seen = ap length c.self.view_is in
-    let both = length-append p.row.items (replicate (p.count - p.written) zero_page) in let zeros = length-replicate (p.count - p.written) zero_page in let asked = c.requires in
-    ap (λ (items : List (List ℕ)). items ++ replicate (p.count - c.max-self-inside.result) zero_page) c.put.ensures.3
-    ∙ one_put zero_page p.row.items now p.count p.written upto marked (omega arith) (omega arith) c.write_zeros.ensures.items index c.max-self-inside.result page (omega arith) (omega arith) (λ inside. omega arith) (λ at. omega arith)
-    ∙ ap (λ (pages : List (List ℕ)). set pages index page) c.self.view_is
+returns-then-slot-eq0 c =
+    let p = c.self.inside in let n = length-pages_in p.row.items p.slots.of.items in let seen = ap length c.self.view_is in let asked = c.requires in
+    let next = c.own-next.ensures in let page = page_of c.args.value in
+    page_placed p.row.items p.slots.of.items p.slots.used p.slots.own c.self.invariant.mark c.args.index (omega arith) page c.put.new.self.items c.own-next.new.self.of.items
+    (c.put.ensures.3 ∙ ap (λ (k : ℕ). put_at p.row.items k page) next.slot) next.of
+    ∙ ap (λ (pages : List (List ℕ)). set pages c.args.index page) c.self.view_is
+
+pub returns-else-slot-eq0 : goal.returns-else-slot-eq0
+unfolding page_of
+returns-else-slot-eq0 c =
+    let p = c.self.inside in let n = length-pages_in p.row.items p.slots.of.items in let seen = ap length c.self.view_is in let asked = c.requires in
+    let page = page_of c.args.value in let own = c.if-slot-eq0.false in let slot = c.slot-slot.ensures in
+    let inside = slot_inside p.row.items p.slots.of.items p.slots.used p.slots.own c.self.invariant.mark c.args.index (omega arith) [] in
+    page_written p.row.items p.slots.of.items p.slots.used p.slots.own c.self.invariant.mark c.args.index (omega arith) page c.slot-slot.result c.put-else-slot-eq0.new.self.items
+    slot (omega arith) (c.put-else-slot-eq0.ensures.3 ∙ sym (put_inside p.row.items c.slot-slot.result page (omega arith)))
+    ∙ ap (λ (pages : List (List ℕ)). set pages c.args.index page) c.self.view_is

@@ -1,17 +1,39 @@
-use Rattle.std.proofs.Common.{ℕ, ◌-◌, ◌<◌, List, [], length, replicate, set, refl, ap, ◌∙◌, arith, length-append}
-use Rattle.std.proofs.lemmas.List.{length-replicate}
+use Rattle.std.proofs.Common.{ℕ, List, [], length, set, get_or, refl, sym, ap, ◌∙◌, arith}
+use Rattle.std.proofs.lemmas.List.{get_or_default}
 use Rattle.granule_addr.specs.Page.{zero_page}
 use Rattle.page_arena.specs.Page.{page_at}
-use Rattle.raw_pages.proofs.Zeros.{one_written, one_read}
+use Rattle.raw_pages.proofs.InSlots.{length-pages_in, page_in, slot_inside, used_few, page_written}
 use Rattle.raw_pages.proofs.pages.RawPages.page_mut.Goals as goal
+
+pub own_slot-slot-requires-clause-inside : goal.own_slot-slot-requires-clause-inside
+own_slot-slot-requires-clause-inside c =
+    let p = c.self.inside in let n = length-pages_in p.row.items p.slots.of.items in let seen = ap length c.self.view_is in let asked = c.requires in omega arith
+
+pub get_mut-requires : goal.get_mut-requires
+get_mut-requires c =
+    let p = c.self.inside in let n = length-pages_in p.row.items p.slots.of.items in let seen = ap length c.self.view_is in let asked = c.requires in
+    let it = c.own_slot-slot.new in let own = c.own_slot-slot.ensures in let count = own.count in
+    let inside = slot_inside it.row.items it.slots.of.items it.slots.used it.slots.own own.whole.mark c.args.index (omega arith) [] in let slot = own.slot in
+    let few = used_few it.slots.of.items it.slots.used it.slots.own in let most = own.whole.few in let mark = own.whole.mark in
+    (sym own.whole.place, omega arith, (omega arith, omega arith))
 
 pub returns : goal.returns
 returns c =
-    let p = c.self.inside in let now = c.write_zeros.new.row.items in let upto = c.max-upto.result in let index = c.args.index in
-    let marked = c.self.invariant.mark in let later = c.max-upto.ensures in let seen = ap length c.self.view_is in let both = length-append p.row.items (replicate (p.count - p.written) zero_page) in
-    let zeros = length-replicate (p.count - p.written) zero_page in let asked = c.requires in let lt : index < upto = omega arith in
-    let wrote = one_written zero_page p.row.items now p.count p.written upto marked (omega arith) (omega arith) c.write_zeros.ensures.items index in
-    let reads = one_read zero_page p.row.items now p.count p.written upto marked (omega arith) (omega arith) c.write_zeros.ensures.items index c.get_mut.result.now [] lt c.get_mut.ensures.value in (
-      (refl, λ w. wrote w lt ∙ ap (λ (pages : List (List ℕ)). set pages index w) c.self.view_is),
-      record { writes_back = tt; value = reads ∙ ap (λ (pages : List (List ℕ)). page_at pages index) c.self.view_is },
+    let p = c.self.inside in let n = length-pages_in p.row.items p.slots.of.items in let seen = ap length c.self.view_is in let asked = c.requires in
+    let it = c.own_slot-slot.new in let own = c.own_slot-slot.ensures in let count = own.count in let slot = own.slot in
+    let inside = slot_inside it.row.items it.slots.of.items it.slots.used it.slots.own own.whole.mark c.args.index (omega arith) [] in (
+      (
+        refl,
+        λ w.
+            page_written it.row.items it.slots.of.items it.slots.used it.slots.own own.whole.mark c.args.index (omega arith) w c.own_slot-slot.result (set it.row.items c.own_slot-slot.result w) slot own.own refl
+            ∙ ap (λ (pages : List (List ℕ)). set pages c.args.index w) (own.pages ∙ c.self.view_is),
+      ),
+      record {
+        writes_back = tt;
+        value = c.get_mut.ensures.value
+            ∙ get_or_default it.row.items c.own_slot-slot.result c.get_mut.result.now zero_page (omega arith)
+            ∙ ap (λ (k : ℕ). get_or it.row.items k zero_page) slot
+            ∙ sym (page_in it.row.items it.slots.of.items c.args.index [] (omega arith))
+            ∙ ap (λ (pages : List (List ℕ)). page_at pages c.args.index) (own.pages ∙ c.self.view_is);
+      },
     )

@@ -1,0 +1,15 @@
+use Rattle.std.proofs.Common.{string_bytes, subst, sym, List, ℕ}
+use Rattle.build_books.specs.View.{HostView}
+use Rattle.plan_runs.specs.Run.{IsToldRun}
+use Rattle.realm_plan.specs.PlanView.{plan_view}
+use Rattle.realm_program.specs.Replay.{opening_host, RunLeadsTo}
+use Rattle.realm_program.proofs.text.books_of.Goals as goal
+
+pub returns : goal.returns
+returns c =
+    let plan = plan_view c.args.plan.now in
+    let lines = string_bytes c.run_plan.new.lines in
+    subst (λ (last : HostView). RunLeadsTo plan last) (sym c.into_books.ensures) (record {
+      lines = lines;
+      run = subst (λ (old : List ℕ). IsToldRun plan (opening_host plan) c.in_ok-host.host old lines) c.new-lines.ensures.bytes c.in_ok-host.ensures;
+    })
