@@ -3,7 +3,7 @@ ghost use Rattle.std.specs.Prelude.{◌≡◌, IfOk, false, nat_lt, if◌then◌
 ghost use Rattle.clap.specs.Words.{app_of, rule_of};
 ghost use Rattle.clap.specs.declared.builder.command.Command.TheViews.{out-Command as fields_of};
 ghost use Rattle.realmhost_line.specs.Program.{erase_option};
-ghost use Rattle.view_program.specs.Program.{history_subcommand, apply_subcommand, check_subcommand, realmview_alone, realmview};
+ghost use Rattle.view_program.specs.Program.{history_subcommand, apply_subcommand, json_subcommand, page_subcommand, why_subcommand, check_subcommand, realmview_alone, realmview};
 
 use clap::{Arg, ArgAction, Command, Error, value_parser};
 use granule_addr::BuildId;
@@ -16,12 +16,18 @@ pub enum Asked {
     History(Option<BuildId>),
     /// Apply a history, and write the map; a build may be left out.
     Apply(Option<BuildId>),
+    /// Write the document of a plan's run.
+    Json,
+    /// Write a page that shows a plan's run.
+    Page,
     /// Write what is wrong with a plan.
     Check,
+    /// Write the run of a plan, with the checks of each turn that is refused.
+    Why,
 }
 
 const ABOUT: &str =
-    "Shows plans of realmhost: what is wrong with them, their histories as text, and where a history leads.";
+    "Shows plans of realmhost: what is wrong with them, their histories as text, where a history leads, and their runs as JSON and as pages.";
 
 const HISTORY: &str =
     "Replays the plan on standard input, and writes its history: the size of the machine, and an event a line";
@@ -34,10 +40,25 @@ const APPLY: &str =
 const APPLY_EXAMPLE: &str =
     "Example: realmview history < plans/first.toml | realmview apply --erase 0";
 
+const JSON: &str =
+    "Replays the plan on standard input, and writes the run as one JSON document: each turn with what it changed, and the last world";
+
+const JSON_EXAMPLE: &str = "Example: realmview json < plans/first.toml";
+
+const PAGE: &str =
+    "Replays the plan on standard input, and writes a page for browsers that shows the run, turn by turn, and the worlds without each build";
+
+const PAGE_EXAMPLE: &str = "Example: realmview page < plans/failed-build.toml > run.html";
+
 const CHECK: &str =
     "Writes what is wrong with the plan on standard input, each mistake with its line, or how much the plan has";
 
 const CHECK_EXAMPLE: &str = "Example: realmview check < plans/first.toml";
+
+const WHY: &str =
+    "Replays the plan on standard input, and writes below each turn that is refused its checks, up to the one that fails";
+
+const WHY_EXAMPLE: &str = "Example: realmview why < plans/first.toml";
 
 const ERASE: &str = "Leaves the events of build B out";
 
@@ -72,12 +93,36 @@ fn apply<'a>(alloc: Global) -> Result<Command<'a>, AllocError>
     apply.arg(erase(alloc))
 }
 
+fn json<'a>(alloc: Global) -> Command<'a>
+    ensures app { app_of result ≡ json_subcommand }
+    ensures local { (fields_of result).has_globals ≡ false }
+{
+    let json = Command::new(alloc, "json").about(JSON);
+    json.after_help(JSON_EXAMPLE)
+}
+
+fn page<'a>(alloc: Global) -> Command<'a>
+    ensures app { app_of result ≡ page_subcommand }
+    ensures local { (fields_of result).has_globals ≡ false }
+{
+    let page = Command::new(alloc, "page").about(PAGE);
+    page.after_help(PAGE_EXAMPLE)
+}
+
 fn check<'a>(alloc: Global) -> Command<'a>
     ensures app { app_of result ≡ check_subcommand }
     ensures local { (fields_of result).has_globals ≡ false }
 {
     let check = Command::new(alloc, "check").about(CHECK);
     check.after_help(CHECK_EXAMPLE)
+}
+
+fn why<'a>(alloc: Global) -> Command<'a>
+    ensures app { app_of result ≡ why_subcommand }
+    ensures local { (fields_of result).has_globals ≡ false }
+{
+    let why = Command::new(alloc, "why").about(WHY);
+    why.after_help(WHY_EXAMPLE)
 }
 
 fn program<'a>(alloc: Global) -> Command<'a>
@@ -98,7 +143,8 @@ fn command<'a>(alloc: Global) -> Result<Command<'a>, AllocError>
     let history = history(alloc)?;
     let apply = apply(alloc)?;
     let both = program(alloc).subcommand(history)?.subcommand(apply)?;
-    both.subcommand(check(alloc))
+    let four = both.subcommand(json(alloc))?.subcommand(page(alloc))?;
+    four.subcommand(why(alloc))?.subcommand(check(alloc))
 }
 
 // The build of a number, if there may be one.
@@ -127,6 +173,15 @@ impl Asked {
         }
         if let Some(apply) = matches.subcommand_matches("apply") {
             return Ok(Asked::Apply(build_of(apply.get_one("erase"))));
+        }
+        if matches.subcommand_matches("json").is_some() {
+            return Ok(Asked::Json);
+        }
+        if matches.subcommand_matches("page").is_some() {
+            return Ok(Asked::Page);
+        }
+        if matches.subcommand_matches("why").is_some() {
+            return Ok(Asked::Why);
         }
         Ok(Asked::Check)
     }
