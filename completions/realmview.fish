@@ -2,6 +2,9 @@
 complete -c realmview -f
 complete -c realmview -n __fish_use_subcommand -a history -d 'Replays the plan on standard input, and writes its history: the size of the machine, and an event a line'
 complete -c realmview -n __fish_use_subcommand -a apply -d 'Applies the history on standard input, event by event, and writes the map of the machine that it leads to'
+complete -c realmview -n __fish_use_subcommand -a json -d 'Replays the plan on standard input, and writes the run as one JSON document: each turn with what it changed, and the last world'
+complete -c realmview -n __fish_use_subcommand -a page -d 'Replays the plan on standard input, and writes a page for browsers that shows the run, turn by turn, and the worlds without each build'
+complete -c realmview -n __fish_use_subcommand -a why -d 'Replays the plan on standard input, and writes below each turn that is refused its checks, up to the one that fails'
 complete -c realmview -n __fish_use_subcommand -a check -d 'Writes what is wrong with the plan on standard input, each mistake with its line, or how much the plan has'
 complete -c realmview -n '__fish_use_subcommand' -s h -l help -d 'Print help'
 complete -c realmview -n '__fish_use_subcommand' -s V -l version -d 'Print version'
@@ -9,4 +12,7 @@ complete -c realmview -n '__fish_seen_subcommand_from history' -l erase -x -a '0
 complete -c realmview -n '__fish_seen_subcommand_from history' -s h -l help -d 'Print help'
 complete -c realmview -n '__fish_seen_subcommand_from apply' -l erase -x -a '0 1 2 3 4 5 6 7' -d 'Leaves the events of build B out'
 complete -c realmview -n '__fish_seen_subcommand_from apply' -s h -l help -d 'Print help'
+complete -c realmview -n '__fish_seen_subcommand_from json' -s h -l help -d 'Print help'
+complete -c realmview -n '__fish_seen_subcommand_from page' -s h -l help -d 'Print help'
+complete -c realmview -n '__fish_seen_subcommand_from why' -s h -l help -d 'Print help'
 complete -c realmview -n '__fish_seen_subcommand_from check' -s h -l help -d 'Print help'

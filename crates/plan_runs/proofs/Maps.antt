@@ -1,5 +1,5 @@
 -- The map of a host by its world and the pages of its builds.
-use Rattle.std.proofs.Common.{◌≡◌, ℕ, List, ◌++◌, length}
+use Rattle.std.proofs.Common.{◌≡◌, ℕ, ◌++◌, length}
 use Rattle.std.specs.Prelude.{sum, slice_index}
 use Rattle.std.specs.List.{flat_map, range_with_len}
 use Rattle.build_books.specs.View.{HostView}

@@ -1,48 +1,10 @@
 -- Runs that get one more turn.
-use Rattle.std.proofs.Common.{◌≡◌, ℕ, List, [], ◌∷◌, ◌++◌, length, Some, None, refl, ap, ◌∙◌, slice_set, subst, ◌≤◌, take}
+use Rattle.std.proofs.Common.{◌≡◌, ℕ, List, [], ◌∷◌, ◌++◌, length, refl, ap, ◌∙◌, subst, ◌≤◌, take}
 use Rattle.std.specs.List.{flat_map}
 use Rattle.std.proofs.lemmas.List.{flat_map_more, take_all}
 use Rattle.build_books.specs.View.{HostView}
-use Rattle.plan_steps.specs.Asked.{asked}
-use Rattle.plan_steps.specs.Lines.{idle_line}
-use Rattle.plan_steps.specs.declared.step.PlanStep.{PlanStep}
 use Rattle.realm_plan.specs.Plan.{Plan}
-use Rattle.plan_runs.specs.Text.{turn_line}
-use Rattle.plan_runs.specs.Turn.{IsStepTurn}
-use Rattle.plan_runs.specs.Place.{moved_on}
-use Rattle.plan_runs.specs.declared.answer.TurnAnswer.{TurnAnswer}
-use Rattle.plan_runs.specs.declared.place.Place.{Place}
-use Rattle.plan_runs.specs.Run.{Position, Turn, start, place_of, step_after, IsTurn, AreTurns, IsToldTurn, IsToldRun, turn_text}
-
--- a turn without a step
-pub idle_turn :
-    (plan : Plan) (at : Position) (id build : ℕ) (old new : List ℕ)
-    → id ≡ build
-    → step_after plan build (place_of at.places build).done ≡ None
-    → new ≡ old ++ idle_line id
-    → IsToldTurn plan at build at old new
-idle_turn plan at id build old new is_id no_step appended = record {
-  turn = record { build = build; told = None };
-  of_build = refl;
-  is_turn = rw no_step (refl, refl);
-  appended = appended ∙ ap (λ b. old ++ idle_line b) is_id;
-}
-
--- a turn with a step and its answer
-pub answered_turn :
-    (plan : Plan) (from : Position) (id build : ℕ) (step : PlanStep) (answer : TurnAnswer) (host : HostView) (after moved : Place) (old new : List ℕ)
-    → id ≡ build
-    → step_after plan build (place_of from.places build).done ≡ Some step
-    → IsStepTurn from.host id (place_of from.places build) (asked step) answer host after
-    → moved ≡ moved_on after
-    → new ≡ old ++ turn_line id step answer
-    → IsToldTurn plan from build (record { host = host; places = slice_set from.places build moved }) old new
-answered_turn plan from id build step answer host after moved old new is_id is_step is_turn is_moved appended = record {
-  turn = record { build = build; told = Some (step, answer) };
-  of_build = refl;
-  is_turn = rw is_step (answer, after, refl, subst (λ b. IsStepTurn from.host b (place_of from.places build) (asked step) answer host after) is_id is_turn, ap (slice_set from.places build) is_moved);
-  appended = appended ∙ ap (λ b. old ++ turn_line b step answer) is_id;
-}
+use Rattle.plan_runs.specs.Run.{Position, Turn, start, IsTurn, AreTurns, IsToldTurn, IsToldRun, turn_text}
 
 -- a run and one more turn
 pub AreTurns-more :

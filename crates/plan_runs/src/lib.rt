@@ -21,4 +21,5 @@ pub use lines::push_turn;
 pub use map::{map_text, push_map};
 pub use place::Place;
 pub use report::push_report;
-pub use run::run_turns;
+pub use run::{run_turns, step_after, take_turn};
+pub use turn::step_turn;

@@ -40,8 +40,8 @@ fn push_build<S: PageStore>(
     }
 }
 
-/// Appends the map: the pages of each build and its realm, and how many pages nobody leases. At an `Err` a growth of the
-/// text was refused.
+/// Appends the map: the pages of each build and its realm, and how many pages nobody leases. At an `Err`
+/// allocation failed.
 pub fn push_map<S: PageStore>(text: &mut String, host: &Host<S>) -> Result<(), AllocError>
     ensures { OnOk result (string_bytes text.new ≡ string_bytes text.old ++ map_text host.now) }
 {

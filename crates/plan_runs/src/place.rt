@@ -26,7 +26,7 @@ impl Place {
     }
 
     /// Behind a turn: its step is used up, unless undos of it are left.
-    pub(crate) fn move_on(&mut self)
+    pub fn move_on(&mut self)
         requires { self.old.done < 1024 }
         ensures { self.new ≡ moved_on self.old }
     {

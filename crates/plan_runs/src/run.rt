@@ -1,8 +1,9 @@
 //! The turns of a plan, and their lines.
 ghost use Rattle.std.specs.Prelude.{◌≡◌, ◌<◌, OnOk, IfSome, string_bytes, vec_len, option_map};
 ghost use Rattle.realm_plan.specs.PlanView.{plan_view};
-ghost use Rattle.plan_runs.specs.Run.{step_after as nth_step, IsToldTurn, IsToldRun};
+ghost use Rattle.plan_runs.specs.Run.{step_after as nth_step, IsTurn, IsToldTurn, IsToldRun};
 
+use crate::answer::TurnAnswer;
 use crate::build_id::id_of;
 use crate::lines::push_turn;
 use crate::place::Place;
@@ -13,15 +14,33 @@ use realm_host::Host;
 use realm_plan::Plan;
 use std::alloc::AllocError;
 
-// The step of a build that comes after so many.
-fn step_after(plan: &Plan, build: usize, done: usize) -> Option<&PlanStep>
+/// The step of a build that comes after so many; None where it has no more.
+pub fn step_after(plan: &Plan, build: usize, done: usize) -> Option<&PlanStep>
     ensures value { option_map (λ step. step.now) result ≡ nth_step (plan_view plan.now) build done }
     ensures few { IfSome result (λ _. done < 1024) }
 {
     plan.builds.get(build)?.get(done)
 }
 
-// One turn of a build: its next step, if one is left.
+/// One turn of a build: its next step, if one is left, with what the host answered.
+pub fn take_turn<'a, S: PageStore>(
+    host: &mut Host<S>,
+    plan: &'a Plan,
+    places: &mut [Place; 8],
+    build: usize,
+) -> Option<(&'a PlanStep, TurnAnswer)>
+    requires { build < vec_len plan.now.builds }
+    ensures { IsTurn (plan_view plan.now) (record { host = host.old; places = places.old }) (record { build = build; told = option_map (λ told. (told.0.now, told.1)) result }) (record { host = host.new; places = places.new }) }
+{
+    let mut place = places[build];
+    let step = step_after(plan, build, place.done)?;
+    let answer = step_turn(host, id_of(build), &mut place, step.asked());
+    place.move_on();
+    places[build] = place;
+    Some((step, answer))
+}
+
+// One turn of a build, and its line.
 fn turn<S: PageStore>(
     host: &mut Host<S>,
     plan: &Plan,
@@ -32,18 +51,13 @@ fn turn<S: PageStore>(
     requires { build < vec_len plan.now.builds }
     ensures { OnOk result (IsToldTurn (plan_view plan.now) (record { host = host.old; places = places.old }) build (record { host = host.new; places = places.new }) (string_bytes text.old) (string_bytes text.new)) }
 {
-    let id = id_of(build);
-    let mut place = places[build];
-    let Some(step) = step_after(plan, build, place.done) else {
-        return push_idle(text, id);
-    };
-    let answer = step_turn(host, id, &mut place, step.asked());
-    place.move_on();
-    places[build] = place;
-    push_turn(text, id, step, answer)
+    match take_turn(host, plan, places, build) {
+        Some((step, answer)) => push_turn(text, id_of(build), step, answer),
+        None => push_idle(text, id_of(build)),
+    }
 }
 
-/// Does the turns of a plan, and appends their lines. At an `Err` a growth of the text was refused.
+/// Does the turns of a plan, and appends their lines. At an `Err` allocation failed.
 pub fn run_turns<S: PageStore>(
     host: &mut Host<S>,
     plan: &Plan,

@@ -119,7 +119,7 @@ fn back_turn<S: PageStore>(host: &mut Host<S>, build: BuildId, place: &mut Place
 }
 
 /// The turn of a build's step, and what it tells. The place says afterwards how many undos of the step are left.
-pub(crate) fn step_turn<S: PageStore>(
+pub fn step_turn<S: PageStore>(
     host: &mut Host<S>,
     build: BuildId,
     place: &mut Place,

@@ -83,7 +83,7 @@ impl<S: PageStore> Host<S> {
         self.books.history()
     }
 
-    /// The books of the host: all that contracts see of a host, and none of its memory.
+    /// The books of the host: all that contracts see of a host, which the checks of a command look at, and none of its memory.
     pub fn books(&self) -> &Books
         ensures { result.now ≡ self.now }
     {

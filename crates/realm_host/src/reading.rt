@@ -61,6 +61,13 @@ fn first_covered(ipa: u32, level: Level) -> IpaGran
 }
 
 impl<S: PageStore> Host<S> {
+    /// How many auxiliary granules a REC has. RMM 1.0, RMI_REC_AUX_COUNT.
+    pub fn rec_aux_count(&self) -> u8
+        ensures { result ≡ self.now.limits.aux }
+    {
+        self.monitor.rec_aux_count()
+    }
+
     /// How many pages the machine has.
     pub fn pages(&self) -> u16
         ensures { result ≡ self.now.limits.pages }

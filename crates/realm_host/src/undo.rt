@@ -44,8 +44,8 @@ impl<S: PageStore> Host<S> {
         Ok(Undone { kind, left })
     }
 
-    // Whether an act of a build made a REC that runs.
-    pub(crate) fn is_running(&self, build: BuildId, act: &Act) -> bool
+    /// Whether an act of a build made a REC that runs, and so cannot be undone.
+    pub fn is_running(&self, build: BuildId, act: &Act) -> bool
         requires { build < self.now.limits.builds }
         ensures { result ≡ is_running (realm_of build (world_of self.now)) act.now }
     {

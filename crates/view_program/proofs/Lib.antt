@@ -5,3 +5,4 @@ mod Legal
 mod ApplyEnds
 mod Once
 mod CheckEnds
+mod WithoutBuilds

@@ -20,32 +20,48 @@ realmview_is_free = refl
 
 -- ---- the subcommand
 
-named : (t : Text) → NamesOne t (built realmview).subs → (t ≡ codes "history") ⊎ ((t ≡ codes "apply") ⊎ (t ≡ codes "check"))
+-- one of these names
+abbrev IsName : Text → Type 0
+IsName t = (t ≡ codes "history") ⊎ ((t ≡ codes "apply") ⊎ ((t ≡ codes "json") ⊎ ((t ≡ codes "page") ⊎ ((t ≡ codes "why") ⊎ (t ≡ codes "check")))))
+
+named : (t : Text) → NamesOne t (built realmview).subs → IsName t
 named t (inl history) = inl history
 named t (inr (inl apply)) = inr (inl apply)
-named t (inr (inr (inl check))) = inr (inr check)
-named t (inr (inr (inr more))) = absurd more
+named t (inr (inr (inl json))) = inr (inr (inl json))
+named t (inr (inr (inr (inl page)))) = inr (inr (inr (inl page)))
+named t (inr (inr (inr (inr (inl why))))) = inr (inr (inr (inr (inl why))))
+named t (inr (inr (inr (inr (inr (inl check)))))) = inr (inr (inr (inr (inr check))))
+named t (inr (inr (inr (inr (inr (inr more)))))) = absurd more
 
-check_from : (sub : Option (Text × List Row)) → is_some sub ≡ true → ((r : Text × List Row) → sub ≡ Some r → (r.0 ≡ codes "history") ⊎ ((r.0 ≡ codes "apply") ⊎ (r.0 ≡ codes "check")))
-    → ¬ (name_in sub ≡ Some (codes "history")) → ¬ (name_in sub ≡ Some (codes "apply")) → IsViewSubcommand sub Check
-check_from None has names no_history no_apply = absurd (false≢true has)
-check_from (Some r) has names no_history no_apply = elim (names r refl) [
-  | inl history ↦ absurd (no_history (ap Some history))
-  | inr (inl apply) ↦ absurd (no_apply (ap Some apply))
-  | inr (inr check) ↦ check
+-- a subcommand of none of the names before the last
+pub record IsNoOther (sub : Option (Text × List Row)) : Type 0 where
+  pub no_history : ¬ (name_in sub ≡ Some (codes "history"))
+  pub no_apply : ¬ (name_in sub ≡ Some (codes "apply"))
+  pub no_json : ¬ (name_in sub ≡ Some (codes "json"))
+  pub no_page : ¬ (name_in sub ≡ Some (codes "page"))
+  pub no_why : ¬ (name_in sub ≡ Some (codes "why"))
+
+check_from : (sub : Option (Text × List Row)) → is_some sub ≡ true → ((r : Text × List Row) → sub ≡ Some r → IsName r.0) → IsNoOther sub → IsViewSubcommand sub Check
+check_from None has names none = absurd (false≢true has)
+check_from (Some r) has names none = elim (names r refl) [
+  | inl history ↦ absurd (none.no_history (ap Some history))
+  | inr (inl apply) ↦ absurd (none.no_apply (ap Some apply))
+  | inr (inr (inl json)) ↦ absurd (none.no_json (ap Some json))
+  | inr (inr (inr (inl page))) ↦ absurd (none.no_page (ap Some page))
+  | inr (inr (inr (inr (inl why)))) ↦ absurd (none.no_why (ap Some why))
+  | inr (inr (inr (inr (inr check)))) ↦ check
 ]
 
--- words that have no fault, and ask neither for a history nor to apply one, ask for a check
-pub check_is_asked : (words : List Text) → fault_of realmview words ≡ [] → ¬ (name_in (subcommand_of realmview words) ≡ Some (codes "history")) → ¬ (name_in (subcommand_of realmview words) ≡ Some (codes "apply"))
-    → IsViewSubcommand (subcommand_of realmview words) Check
-check_is_asked words e no_history no_apply =
-    check_from (subcommand_of realmview words) (is_entered realmview words e refl) (λ r is. named r.0 (is_one realmview words r is)) no_history no_apply
+-- words that have no fault, and ask for nothing else, ask for a check
+pub check_is_asked : (words : List Text) → fault_of realmview words ≡ [] → IsNoOther (subcommand_of realmview words) → IsViewSubcommand (subcommand_of realmview words) Check
+check_is_asked words e none =
+    check_from (subcommand_of realmview words) (is_entered realmview words e refl) (λ r is. named r.0 (is_one realmview words r is)) none
 
 -- ---- the build that is left out
 
 pub erase_passed : (words : List Text) → fault_of realmview words ≡ [] → (rows : List Row) → option_map (λ p. p.1) (subcommand_of realmview words) ≡ Some rows
     → Each (IsPassed built_erase) rows
-erase_passed words e = values_passed realmview words e built_erase refl ((inl refl, (inr (refl, refl), tt)), ((inl refl, (inr (refl, refl), tt)), ((inr (refl, refl), tt), tt)))
+erase_passed words e = values_passed realmview words e built_erase refl ((inl refl, (inr (refl, refl), tt)), ((inl refl, (inr (refl, refl), tt)), ((inr (refl, refl), tt), ((inr (refl, refl), tt), ((inr (refl, refl), tt), ((inr (refl, refl), tt), tt))))))
 
 module _ (sub : Option (Text × List Row)) (rows : List Row) (b : Option ℕ) where
   pub history_is_asked : name_in sub ≡ Some (codes "history") → option_map (λ p. p.1) sub ≡ Some rows → IsErase (one_of (codes "erase") rows) b → IsViewSubcommand sub (History b)

@@ -2,7 +2,10 @@ pub mod Stop
 pub mod Line
 pub mod Program
 pub mod History
+pub mod Json
+pub mod PageData
 pub mod Applied
 pub mod Taking
 pub mod Checked
+pub mod Why
 pub mod Printed

@@ -7,12 +7,17 @@ use Rattle.history_text.specs.declared.opening.Opening.{Opening}
 use Rattle.view_program.specs.Applied.{IsHistoryIn, IsNoHistoryIn, IsMap, HasNoMap}
 use Rattle.view_program.specs.declared.fault.Fault.{Fault}
 use Rattle.realm_program.specs.Printed.{IsEnd}
+use Rattle.realm_plan.specs.Plan as plan
+use Rattle.realm_program.specs.declared.fault.Fault as plan_fault
 use Rattle.view_program.specs.History.{IsHistoryText, IsWithoutHistory}
+use Rattle.view_program.specs.Json.{IsJsonText, IsWithoutJson}
+use Rattle.view_program.specs.PageData.{IsPageText}
 use Rattle.view_program.specs.Checked.{IsCheckEnd}
+use Rattle.view_program.specs.Why.{IsWhyText, IsWithoutWhy}
 use Rattle.view_program.specs.declared.checking.Verdict.{Verdict}
 use Rattle.view_program.specs.declared.checking.Verdict.TheVariants.{Done, HasErrors}
 use Rattle.view_program.specs.declared.line.Asked.{Asked}
-use Rattle.view_program.specs.declared.line.Asked.TheVariants.{History, Apply, Check}
+use Rattle.view_program.specs.declared.line.Asked.TheVariants.{History, Apply, Json, Page, Why, Check}
 use Rattle.view_program.specs.declared.fault.Fault.TheVariants.{Plan, NoOpening, NoEvent, Refused, EraseNamesNoBuild, Memory, Device}
 
 -- the input is a history with this map
@@ -59,11 +64,11 @@ IsApplyEnd erase unread input old new (Err fault) = ⊥
 
 -- ---- what is asked
 
--- of a plan's history, where the program's faults are those of a plan
-abbrev pub IsHistoryEnd : Option ℕ → Bool → Option (List ℕ) → Option (List ℕ) → Option (List ℕ) → Result (Unit {0}) Fault → Type 0
-IsHistoryEnd erase unread input old new (Ok done) = IsEnd (IsHistoryText erase) (IsWithoutHistory erase) unread input old new (Ok done)
-IsHistoryEnd erase unread input old new (Err (Plan fault)) = IsEnd (IsHistoryText erase) (IsWithoutHistory erase) unread input old new (Err fault)
-IsHistoryEnd erase unread input old new (Err fault) = ⊥
+-- of a text that a plan has, where the program's faults are those of a plan
+abbrev pub IsPlanEnd : (plan.Plan → List ℕ → Type 0) → (plan.Plan → plan_fault.Fault → Type 0) → Bool → Option (List ℕ) → Option (List ℕ) → Option (List ℕ) → Result (Unit {0}) Fault → Type 0
+IsPlanEnd texts without unread input old new (Ok done) = IsEnd texts without unread input old new (Ok done)
+IsPlanEnd texts without unread input old new (Err (Plan fault)) = IsEnd texts without unread input old new (Err fault)
+IsPlanEnd texts without unread input old new (Err fault) = ⊥
 
 -- what is done, where no plan is checked
 abbrev pub EndsAs : (Result (Unit {0}) Fault → Type 0) → Result Verdict Fault → Type 0
@@ -72,6 +77,9 @@ EndsAs IsEndOf (Ok HasErrors) = ⊥
 EndsAs IsEndOf (Err fault) = IsEndOf (Err fault)
 
 abbrev pub IsRunEnd : Asked → Bool → Option (List ℕ) → Option (List ℕ) → Option (List ℕ) → Result Verdict Fault → Type 0
-IsRunEnd (History erase) unread input old new result = EndsAs (IsHistoryEnd erase unread input old new) result
+IsRunEnd (History erase) unread input old new result = EndsAs (IsPlanEnd (IsHistoryText erase) (IsWithoutHistory erase) unread input old new) result
 IsRunEnd (Apply erase) unread input old new result = EndsAs (IsApplyEnd erase unread input old new) result
+IsRunEnd Json unread input old new result = EndsAs (IsPlanEnd IsJsonText IsWithoutJson unread input old new) result
+IsRunEnd Page unread input old new result = EndsAs (IsPlanEnd IsPageText IsWithoutJson unread input old new) result
+IsRunEnd Why unread input old new result = EndsAs (IsPlanEnd IsWhyText IsWithoutWhy unread input old new) result
 IsRunEnd Check unread input old new result = IsCheckEnd unread input old new result

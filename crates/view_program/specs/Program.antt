@@ -10,6 +10,15 @@ history_subcommand = with_rule (new_app (codes "history")) erase_option
 abbrev pub apply_subcommand : App
 apply_subcommand = with_rule (new_app (codes "apply")) erase_option
 
+abbrev pub json_subcommand : App
+json_subcommand = new_app (codes "json")
+
+abbrev pub page_subcommand : App
+page_subcommand = new_app (codes "page")
+
+abbrev pub why_subcommand : App
+why_subcommand = new_app (codes "why")
+
 abbrev pub check_subcommand : App
 check_subcommand = new_app (codes "check")
 
@@ -20,4 +29,11 @@ realmview_alone =
     record a { top = record a.top { has_version = true; subcommand_required = true; disable_help_subcommand = true } }
 
 abbrev pub realmview : App
-realmview = with_subcommand (with_subcommand (with_subcommand realmview_alone history_subcommand.top) apply_subcommand.top) check_subcommand.top
+realmview =
+    with_subcommand
+    (with_subcommand
+    (with_subcommand
+    (with_subcommand (with_subcommand (with_subcommand realmview_alone history_subcommand.top) apply_subcommand.top) json_subcommand.top)
+    page_subcommand.top)
+    why_subcommand.top)
+    check_subcommand.top

@@ -2,7 +2,8 @@
 //! plan, its command line, and why it stops.
 //!
 //! `history` goes from the bytes of a plan to the text of its history, `apply` from the lines of a history to the map of the
-//! machine that it leads to, and `check` from bytes to what is told of them as a plan, each over any reader and any writer.
+//! machine that it leads to, `check` from bytes to what is told of them as a plan, `json` and `page` from the bytes of a plan to
+//! its run as data and as a page, each over any reader and any writer.
 //! Whatever they say of a run they take from a host. Nothing here looks at the process that it runs in: a caller hands in the
 //! words and the devices.
 #![tactic(auto)]
@@ -14,6 +15,9 @@ mod law;
 mod line;
 mod machine;
 mod plan_history;
+mod plan_json;
+mod plan_page;
+mod plan_reasons;
 mod running;
 mod taking;
 
@@ -23,4 +27,7 @@ pub use fault::Fault;
 pub use law::{histories_do_not_stop, what_is_applied_is_legal};
 pub use line::Asked;
 pub use plan_history::history;
+pub use plan_json::json;
+pub use plan_page::page;
+pub use plan_reasons::why;
 pub use running::run;

@@ -1,11 +1,12 @@
 //! The command line.
 ghost use Rattle.std.specs.Prelude.{◌≡◌, IfOk, false, nat_lt, if◌then◌else◌, Some, None, option_and_then};
-ghost use Rattle.clap.specs.Words.{app_of, rule_of};
+ghost use Rattle.clap.specs.Words.{app_of, rule_of, subcommand_rows_of};
 ghost use Rattle.clap.specs.declared.builder.command.Command.TheViews.{out-Command as fields_of};
 ghost use Rattle.realmhost_line.specs.Program.{erase_option};
-ghost use Rattle.view_program.specs.Program.{history_subcommand, apply_subcommand, check_subcommand, realmview_alone, realmview};
+ghost use Rattle.view_program.specs.Line.{IsOfWords, IsViewSubcommand};
+ghost use Rattle.view_program.specs.Program.{history_subcommand, apply_subcommand, json_subcommand, page_subcommand, why_subcommand, check_subcommand, realmview_alone, realmview};
 
-use clap::{Arg, ArgAction, Command, Error, value_parser};
+use clap::{Arg, ArgAction, ArgMatches, Command, Error, value_parser};
 use granule_addr::BuildId;
 use std::alloc::{AllocError, Global};
 
@@ -16,12 +17,18 @@ pub enum Asked {
     History(Option<BuildId>),
     /// Apply a history, and write the map; a build may be left out.
     Apply(Option<BuildId>),
+    /// Write the document of a plan's run.
+    Json,
+    /// Write a page that shows a plan's run.
+    Page,
     /// Write what is wrong with a plan.
     Check,
+    /// Write the run of a plan, with the checks of each turn that is refused.
+    Why,
 }
 
 const ABOUT: &str =
-    "Shows plans of realmhost: what is wrong with them, their histories as text, and where a history leads.";
+    "Shows plans of realmhost: what is wrong with them, their histories as text, where a history leads, and their runs as JSON and as pages.";
 
 const HISTORY: &str =
     "Replays the plan on standard input, and writes its history: the size of the machine, and an event a line";
@@ -34,10 +41,25 @@ const APPLY: &str =
 const APPLY_EXAMPLE: &str =
     "Example: realmview history < plans/first.toml | realmview apply --erase 0";
 
+const JSON: &str =
+    "Replays the plan on standard input, and writes the run as one JSON document: each turn with what it changed, and the last world";
+
+const JSON_EXAMPLE: &str = "Example: realmview json < plans/first.toml";
+
+const PAGE: &str =
+    "Replays the plan on standard input, and writes a page for browsers that shows the run, turn by turn, and the worlds without each build";
+
+const PAGE_EXAMPLE: &str = "Example: realmview page < plans/failed-build.toml > run.html";
+
 const CHECK: &str =
     "Writes what is wrong with the plan on standard input, each mistake with its line, or how much the plan has";
 
 const CHECK_EXAMPLE: &str = "Example: realmview check < plans/first.toml";
+
+const WHY: &str =
+    "Replays the plan on standard input, and writes below each turn that is refused its checks, up to the one that fails";
+
+const WHY_EXAMPLE: &str = "Example: realmview why < plans/first.toml";
 
 const ERASE: &str = "Leaves the events of build B out";
 
@@ -72,12 +94,36 @@ fn apply<'a>(alloc: Global) -> Result<Command<'a>, AllocError>
     apply.arg(erase(alloc))
 }
 
+fn json<'a>(alloc: Global) -> Command<'a>
+    ensures app { app_of result ≡ json_subcommand }
+    ensures local { (fields_of result).has_globals ≡ false }
+{
+    let json = Command::new(alloc, "json").about(JSON);
+    json.after_help(JSON_EXAMPLE)
+}
+
+fn page<'a>(alloc: Global) -> Command<'a>
+    ensures app { app_of result ≡ page_subcommand }
+    ensures local { (fields_of result).has_globals ≡ false }
+{
+    let page = Command::new(alloc, "page").about(PAGE);
+    page.after_help(PAGE_EXAMPLE)
+}
+
 fn check<'a>(alloc: Global) -> Command<'a>
     ensures app { app_of result ≡ check_subcommand }
     ensures local { (fields_of result).has_globals ≡ false }
 {
     let check = Command::new(alloc, "check").about(CHECK);
     check.after_help(CHECK_EXAMPLE)
+}
+
+fn why<'a>(alloc: Global) -> Command<'a>
+    ensures app { app_of result ≡ why_subcommand }
+    ensures local { (fields_of result).has_globals ≡ false }
+{
+    let why = Command::new(alloc, "why").about(WHY);
+    why.after_help(WHY_EXAMPLE)
 }
 
 fn program<'a>(alloc: Global) -> Command<'a>
@@ -98,7 +144,10 @@ fn command<'a>(alloc: Global) -> Result<Command<'a>, AllocError>
     let history = history(alloc)?;
     let apply = apply(alloc)?;
     let both = program(alloc).subcommand(history)?.subcommand(apply)?;
-    both.subcommand(check(alloc))
+    let three = both.subcommand(json(alloc))?;
+    let four = three.subcommand(page(alloc))?;
+    let five = four.subcommand(why(alloc))?;
+    five.subcommand(check(alloc))
 }
 
 // The build of a number, if there may be one.
@@ -108,10 +157,32 @@ fn build_of(number: Option<u8>) -> Option<BuildId>
     BuildId::new(number?)
 }
 
+// What is asked for by the words that clap has matched.
+fn asked_by(matches: &ArgMatches) -> Asked
+    requires { IsOfWords matches.now }
+    ensures { IsViewSubcommand (subcommand_rows_of matches.now) result }
+{
+    if let Some(history) = matches.subcommand_matches("history") {
+        return Asked::History(build_of(history.get_one("erase")));
+    }
+    if let Some(apply) = matches.subcommand_matches("apply") {
+        return Asked::Apply(build_of(apply.get_one("erase")));
+    }
+    if matches.subcommand_matches("json").is_some() {
+        return Asked::Json;
+    }
+    if matches.subcommand_matches("page").is_some() {
+        return Asked::Page;
+    }
+    if matches.subcommand_matches("why").is_some() {
+        return Asked::Why;
+    }
+    Asked::Check
+}
+
 impl Asked {
     ghost use Rattle.std.specs.Prelude.{map, string_bytes};
     ghost use Rattle.clap.specs.Words.{FailsBy, fault_of, subcommand_of};
-    ghost use Rattle.view_program.specs.Line.{IsViewSubcommand};
 
     /// What the words ask for. The first word is the program's name.
     pub fn of(alloc: Global, words: &[String]) -> Result<Asked, Error>
@@ -122,12 +193,6 @@ impl Asked {
     {
         let mut program = command(alloc)?;
         let matches = program.try_get_matches_from_mut(words)?;
-        if let Some(history) = matches.subcommand_matches("history") {
-            return Ok(Asked::History(build_of(history.get_one("erase"))));
-        }
-        if let Some(apply) = matches.subcommand_matches("apply") {
-            return Ok(Asked::Apply(build_of(apply.get_one("erase"))));
-        }
-        Ok(Asked::Check)
+        Ok(asked_by(&matches))
     }
 }

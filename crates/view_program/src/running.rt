@@ -2,7 +2,7 @@
 ghost use Rattle.std.specs.Prelude.{◌≡◌, false};
 ghost use Rattle.view_program.specs.Printed.{IsRunEnd};
 
-use crate::{Asked, Fault, Verdict, apply, check, history};
+use crate::{Asked, Fault, Verdict, apply, check, history, json, page, why};
 use std::alloc::Global;
 use std::io::{Read, Write};
 use told_device::Told;
@@ -21,7 +21,10 @@ pub fn run<R: Read, W: Write>(
     match asked {
         Asked::History(erase) => history(alloc, input, output, erase)?,
         Asked::Apply(erase) => apply(alloc, input, output, erase)?,
+        Asked::Json => json(alloc, input, output)?,
+        Asked::Page => page(alloc, input, output)?,
         Asked::Check => return check(alloc, input, output),
+        Asked::Why => why(alloc, input, output)?,
     }
     Ok(Verdict::Done)
 }

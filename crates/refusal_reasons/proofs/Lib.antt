@@ -1,0 +1,4 @@
+pub mod Lists
+pub mod Needs
+pub mod Runs
+mod Told

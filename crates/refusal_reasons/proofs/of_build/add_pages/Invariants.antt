@@ -1,0 +1,6 @@
+use Rattle.std.proofs.Common.{◌≡◌, ◌++◌, map, take}
+use Rattle.refusal_reasons.specs.OfBuild.{page_there}
+use Rattle.refusal_reasons.proofs.of_build.add_pages.Given as goal
+
+abbrev pub invariant-loop-page : goal.invariant-loop-page
+invariant-loop-page g l = l.looks.items ≡ l.fn.looks.items ++ map (page_there l.host l.build) (take l.page-index l.pages)

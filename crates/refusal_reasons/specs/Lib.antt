@@ -1,0 +1,13 @@
+pub mod Words
+pub mod Lines
+pub mod Pages
+pub mod OfBuild
+pub mod OfBlock
+pub mod OfInput
+pub mod OfRealm
+pub mod OfRec
+pub mod OfWalk
+pub mod Commands
+pub mod Steps
+pub mod Explained
+pub mod Told

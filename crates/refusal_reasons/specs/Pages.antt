@@ -1,0 +1,15 @@
+-- The pages of which is told.
+use Rattle.std.specs.Prelude.{ℕ, ◌+◌, nat_le, List, ◌∷◌, if◌then◌else◌}
+use Rattle.std.specs.List.{range_with_len}
+use Rattle.build_commands.specs.Needs.{operands, tables_named}
+use Rattle.build_commands.specs.declared.cmd.Cmd.{Cmd}
+use Rattle.build_commands.specs.declared.cmd.Cmd.TheVariants.{Realm}
+
+-- of how many starting tables: where the numbers of the last are none that pages have, of the first alone
+abbrev pub tables_told : ℕ → ℕ → ℕ
+tables_told root width = if nat_le (root + tables_named width) 65536 then tables_named width else 1
+
+-- the pages that a command names, in the order in which they are written
+abbrev pub pages_told : Cmd → List ℕ
+pages_told (Realm rd root width) = rd ∷ range_with_len root (tables_told root width)
+pages_told cmd = operands cmd

@@ -1,0 +1,70 @@
+-- The checks of the turn of a step, in the order of the refusals' numbers.
+use Rattle.std.specs.Prelude.{ℕ, ◌==◌, nat_lt, List, [], ◌∷◌, ◌++◌, length, Bool, true, false, Option, Some, None, Result, Err, if◌then◌else◌}
+use Rattle.realm_model.specs.Running.{running_count}
+use Rattle.realm_model.specs.World.{realm_of}
+use Rattle.build_commands.specs.declared.cmd.Step.{Step}
+use Rattle.build_commands.specs.declared.cmd.Step.TheVariants.{Ask, Undo, Abort, Mark as KeepMark, Back}
+use Rattle.build_commands.specs.declared.refusal.Refusal.{Refusal}
+use Rattle.build_commands.specs.declared.refusal.Refusal.TheVariants.{NothingToUndo, RecRunning}
+use Rattle.build_books.specs.View.{HostView, world_of, open_of}
+use Rattle.build_books.specs.declared.mark.Mark.{Mark}
+use Rattle.realm_host.specs.Refusals as refusals
+use Rattle.realm_host.specs.Marked.{way_back}
+use Rattle.plan_runs.specs.declared.place.Place.{Place}
+use Rattle.refusal_reasons.specs.OfBuild.{build_there, build_looks}
+use Rattle.refusal_reasons.specs.Commands.{command_looks}
+use Rattle.refusal_reasons.specs.declared.undo_fact.UndoFact.TheVariants as undo
+use Rattle.refusal_reasons.specs.declared.look.Fact.TheVariants as fact
+use Rattle.refusal_reasons.specs.declared.look.Look.{Look}
+
+-- ---- an undo
+
+abbrev pub newest_runs : HostView → ℕ → Bool
+newest_runs host build = if nat_lt build host.limits.builds then refusals.is_newest_running host build else false
+
+abbrev pub undo_looks : HostView → ℕ → List Look
+undo_looks host build =
+    build_there host build
+    ∷ record { fact = fact.Undo (undo.Open (length (open_of host build))); fails = nat_lt (length (open_of host build)) 1; refusal = NothingToUndo }
+    ∷ record { fact = fact.Undo undo.NewestRests; fails = newest_runs host build; refusal = RecRunning } ∷ []
+
+-- ---- an abort that begins
+
+-- how many RECs of a build run; none where there is no such build
+abbrev pub running_of : HostView → ℕ → ℕ
+running_of host build = if nat_lt build host.limits.builds then running_count (realm_of build (world_of host)) else 0
+
+abbrev pub begin_looks : HostView → ℕ → List Look
+begin_looks host build =
+    build_looks host build
+    ++ record { fact = fact.Undo (undo.AllRest (running_of host build)); fails = nat_lt 0 (running_of host build); refusal = RecRunning } ∷ []
+
+-- ---- a way back to a mark
+
+abbrev pub is_nothing : Result ℕ Refusal → Bool
+is_nothing (Err NothingToUndo) = true
+is_nothing _ = false
+
+abbrev pub is_refused_by_running : Result ℕ Refusal → Bool
+is_refused_by_running (Err RecRunning) = true
+is_refused_by_running _ = false
+
+abbrev pub mark_looks : Bool → List Look
+mark_looks fails = record { fact = fact.Undo undo.Mark; fails = fails; refusal = NothingToUndo } ∷ []
+
+abbrev pub back_looks : HostView → ℕ → Option Mark → List Look
+back_looks host build None = mark_looks true
+back_looks host build (Some mark) =
+    build_looks host build
+    ++ (mark_looks (is_nothing (way_back host build mark))
+    ++ record { fact = fact.Undo undo.AboveRests; fails = is_refused_by_running (way_back host build mark); refusal = RecRunning } ∷ [])
+
+-- ---- the turn of a step
+
+-- Of an abort and a way back it is the first turn that has checks of its own; each later one is an undo.
+unfoldable pub step_looks : HostView → ℕ → Place → Step → List Look
+step_looks host build place (Ask cmd) = command_looks host build cmd
+step_looks host build place Undo = undo_looks host build
+step_looks host build place KeepMark = build_looks host build
+step_looks host build place Abort = if place.left == 0 then begin_looks host build else undo_looks host build
+step_looks host build place Back = if place.left == 0 then back_looks host build place.mark else undo_looks host build

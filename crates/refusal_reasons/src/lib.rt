@@ -1,0 +1,42 @@
+//! Why a step is refused: its checks in their order, each with the numbers that it looks at.
+//!
+//! A `Look` is one check of a step's turn: what it asks, whether that does not hold in the host as it is, and the refusal
+//! that it gives then. `step_looks` makes the checks of a step, from what can be read of the host. Their lines end with the
+//! first that fails; `law` says of which refusals that is the one of the host. `explain_turns` runs a plan as `plan_runs`
+//! does, and tells them below each turn that is refused.
+#![tactic(auto)]
+
+mod build_fact;
+mod explaining;
+mod input_fact;
+pub mod law;
+mod lines;
+mod look;
+mod names;
+mod of_block;
+mod of_build;
+mod of_command;
+mod of_input;
+mod of_realm;
+mod of_rec;
+mod of_step;
+mod of_walk;
+mod operands;
+mod realm_fact;
+mod rec_fact;
+mod room_fact;
+mod undo_fact;
+mod walk_fact;
+
+pub use build_fact::BuildFact;
+pub use explaining::{explain_turns, push_reasons};
+pub use input_fact::InputFact;
+pub use lines::push_looks;
+pub use look::{Fact, Look};
+pub use names::{EntryName, RealmName, RecName, StateName};
+pub use of_step::step_looks;
+pub use realm_fact::RealmFact;
+pub use rec_fact::RecFact;
+pub use room_fact::RoomFact;
+pub use undo_fact::UndoFact;
+pub use walk_fact::WalkFact;

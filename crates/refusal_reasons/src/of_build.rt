@@ -1,0 +1,209 @@
+//! The checks that the host makes of a build: refusals 1 to 10 and 12, as far as they apply to a command.
+ghost use Rattle.std.specs.Prelude.{◌≡◌, ◌++◌, OnOk, map};
+ghost use Rattle.refusal_reasons.specs.OfBuild.{build_there, not_aborting, build_looks, order_looks, page_there, realm_looks, journal_looks, room_left, room_look, vmid_looks, needs_looks};
+
+use crate::build_fact::BuildFact;
+use crate::look::{Fact, Look, add};
+use crate::room_fact::RoomFact;
+use build_commands::{Desk, Needs, Wants};
+use granule_addr::BuildId;
+use page_arena::PageStore;
+use realm_host::{Cmd, Host, Refusal};
+use std::alloc::AllocError;
+
+// 1: there is such a build.
+pub(crate) fn build_there<S: PageStore>(host: &Host<S>, build: BuildId) -> Look
+    ensures { result ≡ build_there host.now build }
+{
+    let builds = host.build_count();
+    Look {
+        fact: Fact::Build(BuildFact::There(builds)),
+        fails: build.number() >= builds,
+        refusal: Refusal::NoBuild,
+    }
+}
+
+// 2: it is not in abort.
+fn not_aborting<S: PageStore>(host: &Host<S>, build: BuildId) -> Look
+    ensures { result ≡ not_aborting host.now build }
+{
+    Look {
+        fact: Fact::Build(BuildFact::NotAborting),
+        fails: host.is_aborting(build),
+        refusal: Refusal::Aborting,
+    }
+}
+
+/// Adds 1 and 2: the build is there, and it is not in abort.
+pub(crate) fn add_build<S: PageStore>(
+    host: &Host<S>,
+    build: BuildId,
+    looks: &mut Vec<Look>,
+) -> Result<(), AllocError>
+    ensures { OnOk result (looks.new.items ≡ looks.old.items ++ build_looks host.now build) }
+{
+    looks.extend_from_slice(&[build_there(host, build), not_aborting(host, build)])
+}
+
+// Adds 3: a block is not too large.
+fn add_order(cmd: &Cmd, looks: &mut Vec<Look>) -> Result<(), AllocError>
+    ensures { OnOk result (looks.new.items ≡ looks.old.items ++ order_looks cmd.now) }
+{
+    let Cmd::Take { order } = cmd else {
+        return Ok(());
+    };
+    add(
+        looks,
+        Look {
+            fact: Fact::Build(BuildFact::Order(*order)),
+            fails: *order > 9,
+            refusal: Refusal::BadOrder,
+        },
+    )
+}
+
+// 4: the build has the page.
+fn page_there<S: PageStore>(host: &Host<S>, build: BuildId, page: u16) -> Look
+    ensures { result ≡ page_there host.now build page }
+{
+    let granule = host.page_granule(build, page);
+    Look {
+        fact: Fact::Build(BuildFact::Page(page, granule, host.page_count(build))),
+        fails: granule.is_none(),
+        refusal: Refusal::NotLeased(page),
+    }
+}
+
+// Adds 4: the build has all pages.
+fn add_pages<S: PageStore>(
+    host: &Host<S>,
+    build: BuildId,
+    pages: &[u16],
+    looks: &mut Vec<Look>,
+) -> Result<(), AllocError>
+    ensures { OnOk result (looks.new.items ≡ looks.old.items ++ map (page_there host.now build) pages.now) }
+{
+    for page in pages {
+        add(looks, page_there(host, build, *page))?;
+    }
+    Ok(())
+}
+
+// Adds 5 and 6: the build has a realm, or none.
+fn add_realm<S: PageStore>(
+    host: &Host<S>,
+    build: BuildId,
+    wants: Wants,
+    looks: &mut Vec<Look>,
+) -> Result<(), AllocError>
+    ensures { OnOk result (looks.new.items ≡ looks.old.items ++ realm_looks host.now build wants) }
+{
+    let rd = host.rd(build);
+    match wants {
+        Wants::Either => Ok(()),
+        Wants::NoRealm => add(
+            looks,
+            Look {
+                fact: Fact::Build(BuildFact::NoRealm(rd)),
+                fails: rd.is_some(),
+                refusal: Refusal::RealmThere,
+            },
+        ),
+        Wants::Realm => add(
+            looks,
+            Look {
+                fact: Fact::Build(BuildFact::Realm(rd)),
+                fails: !rd.is_some(),
+                refusal: Refusal::NoRealm,
+            },
+        ),
+    }
+}
+
+// Adds 9: one more act may be open.
+fn add_journal<S: PageStore>(
+    host: &Host<S>,
+    build: BuildId,
+    paired: bool,
+    looks: &mut Vec<Look>,
+) -> Result<(), AllocError>
+    ensures { OnOk result (looks.new.items ≡ looks.old.items ++ journal_looks host.now build paired) }
+{
+    if !paired {
+        return Ok(());
+    }
+    let open = host.open_acts(build).len();
+    add(
+        looks,
+        Look {
+            fact: Fact::Room(RoomFact::Journal(open)),
+            fails: open >= 512,
+            refusal: Refusal::JournalFull,
+        },
+    )
+}
+
+// How much of its room a build has left; nothing where there is no such build.
+fn room_left<S: PageStore>(host: &Host<S>, build: BuildId) -> u16
+    ensures { result ≡ room_left host.now build }
+{
+    if build.number() < host.build_count() {
+        host.books().room_left(build)
+    } else {
+        0
+    }
+}
+
+// 10: the build has so much of its room left.
+fn room_look<S: PageStore>(host: &Host<S>, build: BuildId, needed: u16) -> Look
+    ensures { result ≡ room_look host.now build needed }
+{
+    let left = room_left(host, build);
+    Look {
+        fact: Fact::Room(RoomFact::History(left, needed)),
+        fails: left < needed,
+        refusal: Refusal::HistoryFull,
+    }
+}
+
+// Adds 12: a VMID is free.
+fn add_vmid<S: PageStore>(
+    host: &Host<S>,
+    wanted: bool,
+    looks: &mut Vec<Look>,
+) -> Result<(), AllocError>
+    ensures { OnOk result (looks.new.items ≡ looks.old.items ++ vmid_looks host.now wanted) }
+{
+    if !wanted {
+        return Ok(());
+    }
+    let lowest = host.books().lowest_vmid();
+    add(
+        looks,
+        Look {
+            fact: Fact::Room(RoomFact::Vmid(lowest)),
+            fails: !lowest.is_some(),
+            refusal: Refusal::NoVmid,
+        },
+    )
+}
+
+/// Adds the checks of a command by its needs: 1 to 6, 9, 10 and 12, as far as they apply to it.
+pub(crate) fn add_needs<S: PageStore>(
+    host: &Host<S>,
+    build: BuildId,
+    cmd: &Cmd,
+    pages: &[u16],
+    looks: &mut Vec<Look>,
+) -> Result<(), AllocError>
+    ensures { OnOk result (looks.new.items ≡ looks.old.items ++ needs_looks host.now build cmd.now pages.now) }
+{
+    let needs = cmd.needs();
+    add_build(host, build, looks)?;
+    add_order(cmd, looks)?;
+    add_pages(host, build, pages, looks)?;
+    add_realm(host, build, needs.realm, looks)?;
+    add_journal(host, build, needs.paired, looks)?;
+    add(looks, room_look(host, build, needs.room))?;
+    add_vmid(host, needs.vmid, looks)
+}

@@ -1,0 +1,133 @@
+//! Checks of a realm that is to be made, and of the state of one that is there. RMM 1.0, RMI_REALM_CREATE, Realm attributes.
+ghost use Rattle.std.specs.Prelude.{◌≡◌, ◌++◌, ◌∷◌, ◌≤◌, OnOk, length};
+ghost use Rattle.refusal_reasons.specs.OfRealm.{state_of_realm, realm_new, realm_active, follow, are_adjacent, begins_right, width_look, apart_look, start_looks, realm_create_looks};
+
+use crate::look::{Fact, Look, add};
+use crate::of_input::{add_delegated, input_look};
+use crate::realm_fact::RealmFact;
+use granule_addr::{BuildId, Gran, IpaWidth};
+use page_arena::PageStore;
+use realm_host::{Host, RealmState, Refusal, Rmi};
+use std::alloc::AllocError;
+
+// The state of a build's realm.
+fn state_of_realm<S: PageStore>(host: &Host<S>, build: BuildId) -> Option<RealmState>
+    ensures { result ≡ state_of_realm host.now build }
+{
+    match host.realm_view(build) {
+        Some((state, _vmid)) => Some(state),
+        None => None,
+    }
+}
+
+/// The realm of a build is NEW.
+pub(crate) fn realm_new<S: PageStore>(host: &Host<S>, build: BuildId) -> Look
+    ensures { result ≡ realm_new host.now build }
+{
+    let found = state_of_realm(host, build);
+    Look {
+        fact: Fact::Realm(RealmFact::State(RealmState::New, found)),
+        fails: !matches!(found, Some(RealmState::New)),
+        refusal: Refusal::Rmi(Rmi::REALM),
+    }
+}
+
+/// The realm of a build is ACTIVE.
+pub(crate) fn realm_active<S: PageStore>(host: &Host<S>, build: BuildId) -> Look
+    ensures { result ≡ realm_active host.now build }
+{
+    let found = state_of_realm(host, build);
+    Look {
+        fact: Fact::Realm(RealmFact::State(RealmState::Active, found)),
+        fails: !matches!(found, Some(RealmState::Active)),
+        refusal: Refusal::Rmi(Rmi::REALM),
+    }
+}
+
+// Whether the granules are that of a number and those behind it, in their order.
+fn follow(first: u16, granules: &[Gran]) -> bool
+    requires { first ≤ 4096 }
+    ensures { result ≡ follow first granules.now }
+{
+    let mut next = first;
+    let mut rest = granules;
+    'granules: while let Some((granule, others)) = rest.split_first() {
+        if granule.number() != next {
+            return false;
+        }
+        next += 1;
+        rest = others;
+    }
+    true
+}
+
+// Whether each granule is the one behind that before it.
+fn are_adjacent(tables: &[Gran]) -> bool
+    ensures { result ≡ are_adjacent tables.now }
+{
+    match tables.split_first() {
+        Some((first, rest)) => follow(first.number() + 1, rest),
+        None => true,
+    }
+}
+
+// Whether the first granule is a multiple of their count.
+fn begins_right(tables: &[Gran]) -> bool
+    ensures { result ≡ begins_right tables.now }
+{
+    match tables.first() {
+        Some(first) => first.number() as usize % tables.len() == 0,
+        None => true,
+    }
+}
+
+// A realm may have that IPA width.
+fn width_look(width: u8) -> Look
+    ensures { result ≡ width_look width }
+{
+    input_look(
+        Fact::Realm(RealmFact::Width(width)),
+        IpaWidth::new(width).is_none(),
+    )
+}
+
+// The RD is none of the starting tables.
+fn apart_look(rd: Gran, tables: &[Gran]) -> Look
+    ensures { result ≡ apart_look rd tables.now }
+{
+    input_look(Fact::Realm(RealmFact::Apart), tables.contains(&rd))
+}
+
+// The checks of the starting tables, but for their states.
+fn add_tables(rd: Gran, tables: &[Gran], looks: &mut Vec<Look>) -> Result<(), AllocError>
+    ensures { OnOk result (looks.new.items ≡ looks.old.items ++ start_looks rd tables.now) }
+{
+    looks.extend_from_slice(&[
+        input_look(Fact::Realm(RealmFact::Adjacent), !are_adjacent(tables)),
+        input_look(
+            Fact::Realm(RealmFact::Multiple(tables.len())),
+            !begins_right(tables),
+        ),
+        apart_look(rd, tables),
+    ])
+}
+
+/// Adds the checks of RMI_REALM_CREATE, of an RD page, starting tables from a page on, and the granules of all of them.
+#[tactic(auto, unfolding(crate::specs::OfRealm::realm_create_looks))]
+pub(crate) fn add_realm_create<S: PageStore>(
+    host: &Host<S>,
+    build: BuildId,
+    width: u8,
+    pages: &[u16],
+    granules: &[Gran],
+    looks: &mut Vec<Look>,
+) -> Result<(), AllocError>
+    ensures { OnOk result (looks.new.items ≡ looks.old.items ++ realm_create_looks host.now build width pages.now granules.now) }
+{
+    let Some((rd, tables)) = granules.split_first() else {
+        return Ok(());
+    };
+    add(looks, width_look(width))?;
+    add_tables(*rd, tables, looks)?;
+    add_delegated(host, build, pages, looks)
+}

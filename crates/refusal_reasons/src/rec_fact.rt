@@ -1,0 +1,45 @@
+//! What is asked of a REC that is to be made, and of one that is there. RMM 1.0, RMI_REC_CREATE, REC attributes.
+use crate::names::RecName;
+use granule_addr::RecNo;
+use realm_model::RecState;
+use std::fmt;
+
+/// What is asked of a REC.
+#[derive(Clone, Copy)]
+pub enum RecFact {
+    /// No granule is named twice.
+    Distinct,
+    /// So many auxiliary granules are named, and so many a REC has.
+    Auxiliaries(usize, u8),
+    /// The realm has a REC of that number.
+    There(RecNo),
+    /// The REC is in the state that is wanted, and it is in that which was found.
+    State(RecNo, RecState, Option<RecState>),
+}
+
+impl fmt::Display for RecFact {
+    ghost use Rattle.std.specs.Prelude.{Some};
+    ghost use Rattle.refusal_reasons.specs.Words.{rec_words};
+
+    ghost output = { λ fact. Some (rec_words fact) };
+
+    fn fmt<W: fmt::Write>(&self, f: &mut fmt::Formatter<W>) -> fmt::Result {
+        match *self {
+            RecFact::Distinct => write!(f, "no granule is named twice"),
+            RecFact::Auxiliaries(given, wanted) => {
+                write!(f, "a REC has {wanted} auxiliary granules: {given}")
+            }
+            RecFact::There(number) => write!(f, "the realm has REC {}", number.number()),
+            RecFact::State(number, wanted, Some(found)) => write!(
+                f,
+                "REC {} is {}: {}",
+                number.number(),
+                RecName(wanted),
+                RecName(found)
+            ),
+            RecFact::State(number, wanted, None) => {
+                write!(f, "REC {} is {}", number.number(), RecName(wanted))
+            }
+        }
+    }
+}

@@ -1,0 +1,65 @@
+//! What is asked of the translation of a realm. RMM 1.0, RTT walk, RTT entry.
+use crate::names::EntryName;
+use granule_addr::Gran;
+use realm_model::EntryState;
+use std::fmt;
+
+/// What is asked of where a walk ends.
+#[derive(Clone, Copy)]
+pub enum WalkFact {
+    /// The walk of the IPA granule ends at the level that is wanted, and it ends at that which was found.
+    Walk(u32, u8, u8),
+    /// The entry of that level is in the state that is wanted, and it is in that which was found.
+    Entry(u8, EntryState, Option<EntryState>),
+    /// The entry of that level is not TABLE, and it is in the state that was found.
+    NoTable(u8, Option<EntryState>),
+    /// The entry leads to a granule, which is this.
+    Leads(Option<Gran>),
+    /// From the IPA granule on, so many entries of level 3 are UNASSIGNED.
+    Free(u32, u16),
+}
+
+impl fmt::Display for WalkFact {
+    ghost use Rattle.std.specs.Prelude.{Some};
+    ghost use Rattle.refusal_reasons.specs.Words.{walk_words};
+
+    ghost output = { λ fact. Some (walk_words fact) };
+
+    fn fmt<W: fmt::Write>(&self, f: &mut fmt::Formatter<W>) -> fmt::Result {
+        match *self {
+            WalkFact::Walk(ipa, to, ended) => {
+                write!(
+                    f,
+                    "the walk of IPA granule {ipa} ends at level {to}: {ended}"
+                )
+            }
+            WalkFact::Entry(level, wanted, Some(found)) => write!(
+                f,
+                "the entry at level {level} is {}: {}",
+                EntryName(wanted),
+                EntryName(found)
+            ),
+            WalkFact::Entry(level, wanted, None) => {
+                write!(f, "the entry at level {level} is {}", EntryName(wanted))
+            }
+            WalkFact::NoTable(level, Some(found)) => {
+                write!(
+                    f,
+                    "the entry at level {level} is not TABLE: {}",
+                    EntryName(found)
+                )
+            }
+            WalkFact::NoTable(level, None) => write!(f, "the entry at level {level} is not TABLE"),
+            WalkFact::Leads(Some(granule)) => {
+                write!(f, "the entry leads to a page: granule {}", granule.number())
+            }
+            WalkFact::Leads(None) => write!(f, "the entry leads to a page"),
+            WalkFact::Free(ipa, count) => {
+                write!(
+                    f,
+                    "{count} entries from IPA granule {ipa} on are UNASSIGNED"
+                )
+            }
+        }
+    }
+}

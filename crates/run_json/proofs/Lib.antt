@@ -1,0 +1,3 @@
+pub mod Turns
+mod Builds
+mod Texts

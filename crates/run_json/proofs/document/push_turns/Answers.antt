@@ -1,0 +1,30 @@
+use Rattle.std.proofs.Common.{string_bytes, ◌++◌, ◌<◌, ◌≤◌, length, ◌∷◌, [], ◌∙◌, ap, take, slice_index, subst, sym}
+use Rattle.std.proofs.lemmas.List.{take_more}
+use Rattle.realm_plan.specs.PlanView.{plan_view}
+use Rattle.plan_runs.specs.Run.{Position, start}
+use Rattle.run_json.specs.Document.{AreTurnItems}
+use Rattle.run_json.proofs.Turns.{AreTurnItems-more, HasTurnItems-whole}
+use Rattle.run_json.proofs.document.push_turns.Goals as goal
+
+pub loop-build-preserved : goal.loop-build-preserved
+loop-build-preserved g c =
+    let plan = plan_view c.args.plan.now in
+    let order = c.args.plan.now.order.items in
+    let i = c.loop-build.build-index in
+    let from = start c.args.host.now in
+    let at : Position = record { host = c.loop-build.host; places = c.loop-build.places } in
+    let to : Position = record { host = c.push_turn.new.host; places = c.push_turn.new.places } in
+    let old = string_bytes c.args.text.now in
+    let between = string_bytes c.loop-build.text in
+    let new = string_bytes c.push_turn.new.text in
+    let build = slice_index c.deref-build-items.result.now i in
+    let taken = ap (λ items. take i order ++ slice_index items i ∷ []) c.deref-build-items.ensures.value ∙ sym (take_more order i 0 (subst (λ items. i < length items) c.deref-build-items.ensures.value c.loop-build-test.true)) in
+    subst (λ o. AreTurnItems plan o from to old new) taken
+    (AreTurnItems-more plan (take i order) from at build to old between new c.loop-build.invariant c.in_ok-push_turn.ensures)
+
+pub returns : goal.returns
+returns g c =
+    let at : Position = record { host = c.loop-build.host; places = c.loop-build.places } in
+    HasTurnItems-whole (plan_view c.args.plan.now) c.loop-build.build-index c.args.host.now at (string_bytes c.args.text.now) (string_bytes c.loop-build.text)
+    (subst (λ items. length items ≤ c.loop-build.build-index) c.deref-build-items.ensures.value c.loop-build-test.false)
+    c.loop-build.invariant

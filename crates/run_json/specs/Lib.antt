@@ -1,0 +1,6 @@
+pub mod Words
+pub mod Items
+pub mod Changes
+pub mod Turns
+pub mod Worlds
+pub mod Document
