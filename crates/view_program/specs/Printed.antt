@@ -10,10 +10,11 @@ use Rattle.realm_program.specs.Printed.{IsEnd}
 use Rattle.realm_plan.specs.Plan as plan
 use Rattle.realm_program.specs.declared.fault.Fault as plan_fault
 use Rattle.view_program.specs.History.{IsHistoryText, IsWithoutHistory}
-use Rattle.view_program.specs.Json.{IsJsonText, IsWithoutJson}
+use Rattle.view_program.specs.Json.{IsJsonText}
 use Rattle.view_program.specs.PageData.{IsPageText}
 use Rattle.view_program.specs.Checked.{IsCheckEnd}
-use Rattle.view_program.specs.Why.{IsWhyText, IsWithoutWhy}
+use Rattle.view_program.specs.Why.{IsWhyText}
+use Rattle.view_program.specs.Texts.{IsWithoutText}
 use Rattle.view_program.specs.declared.checking.Verdict.{Verdict}
 use Rattle.view_program.specs.declared.checking.Verdict.TheVariants.{Done, HasErrors}
 use Rattle.view_program.specs.declared.line.Asked.{Asked}
@@ -79,7 +80,7 @@ EndsAs IsEndOf (Err fault) = IsEndOf (Err fault)
 abbrev pub IsRunEnd : Asked → Bool → Option (List ℕ) → Option (List ℕ) → Option (List ℕ) → Result Verdict Fault → Type 0
 IsRunEnd (History erase) unread input old new result = EndsAs (IsPlanEnd (IsHistoryText erase) (IsWithoutHistory erase) unread input old new) result
 IsRunEnd (Apply erase) unread input old new result = EndsAs (IsApplyEnd erase unread input old new) result
-IsRunEnd Json unread input old new result = EndsAs (IsPlanEnd IsJsonText IsWithoutJson unread input old new) result
-IsRunEnd Page unread input old new result = EndsAs (IsPlanEnd IsPageText IsWithoutJson unread input old new) result
-IsRunEnd Why unread input old new result = EndsAs (IsPlanEnd IsWhyText IsWithoutWhy unread input old new) result
+IsRunEnd Json unread input old new result = EndsAs (IsPlanEnd IsJsonText IsWithoutText unread input old new) result
+IsRunEnd Page unread input old new result = EndsAs (IsPlanEnd IsPageText IsWithoutText unread input old new) result
+IsRunEnd Why unread input old new result = EndsAs (IsPlanEnd IsWhyText IsWithoutText unread input old new) result
 IsRunEnd Check unread input old new result = IsCheckEnd unread input old new result

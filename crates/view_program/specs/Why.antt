@@ -5,8 +5,6 @@ use Rattle.realm_plan.specs.Plan.{Plan}
 use Rattle.plan_runs.specs.Run.{map_text}
 use Rattle.refusal_reasons.specs.Explained.{IsExplainedRun}
 use Rattle.realm_program.specs.Replay.{opening_host}
-use Rattle.realm_program.specs.declared.fault.Fault.{Fault}
-use Rattle.realm_program.specs.declared.fault.Fault.TheVariants.{Memory}
 
 -- The text of some run of the plan: the line of each turn, below those that are refused the lines of their checks, and the map
 -- of the world that the run ends in.
@@ -15,8 +13,3 @@ pub record IsWhyText (plan : Plan) (text : List ℕ) : Type 0 where
   pub lines : List ℕ
   pub run : IsExplainedRun plan (opening_host plan) last [] lines
   pub whole : text ≡ lines ++ map_text last
-
--- Why there is none: allocation failed.
-abbrev pub IsWithoutWhy : Plan → Fault → Type 0
-IsWithoutWhy plan Memory = Unit {0}
-IsWithoutWhy plan fault = ⊥

@@ -1,5 +1,5 @@
 //! The parts of the program that reads: the history of a plan as text, a history applied to a machine, what is wrong with a
-//! plan, its command line, and why it stops.
+//! plan, why its steps are refused, its run as data and as a page, the command line, and why the program stops.
 //!
 //! `history` goes from the bytes of a plan to the text of its history, `apply` from the lines of a history to the map of the
 //! machine that it leads to, `check` from bytes to what is told of them as a plan, `json` and `page` from the bytes of a plan to
@@ -18,6 +18,7 @@ mod plan_history;
 mod plan_json;
 mod plan_page;
 mod plan_reasons;
+mod printing;
 mod running;
 mod taking;
 

@@ -28,7 +28,7 @@ pub enum Asked {
 }
 
 const ABOUT: &str =
-    "Shows plans of realmhost: what is wrong with them, their histories as text, where a history leads, and their runs as JSON and as pages.";
+    "Shows plans of realmhost: what is wrong with them, why steps are refused, their histories as text, where a history leads, and their runs as JSON and as pages.";
 
 const HISTORY: &str =
     "Replays the plan on standard input, and writes its history: the size of the machine, and an event a line";

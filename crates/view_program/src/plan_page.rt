@@ -1,18 +1,20 @@
 //! A plan in, a page that shows its run out.
-ghost use Rattle.std.specs.Prelude.{◌≡◌, ◌+◌, ◌<◌, ◌≤◌, ◌↔◌, ◌⊎◌, false, true, Err, OnOk, IfOk, IfErr, string_bytes};
+ghost use Rattle.std.specs.Prelude.{◌≡◌, ◌+◌, ◌<◌, ◌≤◌, ◌↔◌, ◌⊎◌, false, true, Err, OnOk, IfOk, string_bytes};
 ghost use Rattle.realm_plan.specs.PlanView.{plan_view};
 ghost use Rattle.realm_host.specs.Recorded.{fresh_like};
 ghost use Rattle.realm_program.specs.Printed.{IsEnd};
 ghost use Rattle.realm_program.specs.Replay.{opening_host};
 ghost use Rattle.realm_program.specs.declared.fault.Fault.TheVariants.{Device};
-ghost use Rattle.view_program.specs.Json.{IsWithoutJson};
+ghost ghost use Rattle.run_json.specs.Document.{IsDocument};
 ghost use Rattle.view_program.specs.PageData.{IsWithoutWorld, AreWithoutWorlds, IsPageData, IsPageText};
+ghost use Rattle.view_program.specs.Texts.{IsWithoutText};
 
+use crate::printing::{PlanText, print};
 use buddy::BuddyArena;
 use granule_addr::BuildId;
 use realm_host::{Books, apply_without};
 use realm_plan::Plan;
-use realm_program::{Fault, boot, plan_in};
+use realm_program::{Fault, boot};
 use run_json::{Comma, push_world, run_document};
 use run_page::page_of;
 use std::alloc::{AllocError, Global};
@@ -61,13 +63,20 @@ fn push_all_without(
     Ok(())
 }
 
+// The document of a run of the plan, and the books in the end.
+fn run_of(alloc: Global, plan: &Plan) -> Result<(String, Books), AllocError>
+    ensures { IfOk result (λ ran. IsDocument (plan_view plan.now) (opening_host (plan_view plan.now)) ran.1.now (string_bytes ran.0)) }
+{
+    let mut host = boot::<BuddyArena>(alloc, plan)?;
+    let document = run_document(alloc, &mut host, plan)?;
+    Ok((document, host.into_books()))
+}
+
 // The data of a page: the document of a run of the plan, and the worlds without each build.
 fn page_data(alloc: Global, plan: &Plan) -> Result<String, AllocError>
     ensures { IfOk result (λ text. IsPageData (plan_view plan.now) (string_bytes text)) }
 {
-    let mut host = boot::<BuddyArena>(alloc, plan)?;
-    let document = run_document(alloc, &mut host, plan)?;
-    let books = host.into_books();
+    let (document, books) = run_of(alloc, plan)?;
     let mut text = String::new(alloc);
     write!(text, "{{\"run\":{document},\"without\":[")?;
     push_all_without(alloc, &mut text, plan, &books)?;
@@ -75,20 +84,16 @@ fn page_data(alloc: Global, plan: &Plan) -> Result<String, AllocError>
     Ok(text)
 }
 
-// The page of a run of the plan.
-fn page_text(alloc: Global, plan: &Plan) -> Result<Vec<u8>, AllocError>
-    ensures { IfOk result (λ page. IsPageText (plan_view plan.now) page.items) }
-{
-    let json = page_data(alloc, plan)?;
-    page_of(alloc, json.as_bytes())
-}
+// The pages of runs.
+struct Pages;
 
-// The page of a run of the plan, or why there is none.
-fn bytes_of(alloc: Global, plan: &Plan) -> Result<Vec<u8>, Fault>
-    ensures ok { IfOk result (λ page. IsPageText (plan_view plan.now) page.items) }
-    ensures err { IfErr result (IsWithoutJson (plan_view plan.now)) }
-{
-    Ok(page_text(alloc, plan)?)
+impl PlanText for Pages {
+    ghost is_text = { IsPageText };
+
+    fn text_of(alloc: Global, plan: &Plan) -> Result<Vec<u8>, AllocError> {
+        let json = page_data(alloc, plan)?;
+        page_of(alloc, json.as_bytes())
+    }
 }
 
 /// Reads a plan, runs it, and writes a page for browsers that shows the run. The page has the document of the run, and beside
@@ -103,13 +108,10 @@ pub fn page<R: Read, W: Write>(
 ) -> Result<(), Fault>
     requires readable { input.old.failed ≡ false }
     requires writable { output.old.failed ≡ false }
-    ensures end { IsEnd IsPageText IsWithoutJson input.new.failed
+    ensures end { IsEnd IsPageText IsWithoutText input.new.failed
         (R.remaining input.old.device) (W.contents output.old.device) (W.contents output.new.device) result }
     ensures device { ((input.new.failed ≡ true) ⊎ (output.new.failed ≡ true)) ↔ (result ≡ Err Device) }
     ensures asked { input.new.reads ≤ input.old.reads + 1048578 }
 {
-    let plan = plan_in(alloc, input)?;
-    let page = bytes_of(alloc, &plan)?;
-    output.write_whole(page.as_slice())?;
-    Ok(())
+    print::<Pages, R, W>(alloc, input, output)
 }

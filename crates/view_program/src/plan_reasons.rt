@@ -1,16 +1,18 @@
 //! A plan in, its run with the reasons of its refusals out.
-ghost use Rattle.std.specs.Prelude.{◌≡◌, ◌+◌, ◌≤◌, ◌↔◌, ◌⊎◌, [], false, true, Err, OnOk, IfOk, IfErr, string_bytes};
+ghost use Rattle.std.specs.Prelude.{◌≡◌, ◌+◌, ◌≤◌, ◌↔◌, ◌⊎◌, [], false, true, Err, OnOk, IfOk, string_bytes};
 ghost use Rattle.realm_plan.specs.PlanView.{plan_view};
 ghost use Rattle.realm_program.specs.Printed.{IsEnd};
 ghost use Rattle.realm_program.specs.Replay.{opening_host};
 ghost use Rattle.realm_program.specs.declared.fault.Fault.TheVariants.{Device};
-ghost use Rattle.view_program.specs.Why.{IsWhyText, IsWithoutWhy};
+ghost use Rattle.view_program.specs.Texts.{IsWithoutText};
+ghost use Rattle.view_program.specs.Why.{IsWhyText};
 
+use crate::printing::{PlanText, print};
 use buddy::BuddyArena;
 use plan_runs::push_map;
 use realm_host::Host;
 use realm_plan::Plan;
-use realm_program::{Fault, boot, plan_in};
+use realm_program::{Fault, boot};
 use refusal_reasons::explain_turns;
 use std::alloc::{AllocError, Global};
 use std::io::{Read, Write};
@@ -41,12 +43,15 @@ fn run_text(alloc: Global, plan: &Plan) -> Result<String, AllocError>
     Ok(text)
 }
 
-// The same, with the program's fault.
-fn text_of(alloc: Global, plan: &Plan) -> Result<String, Fault>
-    ensures ok { IfOk result (λ text. IsWhyText (plan_view plan.now) (string_bytes text)) }
-    ensures err { IfErr result (IsWithoutWhy (plan_view plan.now)) }
-{
-    Ok(run_text(alloc, plan)?)
+// The runs of plans with the reasons of their refusals.
+struct Reasons;
+
+impl PlanText for Reasons {
+    ghost is_text = { IsWhyText };
+
+    fn text_of(alloc: Global, plan: &Plan) -> Result<Vec<u8>, AllocError> {
+        Ok(run_text(alloc, plan)?.into_bytes())
+    }
 }
 
 /// Reads a plan, runs it, and writes the line of each turn, below those that are refused the lines of their checks, up to the one
@@ -61,13 +66,10 @@ pub fn why<R: Read, W: Write>(
 ) -> Result<(), Fault>
     requires readable { input.old.failed ≡ false }
     requires writable { output.old.failed ≡ false }
-    ensures end { IsEnd IsWhyText IsWithoutWhy input.new.failed
+    ensures end { IsEnd IsWhyText IsWithoutText input.new.failed
         (R.remaining input.old.device) (W.contents output.old.device) (W.contents output.new.device) result }
     ensures device { ((input.new.failed ≡ true) ⊎ (output.new.failed ≡ true)) ↔ (result ≡ Err Device) }
     ensures asked { input.new.reads ≤ input.old.reads + 1048578 }
 {
-    let plan = plan_in(alloc, input)?;
-    let text = text_of(alloc, &plan)?;
-    output.write_whole(text.as_bytes())?;
-    Ok(())
+    print::<Reasons, R, W>(alloc, input, output)
 }
