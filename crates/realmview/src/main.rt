@@ -1,4 +1,4 @@
-//! Shows plans: what is wrong with one, the history of its run as text, and the map that a history leads to. The plan or the
+//! Shows plans: what is wrong with one, why its steps are refused, the history of its run as text, and the map that a history leads to. The plan or the
 //! history comes on standard input.
 #![tactic(auto)]
 
