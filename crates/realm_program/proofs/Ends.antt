@@ -9,7 +9,8 @@ use Rattle.told_device.specs.Whole.{AppendsFront}
 use Rattle.told_device.proofs.Read.{keeps_same}
 use Rattle.realm_program.specs.Fault.{fault_of_plan}
 use Rattle.realm_program.specs.Whole.{kept_of}
-use Rattle.realm_program.specs.Printed.{IsPlanOf, HasNoPlan, IsPrinted, IsEnd}
+use Rattle.realm_program.specs.Printed.{IsPlanOf, HasNoPlan, IsFaultOfText, IsPrinted, IsEnd}
+use Rattle.realm_program.specs.Replay.{IsWithoutText}
 use Rattle.realm_program.specs.declared.fault.Fault.{Fault}
 use Rattle.realm_program.specs.declared.fault.Fault.TheVariants.{Plan as PlanIsFaulty, EraseNamesNoBuild, Memory, Stuck, Mismatch, Device}
 use Rattle.realm_program.proofs.KeptPlan.{plan_from_kept}
@@ -35,15 +36,14 @@ module _ (texts : Plan → List ℕ → Type 0) (without : Plan → Fault → Ty
   no_plan output Device none read = rw (read refl) (keeps_same output)
 
   -- a plan, and no text of it
-  pub no_text : (output : Option (List ℕ)) (plan : Plan) (fault : Fault) → IsPlanOf input plan → without plan fault
-      → (without plan Device → ⊥) → ((f : _) → without plan (PlanIsFaulty f) → ⊥)
+  pub no_text : (output : Option (List ℕ)) (plan : Plan) (fault : Fault) → IsPlanOf input plan → without plan fault → IsFaultOfText fault
       → IsEnd texts without unread input output output (Err fault)
-  no_text output plan (PlanIsFaulty fault) of_input none no_device no_fault = absurd (no_fault fault none)
-  no_text output plan EraseNamesNoBuild of_input none no_device no_fault = (record { plan = plan; of_input = of_input; no_text = none }, keeps_same output)
-  no_text output plan Memory of_input none no_device no_fault = keeps_same output
-  no_text output plan (Stuck build) of_input none no_device no_fault = (record { plan = plan; of_input = of_input; no_text = none }, keeps_same output)
-  no_text output plan Mismatch of_input none no_device no_fault = (record { plan = plan; of_input = of_input; no_text = none }, keeps_same output)
-  no_text output plan Device of_input none no_device no_fault = absurd (no_device none)
+  no_text output plan (PlanIsFaulty fault) of_input none of_text = absurd of_text
+  no_text output plan EraseNamesNoBuild of_input none of_text = (record { plan = plan; of_input = of_input; no_text = none }, keeps_same output)
+  no_text output plan Memory of_input none of_text = keeps_same output
+  no_text output plan (Stuck build) of_input none of_text = (record { plan = plan; of_input = of_input; no_text = none }, keeps_same output)
+  no_text output plan Mismatch of_input none of_text = (record { plan = plan; of_input = of_input; no_text = none }, keeps_same output)
+  no_text output plan Device of_input none of_text = absurd of_text
 
   -- a prefix of the text was written
   pub cut : (old new : Option (List ℕ)) (plan : Plan) (text : List ℕ) → unread ≡ false → IsPlanOf input plan → texts plan text → AppendsFront old new text
@@ -58,3 +58,12 @@ module _ (texts : Plan → List ℕ → Type 0) (without : Plan → Fault → Ty
 pub read_well : {A : Type 0} (failed : Bool) (plan : A) → (failed ≡ true) ↔ (Ok plan ≡ Err Device) → failed ≡ false
 read_well false plan told = refl
 read_well true plan told = let failed = told.0 refl in absurd (cc)
+
+-- a replay, and what else is told of a run, has no text only for a reason of its own
+pub fault_of_text : (erase : Option ℕ) (plan : Plan) (fault : Fault) → IsWithoutText erase plan fault → IsFaultOfText fault
+fault_of_text erase plan (PlanIsFaulty fault) none = none
+fault_of_text erase plan EraseNamesNoBuild none = tt
+fault_of_text erase plan Memory none = tt
+fault_of_text erase plan (Stuck build) none = tt
+fault_of_text erase plan Mismatch none = tt
+fault_of_text erase plan Device none = none

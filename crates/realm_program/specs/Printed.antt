@@ -45,6 +45,12 @@ pub record IsCut (texts : Plan → List ℕ → Type 0) (input old new : Option 
   pub text_of : IsTextOf texts input text
   pub written : AppendsFront old new text
 
+-- a reason why a plan has no text: that the input is no plan is none, nor that a device failed
+abbrev pub IsFaultOfText : Fault → Type 0
+IsFaultOfText (PlanIsFaulty fault) = ⊥
+IsFaultOfText Device = ⊥
+IsFaultOfText fault = Unit {0}
+
 -- ---- the end
 
 -- where a device failed: nothing was written where it was a read, and a prefix of the text where it was a write

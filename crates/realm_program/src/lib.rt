@@ -1,14 +1,15 @@
 //! The parts of the program that replay a plan, and how the program ends.
 //!
-//! `replay` goes from the bytes of a plan to the text of its run, over any reader and any writer, and `Fault` is each reason
-//! not to have printed it, with its exit status. Nothing here looks at the process that it runs in: a caller hands in the
-//! devices.
+//! `print` goes from the bytes of a plan to a text of it, over any reader and any writer, and `Fault` is each reason not to
+//! have printed it, with its exit status; `replay` prints the text of a run. Nothing here looks at the process that it runs
+//! in: a caller hands in the devices.
 #![tactic(auto)]
 
 mod booting;
 mod built;
 mod fault;
 mod input;
+mod printing;
 mod source;
 mod text;
 
@@ -16,5 +17,6 @@ pub use booting::boot;
 pub use built::Built;
 pub use fault::Fault;
 pub use input::{ReadError, read_whole};
+pub use printing::{PlanText, print};
 pub use source::plan_in;
 pub use text::{replay, text_of};

@@ -11,7 +11,7 @@ ghost use Rattle.realm_program.specs.declared.fault.Fault.TheVariants.{Device, M
 use crate::booting::boot;
 use crate::built::Built;
 use crate::fault::Fault;
-use crate::source::plan_in;
+use crate::printing::{PlanText, print};
 use buddy::BuddyArena;
 use granule_addr::BuildId;
 use plan_runs::{map_text, push_map, run_turns};
@@ -104,6 +104,21 @@ fn asked_text_of(alloc: Global, plan: &Plan, erase: Option<BuildId>) -> Result<S
     }
 }
 
+// What a replay prints.
+struct Replayed {
+    erase: Option<BuildId>,
+}
+
+impl PlanText for Replayed {
+    ghost is_text = { λ asked. IsAskedText asked.erase };
+
+    ghost is_without = { λ asked. IsWithoutText asked.erase };
+
+    fn text_of(&self, alloc: Global, plan: &Plan) -> Result<Vec<u8>, Fault> {
+        Ok(asked_text_of(alloc, plan, self.erase)?.into_bytes())
+    }
+}
+
 /// Reads a plan, runs it, and writes the text of the run; or, where a build is to be left out, the map that its history
 /// leads to without the build's events.
 ///
@@ -124,8 +139,5 @@ pub fn replay<R: Read, W: Write>(
     ensures device { ((input.new.failed ≡ true) ⊎ (output.new.failed ≡ true)) ↔ (result ≡ Err Device) }
     ensures asked { input.new.reads ≤ input.old.reads + 1048578 }
 {
-    let plan = plan_in(alloc, input)?;
-    let text = asked_text_of(alloc, &plan, erase)?;
-    output.write_whole(text.as_bytes())?;
-    Ok(())
+    print(&Replayed { erase }, alloc, input, output)
 }

@@ -1,13 +1,11 @@
 -- The history of a plan as text.
-use Rattle.std.specs.Prelude.{◌≡◌, ◌<◌, ◌≤◌, ℕ, List, [], length, Option, Some, None}
+use Rattle.std.specs.Prelude.{◌≡◌, ◌<◌, ℕ, List, [], length, Option, Some, None}
 use Rattle.build_books.specs.View.{HostView}
 use Rattle.history_text.specs.Histories.{history_text, shown}
 use Rattle.history_text.specs.declared.opening.Opening.{Opening}
 use Rattle.realm_plan.specs.Plan.{Plan}
 use Rattle.plan_runs.specs.Run.{IsToldRun}
 use Rattle.realm_program.specs.Replay.{opening_host}
-use Rattle.realm_program.specs.declared.fault.Fault.{Fault}
-use Rattle.realm_program.specs.declared.fault.Fault.TheVariants.{EraseNamesNoBuild, Memory}
 
 -- the machine of a plan
 abbrev pub opening_of : Plan → Opening
@@ -25,9 +23,3 @@ pub record IsHistoryText (erase : Option ℕ) (plan : Plan) (text : List ℕ) : 
   pub lines : List ℕ
   pub run : IsToldRun plan (opening_host plan) last [] lines
   pub whole : text ≡ history_text (opening_of plan) (shown erase last.history)
-
--- Why there is none: allocation failed, or the build to be left out is none of the plan's.
-abbrev pub IsWithoutHistory : Option ℕ → Plan → Fault → Type 0
-IsWithoutHistory erase plan Memory = Unit {0}
-IsWithoutHistory (Some build) plan EraseNamesNoBuild = length plan.builds ≤ build
-IsWithoutHistory erase plan fault = ⊥

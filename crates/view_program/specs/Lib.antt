@@ -1,7 +1,6 @@
 pub mod Stop
 pub mod Line
 pub mod Program
-pub mod Texts
 pub mod History
 pub mod Json
 pub mod PageData

@@ -1,5 +1,5 @@
 -- What is printed of a history that is applied, and how that ends.
-use Rattle.std.specs.Prelude.{ℕ, Bool, true, false, List, Option, Result, Ok, Err}
+use Rattle.std.specs.Prelude.{ℕ, Bool, true, false, List, Option, None, Result, Ok, Err}
 use Rattle.std.specs.Io.KnownBytes.{Appends, Keeps}
 use Rattle.build_books.specs.View.{HostView}
 use Rattle.told_device.specs.Whole.{AppendsFront}
@@ -7,14 +7,14 @@ use Rattle.history_text.specs.declared.opening.Opening.{Opening}
 use Rattle.view_program.specs.Applied.{IsHistoryIn, IsNoHistoryIn, IsMap, HasNoMap}
 use Rattle.view_program.specs.declared.fault.Fault.{Fault}
 use Rattle.realm_program.specs.Printed.{IsEnd}
+use Rattle.realm_program.specs.Replay.{IsWithoutText}
 use Rattle.realm_plan.specs.Plan as plan
 use Rattle.realm_program.specs.declared.fault.Fault as plan_fault
-use Rattle.view_program.specs.History.{IsHistoryText, IsWithoutHistory}
+use Rattle.view_program.specs.History.{IsHistoryText}
 use Rattle.view_program.specs.Json.{IsJsonText}
 use Rattle.view_program.specs.PageData.{IsPageText}
 use Rattle.view_program.specs.Checked.{IsCheckEnd}
 use Rattle.view_program.specs.Why.{IsWhyText}
-use Rattle.view_program.specs.Texts.{IsWithoutText}
 use Rattle.view_program.specs.declared.checking.Verdict.{Verdict}
 use Rattle.view_program.specs.declared.checking.Verdict.TheVariants.{Done, HasErrors}
 use Rattle.view_program.specs.declared.line.Asked.{Asked}
@@ -78,9 +78,9 @@ EndsAs IsEndOf (Ok HasErrors) = ⊥
 EndsAs IsEndOf (Err fault) = IsEndOf (Err fault)
 
 abbrev pub IsRunEnd : Asked → Bool → Option (List ℕ) → Option (List ℕ) → Option (List ℕ) → Result Verdict Fault → Type 0
-IsRunEnd (History erase) unread input old new result = EndsAs (IsPlanEnd (IsHistoryText erase) (IsWithoutHistory erase) unread input old new) result
+IsRunEnd (History erase) unread input old new result = EndsAs (IsPlanEnd (IsHistoryText erase) (IsWithoutText erase) unread input old new) result
 IsRunEnd (Apply erase) unread input old new result = EndsAs (IsApplyEnd erase unread input old new) result
-IsRunEnd Json unread input old new result = EndsAs (IsPlanEnd IsJsonText IsWithoutText unread input old new) result
-IsRunEnd Page unread input old new result = EndsAs (IsPlanEnd IsPageText IsWithoutText unread input old new) result
-IsRunEnd Why unread input old new result = EndsAs (IsPlanEnd IsWhyText IsWithoutText unread input old new) result
+IsRunEnd Json unread input old new result = EndsAs (IsPlanEnd IsJsonText (IsWithoutText None) unread input old new) result
+IsRunEnd Page unread input old new result = EndsAs (IsPlanEnd IsPageText (IsWithoutText None) unread input old new) result
+IsRunEnd Why unread input old new result = EndsAs (IsPlanEnd IsWhyText (IsWithoutText None) unread input old new) result
 IsRunEnd Check unread input old new result = IsCheckEnd unread input old new result

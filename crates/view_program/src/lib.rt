@@ -18,7 +18,6 @@ mod plan_history;
 mod plan_json;
 mod plan_page;
 mod plan_reasons;
-mod printing;
 mod running;
 mod taking;
 

@@ -2,9 +2,9 @@
 ghost use Rattle.std.specs.Prelude.{◌≡◌, ◌+◌, ◌≤◌, ◌↔◌, ◌⊎◌, false, true, Err, IfOk, IfErr, string_bytes};
 ghost use Rattle.realm_plan.specs.PlanView.{plan_view};
 ghost use Rattle.realm_program.specs.Printed.{IsEnd};
-ghost use Rattle.realm_program.specs.Replay.{opening_host};
+ghost use Rattle.realm_program.specs.Replay.{opening_host, IsWithoutText};
 ghost use Rattle.realm_program.specs.declared.fault.Fault.TheVariants.{Device};
-ghost use Rattle.view_program.specs.History.{opening_of, IsBuildOfPlan, IsHistoryText, IsWithoutHistory};
+ghost use Rattle.view_program.specs.History.{opening_of, IsBuildOfPlan, IsHistoryText};
 
 use buddy::BuddyArena;
 use granule_addr::BuildId;
@@ -12,7 +12,7 @@ use history_text::{Opening, push_history};
 use plan_runs::run_turns;
 use realm_host::Host;
 use realm_plan::Plan;
-use realm_program::{Fault, boot, plan_in};
+use realm_program::{Fault, PlanText, boot, print};
 use std::alloc::{AllocError, Global};
 use std::io::{Read, Write};
 use told_device::Told;
@@ -33,7 +33,7 @@ fn opening_of(plan: &Plan) -> Opening
 // The build to be left out, which is one of the plan's.
 fn checked_erase(plan: &Plan, erase: Option<BuildId>) -> Result<Option<BuildId>, Fault>
     ensures ok { IfOk result (λ checked. (checked ≡ erase) × IsBuildOfPlan erase (plan_view plan.now)) }
-    ensures err { IfErr result (IsWithoutHistory erase (plan_view plan.now)) }
+    ensures err { IfErr result (IsWithoutText erase (plan_view plan.now)) }
 {
     let Some(build) = erase else {
         return Ok(None);
@@ -75,10 +75,25 @@ fn run_text(alloc: Global, plan: &Plan, erase: Option<BuildId>) -> Result<String
 // The history of a run of the plan.
 fn text_of(alloc: Global, plan: &Plan, erase: Option<BuildId>) -> Result<String, Fault>
     ensures ok { IfOk result (λ text. IsHistoryText erase (plan_view plan.now) (string_bytes text)) }
-    ensures err { IfErr result (IsWithoutHistory erase (plan_view plan.now)) }
+    ensures err { IfErr result (IsWithoutText erase (plan_view plan.now)) }
 {
     let erase = checked_erase(plan, erase)?;
     Ok(run_text(alloc, plan, erase)?)
+}
+
+// The histories of runs, whole or without a build.
+struct Histories {
+    erase: Option<BuildId>,
+}
+
+impl PlanText for Histories {
+    ghost is_text = { λ asked. IsHistoryText asked.erase };
+
+    ghost is_without = { λ asked. IsWithoutText asked.erase };
+
+    fn text_of(&self, alloc: Global, plan: &Plan) -> Result<Vec<u8>, Fault> {
+        Ok(text_of(alloc, plan, self.erase)?.into_bytes())
+    }
 }
 
 /// Reads a plan, runs it, and writes its history; a build may be left out.
@@ -94,13 +109,10 @@ pub fn history<R: Read, W: Write>(
 ) -> Result<(), Fault>
     requires readable { input.old.failed ≡ false }
     requires writable { output.old.failed ≡ false }
-    ensures end { IsEnd (IsHistoryText erase) (IsWithoutHistory erase) input.new.failed
+    ensures end { IsEnd (IsHistoryText erase) (IsWithoutText erase) input.new.failed
         (R.remaining input.old.device) (W.contents output.old.device) (W.contents output.new.device) result }
     ensures device { ((input.new.failed ≡ true) ⊎ (output.new.failed ≡ true)) ↔ (result ≡ Err Device) }
     ensures asked { input.new.reads ≤ input.old.reads + 1048578 }
 {
-    let plan = plan_in(alloc, input)?;
-    let text = text_of(alloc, &plan, erase)?;
-    output.write_whole(text.as_bytes())?;
-    Ok(())
+    print(&Histories { erase }, alloc, input, output)
 }

@@ -1,16 +1,15 @@
 //! A plan in, the document of its run out.
-ghost use Rattle.std.specs.Prelude.{◌≡◌, ◌+◌, ◌≤◌, ◌↔◌, ◌⊎◌, false, true, Err};
+ghost use Rattle.std.specs.Prelude.{◌≡◌, ◌+◌, ◌≤◌, ◌↔◌, ◌⊎◌, false, true, Err, None};
 ghost use Rattle.realm_program.specs.Printed.{IsEnd};
+ghost use Rattle.realm_program.specs.Replay.{IsWithoutText};
 ghost use Rattle.realm_program.specs.declared.fault.Fault.TheVariants.{Device};
 ghost use Rattle.view_program.specs.Json.{IsJsonText};
-ghost use Rattle.view_program.specs.Texts.{IsWithoutText};
 
-use crate::printing::{PlanText, print};
 use buddy::BuddyArena;
 use realm_plan::Plan;
-use realm_program::{Fault, boot};
+use realm_program::{Fault, PlanText, boot, print};
 use run_json::run_document;
-use std::alloc::{AllocError, Global};
+use std::alloc::Global;
 use std::io::{Read, Write};
 use told_device::Told;
 
@@ -18,9 +17,11 @@ use told_device::Told;
 struct Documents;
 
 impl PlanText for Documents {
-    ghost is_text = { IsJsonText };
+    ghost is_text = { λ asked. IsJsonText };
 
-    fn text_of(alloc: Global, plan: &Plan) -> Result<Vec<u8>, AllocError> {
+    ghost is_without = { λ asked. IsWithoutText None };
+
+    fn text_of(&self, alloc: Global, plan: &Plan) -> Result<Vec<u8>, Fault> {
         let mut host = boot::<BuddyArena>(alloc, plan)?;
         let document = run_document(alloc, &mut host, plan)?;
         Ok(document.into_bytes())
@@ -38,10 +39,10 @@ pub fn json<R: Read, W: Write>(
 ) -> Result<(), Fault>
     requires readable { input.old.failed ≡ false }
     requires writable { output.old.failed ≡ false }
-    ensures end { IsEnd IsJsonText IsWithoutText input.new.failed
+    ensures end { IsEnd IsJsonText (IsWithoutText None) input.new.failed
         (R.remaining input.old.device) (W.contents output.old.device) (W.contents output.new.device) result }
     ensures device { ((input.new.failed ≡ true) ⊎ (output.new.failed ≡ true)) ↔ (result ≡ Err Device) }
     ensures asked { input.new.reads ≤ input.old.reads + 1048578 }
 {
-    print::<Documents, R, W>(alloc, input, output)
+    print(&Documents, alloc, input, output)
 }

@@ -1,20 +1,18 @@
 //! A plan in, a page that shows its run out.
-ghost use Rattle.std.specs.Prelude.{◌≡◌, ◌+◌, ◌<◌, ◌≤◌, ◌↔◌, ◌⊎◌, false, true, Err, OnOk, IfOk, string_bytes};
+ghost use Rattle.std.specs.Prelude.{◌≡◌, ◌+◌, ◌<◌, ◌≤◌, ◌↔◌, ◌⊎◌, false, true, Err, None, OnOk, IfOk, string_bytes};
 ghost use Rattle.realm_plan.specs.PlanView.{plan_view};
 ghost use Rattle.realm_host.specs.Recorded.{fresh_like};
 ghost use Rattle.realm_program.specs.Printed.{IsEnd};
-ghost use Rattle.realm_program.specs.Replay.{opening_host};
+ghost use Rattle.realm_program.specs.Replay.{opening_host, IsWithoutText};
 ghost use Rattle.realm_program.specs.declared.fault.Fault.TheVariants.{Device};
 ghost ghost use Rattle.run_json.specs.Document.{IsDocument};
 ghost use Rattle.view_program.specs.PageData.{IsWithoutWorld, AreWithoutWorlds, IsPageData, IsPageText};
-ghost use Rattle.view_program.specs.Texts.{IsWithoutText};
 
-use crate::printing::{PlanText, print};
 use buddy::BuddyArena;
 use granule_addr::BuildId;
 use realm_host::{Books, apply_without};
 use realm_plan::Plan;
-use realm_program::{Fault, boot};
+use realm_program::{Fault, PlanText, boot, print};
 use run_json::{Comma, push_world, run_document};
 use run_page::page_of;
 use std::alloc::{AllocError, Global};
@@ -88,11 +86,13 @@ fn page_data(alloc: Global, plan: &Plan) -> Result<String, AllocError>
 struct Pages;
 
 impl PlanText for Pages {
-    ghost is_text = { IsPageText };
+    ghost is_text = { λ asked. IsPageText };
 
-    fn text_of(alloc: Global, plan: &Plan) -> Result<Vec<u8>, AllocError> {
+    ghost is_without = { λ asked. IsWithoutText None };
+
+    fn text_of(&self, alloc: Global, plan: &Plan) -> Result<Vec<u8>, Fault> {
         let json = page_data(alloc, plan)?;
-        page_of(alloc, json.as_bytes())
+        Ok(page_of(alloc, json.as_bytes())?)
     }
 }
 
@@ -108,10 +108,10 @@ pub fn page<R: Read, W: Write>(
 ) -> Result<(), Fault>
     requires readable { input.old.failed ≡ false }
     requires writable { output.old.failed ≡ false }
-    ensures end { IsEnd IsPageText IsWithoutText input.new.failed
+    ensures end { IsEnd IsPageText (IsWithoutText None) input.new.failed
         (R.remaining input.old.device) (W.contents output.old.device) (W.contents output.new.device) result }
     ensures device { ((input.new.failed ≡ true) ⊎ (output.new.failed ≡ true)) ↔ (result ≡ Err Device) }
     ensures asked { input.new.reads ≤ input.old.reads + 1048578 }
 {
-    print::<Pages, R, W>(alloc, input, output)
+    print(&Pages, alloc, input, output)
 }

@@ -1,18 +1,16 @@
 //! A plan in, its run with the reasons of its refusals out.
-ghost use Rattle.std.specs.Prelude.{◌≡◌, ◌+◌, ◌≤◌, ◌↔◌, ◌⊎◌, [], false, true, Err, OnOk, IfOk, string_bytes};
+ghost use Rattle.std.specs.Prelude.{◌≡◌, ◌+◌, ◌≤◌, ◌↔◌, ◌⊎◌, [], false, true, Err, None, OnOk, IfOk, string_bytes};
 ghost use Rattle.realm_plan.specs.PlanView.{plan_view};
 ghost use Rattle.realm_program.specs.Printed.{IsEnd};
-ghost use Rattle.realm_program.specs.Replay.{opening_host};
+ghost use Rattle.realm_program.specs.Replay.{opening_host, IsWithoutText};
 ghost use Rattle.realm_program.specs.declared.fault.Fault.TheVariants.{Device};
-ghost use Rattle.view_program.specs.Texts.{IsWithoutText};
 ghost use Rattle.view_program.specs.Why.{IsWhyText};
 
-use crate::printing::{PlanText, print};
 use buddy::BuddyArena;
 use plan_runs::push_map;
 use realm_host::Host;
 use realm_plan::Plan;
-use realm_program::{Fault, boot};
+use realm_program::{Fault, PlanText, boot, print};
 use refusal_reasons::explain_turns;
 use std::alloc::{AllocError, Global};
 use std::io::{Read, Write};
@@ -47,9 +45,11 @@ fn run_text(alloc: Global, plan: &Plan) -> Result<String, AllocError>
 struct Reasons;
 
 impl PlanText for Reasons {
-    ghost is_text = { IsWhyText };
+    ghost is_text = { λ asked. IsWhyText };
 
-    fn text_of(alloc: Global, plan: &Plan) -> Result<Vec<u8>, AllocError> {
+    ghost is_without = { λ asked. IsWithoutText None };
+
+    fn text_of(&self, alloc: Global, plan: &Plan) -> Result<Vec<u8>, Fault> {
         Ok(run_text(alloc, plan)?.into_bytes())
     }
 }
@@ -66,10 +66,10 @@ pub fn why<R: Read, W: Write>(
 ) -> Result<(), Fault>
     requires readable { input.old.failed ≡ false }
     requires writable { output.old.failed ≡ false }
-    ensures end { IsEnd IsWhyText IsWithoutText input.new.failed
+    ensures end { IsEnd IsWhyText (IsWithoutText None) input.new.failed
         (R.remaining input.old.device) (W.contents output.old.device) (W.contents output.new.device) result }
     ensures device { ((input.new.failed ≡ true) ⊎ (output.new.failed ≡ true)) ↔ (result ≡ Err Device) }
     ensures asked { input.new.reads ≤ input.old.reads + 1048578 }
 {
-    print::<Reasons, R, W>(alloc, input, output)
+    print(&Reasons, alloc, input, output)
 }

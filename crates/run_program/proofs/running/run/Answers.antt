@@ -7,6 +7,7 @@ use Rattle.realm_program.specs.Replay.{opening_host}
 use Rattle.told_device.specs.Whole.{AppendsFront}
 use Rattle.realm_program.specs.Printed.{IsEnd}
 use Rattle.run_program.specs.Threads.{IsThreadsText, IsWithoutThreadsText}
+use Rattle.run_program.proofs.Faults.{threads_fault}
 use Rattle.realm_program.proofs.Ends.{no_plan, no_text, read_well, printed, cut}
 use Rattle.run_program.proofs.running.run.Goals as goal
 
@@ -30,7 +31,8 @@ returns-in_err-text-clause-end g c =
     let without = IsWithoutThreadsText (g.G.Gate.passes c.args.gate.now) (g.G.Gate.stops c.args.gate.now) in
     let unread = c.plan_in.new.input.failed in
     subst (IsEnd texts without unread input output output) (sym (told.1 ∙ ap Err told.2))
-    (no_text texts without unread input output (plan_view c.in_ok-plan.plan) c.in_err-text.field-0.0 c.in_ok-plan.ensures.ok c.in_err-text.ensures.err (λ none. none) (λ fault none. none))
+    (no_text texts without unread input output (plan_view c.in_ok-plan.plan) c.in_err-text.field-0.0 c.in_ok-plan.ensures.ok c.in_err-text.ensures.err
+    (threads_fault (g.G.Gate.passes c.args.gate.now) (g.G.Gate.stops c.args.gate.now) (plan_view c.in_ok-plan.plan) c.in_err-text.field-0.0 c.in_err-text.ensures.err))
 
 pub returns-in_err-write_whole-clause-end : goal.returns-in_err-write_whole-clause-end
 returns-in_err-write_whole-clause-end g c =

@@ -1,0 +1,50 @@
+//! A plan in, a text of it out: what all such texts have in common.
+ghost use Rattle.std.specs.Prelude.{◌≡◌, ◌+◌, ◌≤◌, ◌↔◌, ◌⊎◌, ℕ, List, false, true, Err, IfOk, IfErr};
+ghost use Rattle.realm_plan.specs.Plan.{Plan as PlanModel};
+ghost use Rattle.realm_plan.specs.PlanView.{plan_view};
+ghost use Rattle.realm_program.specs.Printed.{IsEnd, IsFaultOfText};
+ghost use Rattle.realm_program.specs.declared.fault.Fault.{Fault as FaultModel};
+ghost use Rattle.realm_program.specs.declared.fault.Fault.TheVariants.{Device};
+
+use crate::fault::Fault;
+use crate::source::plan_in;
+use realm_plan::Plan;
+use std::alloc::Global;
+use std::io::{Read, Write};
+use told_device::Told;
+
+/// A kind of texts of plans.
+pub trait PlanText {
+    ghost is_text: { Self → PlanModel → List ℕ → Type 0 };
+
+    ghost is_without: { Self → PlanModel → FaultModel → Type 0 };
+
+    /// The text of a plan, made whole in memory, or why there is none.
+    fn text_of(&self, alloc: Global, plan: &Plan) -> Result<Vec<u8>, Fault>
+        ensures ok { IfOk result (λ text. is_text self.now (plan_view plan.now) text.items) }
+        ensures err { IfErr result (λ fault. is_without self.now (plan_view plan.now) fault) }
+        ensures kind { IfErr result IsFaultOfText };
+}
+
+/// Reads a plan, and writes the text of it that is asked for.
+///
+/// The text is made whole before any of it is written. Errors: the fault of a plan; why it has no text; Device, where a read
+/// failed, and then nothing is written, or a write, and then a prefix of the text is.
+pub fn print<T: PlanText, R: Read, W: Write>(
+    asked: &T,
+    alloc: Global,
+    input: &mut Told<R>,
+    output: &mut Told<W>,
+) -> Result<(), Fault>
+    requires readable { input.old.failed ≡ false }
+    requires writable { output.old.failed ≡ false }
+    ensures end { IsEnd (T.is_text asked.now) (T.is_without asked.now) input.new.failed
+        (R.remaining input.old.device) (W.contents output.old.device) (W.contents output.new.device) result }
+    ensures device { ((input.new.failed ≡ true) ⊎ (output.new.failed ≡ true)) ↔ (result ≡ Err Device) }
+    ensures asked { input.new.reads ≤ input.old.reads + 1048578 }
+{
+    let plan = plan_in(alloc, input)?;
+    let text = asked.text_of(alloc, &plan)?;
+    output.write_whole(text.as_slice())?;
+    Ok(())
+}
