@@ -105,6 +105,7 @@ fn asked_text_of(alloc: Global, plan: &Plan, erase: Option<BuildId>) -> Result<S
 }
 
 // What a replay prints.
+#[derive(Drop)]
 struct Replayed {
     erase: Option<BuildId>,
 }

@@ -44,6 +44,7 @@ fn threads_text_of<H: Threads + Wait + Sync, G: Gate + Sync>(
 }
 
 // What a run in threads prints.
+#[derive(Drop)]
 struct Threaded<'a, H: Threads + Wait + Sync, G: Gate + Sync> {
     rt: &'a H,
     gate: &'a G,

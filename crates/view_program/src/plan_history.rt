@@ -82,6 +82,7 @@ fn text_of(alloc: Global, plan: &Plan, erase: Option<BuildId>) -> Result<String,
 }
 
 // The histories of runs, whole or without a build.
+#[derive(Drop)]
 struct Histories {
     erase: Option<BuildId>,
 }

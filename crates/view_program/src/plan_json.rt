@@ -14,6 +14,7 @@ use std::io::{Read, Write};
 use told_device::Told;
 
 // The documents of runs.
+#[derive(Drop)]
 struct Documents;
 
 impl PlanText for Documents {

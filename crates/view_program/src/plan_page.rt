@@ -83,6 +83,7 @@ fn page_data(alloc: Global, plan: &Plan) -> Result<String, AllocError>
 }
 
 // The pages of runs.
+#[derive(Drop)]
 struct Pages;
 
 impl PlanText for Pages {

@@ -42,6 +42,7 @@ fn run_text(alloc: Global, plan: &Plan) -> Result<String, AllocError>
 }
 
 // The runs of plans with the reasons of their refusals.
+#[derive(Drop)]
 struct Reasons;
 
 impl PlanText for Reasons {
