@@ -5,7 +5,7 @@ ghost use Rattle.realm_host.specs.Recorded.{fresh_like};
 ghost use Rattle.realm_program.specs.Printed.{IsEnd};
 ghost use Rattle.realm_program.specs.Replay.{opening_host, IsWithoutText};
 ghost use Rattle.realm_program.specs.declared.fault.Fault.TheVariants.{Device};
-ghost ghost use Rattle.run_json.specs.Document.{IsDocument};
+ghost use Rattle.run_json.specs.Document.{IsDocument};
 ghost use Rattle.view_program.specs.PageData.{IsWithoutWorld, AreWithoutWorlds, IsPageData, IsPageText};
 
 use buddy::BuddyArena;
@@ -63,7 +63,7 @@ fn push_all_without(
 
 // The document of a run of the plan, and the books in the end.
 fn run_of(alloc: Global, plan: &Plan) -> Result<(String, Books), AllocError>
-    ensures { IfOk result (λ ran. IsDocument (plan_view plan.now) (opening_host (plan_view plan.now)) ran.1.now (string_bytes ran.0)) }
+    ensures { IfOk result (λ ran. IsDocument (plan_view plan.now) (opening_host (plan_view plan.now)) ran.1 (string_bytes ran.0)) }
 {
     let mut host = boot::<BuddyArena>(alloc, plan)?;
     let document = run_document(alloc, &mut host, plan)?;
