@@ -9,7 +9,7 @@ ghost use Rattle.realm_program.specs.declared.fault.Fault.TheVariants.{Device};
 use buddy::BuddyArena;
 use plan_threads::{RunFault, run_text};
 use realm_plan::Plan;
-use realm_program::{Fault, PlanText, boot, print};
+use realm_program::{Fault, boot, plan_in};
 use std::alloc::Global;
 use std::io::{Read, Write};
 use std::marker::Sync;
@@ -43,23 +43,6 @@ fn threads_text_of<H: Threads + Wait + Sync, G: Gate + Sync>(
     run_text(rt, alloc, plan, host, gate).map_err(fault_of)
 }
 
-// What a run in threads prints.
-#[derive(Drop)]
-struct Threaded<'a, H: Threads + Wait + Sync, G: Gate + Sync> {
-    rt: &'a H,
-    gate: &'a G,
-}
-
-impl<'a, H: Threads + Wait + Sync, G: Gate + Sync> PlanText for Threaded<'a, H, G> {
-    ghost is_text = { λ asked. IsThreadsText (G.passes asked.gate.now) (G.stops asked.gate.now) };
-
-    ghost is_without = { λ asked. IsWithoutThreadsText (G.passes asked.gate.now) (G.stops asked.gate.now) };
-
-    fn text_of(&self, alloc: Global, plan: &Plan) -> Result<Vec<u8>, Fault> {
-        Ok(threads_text_of(self.rt, alloc, plan, self.gate)?.into_bytes())
-    }
-}
-
 /// Reads a plan, runs each of its builds by a worker in a thread of its own, with its turns from the gate, and writes the text
 /// of the run. The plan's order of turns plays no part; and in which order the builds came through the lock is not printed: runs
 /// of a plan in which each build got the same answers, with the same picks, have the same text.
@@ -83,5 +66,8 @@ pub fn run<H: Threads + Wait + Sync, R: Read, W: Write, G: Gate + Sync>(
     ensures asked { input.new.reads ≤ input.old.reads + 1048578 }
     ensures order { OrderIsNotPrinted (G.passes gate.now) (G.stops gate.now) }
 {
-    print(&Threaded { rt, gate }, alloc, input, output)
+    let plan = plan_in(alloc, input)?;
+    let text = threads_text_of(rt, alloc, &plan, gate)?;
+    output.write_whole(text.as_bytes())?;
+    Ok(())
 }
