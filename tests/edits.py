@@ -109,7 +109,8 @@ class Sources:
             owner = [block.trait[0]]
         elif block:
             trait = self.toolchain.reader.named(block.trait)[0]
-            owner = [function.owner + (rf"\w*{trait}\w*" if trait else "")]
+            # (that of an impl for u8 begins with U8)
+            owner = [function.owner[:1].upper() + function.owner[1:] + (rf"\w*{trait}\w*" if trait else "")]
             modules |= {module for module, *_ in self.parsed.declared.get(function.owner, ())}
         forms = ["::".join([self.crate.name, *module, *owner, function.name]) for module in modules]
         found = {name for name in self.printed for form in forms if re.fullmatch(form, name)}
