@@ -9,15 +9,15 @@ pub const HEAD: &str = "<!DOCTYPE html>
 <title>A run of realm builds</title>
 <style>
 :root {
-  --paper: #ffffff; --ink: #1b1b1b; --soft: #5c5c5c; --line: #c9c9c9; --panel: #f4f4f2; --accent: #0072b2; --wrong: #b64a00; --mark: #fff3c4;
-  --free: #ffffff; --undelegated: #e4e4e4; --delegated: #f2c35c; --rd: #0072b2; --rec: #cc79a7; --rec-aux: #e9c5d9; --data: #5cc2a0; --rtt: #8fcdf0;
-  --dark-ink: #ffffff; --cell-ink: #1b1b1b; --cell: 40px;
+  --paper: #ffffff; --ink: #1b1b1b; --soft: #5c5c5c; --line: #c9c9c9; --panel: #f4f4f2; --accent: #0072b2; --wrong: #b3261e; --mark: #fff3c4; --new: #c2178b;
+  --free: #ffffff; --undelegated: #cfe6f7; --delegated: #f2cf5b; --rd: #5b1f55; --rec: #b0400b; --rec-aux: #f0a36b; --data: #0f5c9e; --rtt: #3fae8c;
+  --on-undelegated: #12303f; --on-delegated: #3a2b00; --on-rd: #ffffff; --on-rec: #ffffff; --on-rec-aux: #3a1a05; --on-data: #ffffff; --on-rtt: #04231a;
   --b0: #000000; --b1: #d55e00; --b2: #0072b2; --b3: #007a58; --b4: #9b3f73; --b5: #8a6a00; --b6: #2f8fc4; --b7: #6b6b6b;
 }
 :root[data-theme=\"dark\"] {
-  --paper: #15181b; --ink: #ececec; --soft: #a8a8a8; --line: #454a50; --panel: #1e2226; --accent: #56b4e9; --wrong: #ff9a52; --mark: #4a4014;
-  --free: #15181b; --undelegated: #50555b; --delegated: #c98a00; --rd: #3d9bd8; --rec: #cc79a7; --rec-aux: #805068; --data: #009e73; --rtt: #2b7ba8;
-  --dark-ink: #101010; --cell-ink: #ffffff;
+  --paper: #15181b; --ink: #ececec; --soft: #a8a8a8; --line: #454a50; --panel: #1e2226; --accent: #56b4e9; --wrong: #ff8f85; --mark: #4a4014; --new: #ff7ad1;
+  --free: #15181b; --undelegated: #28465f; --delegated: #e3bd45; --rd: #d19bc6; --rec: #b94a14; --rec-aux: #e6985f; --data: #1d6fb8; --rtt: #3aa585;
+  --on-undelegated: #d5e9f8; --on-delegated: #2b2000; --on-rd: #2f0a28; --on-rec: #ffffff; --on-rec-aux: #2b1303; --on-data: #ffffff; --on-rtt: #021a13;
   --b0: #f5f5f5; --b1: #ff8a3c; --b2: #56b4e9; --b3: #33d6a6; --b4: #ee9fcb; --b5: #f0e442; --b6: #9fd8ff; --b7: #a9a9a9;
 }
 * { box-sizing: border-box; }
@@ -34,38 +34,42 @@ button:hover, select:hover { border-color: var(--accent); }
 #controls { position: sticky; top: 0; z-index: 2; display: flex; flex-wrap: wrap; align-items: center; gap: 6px; padding: 9px 0; background: var(--paper); border-bottom: 1px solid var(--line); }
 #slider { flex: 1; min-width: 160px; accent-color: var(--accent); }
 #play { min-width: 68px; }
-#count { min-width: 112px; text-align: right; font-variant-numeric: tabular-nums; }
+#count { min-width: 112px; margin-right: 14px; text-align: right; font-variant-numeric: tabular-nums; }
 #turn { min-height: 62px; padding: 8px 14px; margin-top: 10px; background: var(--panel); border-left: 5px solid var(--accent); border-radius: 4px; }
 #turn.refused { border-left-color: var(--wrong); }
 #turn p { margin: 0; }
 #line { font: 600 18px/1.4 ui-monospace, \"Cascadia Mono\", Consolas, monospace; overflow-wrap: anywhere; }
 #reason { color: var(--soft); }
 .refused #reason { color: var(--wrong); }
-#checks { margin: 4px 0 0; padding-left: 22px; font: 13px/1.4 ui-monospace, Consolas, monospace; }
-#checks:empty { display: none; }
+#turn.apart { opacity: 0.5; }
 #run { display: grid; grid-template-columns: minmax(320px, 5fr) minmax(300px, 5fr) minmax(220px, 3fr); gap: 0 26px; }
-.grid { display: grid; grid-template-columns: repeat(var(--columns), var(--cell)); gap: var(--gap); max-width: 100%; overflow-x: auto; padding: 4px; }
-.grid i { position: relative; width: var(--cell); height: var(--cell); display: flex; align-items: center; justify-content: center; font: 600 calc(var(--cell) * 0.42)/1 system-ui, sans-serif; color: var(--cell-ink); background: var(--free); border: calc(1px + var(--cell) * 0.045) solid var(--line); border-radius: calc(var(--cell) * 0.1); cursor: default; }
-.grid i b { position: absolute; right: 5%; bottom: 2%; font-size: 0.56em; font-weight: 600; }
-.grid.small i { font-size: calc(var(--cell) * 0.62); }
-.grid.small i b { display: none; }
-.grid.small i.new, .grid.small i.differs, .grid.small i.pick { box-shadow: 0 0 0 2px var(--wrong); }
+.grid { display: grid; grid-template-columns: repeat(var(--columns), minmax(0, var(--cell))); gap: var(--gap); padding: 4px; container-type: inline-size; --side: min(var(--cell), (100cqi - (var(--columns) - 1) * var(--gap)) / var(--columns)); }
+.grid i { position: relative; aspect-ratio: 1; display: flex; align-items: center; justify-content: center; font: 600 calc(var(--side) * 0.27)/1 system-ui, sans-serif; background: var(--free); border: calc(1px + var(--side) * 0.05) solid var(--line); border-radius: calc(var(--side) * 0.1); cursor: default; }
+.grid i b, .grid i u { position: absolute; font-size: 0.72em; font-weight: 500; text-decoration: none; opacity: 0.85; }
+.grid i b { right: 5%; bottom: 4%; }
+.grid i u { left: 5%; top: 4%; }
+.grid.middle i { font-size: calc(var(--side) * 0.34); }
+.grid.small i { font-size: calc(var(--side) * 0.3); }
+.grid.middle i b, .grid.middle i u, .grid.small i b, .grid.small i u { display: none; }
+.grid.small i.new { box-shadow: 0 0 0 2px var(--new); }
+.grid.small i.differs { box-shadow: 0 0 0 2px var(--wrong); }
 .grid i.free { border-style: dotted; border-width: 1px; color: var(--soft); }
-.UNDELEGATED { background: var(--undelegated) !important; }
-.DELEGATED { background: var(--delegated) !important; }
-.RD { background: var(--rd) !important; color: var(--dark-ink) !important; }
-.REC { background: var(--rec) !important; color: #111 !important; }
-.REC_AUX { background: repeating-linear-gradient(45deg, var(--rec-aux) 0 5px, var(--rec) 5px 7px) !important; }
-.DATA { background: var(--data) !important; color: #111 !important; }
-.RTT { background: repeating-linear-gradient(90deg, var(--rtt) 0 6px, var(--paper) 6px 7px) !important; }
-.grid i.new { box-shadow: 0 0 0 3px var(--wrong); z-index: 1; }
+.UNDELEGATED { background: var(--undelegated) !important; color: var(--on-undelegated); }
+.DELEGATED { background: var(--delegated) !important; color: var(--on-delegated); }
+.RD { background: var(--rd) !important; color: var(--on-rd); }
+.REC { background: var(--rec) !important; color: var(--on-rec); }
+.REC_AUX { background: var(--rec-aux) !important; color: var(--on-rec-aux); }
+.DATA { background: var(--data) !important; color: var(--on-data); }
+.RTT { background: var(--rtt) !important; color: var(--on-rtt); }
+.grid i.new { box-shadow: 0 0 0 3px var(--new); z-index: 1; }
 .grid i.pick { box-shadow: 0 0 0 3px var(--accent); z-index: 1; }
-.grid i.differs::after { content: \"\\2260\"; position: absolute; left: 4%; top: 0; font-size: 0.6em; color: var(--wrong); }
+.grid i.differs::after { content: \"\\2260\"; position: absolute; right: 4%; top: 2%; font-size: 0.9em; color: var(--wrong); background: var(--paper); border-radius: 3px; padding: 0 2px; }
 .grid i.differs { box-shadow: 0 0 0 3px var(--wrong); z-index: 1; }
-#legend { display: flex; flex-wrap: wrap; gap: 4px 14px; margin-top: 9px; font-size: 13px; --cell: 20px; }
+#legend { display: flex; flex-wrap: wrap; gap: 4px 14px; margin-top: 9px; font-size: 13px; }
 #legend span { display: inline-flex; align-items: center; gap: 5px; }
-#legend i { display: inline-flex; width: 22px; height: 22px; align-items: center; justify-content: center; font: 600 12px system-ui; border: 1px solid var(--line); border-radius: 3px; color: var(--cell-ink); }
-#legend i.out { background: none; border-width: 3px; color: var(--ink); }
+#legend i { display: inline-flex; min-width: 22px; height: 22px; padding: 0 4px; align-items: center; justify-content: center; font: 600 11px system-ui; border: 1px solid var(--line); border-radius: 3px; }
+#legend i.free { border-style: dotted; color: var(--soft); }
+#legend i.frame { background: none; border-width: 3px; color: var(--ink); }
 #cell { margin: 8px 0 0; min-height: 44px; color: var(--soft); font-size: 14px; }
 table { border-collapse: collapse; width: 100%; font-size: 14px; }
 th, td { text-align: left; padding: 3px 9px 3px 0; border-bottom: 1px solid var(--line); font-variant-numeric: tabular-nums; }
@@ -82,14 +86,15 @@ tr.now td { background: var(--mark); }
 .tree summary { cursor: pointer; }
 .tree .new { background: var(--mark); }
 .ripas { display: inline-block; padding: 0 5px; border-radius: 3px; border: 1px solid var(--line); font-size: 12px; }
-.ripas.RAM { background: var(--data); color: #111; border-color: transparent; }
-.ripas.DESTROYED { border: 1px dashed var(--wrong); text-decoration: line-through; }
+.ripas.RAM { background: var(--data); color: var(--on-data); border-color: transparent; }
+.ripas.DESTROYED { border: 1px dashed var(--wrong); }
 .none, .hint { color: var(--soft); }
 .hint { margin: 0 0 6px; font-size: 13px; }
-#history { list-style: none; margin: 0; padding: 0; max-height: 74vh; overflow-y: auto; border: 1px solid var(--line); border-radius: 4px; font: 13px/1.5 ui-monospace, \"Cascadia Mono\", Consolas, monospace; }
+#history { list-style: none; margin: 0; padding: 0; max-height: calc(100vh - 260px); min-height: 220px; overflow-y: auto; border: 1px solid var(--line); border-radius: 4px; font: 13px/1.5 ui-monospace, \"Cascadia Mono\", Consolas, monospace; }
 #history button { display: flex; gap: 9px; width: 100%; text-align: left; border: 0; border-radius: 0; background: none; padding: 1px 9px; font: inherit; }
 #history button:hover { background: var(--panel); }
 #history .turn { color: var(--soft); min-width: 3.2em; text-align: right; }
+#history .refused { color: var(--wrong); }
 #history .later { opacity: 0.45; }
 #history [aria-current] { background: var(--mark); }
 #history .out { text-decoration: line-through; opacity: 0.45; }
@@ -102,11 +107,12 @@ tr.now td { background: var(--mark); }
 .worlds .realms { margin-top: 12px; }
 .worlds { display: grid; grid-template-columns: 1fr 1fr; gap: 26px; }
 footer { margin-top: 16px; color: var(--soft); font-size: 13px; border-top: 1px solid var(--line); }
+@media (min-width: 1700px) { body { max-width: 2200px; font-size: 17px; } #history, .realm code, .tree { font-size: 15px; } table, .realm p, #cell, #legend { font-size: 16px; } #line { font-size: 22px; } }
 @media (max-width: 1150px) { #run { grid-template-columns: 1fr 1fr; } #history-part { grid-column: 1 / -1; } #history { max-height: 40vh; } }
 @media (max-width: 760px) { #run, .worlds { grid-template-columns: 1fr; } body { padding: 0 12px 12px; } }
 @media (prefers-reduced-motion: no-preference) { .grid i { transition: background-color 0.15s, border-color 0.15s; } }
 @media print {
-  :root, :root[data-theme=\"dark\"] { --paper: #fff; --ink: #000; --panel: #fff; --soft: #333; --line: #888; --cell-ink: #000; }
+  :root, :root[data-theme=\"dark\"] { --paper: #fff; --ink: #000; --panel: #fff; --soft: #333; --line: #888; }
   #controls button, #slider, #theme, #without-label, footer, #cell, .hint { display: none; }
   #controls { position: static; border: 0; } #history { max-height: none; overflow: visible; columns: 2; }
   * { print-color-adjust: exact; -webkit-print-color-adjust: exact; } body { max-width: none; }
@@ -132,7 +138,6 @@ footer { margin-top: 16px; color: var(--soft); font-size: 13px; border-top: 1px 
 <section id=\"turn\" aria-live=\"polite\">
 <p id=\"line\"></p>
 <p id=\"reason\"></p>
-<ol id=\"checks\"></ol>
 </section>
 <section id=\"compare\" hidden>
 <h2 id=\"verdict\"></h2>
@@ -157,7 +162,7 @@ footer { margin-top: 16px; color: var(--soft); font-size: 13px; border-top: 1px 
 </section>
 <aside id=\"history-part\" aria-label=\"History\">
 <h2>History</h2>
-<p class=\"hint\">Each accepted command, in its order. Click one to see the machine behind it.</p>
+<p class=\"hint\">Each command, in its order: the event of one that was accepted, and in red those that were refused. Click one to see the machine after it.</p>
 <ol id=\"history\"></ol>
 </aside>
 </main>
@@ -175,14 +180,14 @@ const data = JSON.parse(document.getElementById(\"data\").textContent);
 const run = data.run, turns = run.turns, pages = run.settings.pages, builds = run.settings.builds;
 const $ = (id) => document.getElementById(id);
 const SIZES = { 1: 262144, 2: 512, 3: 1 };
-const LETTERS = { UNDELEGATED: \"U\", DELEGATED: \"D\", RD: \"R\", REC: \"C\", REC_AUX: \"A\", DATA: \"P\", RTT: \"T\" };
+const WORDS = { UNDELEGATED: \"U\", DELEGATED: \"D\", RD: \"RD\", RTT: \"RTT\", DATA: \"DATA\", REC: \"REC\", REC_AUX: \"AUX\" };
 const MEANINGS = { UNDELEGATED: \"UNDELEGATED: the host's\", DELEGATED: \"DELEGATED: the monitor's, unused\", RD: \"RD: a realm descriptor\", REC: \"REC: an execution context\",
   REC_AUX: \"REC_AUX: auxiliary of a REC\", DATA: \"DATA: a realm's memory\", RTT: \"RTT: a translation table\" };
 const REASONS = { NoBuild: \"There is no such build.\", Aborting: \"The build is being aborted.\", BadOrder: \"A block has at most 512 pages.\",
   NotLeased: \"The build has no page $1.\", RealmThere: \"The build has a realm already.\", NoRealm: \"The build has no realm.\",
   NothingToUndo: \"There is nothing to undo, or no mark to go back to.\", RecRunning: \"A REC that would have to go is running.\",
   JournalFull: \"The build has 512 acts open.\", HistoryFull: \"The rest of the build's room in the history is kept for its undos.\",
-  NoBlock: \"No block of 2^$1 pages is free.\", NoVmid: \"All VMIDs are in use.\", Rmi: \"The monitor refuses: $status, index $2.\" };
+  NoBlock: \"No 2^$1 pages in a row, from a multiple of 2^$1 on, are free.\", NoVmid: \"All VMIDs are in use.\", Rmi: \"The monitor refuses: $status, index $2.\" };
 const STATUS = { 1: \"RMI_ERROR_INPUT\", 2: \"RMI_ERROR_REALM\", 3: \"RMI_ERROR_REC\", 4: \"RMI_ERROR_RTT\" };
 
 // ---- worlds: granules, and the realm of each build with its rows as ranges
@@ -265,11 +270,11 @@ function granuleText(item) {
 }
 function makeGrid(grid) {
   const columns = pages <= 64 ? Math.min(pages, 8) : pages <= 256 ? 16 : pages <= 1024 ? 32 : 64;
-  const size = pages <= 64 ? 44 : pages <= 256 ? 27 : pages <= 1024 ? 12 : 6;
+  const size = pages <= 64 ? \"large\" : pages <= 256 ? \"middle\" : \"small\";
   grid.style.setProperty(\"--columns\", columns);
-  grid.style.setProperty(\"--cell\", size + \"px\");
-  grid.style.setProperty(\"--gap\", (size >= 27 ? 3 : size >= 12 ? 2 : 1) + \"px\");
-  grid.classList.toggle(\"small\", size < 27);
+  grid.style.setProperty(\"--cell\", { large: 84, middle: 48, small: pages <= 1024 ? 24 : 12 }[size] + \"px\");
+  grid.style.setProperty(\"--gap\", { large: 4, middle: 3, small: 1 }[size] + \"px\");
+  grid.classList.add(size);
   const cells = [];
   for (let g = 0; g < pages; g++) {
     const cell = element(\"i\");
@@ -287,8 +292,9 @@ function drawGrid(made, granules, marks) {
     const { cell } = slot;
     cell.className = (build === null ? \"free\" : state) + (mark ? \" \" + mark : \"\");
     cell.style.borderColor = buildColour(build);
-    cell.textContent = build === null || made.size < 12 ? \"\" : LETTERS[state];
-    if (build !== null) cell.append(element(\"b\", build));
+    cell.textContent = build === null || made.size === \"small\" ? \"\" : WORDS[state];
+    cell.append(element(\"u\", g));
+    if (build !== null) cell.append(element(\"b\", \"b\" + build));
     cell.title = granuleText(granules[g]);
     cell.setAttribute(\"aria-label\", cell.title);
   }
@@ -298,7 +304,7 @@ function drawGrid(made, granules, marks) {
 
 const range = (row) => {
   const end = row.first + row.count * SIZES[row.level] - 1;
-  return row.first === end ? \"IPA \" + row.first : \"IPA \" + row.first + \" to \" + end;
+  return row.first === end ? \"IPA granule \" + row.first : \"IPA granules \" + row.first + \" to \" + end;
 };
 const isIn = (row, items) => items.some((i) => i.level === row.level && i.first < row.first + row.count * SIZES[row.level] && row.first < i.first + i.count * SIZES[i.level]);
 function rowLine(row, items) {
@@ -357,15 +363,16 @@ function reasonOf(turn) {
   if (turn.step === null) return \"The build has no step left.\";
   if (turn.accepted) return turn.event === null ? \"Nothing changes.\" : \"Event: \" + turn.event;
   const [, ...about] = turn.numbers, name = turn.answer.split(\" \")[2];
-  return (REASONS[name] || \"Refused.\").replace(\"$status\", STATUS[about[0]] || \"status \" + about[0]).replace(\"$1\", about[0]).replace(\"$2\", about[1]) + \" A refusal changes nothing.\";
+  return (REASONS[name] || \"Refused.\").replace(\"$status\", STATUS[about[0]] || \"status \" + about[0]).replaceAll(\"$1\", about[0]).replace(\"$2\", about[1]) + \" A refusal changes nothing.\";
 }
 const eventOf = [], buttons = [];
 function makeHistory() {
   turns.forEach((turn, i) => {
-    if (turn.event === null) return;
+    const isRefused = turn.step !== null && !turn.accepted;
+    if (turn.event === null && !isRefused) return;
     const li = element(\"li\"), button = element(\"button\");
     button.type = \"button\";
-    button.append(element(\"span\", i + 1, \"turn\"), element(\"span\", turn.event));
+    button.append(element(\"span\", i + 1, \"turn\"), element(\"span\", isRefused ? lineOf(turn) : turn.event));
     button.title = \"Turn \" + (i + 1);
     button.addEventListener(\"click\", () => show(i + 1));
     li.append(button);
@@ -373,13 +380,13 @@ function makeHistory() {
     eventOf.push(i);
     buttons.push(button);
   });
-  if (!buttons.length) $(\"history\").append(element(\"li\", \"No command was accepted.\", \"none\"));
+  if (!buttons.length) $(\"history\").append(element(\"li\", \"No command was asked for.\", \"none\"));
 }
 function drawHistory() {
   const out = $(\"without\").value;
   let last = null;
   buttons.forEach((button, k) => {
-    button.className = (eventOf[k] >= now ? \"later\" : \"\") + (out !== \"\" && String(turns[eventOf[k]].build) === out ? \" out\" : \"\");
+    button.className = (turns[eventOf[k]].event === null ? \"refused \" : \"\") + (eventOf[k] >= now ? \"later\" : \"\") + (out !== \"\" && String(turns[eventOf[k]].build) === out ? \" out\" : \"\");
     button.removeAttribute(\"aria-current\");
     if (eventOf[k] < now) last = button;
   });
@@ -411,13 +418,19 @@ function show(n) {
   $(\"line\").textContent = turn ? lineOf(turn) : \"Before the first turn\";
   $(\"reason\").textContent = turn ? reasonOf(turn) : \"All pages are free and zero.\";
   $(\"turn\").className = turn && turn.accepted === false ? \"refused\" : \"\";
-  $(\"checks\").replaceChildren(...((turn && turn.checks) || []).map((check) => element(\"li\", check)));
   const fresh = new Set(((turn && turn.granules) || []).map((item) => item.granule));
   drawGrid(grid, world.granules, (g) => (fresh.has(g) ? \"new\" : \"\"));
   drawRealms($(\"realms\"), world.realms, turn);
   drawBuilds(world, turn);
   drawHistory();
   if (now === turns.length) stop();
+  tellAddress();
+}
+// The address of the page has the turn, so that it can be sent on or put on a slide.
+function tellAddress() {
+  const out = $(\"without\").value, asked = new URLSearchParams({ turn: now, theme: document.documentElement.dataset.theme });
+  if (out !== \"\") asked.set(\"without\", out);
+  try { history.replaceState(null, \"\", \"#\" + asked); } catch { /* a browser that lets no page of a file do so */ }
 }
 
 // ---- a build left out
@@ -428,7 +441,9 @@ function compare() {
   const out = $(\"without\").value;
   $(\"compare\").hidden = out === \"\";
   $(\"machine-part\").hidden = $(\"realm-part\").hidden = out !== \"\";
+  $(\"turn\").classList.toggle(\"apart\", out !== \"\");
   drawHistory();
+  tellAddress();
   if (out === \"\") return;
   stop();
   pair = pair || [makeGrid($(\"last-grid\")), makeGrid($(\"other-grid\"))];
@@ -444,10 +459,10 @@ function compare() {
   drawRealms($(\"other-realms\"), other.realms, null, realmDiffers);
   const same = counts.every((n) => n === 0);
   $(\"verdict\").className = same ? \"same\" : \"differ\";
-  $(\"verdict\").textContent = same ? \"No difference: build \" + out + \" left no trace\" : \"They differ in \" + counts[0] + \" granules, \" + counts[1] + \" realms, and the pages of \" + counts[2] + \" builds\";
+  $(\"verdict\").textContent = same ? \"No difference: build \" + out + \" left no trace\" : \"They differ in \" + number(counts[0], \"granule\") + \", \" + number(counts[1], \"realm\") + \", and the pages of \" + number(counts[2], \"build\");
   $(\"verdict-why\").textContent = last.open[b] === 0
     ? \"Build \" + out + \" has nothing open in the end. The world on the right is that of a second machine, to which the history was applied without the events of build \" + out + \".\"
-    : \"Build \" + out + \" has \" + last.open[b] + \" acts open in the end: they are what differs. After an abort of it there is no difference. The world on the right is that of a second machine, to which the history was applied without the events of build \" + out + \".\";
+    : \"Build \" + out + \" has \" + number(last.open[b], \"act\") + \" open in the end: what it holds is what differs. After an abort of it there is no difference. The world on the right is that of a second machine, to which the history was applied without the events of build \" + out + \".\";
   $(\"other-title\").textContent = \"The world of the history without build \" + out;
 }
 function leaveOut(value) {
@@ -472,19 +487,21 @@ function setTheme(dark) {
   document.documentElement.dataset.theme = dark ? \"dark\" : \"light\";
   $(\"theme\").textContent = dark ? \"Light\" : \"Dark\";
 }
+const number = (n, one) => n + \" \" + one + (n === 1 ? \"\" : \"s\");
+function addKey(sign, meaning) {
+  const key = element(\"span\");
+  key.append(sign, meaning);
+  $(\"legend\").append(key);
+}
 const isDark = () => document.documentElement.dataset.theme === \"dark\";
 function begin() {
-  const s = run.settings, words = (n, one) => n + \" \" + one + (n === 1 ? \"\" : \"s\");
-  $(\"machine\").textContent = words(s.pages, \"page\") + \", \" + words(s.vmids, \"VMID\") + \", \" + words(s.builds, \"build\") + \", \" + words(turns.length, \"turn\") + \", \" + words(turns.filter((t) => t.event !== null).length, \"event\");
-  for (const state of Object.keys(LETTERS)) {
-    const key = element(\"span\");
-    key.append(element(\"i\", LETTERS[state], state), MEANINGS[state]);
-    $(\"legend\").append(key);
-  }
-  const out = element(\"span\"), frame = element(\"i\", \"0\", \"out\");
+  const s = run.settings;
+  $(\"machine\").textContent = number(s.pages, \"page\") + \", \" + number(s.vmids, \"VMID\") + \", \" + number(s.builds, \"build\") + \", \" + number(turns.length, \"turn\") + \", \" + number(turns.filter((t) => t.event !== null).length, \"event\");
+  for (const state of Object.keys(WORDS)) addKey(element(\"i\", WORDS[state], state), MEANINGS[state]);
+  addKey(element(\"i\", \"\", \"free\"), \"free: no build leases it\");
+  const frame = element(\"i\", \"b0\", \"frame\");
   frame.style.borderColor = buildColour(0);
-  out.append(frame, \"the frame and the small number: the build that leases it\");
-  $(\"legend\").append(out);
+  addKey(frame, \"the frame, and b0: the build that leases it. At the top left: the granule's number\");
   for (let b = 0; b < builds; b++) {
     const option = element(\"option\", \"build \" + b);
     option.value = b;
@@ -504,7 +521,7 @@ $(\"back\").addEventListener(\"click\", () => { stop(); show(now - 1); });
 $(\"next\").addEventListener(\"click\", () => { stop(); show(now + 1); });
 $(\"last\").addEventListener(\"click\", () => { stop(); show(turns.length); });
 $(\"play\").addEventListener(\"click\", play);
-$(\"theme\").addEventListener(\"click\", () => setTheme(!isDark()));
+$(\"theme\").addEventListener(\"click\", () => { setTheme(!isDark()); tellAddress(); });
 $(\"without\").addEventListener(\"change\", compare);
 matchMedia(\"(prefers-color-scheme: dark)\").addEventListener(\"change\", (e) => setTheme(e.matches));
 
@@ -529,7 +546,7 @@ $(\"grid\").addEventListener(\"keydown\", (e) => {
 document.addEventListener(\"keydown\", (e) => {
   if (e.ctrlKey || e.metaKey || e.altKey || e.target.tagName === \"SELECT\") return;
   const keys = { ArrowLeft: () => { stop(); show(now - 1); }, ArrowRight: () => { stop(); show(now + 1); }, Home: () => { stop(); show(0); }, End: () => { stop(); show(turns.length); },
-    t: () => setTheme(!isDark()), T: () => setTheme(!isDark()), Escape: () => leaveOut(\"\") };
+    t: () => $(\"theme\").click(), T: () => $(\"theme\").click(), Escape: () => leaveOut(\"\") };
   if (e.key === \" \" && e.target.tagName !== \"BUTTON\") { e.preventDefault(); play(); return; }
   if (/^[0-7]$/.test(e.key) && Number(e.key) < builds) { leaveOut($(\"without\").value === e.key ? \"\" : e.key); return; }
   if (keys[e.key]) { e.preventDefault(); keys[e.key](); }

@@ -5,14 +5,14 @@ const data = JSON.parse(document.getElementById("data").textContent);
 const run = data.run, turns = run.turns, pages = run.settings.pages, builds = run.settings.builds;
 const $ = (id) => document.getElementById(id);
 const SIZES = { 1: 262144, 2: 512, 3: 1 };
-const LETTERS = { UNDELEGATED: "U", DELEGATED: "D", RD: "R", REC: "C", REC_AUX: "A", DATA: "P", RTT: "T" };
+const WORDS = { UNDELEGATED: "U", DELEGATED: "D", RD: "RD", RTT: "RTT", DATA: "DATA", REC: "REC", REC_AUX: "AUX" };
 const MEANINGS = { UNDELEGATED: "UNDELEGATED: the host's", DELEGATED: "DELEGATED: the monitor's, unused", RD: "RD: a realm descriptor", REC: "REC: an execution context",
   REC_AUX: "REC_AUX: auxiliary of a REC", DATA: "DATA: a realm's memory", RTT: "RTT: a translation table" };
 const REASONS = { NoBuild: "There is no such build.", Aborting: "The build is being aborted.", BadOrder: "A block has at most 512 pages.",
   NotLeased: "The build has no page $1.", RealmThere: "The build has a realm already.", NoRealm: "The build has no realm.",
   NothingToUndo: "There is nothing to undo, or no mark to go back to.", RecRunning: "A REC that would have to go is running.",
   JournalFull: "The build has 512 acts open.", HistoryFull: "The rest of the build's room in the history is kept for its undos.",
-  NoBlock: "No block of 2^$1 pages is free.", NoVmid: "All VMIDs are in use.", Rmi: "The monitor refuses: $status, index $2." };
+  NoBlock: "No 2^$1 pages in a row, from a multiple of 2^$1 on, are free.", NoVmid: "All VMIDs are in use.", Rmi: "The monitor refuses: $status, index $2." };
 const STATUS = { 1: "RMI_ERROR_INPUT", 2: "RMI_ERROR_REALM", 3: "RMI_ERROR_REC", 4: "RMI_ERROR_RTT" };
 
 // ---- worlds: granules, and the realm of each build with its rows as ranges
@@ -95,11 +95,11 @@ function granuleText(item) {
 }
 function makeGrid(grid) {
   const columns = pages <= 64 ? Math.min(pages, 8) : pages <= 256 ? 16 : pages <= 1024 ? 32 : 64;
-  const size = pages <= 64 ? 44 : pages <= 256 ? 27 : pages <= 1024 ? 12 : 6;
+  const size = pages <= 64 ? "large" : pages <= 256 ? "middle" : "small";
   grid.style.setProperty("--columns", columns);
-  grid.style.setProperty("--cell", size + "px");
-  grid.style.setProperty("--gap", (size >= 27 ? 3 : size >= 12 ? 2 : 1) + "px");
-  grid.classList.toggle("small", size < 27);
+  grid.style.setProperty("--cell", { large: 84, middle: 48, small: pages <= 1024 ? 24 : 12 }[size] + "px");
+  grid.style.setProperty("--gap", { large: 4, middle: 3, small: 1 }[size] + "px");
+  grid.classList.add(size);
   const cells = [];
   for (let g = 0; g < pages; g++) {
     const cell = element("i");
@@ -117,8 +117,9 @@ function drawGrid(made, granules, marks) {
     const { cell } = slot;
     cell.className = (build === null ? "free" : state) + (mark ? " " + mark : "");
     cell.style.borderColor = buildColour(build);
-    cell.textContent = build === null || made.size < 12 ? "" : LETTERS[state];
-    if (build !== null) cell.append(element("b", build));
+    cell.textContent = build === null || made.size === "small" ? "" : WORDS[state];
+    cell.append(element("u", g));
+    if (build !== null) cell.append(element("b", "b" + build));
     cell.title = granuleText(granules[g]);
     cell.setAttribute("aria-label", cell.title);
   }
@@ -128,7 +129,7 @@ function drawGrid(made, granules, marks) {
 
 const range = (row) => {
   const end = row.first + row.count * SIZES[row.level] - 1;
-  return row.first === end ? "IPA " + row.first : "IPA " + row.first + " to " + end;
+  return row.first === end ? "IPA granule " + row.first : "IPA granules " + row.first + " to " + end;
 };
 const isIn = (row, items) => items.some((i) => i.level === row.level && i.first < row.first + row.count * SIZES[row.level] && row.first < i.first + i.count * SIZES[i.level]);
 function rowLine(row, items) {
@@ -187,15 +188,16 @@ function reasonOf(turn) {
   if (turn.step === null) return "The build has no step left.";
   if (turn.accepted) return turn.event === null ? "Nothing changes." : "Event: " + turn.event;
   const [, ...about] = turn.numbers, name = turn.answer.split(" ")[2];
-  return (REASONS[name] || "Refused.").replace("$status", STATUS[about[0]] || "status " + about[0]).replace("$1", about[0]).replace("$2", about[1]) + " A refusal changes nothing.";
+  return (REASONS[name] || "Refused.").replace("$status", STATUS[about[0]] || "status " + about[0]).replaceAll("$1", about[0]).replace("$2", about[1]) + " A refusal changes nothing.";
 }
 const eventOf = [], buttons = [];
 function makeHistory() {
   turns.forEach((turn, i) => {
-    if (turn.event === null) return;
+    const isRefused = turn.step !== null && !turn.accepted;
+    if (turn.event === null && !isRefused) return;
     const li = element("li"), button = element("button");
     button.type = "button";
-    button.append(element("span", i + 1, "turn"), element("span", turn.event));
+    button.append(element("span", i + 1, "turn"), element("span", isRefused ? lineOf(turn) : turn.event));
     button.title = "Turn " + (i + 1);
     button.addEventListener("click", () => show(i + 1));
     li.append(button);
@@ -203,13 +205,13 @@ function makeHistory() {
     eventOf.push(i);
     buttons.push(button);
   });
-  if (!buttons.length) $("history").append(element("li", "No command was accepted.", "none"));
+  if (!buttons.length) $("history").append(element("li", "No command was asked for.", "none"));
 }
 function drawHistory() {
   const out = $("without").value;
   let last = null;
   buttons.forEach((button, k) => {
-    button.className = (eventOf[k] >= now ? "later" : "") + (out !== "" && String(turns[eventOf[k]].build) === out ? " out" : "");
+    button.className = (turns[eventOf[k]].event === null ? "refused " : "") + (eventOf[k] >= now ? "later" : "") + (out !== "" && String(turns[eventOf[k]].build) === out ? " out" : "");
     button.removeAttribute("aria-current");
     if (eventOf[k] < now) last = button;
   });
@@ -241,13 +243,19 @@ function show(n) {
   $("line").textContent = turn ? lineOf(turn) : "Before the first turn";
   $("reason").textContent = turn ? reasonOf(turn) : "All pages are free and zero.";
   $("turn").className = turn && turn.accepted === false ? "refused" : "";
-  $("checks").replaceChildren(...((turn && turn.checks) || []).map((check) => element("li", check)));
   const fresh = new Set(((turn && turn.granules) || []).map((item) => item.granule));
   drawGrid(grid, world.granules, (g) => (fresh.has(g) ? "new" : ""));
   drawRealms($("realms"), world.realms, turn);
   drawBuilds(world, turn);
   drawHistory();
   if (now === turns.length) stop();
+  tellAddress();
+}
+// The address of the page has the turn, so that it can be sent on or put on a slide.
+function tellAddress() {
+  const out = $("without").value, asked = new URLSearchParams({ turn: now, theme: document.documentElement.dataset.theme });
+  if (out !== "") asked.set("without", out);
+  try { history.replaceState(null, "", "#" + asked); } catch { /* a browser that lets no page of a file do so */ }
 }
 
 // ---- a build left out
@@ -258,7 +266,9 @@ function compare() {
   const out = $("without").value;
   $("compare").hidden = out === "";
   $("machine-part").hidden = $("realm-part").hidden = out !== "";
+  $("turn").classList.toggle("apart", out !== "");
   drawHistory();
+  tellAddress();
   if (out === "") return;
   stop();
   pair = pair || [makeGrid($("last-grid")), makeGrid($("other-grid"))];
@@ -274,10 +284,10 @@ function compare() {
   drawRealms($("other-realms"), other.realms, null, realmDiffers);
   const same = counts.every((n) => n === 0);
   $("verdict").className = same ? "same" : "differ";
-  $("verdict").textContent = same ? "No difference: build " + out + " left no trace" : "They differ in " + counts[0] + " granules, " + counts[1] + " realms, and the pages of " + counts[2] + " builds";
+  $("verdict").textContent = same ? "No difference: build " + out + " left no trace" : "They differ in " + number(counts[0], "granule") + ", " + number(counts[1], "realm") + ", and the pages of " + number(counts[2], "build");
   $("verdict-why").textContent = last.open[b] === 0
     ? "Build " + out + " has nothing open in the end. The world on the right is that of a second machine, to which the history was applied without the events of build " + out + "."
-    : "Build " + out + " has " + last.open[b] + " acts open in the end: they are what differs. After an abort of it there is no difference. The world on the right is that of a second machine, to which the history was applied without the events of build " + out + ".";
+    : "Build " + out + " has " + number(last.open[b], "act") + " open in the end: what it holds is what differs. After an abort of it there is no difference. The world on the right is that of a second machine, to which the history was applied without the events of build " + out + ".";
   $("other-title").textContent = "The world of the history without build " + out;
 }
 function leaveOut(value) {
@@ -302,19 +312,21 @@ function setTheme(dark) {
   document.documentElement.dataset.theme = dark ? "dark" : "light";
   $("theme").textContent = dark ? "Light" : "Dark";
 }
+const number = (n, one) => n + " " + one + (n === 1 ? "" : "s");
+function addKey(sign, meaning) {
+  const key = element("span");
+  key.append(sign, meaning);
+  $("legend").append(key);
+}
 const isDark = () => document.documentElement.dataset.theme === "dark";
 function begin() {
-  const s = run.settings, words = (n, one) => n + " " + one + (n === 1 ? "" : "s");
-  $("machine").textContent = words(s.pages, "page") + ", " + words(s.vmids, "VMID") + ", " + words(s.builds, "build") + ", " + words(turns.length, "turn") + ", " + words(turns.filter((t) => t.event !== null).length, "event");
-  for (const state of Object.keys(LETTERS)) {
-    const key = element("span");
-    key.append(element("i", LETTERS[state], state), MEANINGS[state]);
-    $("legend").append(key);
-  }
-  const out = element("span"), frame = element("i", "0", "out");
+  const s = run.settings;
+  $("machine").textContent = number(s.pages, "page") + ", " + number(s.vmids, "VMID") + ", " + number(s.builds, "build") + ", " + number(turns.length, "turn") + ", " + number(turns.filter((t) => t.event !== null).length, "event");
+  for (const state of Object.keys(WORDS)) addKey(element("i", WORDS[state], state), MEANINGS[state]);
+  addKey(element("i", "", "free"), "free: no build leases it");
+  const frame = element("i", "b0", "frame");
   frame.style.borderColor = buildColour(0);
-  out.append(frame, "the frame and the small number: the build that leases it");
-  $("legend").append(out);
+  addKey(frame, "the frame, and b0: the build that leases it. At the top left: the granule's number");
   for (let b = 0; b < builds; b++) {
     const option = element("option", "build " + b);
     option.value = b;
@@ -334,7 +346,7 @@ $("back").addEventListener("click", () => { stop(); show(now - 1); });
 $("next").addEventListener("click", () => { stop(); show(now + 1); });
 $("last").addEventListener("click", () => { stop(); show(turns.length); });
 $("play").addEventListener("click", play);
-$("theme").addEventListener("click", () => setTheme(!isDark()));
+$("theme").addEventListener("click", () => { setTheme(!isDark()); tellAddress(); });
 $("without").addEventListener("change", compare);
 matchMedia("(prefers-color-scheme: dark)").addEventListener("change", (e) => setTheme(e.matches));
 
@@ -359,7 +371,7 @@ $("grid").addEventListener("keydown", (e) => {
 document.addEventListener("keydown", (e) => {
   if (e.ctrlKey || e.metaKey || e.altKey || e.target.tagName === "SELECT") return;
   const keys = { ArrowLeft: () => { stop(); show(now - 1); }, ArrowRight: () => { stop(); show(now + 1); }, Home: () => { stop(); show(0); }, End: () => { stop(); show(turns.length); },
-    t: () => setTheme(!isDark()), T: () => setTheme(!isDark()), Escape: () => leaveOut("") };
+    t: () => $("theme").click(), T: () => $("theme").click(), Escape: () => leaveOut("") };
   if (e.key === " " && e.target.tagName !== "BUTTON") { e.preventDefault(); play(); return; }
   if (/^[0-7]$/.test(e.key) && Number(e.key) < builds) { leaveOut($("without").value === e.key ? "" : e.key); return; }
   if (keys[e.key]) { e.preventDefault(); keys[e.key](); }
