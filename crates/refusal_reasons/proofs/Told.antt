@@ -25,7 +25,7 @@ use Rattle.realm_host.specs.Refusals.{refusal_of}
 use Rattle.refusal_reasons.specs.Told.{as_check, refusal_told, UndoIsTold, MarkIsTold, BeginIsTold, BackIsTold, HasPageNumbers, NeedsAreTold}
 use Rattle.refusal_reasons.specs.OfBuild.{build_looks, order_looks, page_there, realm_looks, journal_looks, room_left, room_look, vmid_looks, needs_looks}
 use Rattle.refusal_reasons.specs.Pages.{tables_told, pages_told}
-use Rattle.refusal_reasons.specs.Steps.{newest_runs, running_of, is_nothing, is_refused_by_running}
+use Rattle.refusal_reasons.specs.Steps.{running_of, is_nothing, is_refused_by_running}
 use Rattle.refusal_reasons.specs.declared.look.Look.{Look}
 
 -- ---- what is behind the check that the build is there
@@ -39,8 +39,7 @@ module _ (host : HostView) (build : ℕ) where
 
   pub undo_told : UndoIsTold host build
   unfolding refusal_of
-  undo_told = behind_there (nat_le host.limits.builds build) refl _ _ (λ there.
-      ap (λ t. cond (nat_lt (length (open_of host build)) 1) (Some NothingToUndo) (cond (if t then refusals.is_newest_running host build else false) (Some RecRunning) None)) there)
+  undo_told = refl
 
   pub mark_told : MarkIsTold host build
   mark_told = refl
