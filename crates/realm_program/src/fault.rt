@@ -25,7 +25,7 @@ pub enum Fault {
     /// A build's worker waited in vain for a turn.
     #[error("thread")]
     Stuck(BuildId),
-    /// A recorded event was refused when it was applied again, or what workers report does not fit the history.
+    /// What workers report, or what their seats have noted, does not fit the history. Of a run in threads alone.
     #[error("mismatch")]
     Mismatch,
     /// A read or a write failed.

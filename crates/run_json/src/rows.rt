@@ -1,4 +1,7 @@
 //! The rows of a realm's translation.
+//!
+//! No clause says which rows these are: contracts say that they are some text. `tests/json` compares them with the rows that
+//! the turns of a run lead to.
 use crate::items::RowItem;
 use granule_addr::{BuildId, Level};
 use page_arena::PageStore;
