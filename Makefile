@@ -39,7 +39,7 @@ c-test: c-library ## tries the bench from C, C++ and Python, over 1,000 random t
 
 install: ## copies what `make build` and `make c-library` have built, man pages, completions, documents, plans and traces below PREFIX
 	@for it in $(PROGRAMS); do test -x bin/$$it || { echo "install: there is no bin/$$it yet: make build" >&2; exit 1; }; done
-	install -d $(DESTDIR)$(PREFIX)/bin $(SHARE)/doc/realmhost/docs/pictures $(SHARE)/realmhost/plans/guide $(SHARE)/realmhost/traces
+	install -d $(DESTDIR)$(PREFIX)/bin $(SHARE)/doc/realmhost/docs/pictures $(SHARE)/realmhost/plans/guide $(SHARE)/realmhost/traces $(SHARE)/realmhost/examples
 	install -m 755 $(PROGRAMS:%=bin/%) $(DESTDIR)$(PREFIX)/bin
 	install -d $(SHARE)/man/man1 $(SHARE)/bash-completion/completions $(SHARE)/zsh/site-functions $(SHARE)/fish/vendor_completions.d
 	install -m 644 man/*.1 $(SHARE)/man/man1
@@ -52,6 +52,7 @@ install: ## copies what `make build` and `make c-library` have built, man pages,
 	install -m 644 plans/*.* $(SHARE)/realmhost/plans
 	install -m 644 plans/guide/* $(SHARE)/realmhost/plans/guide
 	install -m 644 traces/* $(SHARE)/realmhost/traces
+	install -m 644 examples/drive.py $(SHARE)/realmhost/examples
 	@if test -f build/librmi_bench.a; then $(MAKE) --no-print-directory install-c-library; \
 	  else echo "install: there is no build/librmi_bench.a, and the bench for C is left out: make c-library"; fi
 

@@ -12,7 +12,7 @@ word. With `raises=True` a word that is not RMI_SUCCESS is raised as `Refused`. 
 from 2^64 on, is an OverflowError, a bench that is closed a ValueError; then nothing is asked.
 
 This needs librmi_bench.so.0 (`make c-library`). It is looked for at the path of $RMI_BENCH_LIBRARY, beside this file, in the
-folder build/ of the repository, and where the system has its libraries.
+folder build/ of the repository, and where the system has its libraries. Where it is not found, there is an OSError.
 """
 import ctypes
 import operator
@@ -129,7 +129,7 @@ def _places():
 
 def load(path=None):
     """The library, at this path or where it is looked for. A call keeps the interpreter's lock, where there is one: no two come at once."""
-    library = ctypes.PyDLL(path or _places()[0])
+    library = _opened(path or _places()[0])
     takes = lambda name, result, count, *more: _declare(library, name, result, [_U64] * count + list(more))
     takes("rmi_bench_open", _U64, 3)
     takes("rmi_bench_close", None, 0)
@@ -138,6 +138,14 @@ def load(path=None):
     for name, given in _READINGS.items():
         takes(f"rmi_read_{name}", ctypes.c_bool, *given)
     return library
+
+
+def _opened(path):
+    try:
+        return ctypes.PyDLL(path)
+    except OSError as error:
+        hint = "`make c-library` builds the library of the bench, and RMI_BENCH_LIBRARY can name its path"
+        raise OSError(f"{error} ({hint})") from None
 
 
 def _declare(library, name, result, given):
@@ -306,8 +314,8 @@ class Bench:
         return told.value if self._call("read_word", (granule, index), ctypes.byref(told)) else None
 
     def entry(self, granule, index):
-        """The entry of a table: its state, its RIPAS, and the granule that it leads to."""
-        word = self.word(granule, index)
+        """The entry of a table: its state, its RIPAS, and the granule that it leads to. None where the granule is no table."""
+        word = self.word(granule, index) if self.state(granule) == "RTT" else None
         return word if word is None else (ENTRY_STATES[word & 3], RIPAS[word >> 2 & 3], word >> 12 & 0xFFFFFFFFF)
 
     def realm(self, granule):

@@ -1,4 +1,4 @@
-"""What the second monitor keeps: granules, with the tables, realms and RECs that they are, and what can be read of them."""
+"""What the second monitor keeps: granules, with the tables, realms and RECs that they are, and what is read of them."""
 from __future__ import annotations
 
 from collections.abc import Iterator

@@ -1,8 +1,9 @@
-"""A second monitor, in which each rule can be switched off: for `tests/rules`, and for whoever asks what a rule is good for.
+"""A second monitor, in which each rule can be switched off: for `tests/rules`, and to see what a rule is good for.
 
-It was written from docs/TRACES.md, docs/RULES.md and the definitions in crates/realm_model/specs/Command, and has no code in
-common with `rmitrace`. A command is a generator: it yields its checks in their order, and then changes the machine. A rule is
-named by its command and a word, as `data_create.new`; effects begin with `then_`, and what is allowed with `may_`.
+It was written from docs/TRACES.md, docs/RULES.md and the definitions in crates/realm_model/specs/Command, and has no
+code in common with `rmitrace`. A command is a generator: it yields its checks in their order, and then changes the
+machine. A rule is named by its command and a word, as `data_create.new`; effects begin with `then_` or `says_`, and
+what is allowed with `may_`.
 
     Monitor().line("granule_delegate 0")               the answer
     Monitor(without={"realm_create.vmid_unused"})      a check is left out, or an effect is another
@@ -20,10 +21,10 @@ SUCCESS, INPUT, REALM, REC = 0, 1, 2, 3
 # How many IPA granules an entry of a level covers.
 COVERED = {1: 2**18, 2: 2**9, 3: 1}
 MEASURED = ("rtt_init_ripas", "data_create", "rec_create")
-# Checks that find what is changed: a command without such a check does nothing where it fails, and answers 0.
+# Checks that find what is changed: where one of them is off and fails, the command does nothing, and answers 0.
 FINDING = ("inside", "rd", "rec", "level", "walk", "table", "page")
 
-# A check: the word of its rule (None: it cannot be switched off), whether it holds, and the result word where it does not.
+# A check: the word of its rule (None: it cannot be switched off), whether it holds, and else the result word.
 Check = tuple[str | None, bool, int]
 # A command yields its checks. It returns the value that it answers beside its result word, if any.
 Command = Generator[Check, None, int | None]

@@ -49,6 +49,8 @@ def of_values():
         # Of a starting table: its entry 0 leads to the table that has just been made.
         assert bench.entry(2, 0)[0] == "TABLE" and bench.entry(2, 0)[2] == 6 and bench.entry(2, 512) is None
         assert bench.entry(2, 1) == ("UNASSIGNED", "EMPTY", 0)
+        # A page of bytes has no entries, be they the host's or a realm's, nor has what is no granule.
+        assert [bench.entry(granule, 0) for granule in (9, 0, 1, 4, 8, 16)] == [None] * 6
         assert (bench.state(15), bench.state(16)) == ("UNDELEGATED", None)
         assert (bench.sum(9), bench.word(9, 0)) == (7 * 4096, 0x0707070707070707)
 
@@ -79,6 +81,12 @@ def of_closed():
         assert bench.granule_delegate(0) == 0
 
 
-for part in of_words, of_values, of_numbers, of_closed:
+def of_libraries():
+    for name in ("/nowhere/librmi_bench.so.0", "no_such_library.so"):
+        error = str(raised(OSError, lambda: Bench(1, 1, library=name)))
+        assert name in error and "RMI_BENCH_LIBRARY" in error and "make c-library" in error, error
+
+
+for part in of_words, of_values, of_numbers, of_closed, of_libraries:
     part()
 print("the module is as its text says")

@@ -1,0 +1,161 @@
+"""A driver: it asks a monitor what a trace asks, by the registers of the calls, and tells the first word that differs.
+
+    python3 examples/drive.py < TRACE
+
+The answers in the trace are those that are wanted; `rmitrace answer` gives them to any trace. `Toy` stands for your
+monitor: it has granules and realms and nothing else, and a bug. Put in its place a class whose `call` reaches yours, by
+an SMC or in a simulator. `Driver.registers` is the table of docs/TRACES.md, "From lines to calls"; that page also says
+what the lines are that are no calls alone: host_fill, host_peek, rec_enter, rec_exit and guest_write.
+"""
+import sys
+from dataclasses import dataclass
+
+# Granule 0. The addresses from there on belong to the trace, and behind its last granule there is no memory.
+BASE = 0x8000_0000
+READINGS = ("state", "sum", "word", "realm", "measurement", "rec")
+
+
+def address(granule):
+    return BASE + 4096 * granule
+
+
+def mpidr(number):
+    """The MPIDR of a REC, by its number in the realm."""
+    return number & 0xF | (number >> 4 & 0xFF) << 8 | number >> 12 << 16
+
+
+@dataclass
+class RealmParams:
+    """RmiRealmParams, as far as a line says it. A real monitor reads it from a granule that is none of the trace's."""
+
+    s2sz: int
+    rtt_base: int
+    rtt_level_start: int
+    rtt_num_start: int
+    vmid: int
+
+
+@dataclass
+class RecParams:
+    """RmiRecParams, likewise. The flag says that the REC can run."""
+
+    flags: int
+    mpidr: int
+    aux: list
+
+
+class Driver:
+    """Which call a line is. RMI_REC_CREATE takes the MPIDR of the realm's next REC alone, so the RECs are counted."""
+
+    def __init__(self):
+        self.recs = {}
+
+    def registers(self, name, numbers):
+        """X1, X2 .. of a call; in the place of the address of a structure, the structure."""
+        match name, numbers:
+            case "realm_create", [rd, root, vmid, width]:
+                return [address(rd), RealmParams(width, address(root), 1, 1 << max(width - 39, 0), vmid)]
+            case "rtt_create", [rd, table, ipa, level]:
+                return [address(rd), address(table), ipa << 12, level]
+            case "rtt_destroy", [rd, ipa, level]:
+                return [address(rd), ipa << 12, level]
+            case "rtt_init_ripas", [rd, ipa, count]:
+                return [address(rd), ipa << 12, ipa + count << 12]
+            case "data_create", [rd, page, ipa, source]:
+                return [address(rd), address(page), ipa << 12, address(source), 1]
+            case "data_create_unknown", [rd, page, ipa]:
+                return [address(rd), address(page), ipa << 12]
+            case "data_destroy", [rd, ipa]:
+                return [address(rd), ipa << 12]
+            case "rec_create", [rd, rec, *auxiliaries]:
+                params = RecParams(1, mpidr(self.recs.get(rd, 0)), [address(it) for it in auxiliaries])
+                return [address(rd), address(rec), params]
+            case _:
+                return [address(it) for it in numbers]
+
+    def accepted(self, name, numbers):
+        """What an accepted command changes for the calls to come."""
+        if name == "realm_create":
+            self.recs[numbers[0]] = 0
+        if name == "rec_create":
+            self.recs[numbers[0]] += 1
+
+
+class Toy:
+    """The monitor that is tried. Its bug: RMI_REALM_DESTROY keeps the VMID in use."""
+
+    def __init__(self, granules, vmids):
+        self.states = {address(it): "UNDELEGATED" for it in range(granules)}
+        self.vmids, self.used, self.realms = vmids, set(), {}
+
+    def call(self, command, registers):
+        """X0 of a call: the result word."""
+        return getattr(self, command)(*registers)
+
+    def granule_delegate(self, granule):
+        return self.moved([granule], "UNDELEGATED", "DELEGATED")
+
+    def granule_undelegate(self, granule):
+        return self.moved([granule], "DELEGATED", "UNDELEGATED")
+
+    def realm_create(self, rd, params):
+        tables = [params.rtt_base + 4096 * it for it in range(params.rtt_num_start)]
+        is_well = 39 <= params.s2sz <= 43 and params.rtt_base % (4096 * len(tables)) == 0
+        if not is_well or rd in tables or not 0 < params.vmid <= self.vmids or params.vmid in self.used:
+            return 1
+        if self.moved([rd, *tables], "DELEGATED", "of a realm"):
+            return 1
+        self.used.add(params.vmid)
+        self.realms[rd] = ["NEW", tables]
+        return 0
+
+    def realm_activate(self, rd):
+        if rd not in self.realms:
+            return 1
+        was, self.realms[rd][0] = self.realms[rd][0], "ACTIVE"
+        return 0 if was == "NEW" else 2
+
+    def realm_destroy(self, rd):
+        if rd not in self.realms:
+            return 1
+        _, tables = self.realms.pop(rd)
+        return self.moved([rd, *tables], "of a realm", "DELEGATED")
+
+    def moved(self, granules, old, new):
+        """RMI_ERROR_INPUT where one of the granules is not in the old state."""
+        if any(self.states.get(it) != old for it in granules):
+            return 1
+        self.states.update({it: new for it in granules})
+        return 0
+
+
+def main(lines):
+    driver, monitor, agreed, left_out = Driver(), None, 0, 0
+    for number, line in enumerate(lines, 1):
+        asked, _, wanted = line.rstrip("\r\n").partition(" = ")
+        if not asked or asked.startswith("#"):
+            continue
+        name, *operands = asked.split(" ")
+        numbers = [int(it) for it in operands]
+        if name == "machine":
+            driver, monitor = Driver(), Toy(*numbers[:2])
+            continue
+        if name in READINGS:
+            # (nothing but a debugger reads these of a real monitor)
+            left_out += 1
+            continue
+        if not hasattr(monitor, name):
+            print(f"line {number}: {asked}: this monitor has no such command; {agreed} answers agree before")
+            return 1
+        word = monitor.call(name, driver.registers(name, numbers))
+        if wanted and word != int(wanted.split(" ")[0]):
+            print(f"line {number}: {line.rstrip()}, and this monitor answers {word}; {agreed} answers agree before")
+            return 1
+        agreed += bool(wanted)
+        if word == 0:
+            driver.accepted(name, numbers)
+    print(f"{agreed} answers agree, {left_out} readings are left out")
+    return 0
+
+
+sys.exit(main(sys.stdin))
