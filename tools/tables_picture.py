@@ -1,51 +1,60 @@
-"""The picture of a realm's tables: from its descriptor by a walk down to a page of memory."""
+"""The picture of the tables in plans/guide/tables.toml before its undo: from the descriptor by walks down to level 3."""
 from drawing import cell, path, picture, rect, text
 
-TITLE = "From a realm to a page of its memory"
+TITLE = "The tables of the plan, before its undo"
 SAID = (
-    "The descriptor RD leads to the starting table, of level 1. Each of its entries is for 1 GiB, and may lead to a table "
-    "of level 2. Each entry of that is for 2 MiB, and may lead to a table of level 3. Each entry of that is for 4 KiB, and may "
-    "map a page of data. Each of these is a page that was delegated first: pages 0 to 4 of the plan."
+    "Page 0, the descriptor RD, leads to page 1, the starting table of level 1. Entry 0 of that is for IPA granules 0 to 262143, "
+    "and leads to page 2, a table of level 2. Entry 0 of page 2 is for IPA granules 0 to 511, and leads to page 3; entry 1 is for "
+    "512 to 1023, and leads to page 4. These two are tables of level 3, and each of their entries is for one IPA granule. No other "
+    "entry leads anywhere yet. The undo takes page 4 away."
 )
-ROW, TOP, WIDE, STEP, LEFT = 26, 112, 124, 167, 22
-# The state of each page, what it is, what one of its entries is for, and how many levels are below it.
+ROW, TOP, BELOW = 26, 112, 276
+NUMBERS = ("0", "1", "..", "511")
+# The state of each page, what it is, where it stands with which width, and what its rows are for.
 PLACES = (
-    ("RD", "page 0", "the descriptor", ("the realm",)),
-    ("RTT", "page 1", "level 1", ("1 GiB", "2 GiB", "..", "512 GiB")),
-    ("RTT", "page 2", "level 2", ("2 MiB", "4 MiB", "..", "1 GiB")),
-    ("RTT", "page 3", "level 3", ("4 KiB", "8 KiB", "..", "2 MiB")),
-    ("DATA", "page 4", "memory", ("4 KiB of bytes",)),
+    ("RD", "page 0", 22, TOP, 104, ("descriptor",)),
+    ("RTT", "page 1: level 1", 176, TOP, 204, ("0 to 262143", "262144 to 524287", "", "133955584 to 134217727")),
+    ("RTT", "page 2: level 2", 430, TOP, 178, ("0 to 511", "512 to 1023", "", "261632 to 262143")),
+    ("RTT", "page 3: level 3", 658, TOP, 150, ("0", "1", "", "511")),
+    ("RTT", "page 4: level 3", 658, BELOW, 150, ("512", "513", "", "1023")),
 )
 MARKER = (
     '<defs><marker id="head" viewBox="0 0 8 8" refX="6" refY="4" markerWidth="8" markerHeight="8" orient="auto">'
     '<path d="M0 0L8 4L0 8z" class="soft"/></marker></defs>'
 )
+HEAD = ' marker-end="url(#head)"'
+FACTS = (
+    ("A row has the number of an entry, and the IPA granules that the entry is for: 262,144 of them", "soft"),
+    ("in a table of level 1 (1 GiB), 512 in one of level 2 (2 MiB), one in a table of level 3 (4 KiB).", "soft"),
+    ("The walk to IPA granule 0 takes entry 0 of pages 1, 2 and 3.", "ink b"),
+    ("The walk to IPA granule 512 takes entry 0 of page 1, entry 1 of page 2, entry 0 of page 4.", "ink b"),
+    ("The undo takes page 4 away. Then that walk ends in page 2, which is at level 2.", "soft"),
+)
 
 
-def place(at, state, page, said, rows):
-    """A page with its entries, of which the first leads on to the next page."""
-    x, is_table = LEFT + STEP * at, state == "RTT"
-    yield text(x, TOP - 14, f"{page}: {said}", "ink b")
-    yield rect(x, TOP, WIDE, ROW * len(rows) + 8, "band") + cell(x + WIDE - 46, TOP - 9, 42, 18, state)
-    for row, span in enumerate(rows):
-        y = TOP + 4 + ROW * row
-        entry = {0: "0", 1: "1", 3: "511"}.get(row, "..")
-        yield text(x + 10, y + 18, entry if is_table else span, "m ink")
-        if is_table and entry != "..":
-            yield text(x + WIDE - 8, y + 18, f"up to {span}", "soft s", "end")
-    if at + 1 < len(PLACES):
-        yield path(f"M{x + WIDE} {TOP + 17}H{x + STEP - 5}", more=' marker-end="url(#head)"')
+def place(state, said, x, top, width, rows):
+    """A page with its rows."""
+    yield text(x, top - 14, said, "ink b")
+    yield rect(x, top, width, ROW * len(rows) + 8, "band") + cell(x + width - 46, top - 26, 42, 18, state)
+    for row, granules in enumerate(rows):
+        y = top + 22 + ROW * row
+        yield text(x + 10, y, NUMBERS[row] if state == "RTT" else granules, "m ink")
+        if state == "RTT" and granules:
+            yield text(x + width - 8, y, f"for {granules}", "soft s", "end")
+
+
+def leads_on():
+    """The arrows from the descriptor, and from each entry that leads to a table."""
+    for x, end in ((126, 176), (380, 430), (608, 658)):
+        yield path(f"M{x} {TOP + 17}H{end - 5}", more=HEAD)
+    yield path(f"M608 {TOP + 17 + ROW}H634V{BELOW + 17}H653", more=HEAD)
 
 
 def tables_picture():
-    below = TOP + ROW * 4 + 40
     drawn = [
-        MARKER, text(LEFT, 34, TITLE, "ink b h"),
-        text(LEFT, 56, "A walk begins at the starting table, and ends where an entry leads to no further table.", "soft"),
-        *(it for at, row in enumerate(PLACES) for it in place(at, *row)),
-        text(LEFT, below, "The number of an entry, and how far the addresses go that it is for. Each entry of level 1 is "
-             "for 1 GiB, of level 2 for 2 MiB, of level 3 for 4 KiB.", "soft"),
-        text(LEFT, below + 22, "The walk to IPA granule 0 takes entry 0 of each table. That to 512 takes entry 1 of page 2, "
-             "and ends there: at level 2.", "ink b"),
+        MARKER, text(22, 34, TITLE, "ink b h"),
+        text(22, 56, "A walk begins at the starting table, page 1, and ends where an entry leads to no further table.", "soft"),
+        *(it for row in PLACES for it in place(*row)), *leads_on(),
+        *(text(22, BELOW + 14 + 22 * row, said, kind) for row, (said, kind) in enumerate(FACTS)),
     ]
-    return picture(TITLE, SAID, below + 42, drawn)
+    return picture(TITLE, SAID, BELOW + ROW * 4 + 28, drawn)

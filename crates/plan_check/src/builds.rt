@@ -1,8 +1,7 @@
 //! What is wrong with the builds of a plan and their steps.
-use crate::keys::kind_of;
 use crate::places::Places;
 use crate::reason::{Reason, why_no_step};
-use crate::wrong::{Wrong, tell};
+use crate::wrong::{Wrong, tell, tell_kind, tell_words};
 use plan_steps::step_from_text;
 use realm_plan::PlanFault;
 use std::alloc::{AllocError, Global};
@@ -24,36 +23,55 @@ pub fn builds(
     found: &mut Vec<Wrong>,
 ) -> Result<(), AllocError> {
     let Some(value) = table.get("build") else {
-        let words = format!(in alloc;
-            "there is no build: a plan has 1 to 8, each a table [[build]]"
-        )?;
-        return tell(found, PlanFault::Key, 0, words);
+        let words = "there is no build: a plan has 1 to 8, each a table [[build]]";
+        return tell_words(alloc, found, PlanFault::Key, 0, words);
     };
-    let at = places.value_at("build");
     let Some(items) = value.as_array() else {
-        let kind = kind_of(value);
-        let words = format!(in alloc;
-            "`build` is an array of tables, each under [[build]], and this is {kind}"
-        )?;
-        return tell(found, PlanFault::Key, at, words);
+        let wanted = "`build` is an array of tables, each under [[build]]";
+        return tell_kind(alloc, found, places.value_at("build"), wanted, value);
     };
+    each_build(alloc, text, items, places, found)?;
+    count_of_builds(alloc, items.len(), places, found)
+}
+
+fn each_build(
+    alloc: Global,
+    text: &str,
+    items: &Array,
+    places: &Places,
+    found: &mut Vec<Wrong>,
+) -> Result<(), AllocError> {
     for (place, item) in items.iter().enumerate() {
         build(alloc, text, item, place, places, found)?;
     }
-    match items.len() {
-        0 => {
-            let words = format!(in alloc; "a plan has 1 to 8 builds, and here is none")?;
-            tell(found, PlanFault::Limit, at, words)
-        }
-        1..=8 => Ok(()),
-        count => {
-            let words = format!(in alloc; "a plan has 1 to 8 builds, and here are {count}")?;
-            tell(found, PlanFault::Limit, places.build_at(MOST_BUILDS), words)
-        }
-    }
+    Ok(())
 }
 
-// A build, which is to be a table with the one key `steps`, an array.
+// How many builds there are.
+fn count_of_builds(
+    alloc: Global,
+    count: usize,
+    places: &Places,
+    found: &mut Vec<Wrong>,
+) -> Result<(), AllocError> {
+    if count == 0 {
+        let words = "a plan has 1 to 8 builds, and here is none";
+        return tell_words(
+            alloc,
+            found,
+            PlanFault::Limit,
+            places.value_at("build"),
+            words,
+        );
+    }
+    if count <= MOST_BUILDS {
+        return Ok(());
+    }
+    let words = format!(in alloc; "a plan has 1 to 8 builds, and here are {count}")?;
+    tell(found, PlanFault::Limit, places.build_at(MOST_BUILDS), words)
+}
+
+// A build, which is to be a table with the one key `steps`.
 fn build(
     alloc: Global,
     text: &str,
@@ -62,28 +80,37 @@ fn build(
     places: &Places,
     found: &mut Vec<Wrong>,
 ) -> Result<(), AllocError> {
-    let at = places.build_at(place);
     let Some(table) = value.as_table() else {
-        let kind = kind_of(value);
-        let words = format!(in alloc;
-            "a build is a table with the key `steps`, and this is {kind}"
-        )?;
-        return tell(found, PlanFault::Key, at, words);
+        let wanted = "a build is a table with the key `steps`";
+        return tell_kind(alloc, found, places.build_at(place), wanted, value);
     };
-    let Some(value) = table.get("steps") else {
-        let words = format!(in alloc; "the `steps` of build {place} are missing")?;
-        return tell(found, PlanFault::Key, at, words);
-    };
-    let Some(items) = value.as_array() else {
-        let kind = kind_of(value);
-        let words = format!(in alloc; "`steps` is an array of texts, and this is {kind}")?;
-        return tell(found, PlanFault::Key, places.steps_at(place), words);
-    };
-    steps(alloc, text, items, place, places, found)
+    match table.get("steps") {
+        Some(value) => steps(alloc, text, value, place, places, found),
+        None => {
+            let words = format!(in alloc; "the `steps` of build {place} are missing")?;
+            tell(found, PlanFault::Key, places.build_at(place), words)
+        }
+    }
 }
 
-// The steps of a build.
+// The steps of a build, which are to be an array.
 fn steps(
+    alloc: Global,
+    text: &str,
+    value: &Value,
+    build: usize,
+    places: &Places,
+    found: &mut Vec<Wrong>,
+) -> Result<(), AllocError> {
+    let Some(items) = value.as_array() else {
+        let wanted = "`steps` is an array of texts";
+        return tell_kind(alloc, found, places.steps_at(build), wanted, value);
+    };
+    each_step(alloc, text, items, build, places, found)?;
+    count_of_steps(alloc, items.len(), build, places, found)
+}
+
+fn each_step(
     alloc: Global,
     text: &str,
     items: &Array,
@@ -92,32 +119,45 @@ fn steps(
     found: &mut Vec<Wrong>,
 ) -> Result<(), AllocError> {
     for (step, item) in items.iter().enumerate() {
-        let at = places.step_at(build, step);
-        match item.as_str() {
-            Some(written) if step_from_text(written).is_some() => {}
-            Some(written) => {
-                let Reason { at: inside, words } = why_no_step(alloc, written)?;
-                let place = place_inside(text, at, written, inside);
-                tell(found, PlanFault::Step { build, step }, place, words)?;
-            }
-            None => {
-                let kind = kind_of(item);
-                let words = format!(in alloc; "a step is a text in quotes, and this is {kind}")?;
-                tell(found, PlanFault::Key, at, words)?;
-            }
-        }
+        let fault = PlanFault::Step { build, step };
+        one_step(alloc, text, item, fault, places.step_at(build, step), found)?;
     }
-    let count = items.len();
+    Ok(())
+}
+
+// A step, which is to be a text.
+fn one_step(
+    alloc: Global,
+    text: &str,
+    item: &Value,
+    fault: PlanFault,
+    at: usize,
+    found: &mut Vec<Wrong>,
+) -> Result<(), AllocError> {
+    match item.as_str() {
+        Some(written) if step_from_text(written).is_some() => Ok(()),
+        Some(written) => {
+            let Reason { at: inside, words } = why_no_step(alloc, written)?;
+            tell(found, fault, place_inside(text, at, written, inside), words)
+        }
+        None => tell_kind(alloc, found, at, "a step is a text in quotes", item),
+    }
+}
+
+// How many steps there are.
+fn count_of_steps(
+    alloc: Global,
+    count: usize,
+    build: usize,
+    places: &Places,
+    found: &mut Vec<Wrong>,
+) -> Result<(), AllocError> {
     if count <= MOST_STEPS {
         return Ok(());
     }
+    let at = places.step_at(build, MOST_STEPS);
     let words = format!(in alloc; "a build has at most {MOST_STEPS} steps, and here are {count}")?;
-    tell(
-        found,
-        PlanFault::Limit,
-        places.step_at(build, MOST_STEPS),
-        words,
-    )
+    tell(found, PlanFault::Limit, at, words)
 }
 
 // The place inside of a string, where its text stands behind the quote as it is, and else the string.

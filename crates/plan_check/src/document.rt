@@ -15,23 +15,37 @@ const MOST_BYTES: usize = 1_048_576;
 /// All that is found wrong with the bytes, kind by kind.
 pub fn wrongs_in(alloc: Global, bytes: &[u8]) -> Result<Vec<Wrong>, AllocError> {
     let mut found = Vec::new(alloc);
-    if bytes.len() > MOST_BYTES {
+    if bytes.len() <= MOST_BYTES {
+        in_bytes(alloc, bytes, &mut found)?;
+    } else {
         let words = format!(in alloc; "a plan has at most {MOST_BYTES} bytes, and here are more")?;
         tell(&mut found, PlanFault::Limit, 0, words)?;
-        return Ok(found);
     }
-    let Some(table) = table_of(alloc, bytes, &mut found)? else {
-        return Ok(found);
-    };
-    let Ok(text) = from_utf8(bytes) else {
-        return Ok(found);
-    };
-    let places = places_of(alloc, text)?;
-    unknown_keys(alloc, &places, &mut found)?;
-    numbers(alloc, &table, &places, &mut found)?;
-    order(alloc, &table, &places, &mut found)?;
-    builds(alloc, text, &table, &places, &mut found)?;
     Ok(found)
+}
+
+fn in_bytes(alloc: Global, bytes: &[u8], found: &mut Vec<Wrong>) -> Result<(), AllocError> {
+    let Some(table) = table_of(alloc, bytes, found)? else {
+        return Ok(());
+    };
+    match from_utf8(bytes) {
+        Ok(text) => in_table(alloc, text, &table, found),
+        Err(_) => Ok(()),
+    }
+}
+
+// What is wrong with the document that the text is.
+fn in_table(
+    alloc: Global,
+    text: &str,
+    table: &Table,
+    found: &mut Vec<Wrong>,
+) -> Result<(), AllocError> {
+    let places = places_of(alloc, text)?;
+    unknown_keys(alloc, &places, found)?;
+    numbers(alloc, table, &places, found)?;
+    order(alloc, table, &places, found)?;
+    builds(alloc, text, table, &places, found)
 }
 
 // The document that the bytes are, or the fault that its reader tells.

@@ -2,7 +2,7 @@
 use realm_plan::PlanFault;
 
 /// How grave a finding is.
-#[derive(Clone, Copy, Debug, PartialEq, Eq)]
+#[derive(Clone, Copy, PartialEq, Eq)]
 pub enum Severity {
     /// The bytes are no plan: this is one of their faults.
     Error(PlanFault),
@@ -11,7 +11,7 @@ pub enum Severity {
 }
 
 /// What is told of a place.
-#[derive(Debug, PartialEq, Eq, Drop)]
+#[derive(Drop)]
 pub struct Finding {
     pub severity: Severity,
     /// The bytes before the place.

@@ -1,7 +1,7 @@
 //! How the steps of a plan are written, for what is said of a text that is none.
 
 /// What a number of a step is.
-#[derive(Clone, Copy, Debug, PartialEq, Eq)]
+#[derive(Clone, Copy)]
 pub enum Kind {
     Order,
     Page,

@@ -14,7 +14,7 @@ use realm_plan::{Plan, PlanError, PlanFault};
 use std::alloc::{AllocError, Global};
 
 /// How much a plan has.
-#[derive(Clone, Copy, Debug, PartialEq, Eq)]
+#[derive(Clone, Copy)]
 pub struct Size {
     pub builds: usize,
     pub steps: usize,

@@ -1,10 +1,10 @@
 //! Keys that a plan has not got, and numbers outside their limits.
 use crate::nearest::nearest;
 use crate::places::{KeyPlace, Places};
-use crate::wrong::{Wrong, tell};
+use crate::wrong::{Wrong, tell, tell_kind, tell_words};
 use realm_plan::PlanFault;
 use std::alloc::{AllocError, Global};
-use toml::{Table, Value};
+use toml::Table;
 
 const PLAN_KEYS: &[&str] = &["pages", "vmids", "aux", "history", "order", "build"];
 
@@ -42,19 +42,6 @@ const WHOLES: [Limits; 4] = [
         high: 16384,
     },
 ];
-
-/// What a value is, in words.
-pub fn kind_of(value: &Value) -> &'static str {
-    match value {
-        Value::String(_) => "a string",
-        Value::Integer(_) => "a whole number",
-        Value::Float(_) => "a number with a fraction",
-        Value::Boolean(_) => "a boolean",
-        Value::Datetime(_) => "a date",
-        Value::Array(_) => "an array",
-        Value::Table(_) => "a table",
-    }
-}
 
 /// Tells the keys that neither a plan nor a build has. Where one stands several times in a row it is told once.
 pub fn unknown_keys(
@@ -97,24 +84,29 @@ fn is_known(key: &KeyPlace) -> bool {
 }
 
 fn of_unknown(alloc: Global, key: &KeyPlace) -> Result<String, AllocError> {
-    let names = names_beside(key);
-    let (whose, all) = match key.build {
-        Some(_) => ("a build", "its one key is steps"),
-        None => (
-            "a plan",
-            "its keys are pages, vmids, aux, history, order and build",
-        ),
-    };
     let name = key.name.as_str();
-    if let Some(place) = nearest(alloc, names, name)? {
-        if let Some(near) = names.get(place) {
-            return format!(in alloc; "`{name}` is no key of {whose}; the nearest is `{near}`");
-        }
+    let whose = match key.build {
+        Some(_) => "a build",
+        None => "a plan",
+    };
+    match nearest(alloc, names_beside(key), name)? {
+        Some(near) => format!(in alloc; "`{name}` is no key of {whose}; the nearest is `{near}`"),
+        None => of_far(alloc, key.build.is_some(), name),
     }
+}
+
+// What is said of a key that is near to none.
+fn of_far(alloc: Global, is_of_build: bool, name: &str) -> Result<String, AllocError> {
+    let all = if is_of_build {
+        "a build: its one key is steps"
+    } else {
+        "a plan: its keys are pages, vmids, aux, history, order and build"
+    };
     if name.len() > LONGEST {
-        return format!(in alloc; "this is no key of {whose}: {all}");
+        format!(in alloc; "this is no key of {all}")
+    } else {
+        format!(in alloc; "`{name}` is no key of {all}")
     }
-    format!(in alloc; "`{name}` is no key of {whose}: {all}")
 }
 
 /// Tells what is wrong with the whole numbers of a plan.
@@ -127,13 +119,13 @@ pub fn numbers(
     for limits in &WHOLES {
         number(alloc, table, limits, places, found)?;
     }
-    if table.get("pages").is_none() {
-        let words = format!(in alloc; "`pages` is missing")?;
-        tell(found, PlanFault::Key, 0, words)?;
+    if table.get("pages").is_some() {
+        return Ok(());
     }
-    Ok(())
+    tell_words(alloc, found, PlanFault::Key, 0, "`pages` is missing")
 }
 
+// One of the whole numbers, where the plan has it.
 fn number(
     alloc: Global,
     table: &Table,
@@ -141,21 +133,31 @@ fn number(
     places: &Places,
     found: &mut Vec<Wrong>,
 ) -> Result<(), AllocError> {
-    let (name, low, high) = (limits.name, limits.low, limits.high);
+    let name = limits.name;
     let Some(value) = table.get(name) else {
         return Ok(());
     };
     let at = places.value_at(name);
     match value.as_integer() {
-        Some(whole) if low <= whole && whole <= high => Ok(()),
-        Some(whole) => {
-            let words = format!(in alloc; "`{name}` is {low} to {high}, and this is {whole}")?;
-            tell(found, PlanFault::Limit, at, words)
-        }
+        Some(whole) => in_limits(alloc, limits, whole, at, found),
         None => {
-            let kind = kind_of(value);
-            let words = format!(in alloc; "`{name}` is a whole number, and this is {kind}")?;
-            tell(found, PlanFault::Key, at, words)
+            let wanted = format!(in alloc; "`{name}` is a whole number")?;
+            tell_kind(alloc, found, at, wanted.as_str(), value)
         }
     }
+}
+
+fn in_limits(
+    alloc: Global,
+    limits: &Limits,
+    whole: i64,
+    at: usize,
+    found: &mut Vec<Wrong>,
+) -> Result<(), AllocError> {
+    let (name, low, high) = (limits.name, limits.low, limits.high);
+    if low <= whole && whole <= high {
+        return Ok(());
+    }
+    let words = format!(in alloc; "`{name}` is {low} to {high}, and this is {whole}")?;
+    tell(found, PlanFault::Limit, at, words)
 }

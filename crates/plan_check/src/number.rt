@@ -10,16 +10,16 @@ const LONGEST: usize = 40;
 
 /// What is wrong with the number that a field of a step is to be, if anything is.
 pub fn wrong_in(alloc: Global, kind: Kind, field: &str) -> Result<Option<String>, AllocError> {
-    if !is_of_digits(field) {
-        return Ok(Some(of_no_digits(alloc, kind, field)?));
+    if is_right(kind, field) {
+        return Ok(None);
     }
-    if field.len() > 1 && field.starts_with('0') {
-        return Ok(Some(of_leading_zero(alloc, field)?));
-    }
+    Ok(Some(of_wrong(alloc, kind, field)?))
+}
+
+fn is_right(kind: Kind, field: &str) -> bool {
     match field.parse::<u64>() {
-        Ok(number) if number <= kind.most() => Ok(None),
-        Ok(number) => Ok(Some(of_range(alloc, kind, number)?)),
-        Err(_) => Ok(Some(of_long(alloc, kind)?)),
+        Ok(number) => is_of_digits(field) && !has_leading_zero(field) && number <= kind.most(),
+        Err(_) => false,
     }
 }
 
@@ -27,16 +27,50 @@ fn is_of_digits(field: &str) -> bool {
     !field.is_empty() && field.bytes().all(|b| b.is_ascii_digit())
 }
 
-fn of_no_digits(alloc: Global, kind: Kind, field: &str) -> Result<String, AllocError> {
-    if let Some(number) = hexadecimal(field) {
-        let hint = as_granule(alloc, kind, number)?;
-        return format!(in alloc; "numbers are decimal: {field} is {number}{hint}");
+fn has_leading_zero(field: &str) -> bool {
+    field.len() > 1 && field.starts_with('0')
+}
+
+// What is said of a field that is no such number.
+fn of_wrong(alloc: Global, kind: Kind, field: &str) -> Result<String, AllocError> {
+    if !is_of_digits(field) {
+        return of_no_digits(alloc, kind, field);
     }
+    if has_leading_zero(field) {
+        return of_leading_zero(alloc, field);
+    }
+    match field.parse::<u64>() {
+        Ok(number) => of_range(alloc, kind, number),
+        Err(_) => of_long(alloc, kind),
+    }
+}
+
+fn of_no_digits(alloc: Global, kind: Kind, field: &str) -> Result<String, AllocError> {
+    match hexadecimal(field) {
+        Some(number) => of_hexadecimal(alloc, kind, field, number),
+        None => of_no_number(alloc, field),
+    }
+}
+
+fn of_hexadecimal(
+    alloc: Global,
+    kind: Kind,
+    field: &str,
+    number: u64,
+) -> Result<String, AllocError> {
+    let hint = as_granule(alloc, kind, number)?;
+    format!(in alloc; "numbers are decimal: {field} is {number}{hint}")
+}
+
+fn of_no_number(alloc: Global, field: &str) -> Result<String, AllocError> {
     if field.starts_with('+') || field.starts_with('-') {
-        return format!(in alloc; "a number of a step has no sign");
+        return String::from_str(alloc, "a number of a step has no sign");
     }
     if field.len() > LONGEST {
-        return format!(in alloc; "this is no number: it has nothing but the digits 0 to 9");
+        return String::from_str(
+            alloc,
+            "this is no number: it has nothing but the digits 0 to 9",
+        );
     }
     format!(in alloc; "`{field}` is no number: it has nothing but the digits 0 to 9")
 }
@@ -53,31 +87,26 @@ fn hexadecimal(field: &str) -> Option<u64> {
 fn of_leading_zero(alloc: Global, field: &str) -> Result<String, AllocError> {
     match field.parse::<u64>() {
         Ok(number) => format!(in alloc; "a number has no leading zero: {number}"),
-        Err(_) => format!(in alloc; "a number has no leading zero"),
+        Err(_) => String::from_str(alloc, "a number has no leading zero"),
     }
 }
 
 fn of_range(alloc: Global, kind: Kind, number: u64) -> Result<String, AllocError> {
+    let (name, most) = (kind.name(), kind.most());
     let hint = as_granule(alloc, kind, number)?;
-    format!(in alloc;
-        "{} is 0 to {}, and this is {number}{hint}",
-        kind.name(),
-        kind.most()
-    )
+    format!(in alloc; "{name} is 0 to {most}, and this is {number}{hint}")
 }
 
 fn of_long(alloc: Global, kind: Kind) -> Result<String, AllocError> {
-    format!(in alloc; "{} is 0 to {}, and this is more", kind.name(), kind.most())
+    let (name, most) = (kind.name(), kind.most());
+    format!(in alloc; "{name} is 0 to {most}, and this is more")
 }
 
 // What is added where a number may be the address of a byte.
 fn as_granule(alloc: Global, kind: Kind, number: u64) -> Result<String, AllocError> {
-    if kind == Kind::Ipa && number > 0 && number % PAGE == 0 {
-        format!(in alloc;
-            "; an IPA granule is an IPA divided by 4096, which would be {}",
-            number / PAGE
-        )
-    } else {
-        Ok(String::new(alloc))
+    if !matches!(kind, Kind::Ipa) || number == 0 || number % PAGE != 0 {
+        return Ok(String::new(alloc));
     }
+    let granule = number / PAGE;
+    format!(in alloc; "; an IPA granule is an IPA divided by 4096, which would be {granule}")
 }

@@ -1,7 +1,6 @@
 //! What is wrong with the turns of a plan.
-use crate::keys::kind_of;
 use crate::places::Places;
-use crate::wrong::{Wrong, tell};
+use crate::wrong::{Wrong, tell, tell_kind};
 use realm_plan::PlanFault;
 use std::alloc::{AllocError, Global};
 use toml::value::Array;
@@ -21,22 +20,29 @@ pub fn order(
         return Ok(());
     };
     let Some(entries) = value.as_array() else {
-        let kind = kind_of(value);
-        let words = format!(in alloc;
-            "`order` is an array of numbers of builds, and this is {kind}"
-        )?;
-        return tell(found, PlanFault::Key, places.value_at("order"), words);
+        let wanted = "`order` is an array of numbers of builds";
+        return tell_kind(alloc, found, places.value_at("order"), wanted, value);
     };
-    let builds = builds_in(table);
-    for (place, entry) in entries.iter().enumerate() {
-        turn(alloc, entry, place, builds, places, found)?;
-    }
-    turns(alloc, entries, places, found)
+    each_turn(alloc, entries, builds_in(table), places, found)?;
+    count_of_turns(alloc, entries.len(), places, found)
 }
 
 // How many builds the plan has, if it says.
 fn builds_in(table: &Table) -> Option<usize> {
     Some(table.get("build")?.as_array()?.len())
+}
+
+fn each_turn(
+    alloc: Global,
+    entries: &Array,
+    builds: Option<usize>,
+    places: &Places,
+    found: &mut Vec<Wrong>,
+) -> Result<(), AllocError> {
+    for (place, entry) in entries.iter().enumerate() {
+        turn(alloc, entry, place, builds, places, found)?;
+    }
+    Ok(())
 }
 
 // An entry, which is to be the number of one of the builds.
@@ -50,19 +56,28 @@ fn turn(
 ) -> Result<(), AllocError> {
     let at = places.entry_at(place);
     let Some(number) = entry.as_integer() else {
-        let kind = kind_of(entry);
-        let words = format!(in alloc; "an entry of `order` is a whole number, and this is {kind}")?;
-        return tell(found, PlanFault::Key, at, words);
+        return tell_kind(
+            alloc,
+            found,
+            at,
+            "an entry of `order` is a whole number",
+            entry,
+        );
     };
-    let Some(count) = builds else {
-        return Ok(());
-    };
-    match usize::try_from(number) {
-        Ok(build) if build < count => Ok(()),
-        _ => {
+    match builds {
+        Some(count) if !is_build(number, count) => {
             let words = of_no_build(alloc, number, count)?;
             tell(found, PlanFault::Order { place }, at, words)
         }
+        _ => Ok(()),
+    }
+}
+
+// Whether the number is that of one of so many builds.
+fn is_build(number: i64, count: usize) -> bool {
+    match usize::try_from(number) {
+        Ok(build) => build < count,
+        Err(_) => false,
     }
 }
 
@@ -79,13 +94,12 @@ fn of_no_build(alloc: Global, number: i64, count: usize) -> Result<String, Alloc
 }
 
 // How many turns there are.
-fn turns(
+fn count_of_turns(
     alloc: Global,
-    entries: &Array,
+    count: usize,
     places: &Places,
     found: &mut Vec<Wrong>,
 ) -> Result<(), AllocError> {
-    let count = entries.len();
     if count <= MOST_TURNS {
         return Ok(());
     }

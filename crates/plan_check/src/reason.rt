@@ -19,39 +19,59 @@ pub struct Reason {
 /// Why the text is no step.
 pub fn why_no_step(alloc: Global, text: &str) -> Result<Reason, AllocError> {
     if text.is_empty() {
-        let words = format!(in alloc; "an empty text is no step")?;
-        return Ok(Reason { at: 0, words });
+        return told(alloc, 0, "an empty text is no step");
     }
-    if let Some(gap) = gap_in(text) {
-        let words = String::from_str(alloc, gap.words)?;
-        return Ok(Reason { at: gap.at, words });
+    match gap_in(text) {
+        Some(gap) => told(alloc, gap.at, gap.words),
+        None => of_fields(alloc, text),
     }
+}
+
+fn told(alloc: Global, at: usize, words: &str) -> Result<Reason, AllocError> {
+    let words = String::from_str(alloc, words)?;
+    Ok(Reason { at, words })
+}
+
+// What is said of a text whose spaces are where they have to be.
+fn of_fields(alloc: Global, text: &str) -> Result<Reason, AllocError> {
     let (word, rest) = cut_at_space(text);
     match form_of(word) {
         Some(form) => of_numbers(alloc, &form, word.len(), rest),
-        None => Ok(Reason {
-            at: 0,
-            words: of_word(alloc, word)?,
-        }),
+        None => {
+            let words = of_word(alloc, word)?;
+            Ok(Reason { at: 0, words })
+        }
     }
 }
 
 // What is said of a word that is that of no step.
 fn of_word(alloc: Global, word: &str) -> Result<String, AllocError> {
+    if let Some(name) = in_other_case(word) {
+        return format!(in alloc; "`{word}` is written `{name}`");
+    }
+    match nearest(alloc, &WORDS, word)? {
+        Some(name) => format!(in alloc; "`{word}` is no step; the nearest is `{name}`"),
+        None => of_far(alloc, word),
+    }
+}
+
+// The word of a step that is the same but for capital letters.
+fn in_other_case(word: &str) -> Option<&'static str> {
     for name in &WORDS {
         if word.eq_ignore_ascii_case(name) {
-            return format!(in alloc; "`{word}` is written `{name}`");
+            return Some(*name);
         }
     }
-    if let Some(place) = nearest(alloc, &WORDS, word)? {
-        if let Some(name) = WORDS.get(place) {
-            return format!(in alloc; "`{word}` is no step; the nearest is `{name}`");
-        }
-    }
+    None
+}
+
+// What is said of a word that is near to none.
+fn of_far(alloc: Global, word: &str) -> Result<String, AllocError> {
+    let names = names(alloc)?;
     if word.len() > LONGEST {
-        return format!(in alloc; "this is no step: the steps are {}", names(alloc)?);
+        return format!(in alloc; "this is no step: the steps are {names}");
     }
-    format!(in alloc; "`{word}` is no step: the steps are {}", names(alloc)?)
+    format!(in alloc; "`{word}` is no step: the steps are {names}")
 }
 
 // The words of all steps.
@@ -69,21 +89,28 @@ fn names(alloc: Global) -> Result<String, AllocError> {
 // What is said of the numbers behind a word, which stand from so many bytes on.
 fn of_numbers(alloc: Global, form: &Form, from: usize, rest: &str) -> Result<Reason, AllocError> {
     let mut at = from;
-    let mut count: usize = 0;
-    for field in rest.split(' ').skip(1) {
+    for (count, field) in rest.split(' ').skip(1).enumerate() {
         let place = at.saturating_add(1);
-        if count >= form.most {
-            let words = of_count(alloc, form, "more")?;
-            return Ok(Reason { at: place, words });
-        }
-        if let Some(words) = wrong_in(alloc, kind_at(form, count), field)? {
+        if let Some(words) = of_number(alloc, form, count, field)? {
             return Ok(Reason { at: place, words });
         }
         at = place.saturating_add(field.len());
-        count = count.saturating_add(1);
     }
     let words = of_count(alloc, form, "fewer")?;
     Ok(Reason { at, words })
+}
+
+// What is wrong with the number that has so many before it, if anything is.
+fn of_number(
+    alloc: Global,
+    form: &Form,
+    before: usize,
+    field: &str,
+) -> Result<Option<String>, AllocError> {
+    if before < form.most {
+        return wrong_in(alloc, kind_at(form, before), field);
+    }
+    Ok(Some(of_count(alloc, form, "more")?))
 }
 
 // What the numbers at a place behind the word are.
@@ -95,8 +122,6 @@ fn kind_at(form: &Form, place: usize) -> Kind {
 }
 
 fn of_count(alloc: Global, form: &Form, how_many: &str) -> Result<String, AllocError> {
-    format!(in alloc;
-        "this step is written {}, and here are {how_many} numbers",
-        form.usage
-    )
+    let usage = form.usage;
+    format!(in alloc; "this step is written {usage}, and here are {how_many} numbers")
 }

@@ -19,43 +19,71 @@ pub fn slips_in(alloc: Global, bytes: &[u8], plan: &Plan) -> Result<Vec<Slip>, A
     let places = places_of(alloc, from_utf8(bytes).unwrap_or(""))?;
     let mut found = Vec::new(alloc);
     if plan.order.is_empty() {
-        let words = format!(in alloc; "there are no turns in `order`, so no step is performed")?;
-        let at = places.value_at("order");
-        found.push(Slip { at, words })?;
+        found.push(of_no_turns(alloc, places.value_at("order"))?)?;
         return Ok(found);
     }
     for (build, steps) in plan.builds.iter().enumerate() {
-        turns_of(alloc, build, steps, &plan.order, &places, &mut found)?;
+        if let Some(slip) = of_turns(alloc, build, steps, &plan.order, &places)? {
+            found.push(slip)?;
+        }
     }
     Ok(found)
 }
 
+fn of_no_turns(alloc: Global, at: usize) -> Result<Slip, AllocError> {
+    let words = String::from_str(
+        alloc,
+        "there are no turns in `order`, so no step is performed",
+    )?;
+    Ok(Slip { at, words })
+}
+
 // Too few turns for the steps of a build, or too many.
-fn turns_of(
+fn of_turns(
     alloc: Global,
     build: usize,
     steps: &[PlanStep],
     order: &[usize],
     places: &Places,
-    found: &mut Vec<Slip>,
-) -> Result<(), AllocError> {
+) -> Result<Option<Slip>, AllocError> {
     let turns = order.iter().filter(|turn| **turn == build).count();
     let count = steps.len();
     let most = most_turns(steps);
     if turns < count {
-        let words = format!(in alloc;
-            "no turn reaches this step: build {build} has {count} steps and {turns} turns"
-        )?;
         let at = places.step_at(build, turns);
-        found.push(Slip { at, words })?;
-    } else if turns > most {
-        let words = format!(in alloc;
-            "build {build} has no step left at this turn: it has {count} steps and {turns} turns"
-        )?;
-        let at = places.entry_at(turn_behind(build, most, order));
-        found.push(Slip { at, words })?;
+        return Ok(Some(of_few(alloc, build, count, turns, at)?));
     }
-    Ok(())
+    if turns > most {
+        let at = places.entry_at(turn_behind(build, most, order));
+        return Ok(Some(of_many(alloc, build, count, turns, at)?));
+    }
+    Ok(None)
+}
+
+fn of_few(
+    alloc: Global,
+    build: usize,
+    count: usize,
+    turns: usize,
+    at: usize,
+) -> Result<Slip, AllocError> {
+    let words = format!(in alloc;
+        "no turn reaches this step: build {build} has {count} steps and {turns} turns"
+    )?;
+    Ok(Slip { at, words })
+}
+
+fn of_many(
+    alloc: Global,
+    build: usize,
+    count: usize,
+    turns: usize,
+    at: usize,
+) -> Result<Slip, AllocError> {
+    let words = format!(in alloc;
+        "build {build} has no step left at this turn: it has {count} steps and {turns} turns"
+    )?;
+    Ok(Slip { at, words })
 }
 
 // The most turns that the steps of a build can take. A way back takes one for each act that it reverses.

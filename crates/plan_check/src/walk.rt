@@ -71,16 +71,26 @@ fn walk(alloc: Global, text: &str, places: &mut Places) -> Result<(), Lost> {
         if rest.is_empty() {
             return Ok(());
         }
-        let after = if first(rest) == b'[' {
-            let (below, after) = header(alloc, whole, rest, places)?;
-            section = below;
-            after
-        } else {
-            statement(alloc, whole, rest, section, places)?
-        };
+        let (below, after) = line(alloc, whole, rest, section, places)?;
+        section = below;
         rest = skip_blank(after, true);
     }
     Ok(())
+}
+
+// A header or a key with its value: what the keys below belong to, and the text behind it.
+fn line<'a>(
+    alloc: Global,
+    whole: usize,
+    s: &'a str,
+    section: Section,
+    places: &mut Places,
+) -> Result<(Section, &'a str), Lost> {
+    if first(s) == b'[' {
+        return header(alloc, whole, s, places);
+    }
+    let after = statement(alloc, whole, s, section, places)?;
+    Ok((section, after))
 }
 
 // A line `[KEY]` or `[[KEY]]`: what the keys below it belong to, and the text behind it.
@@ -90,42 +100,53 @@ fn header<'a>(
     s: &'a str,
     places: &mut Places,
 ) -> Result<(Section, &'a str), Lost> {
-    let inside = after_byte(s)?;
-    let is_array = first(inside) == b'[';
-    let name = if is_array {
-        after_byte(inside)?
-    } else {
-        inside
-    };
+    let is_array = s.starts_with("[[");
+    let name = behind_brackets(s, is_array)?;
     let (key, end) = dotted_key(alloc, skip_ws(name))?;
     let below = opened(&key, is_array, before(whole, s), places)?;
-    let after = after_byte(end)?;
-    let after = if is_array { after_byte(after)? } else { after };
+    let after = behind_brackets(end, is_array)?;
     Ok((below, after))
+}
+
+// The text behind the one or the two brackets that begin or end a header.
+fn behind_brackets(s: &str, is_array: bool) -> Result<&str, Lost> {
+    let after = after_byte(s)?;
+    if is_array {
+        after_byte(after)
+    } else {
+        Ok(after)
+    }
 }
 
 // What the keys below a header belong to.
 fn opened(key: &Key, is_array: bool, at: usize, places: &mut Places) -> Result<Section, Lost> {
     let name = first_part(key)?;
-    if name.as_str() == "build" {
-        if key.path.is_empty() && is_array {
-            places.add_build(at)?;
-            places.add_key(key_of_plan(name, at))?;
-            return Ok(Section::Build);
-        }
-        if !key.path.is_empty() {
-            let name = second_part(key)?;
-            let build = Some(places.last_build());
-            places.add_key(KeyPlace {
-                build,
-                name,
-                at,
-                value: at,
-            })?;
-            return Ok(Section::Neither);
-        }
+    let is_alone = key.path.is_empty();
+    if name.as_str() == "build" && !is_alone {
+        return below_build(key, at, places);
+    }
+    let is_build = name.as_str() == "build" && is_array;
+    if is_build {
+        places.add_build(at)?;
     }
     places.add_key(key_of_plan(name, at))?;
+    Ok(if is_build {
+        Section::Build
+    } else {
+        Section::Neither
+    })
+}
+
+// What the keys below a header of a build's key belong to.
+fn below_build(key: &Key, at: usize, places: &mut Places) -> Result<Section, Lost> {
+    let build = Some(places.last_build());
+    let name = second_part(key)?;
+    places.add_key(KeyPlace {
+        build,
+        name,
+        at,
+        value: at,
+    })?;
     Ok(Section::Neither)
 }
 
@@ -207,17 +228,29 @@ fn pair_of_plan<'a>(
         value,
     } = pair_at(alloc, whole, s, None)?;
     if !has_dots {
-        match place.name.as_str() {
-            "order" => {
-                let entries = items_of(alloc, whole, value)?;
-                places.entries.extend_from_slice(&entries)?;
-            }
-            "build" => builds_in(alloc, whole, value, places)?,
-            _ => {}
-        }
+        parts_of_plan(alloc, whole, place.name.as_str(), value, places)?;
     }
     places.add_key(place)?;
     after_value(alloc, value)
+}
+
+// The parts that the value of a key of the plan has.
+fn parts_of_plan(
+    alloc: Global,
+    whole: usize,
+    name: &str,
+    value: &str,
+    places: &mut Places,
+) -> Result<(), Lost> {
+    match name {
+        "order" => {
+            let entries = items_of(alloc, whole, value)?;
+            places.entries.extend_from_slice(&entries)?;
+            Ok(())
+        }
+        "build" => builds_in(alloc, whole, value, places),
+        _ => Ok(()),
+    }
 }
 
 // A key of the last build and its value: the text behind them.
@@ -310,23 +343,29 @@ fn after_value(alloc: Global, s: &str) -> Result<&str, Lost> {
     let mut rest = s;
     let mut depth: usize = 0;
     for _ in 0..s.len() {
-        let next = first(rest);
-        if starts_string(rest) {
-            let (_text, after) = quoted(alloc, rest)?;
-            rest = after;
-        } else if depth == 0 && next != b'[' && next != b'{' {
-            let (_scalar, after) = unquoted(alloc, rest)?;
+        let (after, open) = after_part(alloc, rest, depth)?;
+        if open == 0 {
             return Ok(after);
-        } else {
-            depth = depth_after(depth, next);
-            rest = after_byte(rest)?;
         }
-        if depth == 0 {
-            return Ok(rest);
-        }
-        rest = skip_blank(rest, true);
+        depth = open;
+        rest = skip_blank(after, true);
     }
     Err(Lost::Unread)
+}
+
+// The text behind a string, a scalar that is a whole value, or a byte; and how many arrays and tables are open there.
+fn after_part(alloc: Global, s: &str, depth: usize) -> Result<(&str, usize), Lost> {
+    let next = first(s);
+    if starts_string(s) {
+        let (_text, after) = quoted(alloc, s)?;
+        return Ok((after, depth));
+    }
+    if depth == 0 && next != b'[' && next != b'{' {
+        let (_scalar, after) = unquoted(alloc, s)?;
+        return Ok((after, 0));
+    }
+    let after = after_byte(s)?;
+    Ok((after, depth_after(depth, next)))
 }
 
 // How many arrays and tables are open behind a byte.

@@ -1,6 +1,7 @@
 //! A mistake, before it is known whether its place lies inside the text.
 use realm_plan::PlanFault;
-use std::alloc::AllocError;
+use std::alloc::{AllocError, Global};
+use toml::Value;
 
 /// A fault of the bytes, and what is told of it.
 #[derive(Drop)]
@@ -19,4 +20,42 @@ pub fn tell(
 ) -> Result<(), AllocError> {
     found.push(Wrong { fault, at, words })?;
     Ok(())
+}
+
+/// Adds a mistake of which the same is told whatever the text is.
+pub fn tell_words(
+    alloc: Global,
+    found: &mut Vec<Wrong>,
+    fault: PlanFault,
+    at: usize,
+    words: &str,
+) -> Result<(), AllocError> {
+    let words = String::from_str(alloc, words)?;
+    tell(found, fault, at, words)
+}
+
+// What a value is, in words.
+fn kind_of(value: &Value) -> &'static str {
+    match value {
+        Value::String(_) => "a string",
+        Value::Integer(_) => "a whole number",
+        Value::Float(_) => "a number with a fraction",
+        Value::Boolean(_) => "a boolean",
+        Value::Datetime(_) => "a date",
+        Value::Array(_) => "an array",
+        Value::Table(_) => "a table",
+    }
+}
+
+/// Adds that a value is none of the kind that is wanted at its place.
+pub fn tell_kind(
+    alloc: Global,
+    found: &mut Vec<Wrong>,
+    at: usize,
+    wanted: &str,
+    value: &Value,
+) -> Result<(), AllocError> {
+    let kind = kind_of(value);
+    let words = format!(in alloc; "{wanted}, and this is {kind}")?;
+    tell(found, PlanFault::Key, at, words)
 }

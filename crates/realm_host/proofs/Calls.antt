@@ -22,7 +22,7 @@ use Rattle.build_books.specs.Marks.{point_of, is_same_mark, mark_while}
 use Rattle.build_books.specs.View.{HostView, world_of, open_of, is_aborting, mark_of, begun, with_mark}
 use Rattle.build_books.specs.Kept.{IsMarkOf}
 use Rattle.build_books.proofs.Worlds.{world_is}
-use Rattle.realm_host.specs.Abort.{IsDown, IsAborted}
+use Rattle.realm_host.specs.Abort.{IsDown, LeavesNothing, IsAborted}
 use Rattle.realm_host.specs.Host.{IsWhole}
 use Rattle.realm_host.specs.Marked.{is_kept, checks_of_back, way_back, IsBackAt}
 use Rattle.realm_host.proofs.Aborts.{leaves_nothing}
@@ -147,20 +147,17 @@ back_at host build mark count is stands rolled new down =
 
 -- ---- an abort that is done
 
-pub aborted : (host : HostView) (build count : ℕ) → count ≡ length (open_of host build) → (new : HostView) → IsDown host build 0 new → IsAborted host build count new
-aborted host build count is new down =
-    let none : open_of new build ≡ [] = none_left (open_of new build) down.opened in
-    record {
-      count_is = is;
-      new_is = down.new_is;
-      over = ap (λ (h : HostView). is_aborting h build) down.new_is ∙ out_of_abort;
-      nothing_left = leaves_nothing host new build down.legal (ap (λ (h : HostView). h.history) down.new_is) none;
-    }
+-- nothing is left of a build that has gone down to nothing
+pub nothing_left : (host : HostView) (build : ℕ) (new : HostView) → IsDown host build 0 new → LeavesNothing host build new
+nothing_left host build new down = leaves_nothing host new build down.legal (ap (λ (h : HostView). h.history) down.new_is) (none_left (open_of new build) down.opened)
   where
     none_left : (acts : List Act) → length acts ≡ 0 → acts ≡ []
     none_left [] e = refl
     none_left (act ∷ acts) e = absurd (omega (arith, e))
 
+pub aborted : (host : HostView) (build count : ℕ) → count ≡ length (open_of host build) → (new : HostView) → IsDown host build 0 new → IsAborted host build count new
+aborted host build count is new down = record { count_is = is; new_is = down.new_is; over = ap (λ (h : HostView). is_aborting h build) down.new_is ∙ out_of_abort }
+  where
     and_false : (t : Bool) → (t && false) ≡ false
     and_false true = refl
     and_false false = refl

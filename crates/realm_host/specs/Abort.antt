@@ -70,7 +70,6 @@ pub record IsAborted (host : HostView) (build count : ℕ) (new : HostView) : Ty
   pub count_is : count ≡ length (open_of host build)
   pub new_is : new ≡ undone_to host build 0
   pub over : is_aborting new build ≡ false
-  pub nothing_left : LeavesNothing host build new
 
 abbrev pub IsAbortAnswer : HostView → ℕ → Result ℕ Refusal → HostView → Type 0
 IsAbortAnswer host build result new = IsServed (checks_of_abort host build) host (λ count after. IsAborted host build count after) result new

@@ -5,7 +5,7 @@ ghost use Rattle.std.specs.Result.{OnOk};
 ghost use Rattle.realm_model.specs.Running.{is_running};
 ghost use Rattle.realm_model.specs.World.{realm_of};
 ghost use Rattle.build_books.specs.View.{world_of, open_of};
-ghost use Rattle.realm_host.specs.Abort.{IsBegun, GoesOn, IsAbortAnswer, IsDown};
+ghost use Rattle.realm_host.specs.Abort.{IsBegun, GoesOn, IsAbortAnswer, LeavesNothing, IsDown};
 
 use crate::{Host, Refusal};
 use build_commands::check_build;
@@ -13,11 +13,11 @@ use granule_addr::BuildId;
 use page_arena::PageStore;
 
 impl<S: PageStore> Host<S> {
-    /// Begins the abort of a build: how many acts it has open. From then on, until it has none, no command of the build is
-    /// served; and as long as nothing but reverses is done for it, each undo is, whatever others do. With nothing open there
-    /// is nothing to abort.
+    /// Begins the abort of a build, and returns how many acts it has open. From then on, until it has none, the host refuses
+    /// each command of the build, and serves each undo of it, whatever other builds do. If the build has nothing open, nothing
+    /// is begun.
     ///
-    /// Refused with NoBuild, with Aborting, or with RecRunning where a REC of the build runs. This is no event.
+    /// Refused with NoBuild, with Aborting, or with RecRunning if a REC of the build runs. This is no event.
     pub fn begin_abort(&mut self, build: BuildId) -> Result<u16, Refusal>
         ensures answer { IsBegun self.old build result self.new }
         ensures goes_on { OnOk result (GoesOn self.old build) }
@@ -31,12 +31,13 @@ impl<S: PageStore> Host<S> {
         Ok(count)
     }
 
-    /// Undoes all that a build has open, the newest first, and so ends an abort that was begun: how many reverses were run.
-    /// The world is then that of the history without the build.
+    /// Undoes all that a build has open, the newest first, and returns how many acts that were. An abort that was begun ends
+    /// with it. The world is then that of the history without the build.
     ///
-    /// Refused with NoBuild, or with RecRunning where a REC of the build runs; then nothing changes.
+    /// Refused with NoBuild, or with RecRunning if a REC of the build runs; then nothing changes.
     pub fn abort(&mut self, build: BuildId) -> Result<u16, Refusal>
-        ensures { IsAbortAnswer self.old build result self.new }
+        ensures answer { IsAbortAnswer self.old build result self.new }
+        ensures nothing_left { OnOk result (LeavesNothing self.old build self.new) }
     {
         if !self.books.has_build(build) {
             return Err(Refusal::NoBuild);

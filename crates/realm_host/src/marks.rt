@@ -18,8 +18,8 @@ use page_arena::PageStore;
 use realm_model::Act;
 
 impl<S: PageStore> Host<S> {
-    /// Keeps the point of a build, in place of an older mark. The mark is dropped by the reverse that leaves the build with
-    /// fewer acts open than it has now.
+    /// Keeps the point of a build, in place of an older mark, and returns it as a mark. The mark is dropped by the reverse that
+    /// leaves the build with fewer acts open than it has now.
     ///
     /// Refused with NoBuild or with Aborting. This is no event.
     pub fn mark(&mut self, build: BuildId) -> Result<Mark, Refusal>
@@ -31,8 +31,8 @@ impl<S: PageStore> Host<S> {
         Ok(mark)
     }
 
-    /// How many acts a build has open above a mark; or the refusal that `rollback_to` would give. Where it is given none, the
-    /// mark stands, and the build can go back to it.
+    /// Returns how many acts a build has open above a mark, or the refusal that `rollback_to` would give. If it is no refusal,
+    /// the mark stands, and the build can go back to it.
     pub fn check_back(&self, build: BuildId, mark: Mark) -> Result<u16, Refusal>
         ensures value { result ≡ way_back self.now build mark }
         ensures stands { OnOk result (IsMarkOf self.now build mark) }
@@ -49,12 +49,12 @@ impl<S: PageStore> Host<S> {
         Ok(self.books.open_count(build) - mark.length())
     }
 
-    /// Undoes what a build has opened above a mark, the newest first: how many reverses were run. The world then owns the
-    /// same as that of the history without what the build did after the mark, and but for the build it is the same. The
-    /// mark stays.
+    /// Undoes what a build has opened above a mark, the newest first, and returns how many acts that were. The world then owns
+    /// the same as that of the history without what the build did after the mark; what is not the build's is exactly the same.
+    /// The mark stays.
     ///
-    /// Refused with NoBuild, with Aborting, with NothingToUndo where this is not the mark that is kept of the build, or with
-    /// RecRunning where an act above it made a REC that runs; then nothing changes.
+    /// Refused with NoBuild, with Aborting, with NothingToUndo if this is not the mark that is kept of the build, or with
+    /// RecRunning if an act above it made a REC that runs; then nothing changes.
     pub fn rollback_to(&mut self, build: BuildId, mark: Mark) -> Result<u16, Refusal>
         ensures { IsBackAnswer self.old build mark result self.new }
     {

@@ -5,6 +5,7 @@ ghost use Rattle.realm_acts.specs.Mirror.{rd_of};
 ghost use Rattle.build_books.specs.View.{world_of, open_of, is_aborting, mark_of};
 ghost use Rattle.build_books.specs.Kept.{IsMarkOf};
 ghost use Rattle.realm_host.specs.Readings.{granule_at, rec_at, row_at};
+ghost use Rattle.realm_host.specs.Refusals.{is_newest_running};
 
 use crate::{Host, Mark};
 use build_commands::Desk;
@@ -144,6 +145,20 @@ impl<S: PageStore> Host<S> {
         }
     }
 
+    /// Whether the newest act that a build has open made a REC that runs, and so cannot be undone now. False if there is no such
+    /// build.
+    pub fn is_newest_running(&self, build: BuildId) -> bool
+        ensures { result ≡ is_newest_running self.now build }
+    {
+        if !self.books.has_build(build) {
+            return false;
+        }
+        match self.books.newest(build) {
+            Some(newest) => self.is_running(build, newest),
+            None => false,
+        }
+    }
+
     /// Whether a build is in abort.
     pub fn is_aborting(&self, build: BuildId) -> bool
         ensures { result ≡ is_aborting self.now build }
@@ -151,7 +166,7 @@ impl<S: PageStore> Host<S> {
         self.books.has_build(build) && self.books.is_aborting(build)
     }
 
-    /// The mark that is kept of a build, where there is one: the build can go back to it.
+    /// The mark that is kept of a build, if there is one. It stands; whether the build can go back to it now, `check_back` says.
     pub fn kept_mark(&self, build: BuildId) -> Option<Mark>
         ensures value { result ≡ mark_of self.now build }
         ensures stands { IfSome result (IsMarkOf self.now build) }

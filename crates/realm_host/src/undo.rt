@@ -18,11 +18,12 @@ use page_arena::PageStore;
 use realm_model::{Act, kind_of};
 
 impl<S: PageStore> Host<S> {
-    /// Reverses the newest act that a build has open, whatever other builds did since.
+    /// Reverses the newest act that a build has open, whatever other builds did since, and returns its kind and how many acts
+    /// are left open.
     ///
-    /// Refused with NoBuild, with NothingToUndo where the build has nothing open, or with RecRunning where that act made a
-    /// REC that runs; then nothing changes. An undo right after the act that it reverses leads back to a world that owns
-    /// the same. Where it leaves nothing open, the world is that of the history without the build.
+    /// Refused with NoBuild, with NothingToUndo if the build has nothing open, or with RecRunning if that act made a REC that
+    /// runs; then nothing changes. An undo right after the act that it reverses leads back to a world that owns
+    /// the same. If it leaves nothing open, the world is that of the history without the build.
     pub fn undo(&mut self, build: BuildId) -> Result<Undone, Refusal>
         ensures answer { IsAnswer self.old build Undo (undone result) self.new }
         ensures pair { OnOk result (LeadsBack self.old build self.new) }
@@ -44,8 +45,8 @@ impl<S: PageStore> Host<S> {
         Ok(Undone { kind, left })
     }
 
-    /// Whether an act of a build made a REC that runs, and so cannot be undone.
-    pub fn is_running(&self, build: BuildId, act: &Act) -> bool
+    // Whether an act of a build made a REC that runs, and so cannot be undone.
+    pub(crate) fn is_running(&self, build: BuildId, act: &Act) -> bool
         requires { build < self.now.limits.builds }
         ensures { result ≡ is_running (realm_of build (world_of self.now)) act.now }
     {

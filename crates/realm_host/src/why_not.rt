@@ -21,8 +21,9 @@ pub enum WhyNot {
 }
 
 impl<S: PageStore> Host<S> {
-    /// What stands in the way of a recorded event that cannot be applied, and of several things the first: NoStep where there
-    /// is no such build, NoRoom, NotNewest for a reverse, and NoStep for any other act.
+    /// Returns what stands in the way of a recorded event that `apply_recorded` has refused, and of several things the first:
+    /// NoStep if there is no such build, NoRoom, NotNewest for a reverse, and NoStep for any other act. Of an event that can be
+    /// applied it says nothing.
     pub fn why_not(&self, event: &Event) -> WhyNot
         ensures { IsWhyNot self.now event.now result }
     {

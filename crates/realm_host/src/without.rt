@@ -1,5 +1,5 @@
 //! A history without a build, on a host of its own.
-ghost use Rattle.std.specs.Prelude.{◌≡◌, true};
+ghost use Rattle.std.specs.Prelude.{◌≡◌};
 ghost use Rattle.realm_host.specs.Recorded.{fresh_like, IsWithout};
 
 use crate::Host;
@@ -8,20 +8,18 @@ use granule_addr::BuildId;
 use page_arena::PageStore;
 
 /// Applies the history in a host's books without the events of a build to a host that has just been booted, with the same
-/// settings and as many pages. Each event is accepted in turn, so the answer is always `true`: that host has then the history
-/// without the build, and the world without it.
-pub fn apply_without<S: PageStore>(books: &Books, build: BuildId, fresh: &mut Host<S>) -> bool
+/// settings and as many pages. Each event is accepted in turn: that host has then the history without the build, and the world
+/// without it.
+pub fn apply_without<S: PageStore>(books: &Books, build: BuildId, fresh: &mut Host<S>)
     requires { fresh.old ≡ fresh_like books.now }
-    ensures done { result ≡ true }
-    ensures without { IsWithout books.now build fresh.new }
+    ensures { IsWithout books.now build fresh.new }
 {
     for event in books.history() {
         if event.build == build {
             continue;
         }
         if !fresh.apply_recorded(event) {
-            return false;
+            unreachable!()
         }
     }
-    true
 }

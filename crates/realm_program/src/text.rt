@@ -68,8 +68,7 @@ fn map_without(
     ensures { IfOk result (λ text. IsMapWithout books.now build (string_bytes text)) }
 {
     let mut fresh = boot::<BuddyArena>(alloc, plan)?;
-    let is_done = apply_without(books, build, &mut fresh);
-    prove!(is_done);
+    apply_without(books, build, &mut fresh);
     map_text(alloc, &fresh)
 }
 

@@ -4,7 +4,7 @@ use Rattle.std.specs.Prelude.{◌-◌, nat_lt, nat_le, if◌then◌else◌, leng
 use Rattle.std.specs.List.{range_with_len, list_any}
 use Rattle.std.proofs.lemmas.Bool.{leb-false, lt-ltb}
 use Rattle.std.proofs.lemmas.List.{map-append}
-use Rattle.build_commands.specs.Checks.{Check, order_checks, page_checks, realm_checks, journal_checks, room_checks, vmid_checks, state_checks, checks_of, first_that_holds, build_checks}
+use Rattle.build_commands.specs.Checks.{Check, order_checks, page_checks, realm_checks, journal_checks, room_checks, vmid_checks, state_checks, checks_of, first_that_holds}
 use Rattle.build_commands.specs.Needs.{operands, needs_of, tables_named}
 use Rattle.build_commands.specs.declared.cmd.Cmd.{Cmd}
 use Rattle.build_commands.specs.declared.cmd.Cmd.TheVariants.{Take, Realm}
@@ -13,19 +13,18 @@ use Rattle.build_commands.specs.declared.needs.Wants.TheVariants.{Either, Realm 
 use Rattle.build_commands.specs.declared.refusal.Refusal.{Refusal}
 use Rattle.build_commands.specs.declared.refusal.Refusal.TheVariants.{NoBuild, Aborting, NothingToUndo, RecRunning, HistoryFull}
 use Rattle.build_books.specs.Desk.{desk_of}
-use Rattle.build_books.specs.View.{HostView, world_of, open_of, used, is_aborting}
+use Rattle.build_books.specs.View.{HostView, world_of, used, is_aborting}
 use Rattle.build_books.specs.declared.mark.Mark.{Mark}
 use Rattle.realm_model.specs.Marks.{above}
 use Rattle.realm_model.specs.Running.{running_count, is_running}
 use Rattle.realm_model.specs.World.{realm_of}
 use Rattle.build_books.specs.Marks.{point_of}
-use Rattle.realm_host.specs.Marked.{is_kept, checks_of_back, way_back}
-use Rattle.realm_host.specs.Refusals as refusals
+use Rattle.realm_host.specs.Marked.{is_kept}
 use Rattle.realm_host.specs.Refusals.{refusal_of}
 use Rattle.refusal_reasons.specs.Told.{as_check, refusal_told, UndoIsTold, MarkIsTold, BeginIsTold, BackIsTold, HasPageNumbers, NeedsAreTold}
-use Rattle.refusal_reasons.specs.OfBuild.{build_looks, order_looks, page_there, realm_looks, journal_looks, room_left, room_look, vmid_looks, needs_looks}
-use Rattle.refusal_reasons.specs.Pages.{tables_told, pages_told}
-use Rattle.refusal_reasons.specs.Steps.{newest_runs, running_of, is_nothing, is_refused_by_running}
+use Rattle.refusal_reasons.specs.OfBuild.{order_looks, page_there, realm_looks, journal_looks, room_look, vmid_looks, needs_looks}
+use Rattle.refusal_reasons.specs.Pages.{pages_told}
+use Rattle.refusal_reasons.specs.Steps.{is_nothing, is_refused_by_running}
 use Rattle.refusal_reasons.specs.declared.look.Look.{Look}
 
 -- ---- what is behind the check that the build is there
@@ -39,8 +38,7 @@ module _ (host : HostView) (build : ℕ) where
 
   pub undo_told : UndoIsTold host build
   unfolding refusal_of
-  undo_told = behind_there (nat_le host.limits.builds build) refl _ _ (λ there.
-      ap (λ t. cond (nat_lt (length (open_of host build)) 1) (Some NothingToUndo) (cond (if t then refusals.is_newest_running host build else false) (Some RecRunning) None)) there)
+  undo_told = refl
 
   pub mark_told : MarkIsTold host build
   mark_told = refl

@@ -1,4 +1,5 @@
 pub mod Words
+pub mod Unfinished
 pub mod Lines
 pub mod Pages
 pub mod OfBuild

@@ -19,14 +19,11 @@ use Rattle.refusal_reasons.specs.declared.look.Look.{Look}
 
 -- ---- an undo
 
-abbrev pub newest_runs : HostView → ℕ → Bool
-newest_runs host build = if nat_lt build host.limits.builds then refusals.is_newest_running host build else false
-
 abbrev pub undo_looks : HostView → ℕ → List Look
 undo_looks host build =
     build_there host build
     ∷ record { fact = fact.Undo (undo.Open (length (open_of host build))); fails = nat_lt (length (open_of host build)) 1; refusal = NothingToUndo }
-    ∷ record { fact = fact.Undo undo.NewestRests; fails = newest_runs host build; refusal = RecRunning } ∷ []
+    ∷ record { fact = fact.Undo undo.NewestRests; fails = refusals.is_newest_running host build; refusal = RecRunning } ∷ []
 
 -- ---- an abort that begins
 

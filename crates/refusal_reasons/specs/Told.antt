@@ -1,5 +1,5 @@
 -- Which refusal the checks of a step tell, beside that which the host gives.
-use Rattle.std.specs.Prelude.{◌≡◌, ℕ, ◌+◌, ◌==◌, nat_le, List, map, true, Option, Some, None, if◌then◌else◌}
+use Rattle.std.specs.Prelude.{◌≡◌, ℕ, ◌+◌, nat_le, List, map, true, Option, Some, None}
 use Rattle.build_commands.specs.Checks.{Check, build_checks, checks_of, first_that_holds}
 use Rattle.build_commands.specs.Needs.{tables_named}
 use Rattle.build_commands.specs.declared.cmd.Cmd.{Cmd}

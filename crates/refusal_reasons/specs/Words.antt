@@ -76,13 +76,13 @@ abbrev pub room_words : RoomFact → List ℕ
 room_words (room.Journal opened) = codes "fewer than 512 acts are open: " ++ decimal opened
 room_words (room.History left needed) = codes "the history has room for " ++ (decimal needed ++ (codes " more: for " ++ decimal left))
 room_words (room.Vmid (Some lowest)) = codes "a VMID is free: the lowest is " ++ decimal lowest
-room_words (room.Vmid None) = codes "a VMID is free: each is a realm's"
+room_words (room.Vmid None) = codes "a VMID is free: all are in use"
 room_words (room.Block order free) = codes "an aligned block of order " ++ (decimal order ++ (codes " is free: " ++ (decimal free ++ codes " pages are")))
 
 abbrev pub undo_words : UndoFact → List ℕ
 undo_words (undo.Open opened) = codes "the build has an act open: " ++ decimal opened
 undo_words undo.NewestRests = codes "the newest open act made no REC that runs"
-undo_words (undo.AllRest running) = codes "no REC of the build runs: " ++ decimal running
+undo_words (undo.AllRest running) = codes "no REC of the build is RUNNING; how many are: " ++ decimal running
 undo_words undo.Mark = codes "the build has a mark"
 undo_words undo.AboveRests = codes "no act above the mark made a REC that runs"
 
@@ -113,7 +113,7 @@ rec_words (rec.State number wanted (Some found)) = codes "REC " ++ (decimal numb
 rec_words (rec.State number wanted None) = codes "REC " ++ (decimal number ++ (codes " is " ++ rec_name wanted))
 
 abbrev pub walk_words : WalkFact → List ℕ
-walk_words (walk.Walk ipa to ended) = codes "the walk of IPA granule " ++ (decimal ipa ++ (codes " ends at level " ++ (decimal to ++ (codes ": " ++ decimal ended))))
+walk_words (walk.Walk ipa to ended) = codes "the walk of IPA granule " ++ (decimal ipa ++ (codes " ends at level " ++ (decimal to ++ (codes ": it ends at " ++ decimal ended))))
 walk_words (walk.Entry level wanted (Some found)) = codes "the entry at level " ++ (decimal level ++ (codes " is " ++ (entry_name wanted ++ (codes ": " ++ entry_name found))))
 walk_words (walk.Entry level wanted None) = codes "the entry at level " ++ (decimal level ++ (codes " is " ++ entry_name wanted))
 walk_words (walk.NoTable level (Some found)) = codes "the entry at level " ++ (decimal level ++ (codes " is not TABLE: " ++ entry_name found))

@@ -20,7 +20,7 @@ use realm_plan::Plan;
 use std::alloc::{AllocError, Global};
 
 // The build at a place of a plan.
-fn id_of(place: usize) -> BuildId
+pub(crate) fn id_of(place: usize) -> BuildId
     requires { place < 8 }
     ensures { result ≡ place }
 {

@@ -26,6 +26,7 @@ mod realm_fact;
 mod rec_fact;
 mod room_fact;
 mod undo_fact;
+mod unfinished;
 mod walk_fact;
 
 pub use build_fact::BuildFact;
@@ -39,4 +40,5 @@ pub use realm_fact::RealmFact;
 pub use rec_fact::RecFact;
 pub use room_fact::RoomFact;
 pub use undo_fact::UndoFact;
+pub use unfinished::push_unfinished;
 pub use walk_fact::WalkFact;

@@ -1,6 +1,6 @@
 //! The checks of the turn of a step.
 ghost use Rattle.std.specs.Prelude.{◌≡◌, ◌++◌, OnOk, IfOk};
-ghost use Rattle.refusal_reasons.specs.Steps.{newest_runs, undo_looks, running_of, begin_looks, mark_looks, back_looks, step_looks};
+ghost use Rattle.refusal_reasons.specs.Steps.{undo_looks, running_of, begin_looks, mark_looks, back_looks, step_looks};
 
 use crate::look::{Fact, Look, add};
 use crate::of_build::{add_build, build_there};
@@ -12,19 +12,6 @@ use page_arena::PageStore;
 use plan_runs::Place;
 use realm_host::{Host, Mark, Refusal};
 use std::alloc::{AllocError, Global};
-
-// Whether the newest act that a build has open made a REC that runs.
-fn newest_runs<S: PageStore>(host: &Host<S>, build: BuildId) -> bool
-    ensures { result ≡ newest_runs host.now build }
-{
-    if build.number() >= host.build_count() {
-        return false;
-    }
-    match host.books().newest(build) {
-        Some(newest) => host.is_running(build, newest),
-        None => false,
-    }
-}
 
 // Adds 1, 7 and 8 of an undo.
 fn add_undo<S: PageStore>(
@@ -44,7 +31,7 @@ fn add_undo<S: PageStore>(
         },
         Look {
             fact: Fact::Undo(UndoFact::NewestRests),
-            fails: newest_runs(host, build),
+            fails: host.is_newest_running(build),
             refusal: Refusal::RecRunning,
         },
     ])

@@ -8,7 +8,7 @@ pub enum UndoFact {
     Open(usize),
     /// The newest of them made no REC that runs.
     NewestRests,
-    /// No REC of the build runs; so many do.
+    /// No REC of the build is RUNNING; so many are.
     AllRest(u16),
     /// The build has a mark.
     Mark,
@@ -26,7 +26,10 @@ impl fmt::Display for UndoFact {
         match *self {
             UndoFact::Open(open) => write!(f, "the build has an act open: {open}"),
             UndoFact::NewestRests => write!(f, "the newest open act made no REC that runs"),
-            UndoFact::AllRest(running) => write!(f, "no REC of the build runs: {running}"),
+            UndoFact::AllRest(running) => write!(
+                f,
+                "no REC of the build is RUNNING; how many are: {running}"
+            ),
             UndoFact::Mark => write!(f, "the build has a mark"),
             UndoFact::AboveRests => write!(f, "no act above the mark made a REC that runs"),
         }

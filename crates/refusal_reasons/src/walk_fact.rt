@@ -30,7 +30,7 @@ impl fmt::Display for WalkFact {
             WalkFact::Walk(ipa, to, ended) => {
                 write!(
                     f,
-                    "the walk of IPA granule {ipa} ends at level {to}: {ended}"
+                    "the walk of IPA granule {ipa} ends at level {to}: it ends at {ended}"
                 )
             }
             WalkFact::Entry(level, wanted, Some(found)) => write!(

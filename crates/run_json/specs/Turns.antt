@@ -1,5 +1,5 @@
 -- What is told of a turn: its step and answer, its event, and what that changed, as the host has it behind the turn.
-use Rattle.std.specs.Prelude.{ℕ, ◌+◌, ◌*◌, ◌&&◌, List, [], ◌++◌, codes, length, nat_lt, if◌then◌else◌, Option, Some, None, option_map, slice_get}
+use Rattle.std.specs.Prelude.{ℕ, ◌+◌, ◌*◌, List, [], ◌++◌, codes, length, nat_lt, if◌then◌else◌, Option, Some, None, option_map, slice_get}
 use Rattle.std.specs.Fmt.{decimal}
 use Rattle.std.specs.List.{flat_map, range_with_len}
 use Rattle.granule_addr.specs.Root.{start_count}
@@ -28,7 +28,7 @@ granule_after host granule = granule_item granule (granule_at (world_of host) gr
 
 -- behind a comma, where there can be such a granule
 abbrev pub another_granule : HostView → ℕ → List ℕ
-another_granule host granule = if nat_lt granule 4096 && nat_lt granule 4096 then codes "," ++ granule_after host granule else []
+another_granule host granule = if nat_lt granule 4096 then codes "," ++ granule_after host granule else []
 
 abbrev pub more_granules_after : HostView → ℕ → ℕ → List ℕ
 more_granules_after host from count = flat_map (λ place. another_granule host (from + place)) (range_with_len 0 count)

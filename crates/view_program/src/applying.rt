@@ -50,8 +50,7 @@ fn map_without(
     ensures { IfOk result (λ text. IsMap (Some build) opening.now host.now (string_bytes text)) }
 {
     let mut fresh = boot(alloc, opening)?;
-    let is_done = apply_without(host.books(), build, &mut fresh);
-    prove!(is_done);
+    apply_without(host.books(), build, &mut fresh);
     map_text(alloc, &fresh)
 }
 

@@ -11,7 +11,7 @@ use plan_runs::push_map;
 use realm_host::Host;
 use realm_plan::Plan;
 use realm_program::{Fault, PlanText, boot, print};
-use refusal_reasons::explain_turns;
+use refusal_reasons::{explain_turns, push_unfinished};
 use std::alloc::{AllocError, Global};
 use std::io::{Read, Write};
 use told_device::Told;
@@ -28,7 +28,8 @@ fn push_run(
     ensures { OnOk result (IsWhyText (plan_view plan.now) (string_bytes text.new)) }
 {
     explain_turns(alloc, host, plan, text)?;
-    push_map(text, host)
+    push_map(text, host)?;
+    push_unfinished(text, host)
 }
 
 // The text of a run of the plan.
@@ -56,7 +57,7 @@ impl PlanText for Reasons {
 }
 
 /// Reads a plan, runs it, and writes the line of each turn, below those that are refused the lines of their checks, up to the one
-/// that fails, and the map in the end.
+/// that fails, the map in the end, and a line for each build whose abort is under way then.
 ///
 /// The text is made whole before any of it is written. Errors: the fault of a plan; Memory, where allocation failed; Device,
 /// where a read failed, and then nothing is written, or a write, and then a prefix of the text is.

@@ -9,8 +9,8 @@ pub loop-event-init : goal.loop-event-init
 loop-event-init g c = nothing_yet c.args.books.now c.args.build c.args.fresh.now c.requires
 
 -- no event that is left is refused
-never : (g : _) (c : goal.Then-not-apply_recorded g) → ⊥
-never g c =
+pub unreachable-requires : goal.unreachable-requires
+unreachable-requires g c =
     let items = c.history-event-items.ensures.events in
     let apart : c.event-item.result.build ≢ c.args.build =
     λ same. let bad : false ≡ true = c.if-eq.ensures ∙ eq-eqb c.event-item.result.build c.args.build same in cc in
@@ -22,14 +22,8 @@ never g c =
     let bad : false ≡ true = sym c.if-not-apply_recorded.true ∙ c.apply_recorded.ensures.answer.1 can in
     cc
 
-pub returns-then-not-apply_recorded-clause-done : goal.returns-then-not-apply_recorded-clause-done
-returns-then-not-apply_recorded-clause-done g c = absurd (never g c)
-
-pub returns-then-not-apply_recorded-clause-without : goal.returns-then-not-apply_recorded-clause-without
-returns-then-not-apply_recorded-clause-without g c = absurd (never g c)
-
-pub returns-clause-without : goal.returns-clause-without
-returns-clause-without g c =
+pub returns : goal.returns
+returns g c =
     is_without c.args.books.now c.history-event-items.ensures.legal c.history-event-items.ensures.room c.args.build c.loop-event.event-index
     (subst (λ (es : List Event). length es ≤ c.loop-event.event-index) c.history-event-items.ensures.events c.loop-event-test.false)
     c.loop-event.fresh c.loop-event.invariant

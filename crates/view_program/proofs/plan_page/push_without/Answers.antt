@@ -4,14 +4,14 @@ use Rattle.run_json.specs.Items.{comma}
 use Rattle.run_json.specs.Worlds.{IsWorldText}
 use Rattle.view_program.proofs.plan_page.push_without.Goals as goal
 
-pub apply_without-is_done-requires : goal.apply_without-is_done-requires
-apply_without-is_done-requires c = c.in_ok-fresh.ensures ∙ c.requires
+pub apply_without-requires : goal.apply_without-requires
+apply_without-requires c = c.in_ok-fresh.ensures ∙ c.requires
 
 pub returns : goal.returns
 returns c =
-    let fresh = c.apply_without-is_done.new.fresh in
+    let fresh = c.apply_without.new.fresh in
     let new = string_bytes c.push_world.new.text in
     let begun = c.in_ok-write.ensures.bytes ∙ ap (λ (n : ℕ). string_bytes c.args.text.now ++ comma n) c.number.ensures.value in
     on_ok_weaker c.push_world.result
-    (λ world. record { fresh = fresh; without = c.apply_without-is_done.ensures.without; world = subst (λ t. IsWorldText fresh t new) begun world })
+    (λ world. record { fresh = fresh; without = c.apply_without.ensures; world = subst (λ t. IsWorldText fresh t new) begun world })
     c.push_world.ensures

@@ -7,7 +7,7 @@ use Rattle.realm_model.specs.History.{IsLegal}
 use Rattle.build_commands.specs.declared.refusal.Refusal.TheVariants.{NoBuild, RecRunning}
 use Rattle.build_books.specs.View.{HostView, world_of, open_of}
 use Rattle.realm_host.proofs.Aborts.{rests_all}
-use Rattle.realm_host.proofs.Calls.{aborted}
+use Rattle.realm_host.proofs.Calls.{aborted, nothing_left}
 use Rattle.realm_host.proofs.host.Host.abort.Goals as goal
 
 pub undo_down_to-requires-clause-rest : goal.undo_down_to-requires-clause-rest
@@ -17,8 +17,8 @@ undo_down_to-requires-clause-rest g c =
     rests_all c.args.self.now (subst (λ (h : HostView). IsLegal h.limits h.history) c.self.view_is c.self.invariant.mirror.legal) c.args.build (omega (arith, runs, zero))
     (open_of c.args.self.now c.args.build)
 
-pub returns : goal.returns
-returns g c =
+pub returns-clause-answer : goal.returns-clause-answer
+returns-clause-answer g c =
     let runs = c.running.ensures ∙ ap (λ (h : HostView). running_count (realm_of c.args.build (world_of h))) c.self.view_is in
     let zero = c.if-running-gt0.false in
     let there = ltb-true c.args.build c.args.self.now.limits.builds (subst (λ (h : HostView). nat_lt c.args.build h.limits.builds ≡ true) c.self.view_is (sym c.if-not-has_build.ensures.there)) in (
@@ -28,3 +28,6 @@ returns g c =
           (c.open_count-count.ensures.value ∙ ap (λ (h : HostView). length (open_of h c.args.build)) c.self.view_is)
           c.undo_down_to.new.self c.undo_down_to.ensures,
     )
+
+pub returns-clause-nothing_left : goal.returns-clause-nothing_left
+returns-clause-nothing_left g c = nothing_left c.args.self.now c.args.build c.undo_down_to.new.self c.undo_down_to.ensures
