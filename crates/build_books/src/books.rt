@@ -104,8 +104,8 @@ fn follow_vmids(vmids: &mut VmidPool, act: &Act)
 }
 
 impl Books {
-    /// Books of so many builds with room for `capacity` events of each, over a machine of so many pages, VMIDs and
-    /// auxiliaries of a REC.
+    /// Returns the books of so many builds that have no events, with room for `capacity` events of each, over a machine of
+    /// so many pages and VMIDs, with so many auxiliaries of a REC.
     pub fn build(
         alloc: Global,
         pages: u16,
@@ -174,8 +174,8 @@ impl Books {
         (build.number() as usize) < self.builds.len()
     }
 
-    /// How much of its room a build has used: an entry for each event, one for each act that is open, and one for each REC
-    /// that runs.
+    /// Returns how much of its room a build has used: one for each of its events, one more for each act that it has open,
+    /// and one more for each of its RECs that runs.
     pub fn used(&self, build: BuildId) -> u16
         requires { build < self.now.limits.builds }
         ensures value { result ≡ used self.now build }
@@ -185,7 +185,8 @@ impl Books {
         kept.events + kept.journal.len() + kept.running
     }
 
-    /// How many acts a build has open: no fewer than at its mark. With none it is not in abort.
+    /// Returns how many acts a build has open. If the build has a mark, it has no fewer open than at the mark; if it has
+    /// none open, it is not in abort.
     pub fn open_count(&self, build: BuildId) -> u16
         requires { build < self.now.limits.builds }
         ensures value { result ≡ length (open_of self.now build) }
@@ -268,7 +269,7 @@ impl Books {
         self.builds[build.number() as usize].running
     }
 
-    /// The lowest VMID that no realm has; `None` comes exactly where each is a realm's.
+    /// Returns the lowest VMID that no realm has, or `None` if each is a realm's.
     pub fn lowest_vmid(&self) -> Option<Vmid>
         ensures { result ≡ lowest_vmid self.now }
     {
@@ -306,7 +307,7 @@ impl Books {
         self.holders.holder(granule)
     }
 
-    /// An abort of a build begins, where it has anything open.
+    /// Puts a build into abort, if it has anything open.
     pub fn begin_abort(&mut self, build: BuildId)
         requires { build < self.old.limits.builds }
         ensures begun { self.new ≡ begun self.old build }
@@ -327,7 +328,7 @@ impl Books {
         }
     }
 
-    /// A mark of a build's point now is kept, in place of an older one.
+    /// Keeps a mark of the point at which a build is now, in place of an older mark.
     pub fn keep_mark(&mut self, build: BuildId, mark: &Mark)
         requires there { build < self.old.limits.builds }
         requires now { mark.now ≡ mark_now self.old build }

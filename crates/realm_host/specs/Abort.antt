@@ -40,7 +40,7 @@ GoesOn host build =
 -- ---- the end
 
 -- All that the build had open was reversed, the newest first: the world is that of the history without the build, which is
--- legal, and the same as before.
+-- legal, and, as a list of events, the same as before the call.
 pub record LeavesNothing (host : HostView) (build : ℕ) (new : HostView) : Type 0 where
   pub history : new.history ≡ host.history ++ undoing build host.history
   pub same_others : erase build new.history ≡ erase build host.history

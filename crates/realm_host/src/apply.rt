@@ -55,12 +55,12 @@ fn check_ranges(act: &Act)
 }
 
 impl<S: PageStore> Host<S> {
-    /// Applies a recorded event, with the block, the VMID and the number that were picked for it, as the last of the
-    /// history.
+    /// Applies a recorded event as the last of the history, with the block, the VMID and the number that were picked for
+    /// it, and returns whether it was applied.
     ///
-    /// `false`, with nothing changed, comes exactly where the history with the event would not be legal, or where its
-    /// build has not the room that it takes, or, for an act that has a reverse, has 512 acts open. Whether the build is in
-    /// abort does not matter.
+    /// Returns `false`, and changes nothing, if and only if the history with the event would not be legal, its build has
+    /// not the room that it takes, or it has a reverse and its build has 512 acts open. Whether the build is in abort does
+    /// not matter.
     pub fn apply_recorded(&mut self, event: &Event) -> bool
         ensures answer { (result ≡ true) ↔ CanApply self.old event.now }
         ensures applied { OnTrue result (self.new ≡ with_event self.old event.now.build event.now.act) }

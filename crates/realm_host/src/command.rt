@@ -13,10 +13,10 @@ use page_arena::PageStore;
 use realm_model::Rmi;
 
 impl<S: PageStore> Host<S> {
-    /// Performs a command of a build.
+    /// Performs a command of a build and returns the reply to it. One event then ends the history.
     ///
-    /// The answer is the lowest-numbered refusal that applies and holds, and then nothing changes; or the reply, and
-    /// one event ends the history. No memory is taken, and neither the machine nor the history or a journal is looked through.
+    /// Or returns the refusal with the lowest number that applies and holds; then nothing changes. No memory is taken, and
+    /// neither the machine nor the history nor a journal is looked through.
     pub fn command(&mut self, build: BuildId, cmd: Cmd) -> Result<Reply, Refusal>
         ensures { IsAnswer self.old build (Ask cmd) (replied result) self.new }
     {

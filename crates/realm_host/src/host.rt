@@ -43,7 +43,8 @@ impl<S: PageStore> Model for Host<S> {
 }
 
 impl<S: PageStore> Host<S> {
-    /// A host over a store whose pages are all free and zero. Where there is no memory, the store comes back.
+    /// Returns a host over a store whose pages are all free and zero. If there is no memory for it, returns the error and
+    /// the store.
     pub fn boot(alloc: Global, settings: Settings, store: S) -> Result<Host<S>, (AllocError, S)>
         requires zero { S.page_bytes store ≡ replicate (length (S.page_bytes store)) zero_page }
         requires free { S.free_flags store ≡ replicate (length (S.page_bytes store)) true }
@@ -67,10 +68,10 @@ impl<S: PageStore> Host<S> {
         }
     }
 
-    /// The accepted commands of all builds, in their order: a legal history, in which no build has used more than its room
-    /// or had more than 512 acts open at any time. A build in abort has something open, and its mark stands, where it has
-    /// one. Each build can be left out of the history: what is left is a legal history too, and leads to the world without
-    /// that build. The numbers of a host are in their ranges.
+    /// Returns the accepted commands of all builds, in their order. They are a legal history, in which no build has used
+    /// more than its room, or had more than 512 acts open at any time. If a build is in abort, it has something open; if it
+    /// has a mark, the mark stands. Each build can be left out: what is left is a legal history too, and leads to the world
+    /// without that build. The numbers of a host are in their ranges.
     pub fn history(&self) -> &[Event]
         ensures events { result.now ≡ self.now.history }
         ensures in_range { IsInRange self.now.limits self.now.capacity }
@@ -83,7 +84,8 @@ impl<S: PageStore> Host<S> {
         self.books.history()
     }
 
-    /// The books of the host: all that contracts see of a host, which the checks of a command look at, and none of its memory.
+    /// Returns the books of the host: all that contracts see of it, and what the checks of a command look at. None of the
+    /// machine's memory is in them.
     pub fn books(&self) -> &Books
         ensures { result.now ≡ self.now }
     {
@@ -105,7 +107,7 @@ impl<S: PageStore> Host<S> {
         self.books.build_count()
     }
 
-    /// How many pages a build has; 0 where there is no such build.
+    /// Returns how many pages a build has, and 0 if there is no such build.
     pub fn page_count(&self, build: BuildId) -> u16
         ensures { result ≡ length (pages_of_build self.now build) }
     {
@@ -116,7 +118,7 @@ impl<S: PageStore> Host<S> {
         }
     }
 
-    /// The state of a build's page; None where there is no such page.
+    /// Returns the state of a build's page, or None if there is no such page.
     pub fn page_state(&self, build: BuildId, page: u16) -> Option<GranuleState>
         ensures { result ≡ option_map (λ g. (cell_at (world_of self.now).machine g).state) (granule_of_page self.now build page) }
     {
@@ -124,7 +126,7 @@ impl<S: PageStore> Host<S> {
         Some(self.monitor.state(granule))
     }
 
-    /// The sum of the bytes of a build's page; None where there is no such page. A table counts as zero.
+    /// Returns the sum of the bytes of a build's page, or None if there is no such page. The sum of a table is 0.
     pub fn page_sum(&self, build: BuildId, page: u16) -> Option<u32>
         ensures { result ≡ option_map (λ g. sum (cell_at (world_of self.now).machine g).bytes) (granule_of_page self.now build page) }
     {
@@ -132,7 +134,7 @@ impl<S: PageStore> Host<S> {
         Some(self.monitor.byte_sum(granule))
     }
 
-    /// The state and the VMID of a build's realm; None where it has none.
+    /// Returns the state and the VMID of a build's realm, or None if it has none.
     pub fn realm_view(&self, build: BuildId) -> Option<(RealmState, Vmid)>
         ensures { result ≡ realm_at (world_of self.now) build }
     {
@@ -140,7 +142,7 @@ impl<S: PageStore> Host<S> {
         Some((realm.state(), realm.vmid()))
     }
 
-    /// The measurement of a build's realm; None where it has none. RMM 1.0, Realm Initial Measurement.
+    /// Returns the measurement of a build's realm, or None if it has none. RMM 1.0, Realm Initial Measurement.
     pub fn measurement(&self, build: BuildId) -> Option<[u8; 32]>
         ensures { result ≡ measurement_at (world_of self.now) build }
     {
@@ -155,7 +157,7 @@ impl<S: PageStore> Host<S> {
         self.monitor.free_count()
     }
 
-    /// The granule of a build's page; None where there is no such page.
+    /// Returns the granule of a build's page, or None if there is no such page.
     pub fn page_granule(&self, build: BuildId, page: u16) -> Option<Gran>
         ensures value { result ≡ granule_of_page self.now build page }
         ensures inside { IfSome result (λ g. g < self.now.limits.pages) }
@@ -167,8 +169,8 @@ impl<S: PageStore> Host<S> {
         }
     }
 
-    /// The realm of a build: state, VMID, starting tables with the width of its IPAs, the number of its next REC, and
-    /// measurement; None where it has none. A walk begins at level 1.
+    /// Returns the realm of a build, or None if it has none: its state, its VMID, its starting tables with the width of its
+    /// IPAs, the number of its next REC, and its measurement. A walk of its tables begins at level 1.
     pub fn realm(&self, build: BuildId) -> Option<&RealmDesc>
         ensures { option_copied result ≡ option_map attributes_of (row_of (world_of self.now) build) }
     {
@@ -183,7 +185,7 @@ impl<S: PageStore> Host<S> {
 }
 
 impl<S: PageStore + Drop> Host<S> {
-    /// Gives the machine back, with all its memory, and keeps the books.
+    /// Returns the books, and gives back all memory of the machine.
     pub fn into_books(self) -> Books
         ensures { result ≡ self }
     {

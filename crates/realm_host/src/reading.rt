@@ -33,7 +33,7 @@ pub struct RowView {
 }
 
 impl RowView {
-    /// The number of the first IPA granule after those that the row covers.
+    /// Returns the number of the first IPA granule behind those that the row covers.
     pub fn next(&self) -> u32
         ensures { result ≡ self.now.first + covered_count self.now.level }
     {
@@ -76,8 +76,8 @@ impl<S: PageStore> Host<S> {
         self.monitor.pages()
     }
 
-    /// The state of a granule, the build that leases it, and the realm that it belongs to; `None` comes exactly where the
-    /// machine has not got it. An RD belongs to its own realm.
+    /// Returns the state of a granule, the build that leases it and the realm that it belongs to, or `None` if the machine
+    /// has not got the granule. An RD belongs to its own realm.
     pub fn granule_view(&self, granule: Gran) -> Option<GranuleView>
         ensures { result ≡ granule_at (world_of self.now) granule }
     {
@@ -103,8 +103,8 @@ impl<S: PageStore> Host<S> {
         }
     }
 
-    /// The REC of that number in a build's realm, with its granule: state and auxiliaries; None where there is none. Each number
-    /// is below that of the realm's next REC.
+    /// Returns the granule of the REC of that number in a build's realm, and its state and auxiliaries, or None if there is
+    /// no such REC. Each number is below that of the realm's next REC.
     pub fn rec(&self, build: BuildId, number: RecNo) -> Option<(Gran, &Rec)>
         ensures { option_map (λ rec. (rec.0, rec.1.now)) result ≡ rec_at (world_of self.now) build number }
     {
@@ -116,11 +116,12 @@ impl<S: PageStore> Host<S> {
         Some((granule, rec))
     }
 
-    /// The row at which the walk of an IPA granule towards a level ends in a build's realm: the first on the way that is not
-    /// TABLE, or the one of that level. None where the build has no realm, or its address space has not got the IPA granule.
+    /// Returns the row at which the walk of an IPA granule towards a level ends in a build's realm: the first row on the
+    /// way that is not TABLE, or the one of that level. Returns None if the build has no realm, or if the IPA granule is
+    /// not in the realm's address space.
     ///
-    /// `ipa` is the number of an IPA granule. From 0 on, the walk to level 3 of each row's `next` lists all rows but those that
-    /// are TABLE. RMM 1.0, RTT walk.
+    /// `ipa` is the number of an IPA granule. From 0 on, the walk to level 3 of each row's `next` lists all rows but those
+    /// that are TABLE. RMM 1.0, RTT walk.
     pub fn row(&self, build: BuildId, ipa: u32, to: Level) -> Option<RowView>
         ensures value { result ≡ row_at (world_of self.now) build ipa to }
         ensures past { IfSome result (λ row. ipa < row.first + covered_count row.level) }
@@ -134,7 +135,7 @@ impl<S: PageStore> Host<S> {
         })
     }
 
-    /// What a build has open, the newest last; nothing where there is no such build.
+    /// Returns what a build has open, the newest last. It is empty if there is no such build.
     pub fn open_acts(&self, build: BuildId) -> &[Act]
         ensures { result.now ≡ open_of self.now build }
     {

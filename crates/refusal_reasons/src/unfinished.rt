@@ -28,10 +28,7 @@ fn push_line<S: PageStore>(
 }
 
 /// Appends a line for each build that is in abort, with how many acts it has open still.
-pub fn push_unfinished<S: PageStore>(
-    text: &mut String,
-    host: &Host<S>,
-) -> Result<(), AllocError>
+pub fn push_unfinished<S: PageStore>(text: &mut String, host: &Host<S>) -> Result<(), AllocError>
     ensures { OnOk result (string_bytes text.new ≡ string_bytes text.old ++ unfinished_lines host.now) }
 {
     for place in 0..8 {

@@ -47,8 +47,8 @@ impl<S: PageStore> Model for Monitor<S> {
 }
 
 impl<S: PageStore> Monitor<S> {
-    /// A monitor with so many VMIDs, 1 to 255, and auxiliary granules for each REC, 0 to 16. Every page of the store is
-    /// free and zero. Where there is no memory, the store comes back.
+    /// Returns a monitor with so many VMIDs, 1 to 255, and so many auxiliary granules for each REC, 0 to 16, over a store
+    /// whose pages are all free and zero. If there is no memory for it, returns the error and the store.
     pub fn build(alloc: Global, vmids: u8, aux: u8, store: S) -> Result<Monitor<S>, (AllocError, S)>
         requires some_vmid { 1 ≤ vmids }
         requires few_auxiliaries { aux ≤ 16 }
@@ -79,7 +79,8 @@ impl<S: PageStore> Monitor<S> {
         }
     }
 
-    /// Takes a free block of 2^order granules. Which one is left open; `None` comes exactly where there is none.
+    /// Takes a free block of 2^order granules and returns its first granule, or `None` if there is no such block. Which
+    /// block it is, is left open.
     pub fn take(&mut self, order: Order) -> Option<Gran>
         ensures block { IfSome result (IsFreeBlock self.old.free order) }
         ensures taken { IfSome result (λ first. self.new ≡ with_block self.old order first) }
@@ -89,7 +90,8 @@ impl<S: PageStore> Monitor<S> {
         self.store.take(order)
     }
 
-    /// Takes that block. `false`, with nothing changed, comes exactly where it is not aligned, inside and free.
+    /// Takes the block that begins at a granule, and returns whether it was taken. Returns `false`, and changes nothing, if
+    /// and only if the block is not aligned, not inside the machine, or not free.
     pub fn take_at(&mut self, order: Order, first: Gran) -> bool
         ensures answer { IsTrue result ↔ IsFreeBlock self.old.free order first }
         ensures taken { OnTrue result (self.new ≡ with_block self.old order first) }

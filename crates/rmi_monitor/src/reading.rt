@@ -22,7 +22,8 @@ impl<S: PageStore> Monitor<S> {
         self.granules.realm_of(granule)
     }
 
-    /// The REC that a granule is: number in its realm, state and auxiliaries; `None` comes exactly where it is no REC.
+    /// Returns the REC that a granule is, with its number in its realm, its state and its auxiliaries, or `None` if the
+    /// granule is no REC.
     pub fn rec_at(&self, granule: Gran) -> Option<&Rec>
         requires { granule < length self.now.machine }
         ensures { option_copied result ≡ rec_attributes_at self.now.machine granule }
@@ -30,8 +31,8 @@ impl<S: PageStore> Monitor<S> {
         self.recs[granule.number() as usize].as_ref()
     }
 
-    /// Where the walk of an IPA granule towards a level ends in the realm of that RD; `None` comes exactly where the granule is
-    /// no RD, or the realm's address space has not got the IPA granule.
+    /// Returns where the walk of an IPA granule towards a level ends in the realm of that RD, or `None` if the granule is
+    /// no RD, or if the IPA granule is not in the realm's address space.
     ///
     /// `ipa` is the number of an IPA granule, of either half of the address space. RMM 1.0, RTT walk.
     pub fn walk(&self, rd: Gran, ipa: u32, to: Level) -> Option<Walk>

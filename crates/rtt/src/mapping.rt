@@ -118,10 +118,10 @@ impl Tables {
         Ok(())
     }
 
-    /// Gives RAM to `count` IPA granules that one table of level 3 serves: all of them, or none.
+    /// Gives RAM to all of `count` IPA granules that one table of level 3 serves, or refuses and changes nothing.
     ///
-    /// RMM 1.0, RMI_RTT_INIT_RIPAS. RMI_ERROR_RTT comes with the level where the walk ended, unless that is 3 and all the
-    /// entries are UNASSIGNED. A refusal changes nothing.
+    /// RMM 1.0, RMI_RTT_INIT_RIPAS. Refused with RMI_ERROR_RTT and the level where the walk ended, unless that is 3 and all
+    /// the entries are UNASSIGNED.
     pub fn init_ripas<S: PageStore>(
         &self,
         store: &mut S,

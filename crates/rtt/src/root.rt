@@ -41,8 +41,8 @@ impl Tables {
         self.clear_starting_tables(store, granules, GranuleState::Delegated, &table);
     }
 
-    /// Clears the starting tables of a realm that goes: they are DELEGATED from now on. `false`, with nothing changed, comes
-    /// exactly where an entry of one is TABLE.
+    /// Clears the starting tables of a realm that goes, which are DELEGATED from then on, and returns whether it did.
+    /// Returns `false`, and changes nothing, if and only if an entry of one of them is TABLE.
     ///
     /// RMM 1.0, RMI_REALM_DESTROY, which answers RMI_ERROR_REALM then.
     pub fn close_root<S: PageStore>(&self, store: &mut S, granules: &mut GranuleTable) -> bool

@@ -13,7 +13,7 @@ returns g c =
     let is : is_aborting c.args.host.now c.args.build ≡ true = sym c.is_aborting.ensures ∙ c.if-not-is_aborting.false in
     on_ok_weaker c.writeln.result
     (λ bytes.
-      bytes
-      ∙ (λ i. old ++ line (c.number.ensures.value i) (length (c.open_acts.ensures i)))
-      ∙ sym (ap (λ t. old ++ (if t then line c.args.build (length (open_of c.args.host.now c.args.build)) else [])) is))
+    bytes
+    ∙ (λ i. old ++ line (c.number.ensures.value i) (length (c.open_acts.ensures i)))
+    ∙ sym (ap (λ t. old ++ (if t then line c.args.build (length (open_of c.args.host.now c.args.build)) else [])) is))
     c.writeln.ensures.bytes
