@@ -181,7 +181,7 @@ const run = data.run, turns = run.turns, pages = run.settings.pages, builds = ru
 const $ = (id) => document.getElementById(id);
 const SIZES = { 1: 262144, 2: 512, 3: 1 };
 const WORDS = { UNDELEGATED: \"U\", DELEGATED: \"D\", RD: \"RD\", RTT: \"RTT\", DATA: \"DATA\", REC: \"REC\", REC_AUX: \"AUX\" };
-const MEANINGS = { UNDELEGATED: \"UNDELEGATED: the host's\", DELEGATED: \"DELEGATED: the monitor's, unused\", RD: \"RD: a realm descriptor\", REC: \"REC: an execution context\",
+const MEANINGS = { UNDELEGATED: \"UNDELEGATED: the host's\", DELEGATED: \"DELEGATED: the monitor's, unused\", RD: \"RD: a realm descriptor\", REC: \"REC: a virtual processor\",
   REC_AUX: \"REC_AUX: auxiliary of a REC\", DATA: \"DATA: a realm's memory\", RTT: \"RTT: a translation table\" };
 const REASONS = { NoBuild: \"There is no such build.\", Aborting: \"The build is being aborted.\", BadOrder: \"A block has at most 512 pages.\",
   NotLeased: \"The build has no page $1.\", RealmThere: \"The build has a realm already.\", NoRealm: \"The build has no realm.\",

@@ -59,7 +59,7 @@ const CHECK_EXAMPLE: &str = "Example: realmview check < plans/first.toml";
 const WHY: &str =
     "Replays the plan on standard input, and writes below each turn that is refused its checks, up to the one that fails";
 
-const WHY_EXAMPLE: &str = "Example: realmview why < plans/first.toml";
+const WHY_EXAMPLE: &str = "Example: realmview why < plans/retry.toml";
 
 const ERASE: &str = "Leaves the events of build B out";
 
