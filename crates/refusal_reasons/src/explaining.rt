@@ -3,14 +3,11 @@ ghost use Rattle.std.specs.Prelude.{◌≡◌, ◌<◌, ◌++◌, OnOk, string_b
 ghost use Rattle.plan_runs.specs.Turn.{IsStepTurn};
 ghost use Rattle.plan_steps.specs.Asked.{asked};
 ghost use Rattle.realm_plan.specs.PlanView.{plan_view};
-ghost use Rattle.refusal_reasons.specs.Lines.{look_lines};
-ghost use Rattle.refusal_reasons.specs.Steps.{step_looks};
 ghost use Rattle.refusal_reasons.specs.Explained.{below_text, IsExplainedStep, IsExplainedTurn, IsExplainedRun};
 
 use crate::lines::push_looks;
 use crate::look::Look;
 use crate::of_step::step_looks;
-use build_commands::Step;
 use granule_addr::BuildId;
 use page_arena::PageStore;
 use plan_runs::{Place, TurnAnswer, push_turn, step_after, step_turn};
@@ -25,22 +22,6 @@ pub(crate) fn id_of(place: usize) -> BuildId
     ensures { result ≡ place }
 {
     BuildId::new(place as u8).unwrap()
-}
-
-/// Appends the lines of the checks of the next turn of a build's step, up to the first that fails. They are those of the
-/// host as it is, so this is called before the turn is done.
-pub fn push_reasons<S: PageStore>(
-    alloc: Global,
-    text: &mut String,
-    host: &Host<S>,
-    build: BuildId,
-    place: &Place,
-    step: &Step,
-) -> Result<(), AllocError>
-    ensures { OnOk result (string_bytes text.new ≡ string_bytes text.old ++ look_lines (step_looks host.now build place.now step.now)) }
-{
-    let looks = step_looks(alloc, host, build, place, step)?;
-    push_looks(text, &looks)
 }
 
 // Appends the lines of checks below the line of a turn, where it is refused.

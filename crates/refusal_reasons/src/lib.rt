@@ -30,7 +30,7 @@ mod unfinished;
 mod walk_fact;
 
 pub use build_fact::BuildFact;
-pub use explaining::{explain_turns, push_reasons};
+pub use explaining::explain_turns;
 pub use input_fact::InputFact;
 pub use lines::push_looks;
 pub use look::{Fact, Look};

@@ -10,6 +10,7 @@ use Rattle.realm_program.specs.Printed.{IsEnd}
 use Rattle.realm_program.specs.Replay.{IsWithoutText}
 use Rattle.realm_plan.specs.Plan as plan
 use Rattle.realm_program.specs.declared.fault.Fault as plan_fault
+use Rattle.realm_program.specs.declared.fault.Fault.TheVariants.{Device as DeviceOfPlan}
 use Rattle.view_program.specs.History.{IsHistoryText}
 use Rattle.view_program.specs.Json.{IsJsonText}
 use Rattle.view_program.specs.PageData.{IsPageText}
@@ -76,6 +77,12 @@ abbrev pub EndsAs : (Result (Unit {0}) Fault → Type 0) → Result Verdict Faul
 EndsAs IsEndOf (Ok Done) = IsEndOf (Ok tt)
 EndsAs IsEndOf (Ok HasErrors) = ⊥
 EndsAs IsEndOf (Err fault) = IsEndOf (Err fault)
+
+-- a device failed, as the fault says, its own or that of a plan
+abbrev pub IsDeviceFault : Result Verdict Fault → Type 0
+IsDeviceFault (Err Device) = Unit {0}
+IsDeviceFault (Err (Plan DeviceOfPlan)) = Unit {0}
+IsDeviceFault _ = ⊥
 
 abbrev pub IsRunEnd : Asked → Bool → Option (List ℕ) → Option (List ℕ) → Option (List ℕ) → Result Verdict Fault → Type 0
 IsRunEnd (History erase) unread input old new result = EndsAs (IsPlanEnd (IsHistoryText erase) (IsWithoutText erase) unread input old new) result

@@ -1,5 +1,5 @@
 //! Bytes in, what is told of them as a plan out.
-ghost use Rattle.std.specs.Prelude.{◌≡◌, ◌↔◌, ◌⊎◌, false, true, Err};
+ghost use Rattle.std.specs.Prelude.{◌≡◌, ◌+◌, ◌≤◌, ◌↔◌, ◌⊎◌, false, true, Err};
 ghost use Rattle.view_program.specs.Checked.{verdict_of, IsCheckEnd};
 ghost use Rattle.view_program.specs.declared.fault.Fault.TheVariants.{Device};
 
@@ -44,6 +44,7 @@ pub fn check<R: Read, W: Write>(
     requires writable { output.old.failed ≡ false }
     ensures end { IsCheckEnd input.new.failed (R.remaining input.old.device) (W.contents output.old.device) (W.contents output.new.device) result }
     ensures device { ((input.new.failed ≡ true) ⊎ (output.new.failed ≡ true)) ↔ (result ≡ Err Device) }
+    ensures asked { input.new.reads ≤ input.old.reads + 1048578 }
 {
     let bytes = read_whole(alloc, input)?;
     let report = Report::on(alloc, &bytes)?;

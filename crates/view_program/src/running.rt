@@ -1,6 +1,6 @@
 //! What the command line asks for is done.
-ghost use Rattle.std.specs.Prelude.{◌≡◌, false};
-ghost use Rattle.view_program.specs.Printed.{IsRunEnd};
+ghost use Rattle.std.specs.Prelude.{◌≡◌, ◌↔◌, ◌⊎◌, false, true};
+ghost use Rattle.view_program.specs.Printed.{IsDeviceFault, IsRunEnd};
 
 use crate::{Asked, Fault, Verdict, apply, check, history, json, page, why};
 use std::alloc::Global;
@@ -16,6 +16,7 @@ pub fn run<R: Read, W: Write>(
 ) -> Result<Verdict, Fault>
     requires readable { input.old.failed ≡ false }
     requires writable { output.old.failed ≡ false }
+    ensures device { ((input.new.failed ≡ true) ⊎ (output.new.failed ≡ true)) ↔ IsDeviceFault result }
     ensures end { IsRunEnd asked input.new.failed (R.remaining input.old.device) (W.contents output.old.device) (W.contents output.new.device) result }
 {
     match asked {
