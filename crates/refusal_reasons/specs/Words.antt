@@ -82,7 +82,7 @@ room_words (room.Block order free) = codes "an aligned block of order " ++ (deci
 abbrev pub undo_words : UndoFact → List ℕ
 undo_words (undo.Open opened) = codes "the build has an act open: " ++ decimal opened
 undo_words undo.NewestRests = codes "the newest open act made no REC that runs"
-undo_words (undo.AllRest running) = codes "no REC of the build is RUNNING; how many are: " ++ decimal running
+undo_words (undo.AllRest running) = codes "the RECs of the build are READY: all but " ++ decimal running
 undo_words undo.Mark = codes "the build has a mark"
 undo_words undo.AboveRests = codes "no act above the mark made a REC that runs"
 

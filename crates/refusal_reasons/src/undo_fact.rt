@@ -28,7 +28,7 @@ impl fmt::Display for UndoFact {
             UndoFact::NewestRests => write!(f, "the newest open act made no REC that runs"),
             UndoFact::AllRest(running) => write!(
                 f,
-                "no REC of the build is RUNNING; how many are: {running}"
+                "the RECs of the build are READY: all but {running}"
             ),
             UndoFact::Mark => write!(f, "the build has a mark"),
             UndoFact::AboveRests => write!(f, "no act above the mark made a REC that runs"),
