@@ -4,6 +4,8 @@ Each event of a history (docs/HISTORY.md) is a command to tests/second_monitor.p
 build leases and which granule is which REC, is kept here, from the events. What is there then is told as a document of
 `realmview json` tells it (docs/JSON.md). The module has no code in common with `realmview`.
 """
+from collections.abc import Iterator
+
 from second_machine import Entry, Realm
 from second_monitor import COVERED, Monitor
 
@@ -101,11 +103,19 @@ class HistoryModel:
         for build, rd in enumerate(self.rds):
             if rd is not None:
                 realm = self.realm_of(build)
-                mapped = [item["granule"] for item in self.rows(realm.tables) if item["granule"] is not None]
-                recs = self.monitor.machine.recs_of(realm)
-                auxiliaries = [granule for rec in recs for granule in rec.auxiliaries]
-                owners.update(dict.fromkeys([rd, *realm.tables, *mapped, *self.recs[build].values(), *auxiliaries], rd))
+                recs = [granule for rec in self.recs_of(build).values() for granule in (rec["granule"], *rec["auxiliaries"])]
+                owners.update(dict.fromkeys([rd, *realm.tables, *self.below(realm.tables), *recs], rd))
         return owners
+
+    def below(self, tables: list[int]) -> Iterator[int]:
+        """The granules of the tables and pages below some tables."""
+        for entry in (entry for table in tables for entry in self.monitor.machine.granules[table].table):
+            if entry.kind != "UNASSIGNED":
+                yield entry.granule
+                yield from self.below([entry.granule])
+
+    def rows_of(self, build: int) -> list[dict]:
+        return self.rows(self.realm_of(build).tables)
 
     def rows(self, tables: list[int], level: int = 1, first: int = 0) -> list[dict]:
         """The rows of tables that stand one behind the other. Those that say the same are one item."""
@@ -128,6 +138,9 @@ class HistoryModel:
         rec = self.monitor.machine.granules[granule].rec
         return {"number": rec.number, "state": rec.state, "granule": granule, "auxiliaries": rec.auxiliaries}
 
+    def recs_of(self, build: int) -> dict[int, dict]:
+        return {number: self.rec(build, number) for number in self.recs[build]}
+
     def realm(self, build: int) -> dict | None:
         """The realm of a build, without its rows and RECs."""
         if self.rds[build] is None:
@@ -141,7 +154,7 @@ class HistoryModel:
         pages = [{"granule": it, "sum": int(self.monitor.line(f"sum {it}"))} for it in self.pages[build]]
         realm = self.realm(build)
         if realm:
-            realm["rows"] = self.rows(self.realm_of(build).tables)
+            realm["rows"] = self.rows_of(build)
             realm["recs"] = [self.rec(build, number) for number in range(realm["next_rec"])]
         return {"build": build, "pages": pages, "realm": realm}
 
@@ -152,10 +165,3 @@ class HistoryModel:
     def world(self) -> dict:
         granules = self.granules()
         return {"free": len(granules) - len(self.leased), "granules": granules, "builds": [self.build(it) for it in range(len(self.pages))]}
-
-    def told(self) -> tuple:
-        """The granules, and of each build its realm, its rows and its RECs, as they come of the changes of a document."""
-        builds = range(len(self.pages))
-        rows = [self.rows(self.realm_of(it).tables) if self.realm(it) else [] for it in builds]
-        recs = [{number: self.rec(it, number) for number in self.recs[it]} for it in builds]
-        return (self.granules(), [self.realm(it) for it in builds], rows, recs)
