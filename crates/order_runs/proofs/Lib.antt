@@ -1,1 +1,4 @@
 pub mod Nexts
+pub mod TurnsLeft
+pub mod Chosen
+pub mod GoingOn

@@ -1,1 +1,3 @@
 pub mod Next
+pub mod Chosen
+pub mod TurnsLeft
