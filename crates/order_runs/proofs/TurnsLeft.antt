@@ -1,13 +1,11 @@
 -- Each turn leaves fewer.
-use Rattle.std.proofs.Common.{◌≡◌, ◌≢◌, ℕ, zero, suc, ◌+◌, ◌-◌, ◌*◌, ◌^◌, ◌<◌, ◌==◌, if◌then◌else◌, Bool, true, false, List, [], ◌∷◌, length, Option, Some, None, Result, Ok, Err, ◌⊎◌, inl, inr, slice_set, slice_index_or, ap, sym, subst, ◌∙◌, refl, arith}
+use Rattle.std.proofs.Common.{◌≡◌, ◌≢◌, ℕ, zero, suc, ◌+◌, ◌-◌, ◌*◌, ◌^◌, ◌<◌, ◌==◌, if◌then◌else◌, true, false, List, [], ◌∷◌, length, Option, Some, None, Result, Ok, Err, ◌⊎◌, inl, inr, slice_set, slice_index_or, ap, sym, subst, ◌∙◌, refl, arith}
 use Rattle.std.specs.Prelude.{slice_get, is_some, option_and_then}
 use Rattle.std.specs.Bool.{OnTrue, OnFalse}
-use Rattle.std.proofs.lemmas.Bool.{eqb-true, eq-eqb}
 use Rattle.std.proofs.lemmas.Bool.Decides.{eqb_tells}
 use Rattle.std.proofs.lemmas.List.{get_or-set_same, get_or-set_other, length-set}
 use Rattle.std.proofs.lemmas.Option.{slice_get_within}
 use Rattle.build_books.specs.View.{HostView}
-use Rattle.build_commands.specs.declared.cmd.Step.{Step}
 use Rattle.build_commands.specs.declared.cmd.Step.TheVariants.{Ask, Undo, Abort, Mark, Back}
 use Rattle.build_commands.specs.declared.refusal.Refusal.{Refusal}
 use Rattle.build_commands.specs.declared.undone.Undone.{Undone}
@@ -54,12 +52,15 @@ less_one :
 less_one count place (Err refusal) after known is some =
     record { done = ap (λ (p : Place). p.done) is; less = inl (ap (λ (p : Place). p.left) is) }
 less_one count place (Ok it) after known is some =
-    record { done = ap (λ (p : Place). p.done) is; less = inr (elim (zero_or_not place.left) as (λ _. (place.left ≡ 0) ⊎ (after.left < place.left)) [
-      | inl none ↦ inl none.1
-      | inr more ↦ inr (let e : after.left ≡ count - 1 = ap (λ (p : Place). p.left) is in
+    record {
+      done = ap (λ (p : Place). p.done) is;
+      less = inr (elim (zero_or_not place.left) as (λ _. (place.left ≡ 0) ⊎ (after.left < place.left)) [
+        | inl none ↦ inl none.1
+        | inr more ↦ inr (let e : after.left ≡ count - 1 = ap (λ (p : Place). p.left) is in
             let same = subst (λ b. OnFalse b (◌≡◌ {A = Result ℕ Refusal} (Ok count) (Ok place.left))) more.0 known in
             let k : count ≡ place.left = cc in omega arith)
-    ]) }
+      ]);
+    }
 
 less_none :
     (count : ℕ) (host : HostView) (build : ℕ) (place : Place) (answer : TurnAnswer) (new : HostView) (after : Place)
@@ -72,7 +73,7 @@ less_none count host build place answer new after known none is =
     elim (zero_or_not place.left) as (λ _. IsLess place after) [
       | inl still ↦ less_same place after still.1 same.2
       | inr more ↦ (let e = subst (λ b. OnFalse b (◌≡◌ {A = Result ℕ Refusal} (Ok count) (Ok place.left))) more.0 known in
-            let k : count ≡ place.left = cc in absurd (omega arith))
+          let k : count ≡ place.left = cc in absurd (omega arith))
     ]
 
 less_many :
@@ -89,7 +90,7 @@ less_many (Ok count) host build place answer new after known is =
     elim (zero_or_not count) as (λ _. IsLess place after) [
       | inl none ↦ less_none count host build place answer new after known none is
       | inr more ↦ (let one : IsOneOfMany host build place (count - 1) answer new after = subst (λ b. OnFalse b (IsOneOfMany host build place (count - 1) answer new after)) more.0 is.1 in
-            less_one count place one.result after known one.place_is more.1)
+          less_one count place one.result after known one.place_is more.1)
     ]
 
 abort_counts : (host : HostView) (build : ℕ) (place : Place) (count : Result ℕ Refusal) (begun : HostView) → IsToAbort host build place count begun → Counts count place
@@ -168,7 +169,7 @@ fewer_under_way steps before after less there few some =
     elim (zero_or_not before.left) as (λ _. turns_of_place steps (moved_on after) < turns_of_place steps before) [
       | inl still ↦ (let old = at_rest steps before still.0 in omega arith)
       | inr more ↦ (let old = at_work steps before more.0 in
-            let l = is_below before after less.less some.1 more.1 in omega arith)
+          let l = is_below before after less.less some.1 more.1 in omega arith)
     ]
 
 -- of one build

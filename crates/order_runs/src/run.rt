@@ -106,7 +106,7 @@ fn keep_to<S: PageStore>(
     requires steady { AreSteady (plan_view plan.now) places.old }
     ensures kept { IfOk result (λ kept. MatchBool kept
         (AreChosen (plan_view plan.now) (record { at = record { host = host.old; places = places.old }; ends = ends.old.items })
-            choices.now (record { at = record { host = host.new; places = places.new }; ends = ends.new.items }))
+        choices.now (record { at = record { host = host.new; places = places.new }; ends = ends.new.items }))
         (CannotBeKept (plan_view plan.now) (record { at = record { host = host.old; places = places.old }; ends = ends.old.items }) choices.now)) }
     ensures steady { AreSteady (plan_view plan.now) places.new }
 {

@@ -1,6 +1,5 @@
-use Rattle.std.proofs.Common.{◌≡◌, ◌∙◌, sym, true, ◌<◌, ap}
+use Rattle.std.proofs.Common.{◌≡◌, ◌∙◌, sym, true, ◌<◌}
 use Rattle.realm_plan.specs.PlanView.{plan_view}
-use Rattle.order_runs.specs.Next.{could}
 use Rattle.order_runs.specs.Chosen.{Stage, has_left}
 use Rattle.order_runs.specs.declared.choice.Choice.{Choice}
 use Rattle.order_runs.proofs.Chosen.{could_is, lowest_is}
@@ -29,10 +28,12 @@ loop-build-preserved g c =
     let from : Stage = record { at = record { host = c.args.host.now; places = c.args.places.now }; ends = c.args.ends.now.items } in
     let at : Stage = record { at = record { host = c.loop-build.host; places = c.loop-build.places }; ends = c.loop-build.ends.items } in
     let to : Stage = record { at = record { host = c.take_step.new.host; places = c.take_step.new.places }; ends = c.take_step.new.ends.items } in
-    let choice : Choice = record { build = c.in-Some.build; left = c.loop-build.left } in
-    (c.take_step.ensures.steady, c.builds_left-left-in-Some.ensures,
-    IsGoingOn-more plan from c.args.choices.now.items c.loop-build.choices.items at choice to c.push.new.self.items c.loop-build.invariant.2 c.loop-build.invariant.1
-    (sym c.lowest_of.ensures ∙ c.in-Some.is) c.in_ok-take_step.ensures.step c.in_ok-push.ensures.items)
+    let choice : Choice = record { build = c.in-Some.build; left = c.loop-build.left } in (
+      c.take_step.ensures.steady,
+      c.builds_left-left-in-Some.ensures,
+      IsGoingOn-more plan from c.args.choices.now.items c.loop-build.choices.items at choice to c.push.new.self.items c.loop-build.invariant.2 c.loop-build.invariant.1
+          (sym c.lowest_of.ensures ∙ c.in-Some.is) c.in_ok-take_step.ensures.step c.in_ok-push.ensures.items,
+    )
 
 pub returns : goal.returns
 returns g c =

@@ -10,7 +10,7 @@ invariant-loop-build g l =
     AreSteady (plan_view l.plan) l.places
     × (l.left ≡ builds_left (plan_view l.plan) l.places)
     × IsGoingOn (plan_view l.plan) (record { at = record { host = l.fn.host; places = l.fn.places }; ends = l.fn.ends.items })
-        l.fn.choices.items l.choices.items (record { at = record { host = l.host; places = l.places }; ends = l.ends.items })
+    l.fn.choices.items l.choices.items (record { at = record { host = l.host; places = l.places }; ends = l.ends.items })
 
 abbrev pub decreases-loop-build : goal.decreases-loop-build
 decreases-loop-build g l = turns_left (plan_view l.plan).builds l.places

@@ -1,8 +1,6 @@
-use Rattle.std.proofs.Common.{◌≡◌, false, true, sym, ◌∙◌, Decides}
+use Rattle.std.proofs.Common.{◌≡◌, sym, ◌∙◌, Decides}
 use Rattle.std.specs.Cmp.{booleans_Decides}
 use Rattle.std.proofs.lemmas.Slice.Eq.{slice_eq-Decides}
-use Rattle.realm_plan.specs.PlanView.{plan_view}
-use Rattle.order_runs.specs.Chosen.{IsOpen}
 use Rattle.order_runs.proofs.run.is_open.Goals as goal
 use Rattle.order_runs.proofs.run.is_open.Goals.{After-eq}
 

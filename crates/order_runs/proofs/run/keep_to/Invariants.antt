@@ -8,4 +8,4 @@ abbrev pub invariant-loop-choice : goal.invariant-loop-choice
 invariant-loop-choice g l =
     AreSteady (plan_view l.plan) l.places
     × AreChosen (plan_view l.plan) (record { at = record { host = l.fn.host; places = l.fn.places }; ends = l.fn.ends.items })
-        (take l.choice-index l.choices) (record { at = record { host = l.host; places = l.places }; ends = l.ends.items })
+    (take l.choice-index l.choices) (record { at = record { host = l.host; places = l.places }; ends = l.ends.items })

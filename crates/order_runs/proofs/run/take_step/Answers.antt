@@ -1,7 +1,6 @@
 use Rattle.std.proofs.Common.{◌^◌, ◌<◌, subst}
 use Rattle.std.specs.Prelude.{option_map}
 use Rattle.realm_plan.specs.PlanView.{plan_view}
-use Rattle.plan_runs.specs.Run.{Position, Turn, IsTurn}
 use Rattle.plan_runs.specs.declared.place.Place.{Place}
 use Rattle.order_runs.specs.TurnsLeft.{AreSteady, turns_left}
 use Rattle.order_runs.proofs.TurnsLeft.{steady_after, fewer_after}
