@@ -2,3 +2,5 @@ pub mod Nexts
 pub mod TurnsLeft
 pub mod Chosen
 pub mod GoingOn
+pub mod Tallies
+pub mod Counted

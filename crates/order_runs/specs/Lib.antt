@@ -1,3 +1,5 @@
 pub mod Next
 pub mod Chosen
 pub mod TurnsLeft
+pub mod Same
+pub mod Tally

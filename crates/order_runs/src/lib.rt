@@ -2,11 +2,15 @@
 #![tactic(auto)]
 
 mod choice;
+mod count;
 mod end;
 mod next;
 mod run;
+mod tally;
+mod totals;
 
 pub use choice::Choice;
 pub use end::StepEnd;
 pub use next::next_order;
 pub use run::run_order;
+pub use tally::Tally;
