@@ -1,5 +1,5 @@
 -- What is counted once one more thing is shown.
-use Rattle.std.proofs.Common.{◌≡◌, ℕ, ◌+◌, ◌-◌, ◌^◌, ◌<◌, ◌≤◌, min, Bool, true, false, ◌||◌, cond, if◌then◌else◌, List, [], ◌∷◌, ◌++◌, map, length, take, drop, refl, ap, sym, subst, ◌∙◌, append_assoc, append-nil, arith}
+use Rattle.std.proofs.Common.{◌≡◌, ℕ, ◌+◌, ◌-◌, ◌^◌, min, Bool, true, false, ◌||◌, cond, if◌then◌else◌, List, [], ◌∷◌, ◌++◌, map, length, take, drop, refl, ap, sym, ◌∙◌, append_assoc, append-nil, arith}
 use Rattle.std.specs.Prelude.{count_by}
 use Rattle.std.specs.List.{list_any}
 use Rattle.std.specs.Cmp.{IsEquivalence}
@@ -113,8 +113,8 @@ module _ {K : Type 0} (same : K → K → Bool) where
         ap (map (counted_at (seen ++ s ∷ []))) (firsts-push [] seen s)
         ∙ map-append (counted_at (seen ++ s ∷ [])) (firsts same [] seen) (if is_shown same seen s.thing then [] else s ∷ [])
         ∙ (λ i. (map_alike (counted_at (seen ++ s ∷ [])) (λ t. bump same s.thing (counted_at seen t)) (λ t j. record { thing = t.thing; count = times-push seen s t.thing j; first = t.order }) (firsts same [] seen)
-          ∙ sym (map_twice (bump same s.thing) (counted_at seen) (firsts same [] seen))) i
-          ++ one seen s (is_shown same seen s.thing) refl i)
+        ∙ sym (map_twice (bump same s.thing) (counted_at seen) (firsts same [] seen))) i
+        ++ one seen s (is_shown same seen s.thing) refl i)
 
     pub known_is :
         (tallies : List (Tally K)) (seen : List (Seen K)) (thing : K) → map counted_of tallies ≡ counted same seen → is_known same thing tallies ≡ is_shown same seen thing
@@ -145,3 +145,7 @@ module _ {K : Type 0} (same : K → K → Bool) where
 -- what was lent whole has come back
 pub written_back : {X : Type 0} (n : ℕ) (old new : List X) → n ≡ length old → length new ≡ length old → take n (new ++ drop (length new) old) ≡ new
 written_back n old new is all = ap (λ k. take k (new ++ drop (length new) old)) (is ∙ sym all) ∙ take-append_seam new (drop (length new) old)
+
+pub counted-none : {K : Type 0} (same : K → K → Bool) (tallies : List (Tally K)) → tallies ≡ [] → map counted_of tallies ≡ counted same []
+unfolding counted
+counted-none {K} same tallies none = ap (map (counted_of {K = K})) none

@@ -4,3 +4,4 @@ pub mod Chosen
 pub mod GoingOn
 pub mod Tallies
 pub mod Counted
+pub mod Smooth

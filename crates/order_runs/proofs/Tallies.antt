@@ -1,11 +1,10 @@
 -- One more thing that is shown.
-use Rattle.std.proofs.Common.{◌≡◌, ℕ, ◌+◌, ◌-◌, ◌^◌, ◌<◌, ◌≤◌, min, Bool, true, false, ◌||◌, if◌then◌else◌, List, [], ◌∷◌, ◌++◌, length, map, get_or, set, take, refl, ap, sym, subst, ◌∙◌, inl, inr, arith}
-use Rattle.std.specs.List.{list_any}
+use Rattle.std.proofs.Common.{◌≡◌, ℕ, ◌+◌, ◌-◌, ◌^◌, ◌<◌, ◌≤◌, min, Bool, true, false, ◌||◌, if◌then◌else◌, List, [], ◌∷◌, length, map, get_or, set, take, refl, ap, sym, subst, ◌∙◌, inl, inr, arith}
 use Rattle.std.proofs.Math.ListN.{length-map}
 use Rattle.std.proofs.lemmas.Bool.Decides.{eqb_tells}
-use Rattle.std.proofs.lemmas.List.{ext_get_or, get_or-map, get_or-set_same, get_or-set_other, get_or_default, set-get_or, length-set, take_more}
+use Rattle.std.proofs.lemmas.List.{ext_get_or, get_or-map, get_or-set_same, get_or-set_other, get_or_default, length-set, take_more}
 use Rattle.std.proofs.lemmas.List.Folds.{list_any-append}
-use Rattle.order_runs.specs.Tally.{Counted, counted_of, bump, is_known}
+use Rattle.order_runs.specs.Tally.{counted_of, bump, is_known}
 use Rattle.order_runs.specs.declared.tally.Tally.{Tally}
 
 -- ---- the loop over tallies
@@ -88,6 +87,6 @@ all_bumped {K} same thing (o ∷ old) n (t ∷ new) few is =
     let old_length = length-map (o ∷ old) (counted_of {K = K}) in
     let bumped_length = length-map (map counted_of (o ∷ old)) (bump same thing) in
     ext_get_or (counted_of t) (map counted_of (t ∷ new)) (map (bump same thing) (map counted_of (o ∷ old))) (omega arith) (λ i inside.
-        get_or-map counted_of (t ∷ new) i t (counted_of t) (omega arith) ∙ is.done i t (omega arith)
-        ∙ ap (bump same thing) (sym (get_or-map counted_of (o ∷ old) i t (counted_of t) (omega arith)))
-        ∙ sym (get_or-map (bump same thing) (map counted_of (o ∷ old)) i (counted_of t) (counted_of t) (omega arith)))
+    get_or-map counted_of (t ∷ new) i t (counted_of t) (omega arith) ∙ is.done i t (omega arith)
+    ∙ ap (bump same thing) (sym (get_or-map counted_of (o ∷ old) i t (counted_of t) (omega arith)))
+    ∙ sym (get_or-map (bump same thing) (map counted_of (o ∷ old)) i (counted_of t) (counted_of t) (omega arith)))

@@ -3,3 +3,4 @@ pub mod Chosen
 pub mod TurnsLeft
 pub mod Same
 pub mod Tally
+pub mod Totals

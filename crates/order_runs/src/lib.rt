@@ -1,6 +1,7 @@
 //! All orders of the turns of a plan, one after the other.
 #![tactic(auto)]
 
+mod add;
 mod choice;
 mod count;
 mod end;
@@ -14,3 +15,4 @@ pub use end::StepEnd;
 pub use next::next_order;
 pub use run::run_order;
 pub use tally::Tally;
+pub use totals::Totals;

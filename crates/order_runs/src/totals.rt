@@ -1,11 +1,16 @@
-//! What runs of all orders come to.
-ghost use Rattle.std.specs.Prelude.{◌≡◌};
-ghost use Rattle.order_runs.specs.Same.{same_end};
-
+//! What runs come to.
 use crate::end::StepEnd;
+use crate::tally::Tally;
 
-fn same(end: &StepEnd, other: &StepEnd) -> bool
-    ensures { result ≡ same_end end.now other.now }
-{
-    *end == *other
+/// What the runs of orders come to.
+#[derive(Debug, Drop)]
+pub struct Totals {
+    /// How many orders were run.
+    pub orders: u64,
+    /// How steps ended, each with how many orders and the first of them.
+    pub ends: Vec<Tally<StepEnd>>,
+    /// The maps in the end.
+    pub maps: Vec<Tally<String>>,
+    /// The builds that were never refused.
+    pub smooth: Vec<Tally<usize>>,
 }

@@ -1,4 +1,4 @@
-use Rattle.std.proofs.Common.{◌≡◌, ◌+◌, ◌<◌, ◌≤◌, ◌||◌, length, get_or, take, sym, ◌∙◌, arith}
+use Rattle.std.proofs.Common.{◌≡◌, ◌+◌, ◌<◌, ◌||◌, length, get_or, take, sym, ◌∙◌, arith}
 use Rattle.order_runs.specs.Tally.{is_known}
 use Rattle.order_runs.proofs.Tallies.{AreBumped-once, AreBumped-same, is_known-more, or_same, or_other, all_bumped}
 use Rattle.order_runs.proofs.count.bump.Goals as goal
@@ -25,12 +25,14 @@ loop-tally-preserved g c =
     let at = (goal.at.loop-tally-preserved g c).After-eq in
     let before = is_known g.K.PartialEq.eq c.args.thing.now (take c.loop-tally.tally-index c.args.tallies.now) in
     elim c.if-eq.branch [
-      | then-eq w ↦ (let same = sym c.eq.ensures ∙ w.if-eq.true in
-          (AreBumped-once g.K.PartialEq.eq c.args.thing.now c.args.tallies.now c.loop-tally.tally-index c.loop-tally.tallies c.tally-item.result
-              w.saturating_add-tally.result c.if-eq.tallies c.loop-tally.invariant.0 (inside g at) same w.tallies-is w.saturating_add-tally.ensures,
-           w.is_known-is ∙ sym (known g at ∙ or_same before _ same)))
-      | else-eq w ↦ (let other = sym c.eq.ensures ∙ w.if-eq.false in
-          (AreBumped-same g.K.PartialEq.eq c.args.thing.now c.args.tallies.now c.loop-tally.tally-index c.loop-tally.tallies c.tally-item.result
-              c.if-eq.tallies c.loop-tally.invariant.0 (inside g at) other w.tallies-is,
-           w.is_known-is ∙ c.loop-tally.invariant.1 ∙ sym (known g at ∙ or_other before _ other)))
+      | then-eq w ↦ (let same = sym c.eq.ensures ∙ w.if-eq.true in (
+        AreBumped-once g.K.PartialEq.eq c.args.thing.now c.args.tallies.now c.loop-tally.tally-index c.loop-tally.tallies c.tally-item.result
+            w.saturating_add-tally.result c.if-eq.tallies c.loop-tally.invariant.0 (inside g at) same w.tallies-is w.saturating_add-tally.ensures,
+        w.is_known-is ∙ sym (known g at ∙ or_same before _ same),
+      ))
+      | else-eq w ↦ (let other = sym c.eq.ensures ∙ w.if-eq.false in (
+        AreBumped-same g.K.PartialEq.eq c.args.thing.now c.args.tallies.now c.loop-tally.tally-index c.loop-tally.tallies c.tally-item.result
+            c.if-eq.tallies c.loop-tally.invariant.0 (inside g at) other w.tallies-is,
+        w.is_known-is ∙ c.loop-tally.invariant.1 ∙ sym (known g at ∙ or_other before _ other),
+      ))
     ]

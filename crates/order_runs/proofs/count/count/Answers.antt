@@ -1,5 +1,5 @@
-use Rattle.std.proofs.Common.{◌≡◌, true, false, List, [], ◌∷◌, ◌++◌, length, map, take, drop, ap, sym, subst, ◌∙◌}
-use Rattle.order_runs.specs.Tally.{Seen, Counted, counted, counted_of, bump, is_known}
+use Rattle.std.proofs.Common.{◌≡◌, [], ◌∷◌, ◌++◌, length, map, take, drop, ap, sym, ◌∙◌}
+use Rattle.order_runs.specs.Tally.{Seen, counted_of, bump, is_known}
 use Rattle.order_runs.specs.declared.choice.Choice.{Choice}
 use Rattle.order_runs.specs.declared.tally.Tally.{Tally}
 use Rattle.order_runs.proofs.Counted.{shown_again, shown_first, written_back}
@@ -22,7 +22,7 @@ returns-then-bump g c = λ seen are.
     let at = (goal.at.returns-then-bump g c).After-bump in
     ap (map counted_of) (back g at)
     ∙ shown_again g.K.PartialEq.eq g.met.K.Eq.laws c.args.tallies.now.items c.bump.new.tallies seen
-      (record { thing = c.args.thing; order = map (λ (choice : Choice). choice.build) c.args.order.now }) are (bumped g at) (sym (known g at) ∙ c.if-bump.true)
+    (record { thing = c.args.thing; order = map (λ (choice : Choice). choice.build) c.args.order.now }) are (bumped g at) (sym (known g at) ∙ c.if-bump.true)
 
 pub returns : goal.returns
 returns g c = λ seen are.
@@ -31,4 +31,4 @@ returns g c = λ seen are.
     let tally : Tally _ = record { thing = c.args.thing; count = 1; first = c.in_ok-first.first } in
     ap (map counted_of) (c.in_ok-push.ensures.items ∙ ap (λ ts. ts ++ tally ∷ []) (back g at))
     ∙ shown_first g.K.PartialEq.eq g.met.K.Eq.laws c.args.tallies.now.items c.bump.new.tallies seen s are (bumped g at) tally (sym (known g at) ∙ c.if-bump.false)
-      (λ i. record { thing = c.args.thing; count = 1; first = c.in_ok-first.ensures i })
+    (λ i. record { thing = c.args.thing; count = 1; first = c.in_ok-first.ensures i })
