@@ -11,12 +11,12 @@ use Rattle.order_runs.specs.declared.choice.Choice.{Choice}
 
 -- ---- what can be chosen
 
-could_inside : (left : List Bool) (build : ℕ) → could left build ≡ true → build < length left
+pub could_inside : (left : List Bool) (build : ℕ) → could left build ≡ true → build < length left
 could_inside [] build can = absurd cc
 could_inside (b ∷ left) zero can = omega arith
 could_inside (b ∷ left) (suc build) can = let ih = could_inside left build can in omega arith
 
-found_is : (p : ℕ → Bool) (xs : List ℕ) (x : ℕ) → find p xs ≡ Some x → p x ≡ true
+pub found_is : (p : ℕ → Bool) (xs : List ℕ) (x : ℕ) → find p xs ≡ Some x → p x ≡ true
 found_is p [] x is = absurd cc
 found_is p (y ∷ xs) x is =
     elim (p y) as (λ b. p y ≡ b → cond b (Some y) (find p xs) ≡ Some x → p x ≡ true) [

@@ -3,5 +3,8 @@ pub mod TurnsLeft
 pub mod Chosen
 pub mod GoingOn
 pub mod Tallies
+pub mod Orders
+pub mod AllOrders
+pub mod Runs
 pub mod Counted
 pub mod Smooth

@@ -4,3 +4,5 @@ pub mod TurnsLeft
 pub mod Same
 pub mod Tally
 pub mod Totals
+pub mod Order
+pub mod Explored

@@ -5,6 +5,7 @@ mod add;
 mod choice;
 mod count;
 mod end;
+pub mod law;
 mod next;
 mod run;
 mod tally;
