@@ -1,5 +1,6 @@
 -- No order is missing.
-use Rattle.std.proofs.Common.{◌≡◌, ℕ, zero, suc, ◌+◌, ◌<◌, ◌≤◌, Bool, true, false, ◌&&◌, ◌⊎◌, inl, inr, cond, List, [], ◌∷◌, ◌++◌, map, length, Option, Some, None, All, refl, ap, sym, subst, ◌∙◌, arith}
+use Rattle.std.proofs.Common.{◌≡◌, ℕ, zero, suc, ◌+◌, ◌<◌, ◌≤◌, Bool, true, false, ◌&&◌, ◌⊎◌, inl, inr, cond, List, [], ◌∷◌, ◌++◌, map, length, Option, Some, None, All, refl, ap}
+use Rattle.std.proofs.Common.{sym, subst, ◌∙◌, arith}
 use Rattle.std.specs.Prelude.{nat_lt, option_map, Contains}
 use Rattle.std.specs.List.{find, range_with_len}
 use Rattle.std.proofs.lemmas.Bool.{lt-ltb}
@@ -53,7 +54,8 @@ module _ (left : List ℕ → List Bool) (eight : (before : List ℕ) → length
   lowest_some before choice none are can =
       none_below (could (left before)) 0 8 choice.build none (subst (λ l. could l choice.build ≡ true) are can) (omega arith) (let h = inside before choice are can in omega arith)
 
-  lowest_least : (before : List ℕ) (choice : Choice) (build : ℕ) → lowest_of (left before) ≡ Some build → choice.left ≡ left before → could choice.left choice.build ≡ true → build ≤ choice.build
+  lowest_least : (before : List ℕ) (choice : Choice) (build : ℕ) → lowest_of (left before) ≡ Some build → choice.left ≡ left before → could choice.left choice.build ≡ true
+      → build ≤ choice.build
   unfolding lowest_of
   lowest_least before choice build some are can =
       first_below (could (left before)) 0 8 choice.build build some (subst (λ l. could l choice.build ≡ true) are can) (omega arith) (let h = inside before choice are can in omega arith)
@@ -64,7 +66,8 @@ module _ (left : List ℕ → List Bool) (eight : (before : List ℕ) → length
   abbrev AreLowest : List Choice → Type 0
   AreLowest choices = All (λ choice. lowest_of choice.left ≡ Some choice.build) choices
 
-  cons_either : (one other : Choice) (choices others : List Choice) → one ≡ other → (choices ≡ others) ⊎ IsBefore choices others → (one ∷ choices ≡ other ∷ others) ⊎ IsBefore (one ∷ choices) (other ∷ others)
+  cons_either : (one other : Choice) (choices others : List Choice) → one ≡ other → (choices ≡ others) ⊎ IsBefore choices others → (one ∷ choices ≡ other ∷ others) ⊎ IsBefore
+      (one ∷ choices) (other ∷ others)
   cons_either one other choices others same (inl rest) = inl (λ i. same i ∷ rest i)
   cons_either one other choices others same (inr rest) = inr (inr (same, rest))
 
@@ -85,8 +88,10 @@ module _ (left : List ℕ → List Bool) (eight : (before : List ℕ) → length
         | inr apart ↦ inr (inl (let e = apart.1 in omega arith))
       ]
 
-  can_be_next : (before : List ℕ) (c d : Choice) → c.left ≡ left before → d.left ≡ left before → could d.left d.build ≡ true → c.build < d.build → (nat_lt c.build d.build && could c.left d.build) ≡ true
-  can_be_next before c d these those can less = both_true (nat_lt c.build d.build) (could c.left d.build) (lt-ltb c.build d.build less) (subst (λ l. could l d.build ≡ true) (those ∙ sym these) can)
+  can_be_next : (before : List ℕ) (c d : Choice) → c.left ≡ left before → d.left ≡ left before → could d.left d.build ≡ true → c.build < d.build
+      → (nat_lt c.build d.build && could c.left d.build) ≡ true
+  can_be_next before c d these those can less = both_true (nat_lt c.build d.build) (could c.left d.build) (lt-ltb c.build d.build less)
+      (subst (λ l. could l d.build ≡ true) (those ∙ sym these) can)
 
   none_next : (choice : Choice) (next : Option ℕ) → option_map (λ build. record choice { build = build } ∷ []) next ≡ None → next ≡ None
   none_next choice None is = refl
@@ -108,12 +113,14 @@ module _ (left : List ℕ → List Bool) (eight : (before : List ℕ) → length
   no_last before [] other is are none before_it = before_it
   no_last before (c ∷ order) [] is are none before_it = before_it
   no_last before (c ∷ order) (d ∷ other) is are none before_it =
-      no_last_step before c d order other (next_of order) (λ none_later same rest. no_last (before ++ c.build ∷ []) order other is.2 (subst (λ (x : Choice). IsOrder left (before ++ x.build ∷ []) other) (sym same) are.2) none_later rest) is.0 are.0 are.1 none before_it
+      no_last_step before c d order other (next_of order) (λ none_later same rest. no_last (before ++ c.build ∷ []) order other is.2
+      (subst (λ (x : Choice). IsOrder left (before ++ x.build ∷ []) other) (sym same) are.2) none_later rest) is.0 are.0 are.1 none before_it
 
   -- no order is between one and its next
   no_gap_step :
       (before : List ℕ) (c d : Choice) (order other front more : List Choice) (later : Option (List Choice))
-      → ((rest : List Choice) → later ≡ Some rest → c ≡ d → IsBefore order other → IsOrder left (before ++ c.build ∷ []) (rest ++ more) → (rest ++ more ≡ other) ⊎ IsBefore (rest ++ more) other)
+      → ((rest : List Choice) → later ≡ Some rest → c ≡ d → IsBefore order other → IsOrder left (before ++ c.build ∷ []) (rest ++ more) → (rest ++ more ≡ other) ⊎ IsBefore
+      (rest ++ more) other)
       → (later ≡ None → c ≡ d → IsBefore order other → ⊥)
       → c.left ≡ left before → d.left ≡ left before → could d.left d.build ≡ true → IsOrder left (before ++ d.build ∷ []) other
       → go_on c later ≡ Some front → AreLowest more → IsOrder left before (front ++ more)
@@ -129,7 +136,8 @@ module _ (left : List ℕ → List Bool) (eight : (before : List ℕ) → length
   no_gap_step before c d order other front more None after none these those can are next lowest is (inr equal) = absurd (none refl equal.0 equal.1)
   no_gap_step before c d order other front more None after none these those can are next lowest is (inl less) =
       let raised = raised_is c (next_build c) front next in
-      let least = first_below (λ b. nat_lt c.build b && could c.left b) 0 8 d.build raised.0 raised.1 (can_be_next before c d these those can less) (omega arith) (let h = inside before d those can in omega arith) in
+      let least = first_below (λ b. nat_lt c.build b && could c.left b) 0 8 d.build raised.0 raised.1 (can_be_next before c d these those can less) (omega arith)
+      (let h = inside before d those can in omega arith) in
       subst (λ f. IsOrder left before (f ++ more) → (f ++ more ≡ d ∷ other) ⊎ IsBefore (f ++ more) (d ∷ other)) (sym raised.2) (λ goes_on.
       elim (eqb_tells raised.0 d.build) as (λ _. (record c { build = raised.0 } ∷ more ≡ d ∷ other) ⊎ IsBefore (record c { build = raised.0 } ∷ more) (d ∷ other)) [
         | inl same ↦ cons_either (record c { build = raised.0 }) d more other (same_choice (record c { build = raised.0 }) d same.1 (these ∙ sym those))
@@ -146,8 +154,10 @@ module _ (left : List ℕ → List Bool) (eight : (before : List ℕ) → length
   no_gap before (c ∷ order) [] front more is are next lowest goes_on before_it = absurd before_it
   no_gap before (c ∷ order) (d ∷ other) front more is are next lowest goes_on before_it =
       no_gap_step before c d order other front more (next_of order)
-      (λ rest later same rest_before rest_is. no_gap (before ++ c.build ∷ []) order other rest more is.2 (subst (λ (x : Choice). IsOrder left (before ++ x.build ∷ []) other) (sym same) are.2) later lowest rest_is rest_before)
-      (λ none_later same rest_before. no_last (before ++ c.build ∷ []) order other is.2 (subst (λ (x : Choice). IsOrder left (before ++ x.build ∷ []) other) (sym same) are.2) none_later rest_before)
+      (λ rest later same rest_before rest_is. no_gap (before ++ c.build ∷ []) order other rest more is.2
+      (subst (λ (x : Choice). IsOrder left (before ++ x.build ∷ []) other) (sym same) are.2) later lowest rest_is rest_before)
+      (λ none_later same rest_before. no_last (before ++ c.build ∷ []) order other is.2
+      (subst (λ (x : Choice). IsOrder left (before ++ x.build ∷ []) other) (sym same) are.2) none_later rest_before)
       is.0 are.0 are.1 are.2 next lowest goes_on before_it
 
 -- ---- visits

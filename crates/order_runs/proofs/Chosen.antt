@@ -25,7 +25,8 @@ found_is p (y ∷ xs) x is =
     ] refl is
 
 -- a build that could have the turn has a step left
-pub could_is : (plan : Plan) (places : List Place) (left : List Bool) (build : ℕ) → left ≡ builds_left plan places → could left build ≡ true → (build < 8) × (has_left plan places build ≡ true)
+pub could_is : (plan : Plan) (places : List Place) (left : List Bool) (build : ℕ) → left ≡ builds_left plan places → could left build ≡ true → (build < 8) ×
+    (has_left plan places build ≡ true)
 unfolding builds_left
 could_is plan places left build is can =
     let inside : build < 8 = could_inside (builds_left plan places) build (subst (λ l. could l build ≡ true) is can) in

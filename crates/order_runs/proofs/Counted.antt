@@ -1,5 +1,6 @@
 -- What is counted once one more thing is shown.
-use Rattle.std.proofs.Common.{◌≡◌, ℕ, ◌+◌, ◌-◌, ◌^◌, min, Bool, true, false, ◌||◌, cond, if◌then◌else◌, List, [], ◌∷◌, ◌++◌, map, length, take, drop, refl, ap, sym, ◌∙◌, append_assoc, append-nil, arith}
+use Rattle.std.proofs.Common.{◌≡◌, ℕ, ◌+◌, ◌-◌, ◌^◌, min, Bool, true, false, ◌||◌, cond, if◌then◌else◌, List, [], ◌∷◌, ◌++◌, map, length, take, drop, refl, ap, sym, ◌∙◌}
+use Rattle.std.proofs.Common.{append_assoc, append-nil, arith}
 use Rattle.std.specs.Prelude.{count_by}
 use Rattle.std.specs.List.{list_any}
 use Rattle.std.specs.Cmp.{IsEquivalence}
@@ -40,7 +41,8 @@ module _ {K : Type 0} (same : K → K → Bool) where
       append-nil (if is_shown same earlier s.thing then [] else s ∷ []) ∙ ap (λ es. if is_shown same es s.thing then [] else s ∷ []) (sym (append-nil earlier))
   firsts-push earlier (t ∷ seen) s =
       ap (λ rest. (if is_shown same earlier t.thing then [] else t ∷ []) ++ rest) (firsts-push (earlier ++ t ∷ []) seen s)
-      ∙ sym (append_assoc (if is_shown same earlier t.thing then [] else t ∷ []) (firsts same (earlier ++ t ∷ []) seen) (if is_shown same ((earlier ++ t ∷ []) ++ seen) s.thing then [] else s ∷ []))
+      ∙ sym (append_assoc (if is_shown same earlier t.thing then [] else t ∷ []) (firsts same (earlier ++ t ∷ []) seen)
+      (if is_shown same ((earlier ++ t ∷ []) ++ seen) s.thing then [] else s ∷ []))
       ∙ ap (λ es. firsts same earlier (t ∷ seen) ++ (if is_shown same es s.thing then [] else s ∷ [])) (append_assoc earlier (t ∷ []) seen)
 
   module _ (equal : IsEquivalence same) where
@@ -52,7 +54,8 @@ module _ {K : Type 0} (same : K → K → Bool) where
 
     shown_later : (earlier : List (Seen K)) (t : Seen K) (thing : K) → is_shown same earlier thing ≡ false → same t.thing thing ≡ false → is_shown same (earlier ++ t ∷ []) thing ≡ false
     shown_later earlier t thing unseen other =
-        list_any-append (λ s. same s.thing thing) earlier (t ∷ []) ∙ or_falses (is_shown same earlier thing) (same t.thing thing || false) unseen (or_falses (same t.thing thing) false other refl)
+        list_any-append (λ s. same s.thing thing) earlier (t ∷ []) ∙ or_falses (is_shown same earlier thing) (same t.thing thing || false) unseen
+        (or_falses (same t.thing thing) false other refl)
 
     firsts_step :
         (earlier : List (Seen K)) (t : Seen K) (seen : List (Seen K)) (thing : K) (shown alike : Bool)
@@ -84,10 +87,12 @@ module _ {K : Type 0} (same : K → K → Bool) where
         let rest = unseen_times seen thing parts.1 in
         sum_by-append (λ x. cond (same thing x.thing) 1 0) (s ∷ []) seen ∙ ap (λ b. 0 + cond b 1 0 + count_by (λ x. same thing x.thing) seen) none ∙ omega arith
 
-    times-push : (seen : List (Seen K)) (s : Seen K) (thing : K) → times same (seen ++ s ∷ []) thing ≡ (if same thing s.thing then min (times same seen thing + 1) (2 ^ 64 - 1) else times same seen thing)
+    times-push : (seen : List (Seen K)) (s : Seen K) (thing : K) → times same (seen ++ s ∷ []) thing
+        ≡ (if same thing s.thing then min (times same seen thing + 1) (2 ^ 64 - 1) else times same seen thing)
     times-push seen s thing =
         ap (λ n. min n (2 ^ 64 - 1)) (sum_by-append (λ x. cond (same thing x.thing) 1 0) seen (s ∷ []))
-        ∙ elim (same thing s.thing) as (λ b. min (count_by (λ x. same thing x.thing) seen + (0 + cond b 1 0)) (2 ^ 64 - 1) ≡ (if b then min (times same seen thing + 1) (2 ^ 64 - 1) else times same seen thing)) [
+        ∙ elim (same thing s.thing) as (λ b. min (count_by (λ x. same thing x.thing) seen + (0 + cond b 1 0)) (2 ^ 64 - 1)
+        ≡ (if b then min (times same seen thing + 1) (2 ^ 64 - 1) else times same seen thing)) [
           | true ↦ omega arith
           | false ↦ omega arith
         ]
@@ -107,12 +112,14 @@ module _ {K : Type 0} (same : K → K → Bool) where
 
     pub counted-push :
         (seen : List (Seen K)) (s : Seen K)
-        → counted same (seen ++ s ∷ []) ≡ map (bump same s.thing) (counted same seen) ++ (if is_shown same seen s.thing then [] else record { thing = s.thing; count = 1; first = s.order } ∷ [])
+        → counted same (seen ++ s ∷ []) ≡ map (bump same s.thing) (counted same seen) ++
+        (if is_shown same seen s.thing then [] else record { thing = s.thing; count = 1; first = s.order } ∷ [])
     unfolding counted counted_at
     counted-push seen s =
         ap (map (counted_at (seen ++ s ∷ []))) (firsts-push [] seen s)
         ∙ map-append (counted_at (seen ++ s ∷ [])) (firsts same [] seen) (if is_shown same seen s.thing then [] else s ∷ [])
-        ∙ (λ i. (map_alike (counted_at (seen ++ s ∷ [])) (λ t. bump same s.thing (counted_at seen t)) (λ t j. record { thing = t.thing; count = times-push seen s t.thing j; first = t.order }) (firsts same [] seen)
+        ∙ (λ i. (map_alike (counted_at (seen ++ s ∷ [])) (λ t. bump same s.thing (counted_at seen t))
+        (λ t j. record { thing = t.thing; count = times-push seen s t.thing j; first = t.order }) (firsts same [] seen)
         ∙ sym (map_twice (bump same s.thing) (counted_at seen) (firsts same [] seen))) i
         ++ one seen s (is_shown same seen s.thing) refl i)
 
@@ -125,7 +132,8 @@ module _ {K : Type 0} (same : K → K → Bool) where
 
     -- ---- the tallies
 
-    module _ (tallies bumped : List (Tally K)) (seen : List (Seen K)) (s : Seen K) (are : map counted_of tallies ≡ counted same seen) (is_bumped : map counted_of bumped ≡ map (bump same s.thing) (map counted_of tallies)) where
+    module _ (tallies bumped : List (Tally K)) (seen : List (Seen K)) (s : Seen K) (are : map counted_of tallies ≡ counted same seen)
+        (is_bumped : map counted_of bumped ≡ map (bump same s.thing) (map counted_of tallies)) where
       after : map counted_of bumped ++ (if is_known same s.thing tallies then [] else record { thing = s.thing; count = 1; first = s.order } ∷ []) ≡ counted same (seen ++ s ∷ [])
       after =
           (λ i. (is_bumped ∙ ap (map (bump same s.thing)) are) i ++ (if known_is tallies seen s.thing are i then [] else record { thing = s.thing; count = 1; first = s.order } ∷ []))

@@ -9,7 +9,8 @@ use Rattle.order_runs.specs.Totals.{order_of}
 use Rattle.order_runs.specs.declared.choice.Choice.{Choice}
 use Rattle.order_runs.specs.declared.end.StepEnd.{StepEnd}
 
-turns_of : (plan : Plan) (order : List ℕ) (from : Stage) (choices : List Choice) (to : Stage) → AreChosen plan from choices to → (turns : List Turn) × AreTurns (record plan { order = order }) (order_of choices) from.at turns to.at
+turns_of : (plan : Plan) (order : List ℕ) (from : Stage) (choices : List Choice) (to : Stage) → AreChosen plan from choices to → (turns : List Turn) × AreTurns
+    (record plan { order = order }) (order_of choices) from.at turns to.at
 turns_of plan order from [] to are = ([], ap (λ (s : Stage). s.at) are)
 turns_of plan order from (choice ∷ choices) to are =
     let later = turns_of plan order are.1 choices to are.3 in

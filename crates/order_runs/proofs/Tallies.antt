@@ -1,5 +1,6 @@
 -- One more thing that is shown.
-use Rattle.std.proofs.Common.{◌≡◌, ℕ, ◌+◌, ◌-◌, ◌^◌, ◌<◌, ◌≤◌, min, Bool, true, false, ◌||◌, if◌then◌else◌, List, [], ◌∷◌, length, map, get_or, set, take, refl, ap, sym, subst, ◌∙◌, inl, inr, arith}
+use Rattle.std.proofs.Common.{◌≡◌, ℕ, ◌+◌, ◌-◌, ◌^◌, ◌<◌, ◌≤◌, min, Bool, true, false, ◌||◌, if◌then◌else◌, List, [], ◌∷◌, length, map, get_or, set, take, refl, ap, sym, subst}
+use Rattle.std.proofs.Common.{◌∙◌, inl, inr, arith}
 use Rattle.std.proofs.Math.ListN.{length-map}
 use Rattle.std.proofs.lemmas.Bool.Decides.{eqb_tells}
 use Rattle.std.proofs.lemmas.List.{ext_get_or, get_or-map, get_or-set_same, get_or-set_other, get_or_default, length-set, take_more}
@@ -45,7 +46,12 @@ module _ {K : Type 0} (same : K → K → Bool) (thing : K) (old : List (Tally K
       → AreBumped same thing old (n + 1) newer
   AreBumped-once d count newer is inside is_same is_newer once =
       AreBumped-more (get_or new n d) (record (get_or new n d) { count = count }) newer is inside (get_or_default new n d (get_or new n d) inside) is_newer
-      (λ i. record { thing = (get_or new n d).thing; count = (once ∙ ap (λ t. if t then min ((get_or new n d).count + 1) (2 ^ 64 - 1) else (get_or new n d).count) (sym is_same)) i; first = (get_or new n d).first.items })
+      (λ i. record {
+        thing = (get_or new n d).thing;
+        count = (once ∙ ap (λ t. if t then min ((get_or new n d).count + 1) (2 ^ 64 - 1) else (get_or new n d).count)
+            (sym is_same)) i;
+        first = (get_or new n d).first.items;
+      })
 
   pub AreBumped-same :
       (d : Tally K) (newer : List (Tally K))
@@ -54,7 +60,12 @@ module _ {K : Type 0} (same : K → K → Bool) (thing : K) (old : List (Tally K
       → AreBumped same thing old (n + 1) newer
   AreBumped-same d newer is inside other is_newer =
       AreBumped-more (get_or new n d) (get_or new n d) newer is inside (get_or_default new n d (get_or new n d) inside) is_newer
-      (λ i. record { thing = (get_or new n d).thing; count = ap (λ t. if t then min ((get_or new n d).count + 1) (2 ^ 64 - 1) else (get_or new n d).count) (sym other) i; first = (get_or new n d).first.items })
+      (λ i. record {
+        thing = (get_or new n d).thing;
+        count = ap (λ t. if t then min ((get_or new n d).count + 1) (2 ^ 64 - 1) else (get_or new n d).count)
+            (sym other) i;
+        first = (get_or new n d).first.items;
+      })
 
   pub is_known-more :
       (d : Tally K) → AreBumped same thing old n new → n < length new

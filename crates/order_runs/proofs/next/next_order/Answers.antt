@@ -9,7 +9,8 @@ is_last c = cc (c.deref.ensures.value, c.last.ensures.value, c.copied.ensures, c
 
 pub returns-in-Some-next_build-clause-next : goal.returns-in-Some-next_build-clause-next
 returns-in-Some-next_build-clause-next c =
-    let set = next_of-set c.loop-choice.choices.items c.in-Some.choice (is_last ((goal.at.returns-in-Some-next_build-clause-next c).In-Some)) c.in-Some-next_build.build (sym c.next_build.ensures ∙ c.in-Some-next_build.is) in
+    let set = next_of-set c.loop-choice.choices.items c.in-Some.choice (is_last ((goal.at.returns-in-Some-next_build-clause-next c).In-Some)) c.in-Some-next_build.build
+    (sym c.next_build.ensures ∙ c.in-Some-next_build.is) in
     cc (set, c.loop-choice.invariant, c.loop-choice.choices.ok.0, c.len-place.ensures)
 
 pub loop-choice-preserved : goal.loop-choice-preserved

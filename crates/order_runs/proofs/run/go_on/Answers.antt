@@ -20,7 +20,12 @@ pub take_step-requires-clause-inside : goal.take_step-requires-clause-inside
 take_step-requires-clause-inside g c = (chosen g (goal.at.take_step-requires-clause-inside g c).In-Some).0
 
 pub loop-build-init : goal.loop-build-init
-loop-build-init g c = (c.requires.steady, c.builds_left-left.ensures, IsGoingOn-none (plan_view c.args.plan.now) (record { at = record { host = c.args.host.now; places = c.args.places.now }; ends = c.args.ends.now.items }) c.args.choices.now.items)
+loop-build-init g c = (
+  c.requires.steady,
+  c.builds_left-left.ensures,
+  IsGoingOn-none (plan_view c.args.plan.now)
+      (record { at = record { host = c.args.host.now; places = c.args.places.now }; ends = c.args.ends.now.items }) c.args.choices.now.items,
+)
 
 pub loop-build-preserved : goal.loop-build-preserved
 loop-build-preserved g c =
