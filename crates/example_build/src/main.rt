@@ -39,17 +39,32 @@ fn build(rt: &impl Print, host: &mut Host<PlainStore>, build: BuildId) -> io::Re
     ask(rt, host, build, Cmd::Fill { page: 1, value: 7 })?;
     ask(rt, host, build, Cmd::Delegate { page: 0 })?;
     ask(rt, host, build, Cmd::Delegate { page: 0 })?;
-    ask(rt, host, build, Cmd::Delegate { page: 2 })?;
+    ask(rt, host, build, Cmd::Delegate { page: 2 })
+}
+
+// Takes the last act back, and then all that is left.
+fn take_back(rt: &impl Print, host: &mut Host<PlainStore>, build: BuildId) -> io::Result<()> {
     println!(rt; "{:?}", host.undo(build))?;
     println!(rt; "{:?}", host.abort(build))
 }
 
-fn main(rt: HostRuntime) -> Result<()> {
-    let mut host = booted(rt.alloc())?;
-    build(&rt, &mut host, BuildId::new(0).unwrap())?;
+// Prints the history, and what is free.
+fn show(rt: &impl Print, host: &Host<PlainStore>) -> io::Result<()> {
     for event in host.history() {
         println!(rt; "{}", EventText(event))?;
     }
-    println!(rt; "{} of {} pages are free", host.free_count(), host.pages())?;
+    println!(rt; "{} of {} pages are free", host.free_count(), host.pages())
+}
+
+fn run(rt: &impl Print, host: &mut Host<PlainStore>) -> Result<()> {
+    let first = BuildId::new(0).unwrap();
+    build(rt, host, first)?;
+    take_back(rt, host, first)?;
+    show(rt, host)?;
     Ok(())
+}
+
+fn main(rt: HostRuntime) -> Result<()> {
+    let mut host = booted(rt.alloc())?;
+    run(&rt, &mut host)
 }

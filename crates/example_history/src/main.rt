@@ -9,6 +9,12 @@ use realm_host::{Host, PlainStore, Settings};
 use std::alloc::Global;
 use std::io;
 
+// The opening that the first line is.
+fn opening_of(text: &str) -> Result<Opening> {
+    let line = text.lines().next().context("there is no line")?;
+    parse_opening(line.as_bytes()).context("the first line is no opening")
+}
+
 // A host of the size that an opening names.
 fn opened(alloc: Global, opening: &Opening) -> Result<Host<PlainStore>> {
     let settings = Settings::new(
@@ -18,7 +24,10 @@ fn opened(alloc: Global, opening: &Opening) -> Result<Host<PlainStore>> {
         opening.builds,
     ).context("the opening has no settings")?;
     let store = PlainStore::build(alloc, opening.pages)?;
-    Ok(Host::boot(alloc, settings, store).map_err(|(error, _store)| error)?)
+    match Host::boot(alloc, settings, store) {
+        Ok(host) => Ok(host),
+        Err((error, _store)) => Err(error.into()),
+    }
 }
 
 // Applies the event that a line is.
@@ -48,11 +57,13 @@ fn show(rt: &impl Print, alloc: Global, host: &mut Host<PlainStore>, text: &str)
     Ok(())
 }
 
-fn main(rt: HostRuntime) -> Result<()> {
-    let alloc = rt.alloc();
-    let text = io::read_to_string(alloc, rt.stdin())?;
-    let first = text.lines().next().context("there is no line")?;
-    let opening = parse_opening(first.as_bytes()).context("the first line is no opening")?;
+fn replay(rt: &impl Print, alloc: Global, text: &str) -> Result<()> {
+    let opening = opening_of(text)?;
     let mut host = opened(alloc, &opening)?;
-    show(&rt, alloc, &mut host, text.as_str())
+    show(rt, alloc, &mut host, text)
+}
+
+fn main(rt: HostRuntime) -> Result<()> {
+    let text = io::read_to_string(rt.alloc(), rt.stdin())?;
+    replay(&rt, rt.alloc(), text.as_str())
 }

@@ -16,26 +16,46 @@ pub struct Slip {
 
 /// The likely slips of a plan, which is what the bytes are.
 pub fn slips_in(alloc: Global, bytes: &[u8], plan: &Plan) -> Result<Vec<Slip>, AllocError> {
-    let places = places_of(alloc, from_utf8(bytes).unwrap_or(""))?;
     let mut found = Vec::new(alloc);
-    if plan.order.is_empty() {
-        found.push(of_no_turns(alloc, places.value_at("order"))?)?;
-        return Ok(found);
-    }
-    for (build, steps) in plan.builds.iter().enumerate() {
-        if let Some(slip) = of_turns(alloc, build, steps, &plan.order, &places)? {
-            found.push(slip)?;
-        }
-    }
+    add_slips(alloc, bytes, plan, &mut found)?;
     Ok(found)
 }
 
-fn of_no_turns(alloc: Global, at: usize) -> Result<Slip, AllocError> {
+fn add_slips(
+    alloc: Global,
+    bytes: &[u8],
+    plan: &Plan,
+    found: &mut Vec<Slip>,
+) -> Result<(), AllocError> {
+    let places = places_of(alloc, from_utf8(bytes).unwrap_or(""))?;
+    if plan.order.is_empty() {
+        return no_turns(alloc, &places, found);
+    }
+    turns_of_builds(alloc, plan, &places, found)
+}
+
+fn no_turns(alloc: Global, places: &Places, found: &mut Vec<Slip>) -> Result<(), AllocError> {
     let words = String::from_str(
         alloc,
         "there are no turns in `order`, so no step is performed",
     )?;
-    Ok(Slip { at, words })
+    let at = places.value_at("order");
+    found.push(Slip { at, words })?;
+    Ok(())
+}
+
+fn turns_of_builds(
+    alloc: Global,
+    plan: &Plan,
+    places: &Places,
+    found: &mut Vec<Slip>,
+) -> Result<(), AllocError> {
+    for (build, steps) in plan.builds.iter().enumerate() {
+        if let Some(slip) = of_turns(alloc, build, steps, &plan.order, places)? {
+            found.push(slip)?;
+        }
+    }
+    Ok(())
 }
 
 // Too few turns for the steps of a build, or too many.

@@ -101,11 +101,23 @@ fn header<'a>(
     places: &mut Places,
 ) -> Result<(Section, &'a str), Lost> {
     let is_array = s.starts_with("[[");
-    let name = behind_brackets(s, is_array)?;
-    let (key, end) = dotted_key(alloc, skip_ws(name))?;
-    let below = opened(&key, is_array, before(whole, s), places)?;
+    let name = skip_ws(behind_brackets(s, is_array)?);
+    let (below, end) = header_key(alloc, name, is_array, before(whole, s), places)?;
     let after = behind_brackets(end, is_array)?;
     Ok((below, after))
+}
+
+// The key of a header: what the keys below it belong to, and the text behind it.
+fn header_key<'a>(
+    alloc: Global,
+    s: &'a str,
+    is_array: bool,
+    at: usize,
+    places: &mut Places,
+) -> Result<(Section, &'a str), Lost> {
+    let (key, end) = dotted_key(alloc, s)?;
+    let below = opened(&key, is_array, at, places)?;
+    Ok((below, end))
 }
 
 // The text behind the one or the two brackets that begin or end a header.
@@ -121,20 +133,24 @@ fn behind_brackets(s: &str, is_array: bool) -> Result<&str, Lost> {
 // What the keys below a header belong to.
 fn opened(key: &Key, is_array: bool, at: usize, places: &mut Places) -> Result<Section, Lost> {
     let name = first_part(key)?;
-    let is_alone = key.path.is_empty();
-    if name.as_str() == "build" && !is_alone {
+    if name.as_str() != "build" {
+        return below_other(name, at, places);
+    }
+    if !key.path.is_empty() {
         return below_build(key, at, places);
     }
-    let is_build = name.as_str() == "build" && is_array;
-    if is_build {
-        places.add_build(at)?;
+    if !is_array {
+        return below_other(name, at, places);
     }
+    places.add_build(at)?;
     places.add_key(key_of_plan(name, at))?;
-    Ok(if is_build {
-        Section::Build
-    } else {
-        Section::Neither
-    })
+    Ok(Section::Build)
+}
+
+// What the keys below a header belong to that is none of a build.
+fn below_other(name: String, at: usize, places: &mut Places) -> Result<Section, Lost> {
+    places.add_key(key_of_plan(name, at))?;
+    Ok(Section::Neither)
 }
 
 // What the keys below a header of a build's key belong to.
@@ -222,16 +238,12 @@ fn pair_of_plan<'a>(
     s: &'a str,
     places: &mut Places,
 ) -> Result<&'a str, Lost> {
-    let Pair {
-        place,
-        has_dots,
-        value,
-    } = pair_at(alloc, whole, s, None)?;
-    if !has_dots {
-        parts_of_plan(alloc, whole, place.name.as_str(), value, places)?;
+    let it = pair_at(alloc, whole, s, None)?;
+    if !it.has_dots {
+        parts_of_plan(alloc, whole, it.place.name.as_str(), it.value, places)?;
     }
-    places.add_key(place)?;
-    after_value(alloc, value)
+    places.add_key(it.place)?;
+    after_value(alloc, it.value)
 }
 
 // The parts that the value of a key of the plan has.
@@ -260,18 +272,24 @@ fn pair_of_build<'a>(
     s: &'a str,
     places: &mut Places,
 ) -> Result<&'a str, Lost> {
-    let build = Some(places.last_build());
-    let Pair {
-        place,
-        has_dots,
-        value,
-    } = pair_at(alloc, whole, s, build)?;
-    if !has_dots && place.name.as_str() == "steps" {
-        let steps = items_of(alloc, whole, value)?;
-        places.add_steps(place.value, &steps)?;
+    let it = pair_at(alloc, whole, s, Some(places.last_build()))?;
+    if !it.has_dots && it.place.name.as_str() == "steps" {
+        steps_of_build(alloc, whole, it.value, places)?;
     }
-    places.add_key(place)?;
-    after_value(alloc, value)
+    places.add_key(it.place)?;
+    after_value(alloc, it.value)
+}
+
+// The value of `steps` of the last build.
+fn steps_of_build(
+    alloc: Global,
+    whole: usize,
+    value: &str,
+    places: &mut Places,
+) -> Result<(), Lost> {
+    let steps = items_of(alloc, whole, value)?;
+    places.add_steps(before(whole, value), &steps)?;
+    Ok(())
 }
 
 // The builds of an array of inline tables.
@@ -355,17 +373,24 @@ fn after_value(alloc: Global, s: &str) -> Result<&str, Lost> {
 
 // The text behind a string, a scalar that is a whole value, or a byte; and how many arrays and tables are open there.
 fn after_part(alloc: Global, s: &str, depth: usize) -> Result<(&str, usize), Lost> {
-    let next = first(s);
     if starts_string(s) {
-        let (_text, after) = quoted(alloc, s)?;
-        return Ok((after, depth));
+        return Ok((after_string(alloc, s)?, depth));
     }
+    let next = first(s);
     if depth == 0 && next != b'[' && next != b'{' {
-        let (_scalar, after) = unquoted(alloc, s)?;
-        return Ok((after, 0));
+        return Ok((after_scalar(alloc, s)?, 0));
     }
-    let after = after_byte(s)?;
-    Ok((after, depth_after(depth, next)))
+    Ok((after_byte(s)?, depth_after(depth, next)))
+}
+
+fn after_string(alloc: Global, s: &str) -> Result<&str, Lost> {
+    let (_text, after) = quoted(alloc, s)?;
+    Ok(after)
+}
+
+fn after_scalar(alloc: Global, s: &str) -> Result<&str, Lost> {
+    let (_text, after) = unquoted(alloc, s)?;
+    Ok(after)
 }
 
 // How many arrays and tables are open behind a byte.

@@ -1,6 +1,6 @@
 //! What a build in abort is refused.
 use crate::calls;
-use crate::hosts::{arena, build, plain};
+use crate::hosts::{arena, build, let_go, plain};
 use page_arena::PageStore;
 use realm_host::{Cmd, Host, Kind, Refusal, Reply};
 use std::process::Abort;
@@ -30,6 +30,7 @@ fn a_build_in_abort_is_refused<S: PageStore + Drop>(rt: &impl Abort, mut host: H
     calls::counted(rt, host.abort(build(0)), Ok(1));
     calls::counted(rt, host.begin_abort(build(0)), Ok(0));
     takes_a_page(rt, &mut host);
+    let_go(host);
 }
 
 #[test]

@@ -38,6 +38,9 @@ fn boot<S: PageStore + Drop>(rt: &impl Abort, alloc: Global, store: S, builds: u
     }
 }
 
+/// Lets a host go. Each place that does it costs a proof a step for each part of a host: so there is one for all.
+pub(crate) fn let_go<S: PageStore + Drop>(_host: Host<S>) {}
+
 /// The build of that number, modulo 8.
 pub(crate) fn build(number: u8) -> BuildId {
     BuildId::new(number % 8).unwrap()

@@ -1,6 +1,6 @@
 //! Marks: how far back a build can go, and what it is refused.
 use crate::calls;
-use crate::hosts::{arena, build, plain};
+use crate::hosts::{arena, build, let_go, plain};
 use crate::wanted::holds;
 use page_arena::PageStore;
 use realm_host::{Cmd, Host, Kind, Mark, Refusal, Reply};
@@ -57,6 +57,7 @@ fn a_build_goes_back<S: PageStore + Drop>(rt: &impl Abort, mut host: Host<S>) {
         calls::page(rt, &host, 0, page, GranuleState::Undelegated, 0);
     }
     calls::free(rt, &host, 0);
+    let_go(host);
 }
 
 fn no_mark<S: PageStore>(rt: &impl Abort, host: &mut Host<S>, number: u8, refusal: Refusal) {
@@ -74,6 +75,7 @@ fn marks_are_refused<S: PageStore + Drop>(rt: &impl Abort, mut host: Host<S>) {
     calls::counted(rt, host.begin_abort(build(0)), Ok(1));
     no_mark(rt, &mut host, 0, Refusal::Aborting);
     goes_back(rt, &mut host, 0, &mark, Err(Refusal::Aborting));
+    let_go(host);
 }
 
 #[test]

@@ -1,6 +1,6 @@
 //! The measurement of a realm, which no plan prints.
 use crate::calls;
-use crate::hosts::{arena, build, plain};
+use crate::hosts::{arena, build, let_go, plain};
 use crate::wanted::holds;
 use granule_addr::RecNo;
 use page_arena::PageStore;
@@ -40,6 +40,7 @@ fn an_undone_rec_stays_measured<S: PageStore + Drop>(rt: &impl Abort, mut host: 
     is_measured(rt, &host, AFTER_REC_0);
     calls::ask_for_rec(rt, &mut host, Ok(Reply::Number(RecNo::new(1))));
     is_measured(rt, &host, AFTER_REC_1);
+    let_go(host);
 }
 
 #[test]

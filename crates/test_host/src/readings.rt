@@ -1,6 +1,6 @@
 //! What is read of granules, of a realm with its REC and its rows, and of what a build has open.
 use crate::calls;
-use crate::hosts::{arena, build, plain};
+use crate::hosts::{arena, build, let_go, plain};
 use crate::wanted::{equal, holds};
 use realm_host::{
     Act, Cmd, Entry, Gran, GranuleState, GranuleView, Host, IpaGran, Kind, Level, Order, PageStore,
@@ -89,6 +89,7 @@ fn a_realm_is_read<S: PageStore + Drop>(rt: &impl Abort, mut host: Host<S>) {
     rec_is_read(rt, &host, 0);
     let other = host.rec(build(0), RecNo::new(1));
     holds(rt, "no other REC", other.is_none());
+    let_go(host);
 }
 
 // The walk of an IPA granule towards a level ends at that row of build 0, and the next row begins there.
@@ -142,6 +143,7 @@ fn a_walk_is_read<S: PageStore + Drop>(rt: &impl Abort, mut host: Host<S>) {
     calls::undone(rt, &mut host, 0, Kind::Rtt, 5);
     let gone = row(Level::start(), SECOND, Entry::unassigned(Ripas::Destroyed));
     row_is_read(rt, &host, SECOND + 1029, Level::last(), gone, 524_288);
+    let_go(host);
 }
 
 // A build has so many acts open, the first a take of two pages, the last the delegation of granule 1; it is in abort or not.
@@ -192,6 +194,7 @@ fn what_is_open_is_read<S: PageStore + Drop>(rt: &impl Abort, mut host: Host<S>)
     nothing_is_read(rt, &host);
     calls::counted(rt, host.begin_abort(build(0)), Ok(3));
     open_is_read(rt, &host, true);
+    let_go(host);
 }
 
 #[test]

@@ -1,6 +1,6 @@
 //! Recorded events, applied to another host.
 use crate::calls;
-use crate::hosts::{arena, build, plain};
+use crate::hosts::{arena, build, let_go, plain};
 use crate::wanted::holds;
 use granule_addr::{Gran, Order};
 use page_arena::PageStore;
@@ -42,6 +42,7 @@ fn only_legal_events_are_applied<S: PageStore + Drop>(rt: &impl Abort, mut host:
     applied(rt, &mut host, 0, Act::UnTake { order, first }, true);
     holds(rt, "the history", are_accepted(host.history(), first));
     calls::free(rt, &host, 4);
+    let_go(host);
 }
 
 #[test]

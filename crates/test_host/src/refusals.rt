@@ -1,6 +1,6 @@
 //! Refusals that no plan meets, and how refusals are told.
 use crate::calls;
-use crate::hosts::{arena, build, plain};
+use crate::hosts::{arena, build, let_go, plain};
 use crate::wanted::holds;
 use granule_addr::Order;
 use page_arena::PageStore;
@@ -8,7 +8,6 @@ use realm_host::{Cmd, Host, Refusal, Settings};
 use realm_model::{Rmi, Status};
 use std::alloc::Global;
 use std::process::Abort;
-use std::test::Fail;
 
 // What a program that runs plans cannot ask: a build that the host has not got.
 fn there_is_no_such_build<S: PageStore + Drop>(rt: &impl Abort, mut host: Host<S>) {
@@ -16,6 +15,7 @@ fn there_is_no_such_build<S: PageStore + Drop>(rt: &impl Abort, mut host: Host<S
     calls::ask(rt, &mut host, 2, take, Err(Refusal::NoBuild));
     let answer = host.undo(build(2));
     holds(rt, "no undo", answer == Err(Refusal::NoBuild));
+    let_go(host);
 }
 
 #[test]
@@ -40,69 +40,53 @@ fn settings_have_limits(rt: HostRuntime) {
 }
 
 // A refusal has that text.
-fn is_told(rt: &impl Abort, alloc: Global, refusal: Refusal, text: &str) -> Result<(), Fail> {
-    let told = format!(in alloc; "{refusal}")?;
+fn is_told(rt: &impl Abort, alloc: Global, refusal: Refusal, text: &str) {
+    let told = format!(in alloc; "{refusal}").expect(rt, "memory");
     assert_eq!(rt; told.as_str(), text);
-    Ok(())
 }
 
 #[test]
-fn refusals_before_the_journal_are_told(rt: HostRuntime) -> Result<(), Fail> {
-    is_told(&rt, rt.alloc(), Refusal::NoBuild, "there is no such build")?;
+fn refusals_before_the_journal_are_told(rt: HostRuntime) {
+    let alloc = rt.alloc();
+    is_told(&rt, alloc, Refusal::NoBuild, "there is no such build");
+    is_told(&rt, alloc, Refusal::Aborting, "the build is being aborted");
     is_told(
         &rt,
-        rt.alloc(),
-        Refusal::Aborting,
-        "the build is being aborted",
-    )?;
-    is_told(
-        &rt,
-        rt.alloc(),
+        alloc,
         Refusal::BadOrder,
         "a block has at most 512 pages",
-    )?;
+    );
     is_told(
         &rt,
-        rt.alloc(),
+        alloc,
         Refusal::NotLeased(12),
         "the build has no page 12",
-    )?;
+    );
+    is_told(&rt, alloc, Refusal::RealmThere, "the build has a realm");
+    is_told(&rt, alloc, Refusal::NoRealm, "the build has no realm");
     is_told(
         &rt,
-        rt.alloc(),
-        Refusal::RealmThere,
-        "the build has a realm",
-    )?;
-    is_told(&rt, rt.alloc(), Refusal::NoRealm, "the build has no realm")?;
-    is_told(
-        &rt,
-        rt.alloc(),
+        alloc,
         Refusal::NothingToUndo,
         "there is nothing to undo",
-    )
+    );
 }
 
 #[test]
-fn refusals_of_room_and_of_the_monitor_are_told(rt: HostRuntime) -> Result<(), Fail> {
+fn refusals_of_room_and_of_the_monitor_are_told(rt: HostRuntime) {
+    let alloc = rt.alloc();
+    is_told(&rt, alloc, Refusal::RecRunning, "a REC is running");
+    is_told(&rt, alloc, Refusal::JournalFull, "the journal is full");
+    is_told(&rt, alloc, Refusal::HistoryFull, "the history is full");
     let order = Order::new(9).unwrap();
-    let rtt = Rmi {
-        status: Status::Rtt,
-        index: 2,
-    };
-    is_told(&rt, rt.alloc(), Refusal::RecRunning, "a REC is running")?;
-    is_told(&rt, rt.alloc(), Refusal::JournalFull, "the journal is full")?;
-    is_told(&rt, rt.alloc(), Refusal::HistoryFull, "the history is full")?;
     is_told(
         &rt,
-        rt.alloc(),
+        alloc,
         Refusal::NoBlock(order),
         "no block of order 9 is free",
-    )?;
-    is_told(&rt, rt.alloc(), Refusal::NoVmid, "no VMID is free")?;
-    is_told(
-        &rt,
-        rt.alloc(),
-        Refusal::Rmi(rtt),
-        "the monitor refused: Rtt, index 2",
-    )
+    );
+    is_told(&rt, alloc, Refusal::NoVmid, "no VMID is free");
+    let status = Status::Rtt;
+    let rtt = Refusal::Rmi(Rmi { status, index: 2 });
+    is_told(&rt, alloc, rtt, "the monitor refused: Rtt, index 2");
 }

@@ -6,18 +6,26 @@ use granule_addr::BuildId;
 use realm_plan::PlanFault;
 use realm_program::Fault;
 use run_program::run;
-use std::test::Fail;
+use std::alloc::Global;
+use std::marker::Sync;
+use std::process::Abort;
+use std::sync::Wait;
+use std::thread::Threads;
 use test_devices::{told_sink, told_source};
 use test_gates::{ForBuild0, Together};
 
-const PLAN: &[u8] = br#"pages = 2
+fn plan() -> &'static [u8] {
+    br#"pages = 2
 [[build]]
 steps = ["take 0", "fill 0 9", "peek 0 0"]
 [[build]]
 steps = ["take 0", "fill 0 3", "peek 0 0"]
-"#;
+"#
+}
 
-const TEXT: &[u8] = b"0 take 0 = ok 0
+// The text of its run.
+fn text() -> &'static [u8] {
+    b"0 take 0 = ok 0
 0 fill 0 9 = ok
 0 peek 0 0 = ok 9
 1 take 0 = ok 0
@@ -27,29 +35,29 @@ const TEXT: &[u8] = b"0 take 0 = ok 0
 1 page 0 UNDELEGATED 12288
 free 0
 audit ok
-";
+"
+}
 
 #[test]
 fn each_build_reads_after_both_have_filled(rt: HostRuntime) {
-    let mut input = told_source(PLAN, 1000, None);
+    let mut input = told_source(plan(), 1000, None);
     let mut output = told_sink(rt.alloc(), 1000, None, false);
     let gate = Together::from(&rt);
     let outcome = run(&rt, rt.alloc(), &mut input, &mut output, &gate);
     holds(&rt, "the text is printed", outcome.is_ok());
-    holds(&rt, "all of it", output.device().has(TEXT));
+    holds(&rt, "all of it", output.device().has(text()));
 }
 
 #[test]
-fn the_lowest_build_that_waits_in_vain_is_told(rt: HostRuntime) -> Result<(), Fail> {
-    let second = BuildId::new(1).ok_or("build 1")?;
-    let mut input = told_source(PLAN, 1000, None);
+fn the_lowest_build_that_waits_in_vain_is_told(rt: HostRuntime) {
+    let mut input = told_source(plan(), 1000, None);
     let mut output = told_sink(rt.alloc(), 1000, None, false);
     let outcome = run(&rt, rt.alloc(), &mut input, &mut output, &ForBuild0);
-    let fault = outcome.err().ok_or("a fault")?;
+    let fault = outcome.err().expect(&rt, "a fault");
+    let second = BuildId::new(1).expect(&rt, "build 1");
     holds(&rt, "build 1 waits", fault == Fault::Stuck(second));
     equal(&rt, "the status", fault.status() as u64, 3);
     equal(&rt, "writes", output.device().writes, 0);
-    Ok(())
 }
 
 #[test]
@@ -62,24 +70,40 @@ fn a_plan_that_is_none_is_told(rt: HostRuntime) {
     equal(&rt, "writes", output.device().writes, 0);
 }
 
+// Nothing is written where that read fails.
+fn fails_to_read<R: Threads + Wait + Abort + Sync>(rt: &R, alloc: Global, read: u64) {
+    let mut input = told_source(plan(), 25, Some(read));
+    let mut output = told_sink(alloc, 1, None, false);
+    let outcome = run(rt, alloc, &mut input, &mut output, &OpenGate);
+    holds(rt, "a read failed", matches!(outcome, Err(Fault::Device)));
+    equal(rt, "writes", output.device().writes, 0);
+}
+
 #[test]
 fn a_read_that_fails_writes_nothing(rt: HostRuntime) {
-    for n in 0..5 {
-        let mut input = told_source(PLAN, 25, Some(n));
-        let mut output = told_sink(rt.alloc(), 1, None, false);
-        let outcome = run(&rt, rt.alloc(), &mut input, &mut output, &OpenGate);
-        holds(&rt, "a read failed", matches!(outcome, Err(Fault::Device)));
-        equal(&rt, "writes", output.device().writes, 0);
+    for read in 0..5 {
+        fails_to_read(&rt, rt.alloc(), read);
     }
+}
+
+// These bytes are written, one at a time, before that write fails.
+fn fails_to_write<R: Threads + Wait + Abort + Sync>(
+    rt: &R,
+    alloc: Global,
+    write: usize,
+    before: &[u8],
+) {
+    let mut input = told_source(plan(), 25, None);
+    let mut output = told_sink(alloc, 1, Some(write as u64), false);
+    let outcome = run(rt, alloc, &mut input, &mut output, &OpenGate);
+    holds(rt, "a write failed", matches!(outcome, Err(Fault::Device)));
+    holds(rt, "a prefix", output.device().has(before));
 }
 
 #[test]
 fn a_write_that_fails_leaves_a_prefix_of_the_text(rt: HostRuntime) {
-    for n in 0..TEXT.len() {
-        let mut input = told_source(PLAN, 25, None);
-        let mut output = told_sink(rt.alloc(), 1, Some(n as u64), false);
-        let outcome = run(&rt, rt.alloc(), &mut input, &mut output, &OpenGate);
-        holds(&rt, "a write failed", matches!(outcome, Err(Fault::Device)));
-        holds(&rt, "a prefix", output.device().has(&TEXT[..n]));
+    let text = text();
+    for write in 0..text.len() {
+        fails_to_write(&rt, rt.alloc(), write, &text[..write]);
     }
 }

@@ -1,8 +1,8 @@
 //! A device is asked as often as is told, never again where it has failed, and flushed once.
 use crate::wanted::{equal, holds};
 use realm_program::{ReadError, read_whole};
+use std::alloc::Global;
 use std::process::Abort;
-use std::test::Fail;
 use test_devices::{Sink, Source, told_sink, told_source};
 use told_device::Told;
 
@@ -20,15 +20,18 @@ fn was_written(rt: &impl Abort, output: &Told<Sink>, has_failed: bool, writes: u
     equal(rt, "flushes", output.device().flushes, flushes);
 }
 
+// Bytes are read three at a time.
+fn reads(rt: &impl Abort, alloc: Global, bytes: &[u8], reads: u64) {
+    let mut input = told_source(bytes, 3, None);
+    let got = read_whole(alloc, &mut input).ok().expect(rt, "the bytes");
+    holds(rt, "the bytes", got.as_slice() == bytes);
+    was_read(rt, &input, false, reads);
+}
+
 #[test]
-fn reads_an_input(rt: HostRuntime) -> Result<(), Fail> {
-    for (bytes, reads) in [(b"pages = 1\n".as_slice(), 5), (b"", 1)] {
-        let mut input = told_source(bytes, 3, None);
-        let got = read_whole(rt.alloc(), &mut input).ok().ok_or("refused")?;
-        holds(&rt, "the bytes", got.as_slice() == bytes);
-        was_read(&rt, &input, false, reads);
-    }
-    Ok(())
+fn reads_an_input(rt: HostRuntime) {
+    reads(&rt, rt.alloc(), b"pages = 1\n", 5);
+    reads(&rt, rt.alloc(), b"", 1);
 }
 
 #[test]
@@ -42,53 +45,63 @@ fn asks_no_reader_again_that_has_failed(rt: HostRuntime) {
     }
 }
 
+// Of so many spaces, read up to so many at a time, so many are kept.
+fn keeps(rt: &impl Abort, alloc: Global, size: usize, most: usize, kept: u64, reads: u64) {
+    let spaces = vec![in alloc; b' '; size].expect(rt, "memory");
+    let mut input = told_source(&spaces, most, None);
+    let bytes = read_whole(alloc, &mut input).ok().expect(rt, "the bytes");
+    equal(rt, "bytes", bytes.len() as u64, kept);
+    was_read(rt, &input, false, reads);
+}
+
 #[test]
-fn keeps_no_more_than_it_must(rt: HostRuntime) -> Result<(), Fail> {
-    for (size, most, kept, reads) in [
-        (1_048_576, 4096, 1_048_576, 257),
-        (1_048_577, 1, 1_048_577, 1_048_577),
-        (1_100_000, 4096, 1_048_577, 257),
-    ] {
-        let spaces = vec![in rt.alloc(); b' '; size]?;
-        let mut input = told_source(&spaces, most, None);
-        let bytes = read_whole(rt.alloc(), &mut input).ok().ok_or("refused")?;
-        equal(&rt, "bytes", bytes.len() as u64, kept);
-        was_read(&rt, &input, false, reads);
-    }
-    Ok(())
+fn keeps_no_more_than_it_must(rt: HostRuntime) {
+    keeps(&rt, rt.alloc(), 1_048_576, 4096, 1_048_576, 257);
+    keeps(&rt, rt.alloc(), 1_048_577, 1, 1_048_577, 1_048_577);
+    keeps(&rt, rt.alloc(), 1_100_000, 4096, 1_048_577, 257);
+}
+
+// A text is written, up to so many bytes at a time.
+fn writes(rt: &impl Abort, alloc: Global, text: &[u8], most: usize, writes: u64) {
+    let mut output = told_sink(alloc, most, None, false);
+    holds(rt, "written", output.write_whole(text).is_ok());
+    holds(rt, "the text", output.device().has(text));
+    was_written(rt, &output, false, writes, 1);
 }
 
 #[test]
 fn writes_a_text(rt: HostRuntime) {
-    for (text, most, writes) in [
-        (b"free 1\n".as_slice(), 1, 7),
-        (b"free 1\n", 4, 2),
-        (b"free 1\n", 100, 1),
-        (b"", 1, 0),
-    ] {
-        let mut output = told_sink(rt.alloc(), most, None, false);
-        holds(&rt, "written", output.write_whole(text).is_ok());
-        holds(&rt, "the text", output.device().has(text));
-        was_written(&rt, &output, false, writes, 1);
-    }
+    writes(&rt, rt.alloc(), b"free 1\n", 1, 7);
+    writes(&rt, rt.alloc(), b"free 1\n", 4, 2);
+    writes(&rt, rt.alloc(), b"free 1\n", 100, 1);
+    writes(&rt, rt.alloc(), b"", 1, 0);
+}
+
+// These bytes are written, one at a time, before that write of a text fails.
+fn fails_to_write(rt: &impl Abort, alloc: Global, text: &[u8], write: u64, before: &[u8]) {
+    let mut output = told_sink(alloc, 1, Some(write), false);
+    holds(rt, "a write failed", output.write_whole(text).is_err());
+    holds(rt, "a prefix", output.device().has(before));
+    was_written(rt, &output, true, write.saturating_add(1), 0);
 }
 
 #[test]
 fn asks_no_writer_again_that_has_failed(rt: HostRuntime) {
     let text = b"free 1\n";
     for n in 0..7 {
-        let mut output = told_sink(rt.alloc(), 1, Some(n as u64), false);
-        holds(&rt, "a write failed", output.write_whole(text).is_err());
-        holds(&rt, "a prefix", output.device().has(&text[..n]));
-        was_written(&rt, &output, true, n as u64 + 1, 0);
+        fails_to_write(&rt, rt.alloc(), text, n as u64, &text[..n]);
     }
+}
+
+// A write of a text fails, or its flush.
+fn fails(rt: &impl Abort, alloc: Global, most: usize, to_flush: bool, writes: u64, flushes: u64) {
+    let mut output = told_sink(alloc, most, None, to_flush);
+    holds(rt, "a failure", output.write_whole(b"free 1\n").is_err());
+    was_written(rt, &output, true, writes, flushes);
 }
 
 #[test]
 fn a_write_of_nothing_and_a_flush_can_fail(rt: HostRuntime) {
-    for (most, fails_to_flush, writes, flushes) in [(0, false, 1, 0), (4, true, 2, 1)] {
-        let mut output = told_sink(rt.alloc(), most, None, fails_to_flush);
-        holds(&rt, "a failure", output.write_whole(b"free 1\n").is_err());
-        was_written(&rt, &output, true, writes, flushes);
-    }
+    fails(&rt, rt.alloc(), 0, false, 1, 0);
+    fails(&rt, rt.alloc(), 4, true, 2, 1);
 }

@@ -3,10 +3,10 @@ use crate::steps::{STEPS, steps_of};
 use crate::tellers::Refusing;
 use build_commands::Step;
 use builders::{Ledgers, Seat, SeatTeller, Shared};
-use page_arena::PageStore;
+use page_arena::PlainStore;
 use std::alloc::Global;
+use std::process::Abort;
 use std::sync::Wait;
-use std::test::Fail;
 use workers::{Gate, Report, work};
 
 /// A build's seat and its steps, which of them is refused, and what came of them.
@@ -21,11 +21,11 @@ pub struct Guest<L: Ledgers> {
 
 impl<L: Ledgers> Guest<L> {
     /// Takes its steps. Where there is no memory for a report, it has none and has not ended.
-    pub(crate) fn run<R: Wait, S: PageStore, G: Gate>(
+    pub(crate) fn run<R: Wait, G: Gate>(
         &mut self,
         rt: &R,
         alloc: Global,
-        shared: &Shared<S, L>,
+        shared: &Shared<PlainStore, L>,
         gate: &G,
     ) {
         let Ok(lines) = Vec::with_capacity(alloc, 2 * STEPS + 1) else {
@@ -47,23 +47,28 @@ impl<L: Ledgers> Guest<L> {
     }
 }
 
+// A guest at a seat. Build 1 is refused that step.
+fn guest_at<L: Ledgers>(seat: Seat<L>, refused: usize) -> Guest<L> {
+    let number = seat.build().number();
+    Guest {
+        seat,
+        steps: steps_of(number.saturating_add(7)),
+        refused: if number == 1 { Some(refused) } else { None },
+        report: None,
+        has_ended: false,
+    }
+}
+
 /// A guest at each seat. Build 1 is refused that step.
 pub(crate) fn guests_of<L: Ledgers>(
+    rt: &impl Abort,
     alloc: Global,
     seats: Vec<Seat<L>>,
     refused: usize,
-) -> Result<Vec<Guest<L>>, Fail> {
+) -> Vec<Guest<L>> {
     let mut guests = Vec::new(alloc);
     for seat in seats {
-        let number = seat.build().number();
-        let refused = if number == 1 { Some(refused) } else { None };
-        guests.push(Guest {
-            seat,
-            steps: steps_of(number.saturating_add(7)),
-            refused,
-            report: None,
-            has_ended: false,
-        })?;
+        guests.push(guest_at(seat, refused)).expect(rt, "memory");
     }
-    Ok(guests)
+    guests
 }

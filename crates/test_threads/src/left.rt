@@ -1,21 +1,26 @@
 //! What is left of a host of three guests.
-use granule_addr::BuildId;
-use page_arena::PageStore;
+use crate::lines::build;
+use crate::wanted::{holds, text_is};
+use page_arena::PlainStore;
 use plan_runs::map_text;
 use realm_host::Host;
 use std::alloc::Global;
 use std::process::Abort;
-use std::test::Fail;
+
+/// The host has that map.
+pub(crate) fn has_map(rt: &impl Abort, alloc: Global, host: &Host<PlainStore>, want: &str) {
+    let seen = map_text(alloc, host).expect(rt, "memory");
+    text_is(rt, seen.as_str(), want);
+}
 
 // The VMID of a build's realm.
-fn vmid_of<S: PageStore>(host: &Host<S>, number: u8) -> Result<u8, Fail> {
-    let build = BuildId::new(number).ok_or("a build")?;
-    let (_, vmid) = host.realm_view(build).ok_or("a realm")?;
-    Ok(vmid.number())
+fn vmid_of(rt: &impl Abort, host: &Host<PlainStore>, number: u8) -> u8 {
+    let (_, vmid) = host.realm_view(build(number)).expect(rt, "a realm");
+    vmid.number()
 }
 
 // The map of two guests, each with all that it has built.
-fn wanted_map(alloc: Global, vmid0: u8, vmid2: u8) -> Result<String, Fail> {
+fn wanted_map(rt: &impl Abort, alloc: Global, vmid0: u8, vmid2: u8) -> String {
     let text = format!(in alloc;
         "0 page 0 RD
 0 page 1 RTT
@@ -37,39 +42,42 @@ fn wanted_map(alloc: Global, vmid0: u8, vmid2: u8) -> Result<String, Fail> {
 2 realm ACTIVE vmid {vmid2}
 free 8
 "
-    )?;
-    Ok(text)
+    );
+    text.expect(rt, "memory")
+}
+
+fn is_one_of_three(vmid: u8) -> bool {
+    (1..=3).contains(&vmid)
 }
 
 /// Builds 0 and 2 have all that they have built, under VMIDs of their own, and build 1 has nothing.
-pub(crate) fn has_two_guests<S: PageStore>(
-    rt: &impl Abort,
-    alloc: Global,
-    host: &Host<S>,
-) -> Result<(), Fail> {
-    let vmid0 = vmid_of(host, 0)?;
-    let vmid2 = vmid_of(host, 2)?;
-    assert!(rt; vmid0 != vmid2 && (1..=3).contains(&vmid0) && (1..=3).contains(&vmid2));
-    let want = wanted_map(alloc, vmid0, vmid2)?;
-    let seen = map_text(alloc, host)?;
-    assert_eq!(rt; seen.as_str(), want.as_str());
-    Ok(())
+pub(crate) fn has_two_guests(rt: &impl Abort, alloc: Global, host: &Host<PlainStore>) {
+    let vmid0 = vmid_of(rt, host, 0);
+    let vmid2 = vmid_of(rt, host, 2);
+    holds(rt, "VMIDs of their own", vmid0 != vmid2);
+    holds(rt, "the first", is_one_of_three(vmid0));
+    holds(rt, "the second", is_one_of_three(vmid2));
+    let want = wanted_map(rt, alloc, vmid0, vmid2);
+    has_map(rt, alloc, host, want.as_str());
+}
+
+// Applies the events of a host to a fresh one, but for those of build 1.
+fn apply_others(rt: &impl Abort, host: &Host<PlainStore>, fresh: &mut Host<PlainStore>) {
+    for event in host.history() {
+        if event.build.number() != 1 {
+            holds(rt, "an event is applied", fresh.apply_recorded(event));
+        }
+    }
 }
 
 /// A host is left as a fresh one is by the same history without the events of build 1.
-pub(crate) fn is_without_build_1<S: PageStore>(
+pub(crate) fn is_without_build_1(
     rt: &impl Abort,
     alloc: Global,
-    host: &Host<S>,
-    fresh: &mut Host<S>,
-) -> Result<(), Fail> {
-    for event in host.history() {
-        if event.build.number() != 1 {
-            assert!(rt; fresh.apply_recorded(event));
-        }
-    }
-    let want = map_text(alloc, fresh)?;
-    let seen = map_text(alloc, host)?;
-    assert_eq!(rt; seen.as_str(), want.as_str());
-    Ok(())
+    host: &Host<PlainStore>,
+    fresh: &mut Host<PlainStore>,
+) {
+    apply_others(rt, host, fresh);
+    let want = map_text(alloc, fresh).expect(rt, "memory");
+    has_map(rt, alloc, host, want.as_str());
 }

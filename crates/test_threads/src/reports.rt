@@ -1,39 +1,37 @@
 //! What the reports of guests have to be.
+use crate::lines::step;
 use crate::steps::{ENTER, STEPS};
+use crate::wanted::{equal, holds, lines_are};
 use granule_addr::RecNo;
 use realm_host::{Kind, Refusal, Reply, Undone};
 use realm_model::Rmi;
-use std::alloc::Global;
+use std::alloc::{AllocError, Global};
 use std::process::Abort;
-use std::test::Fail;
 use workers::{Answer, Asked, Line, Report};
 
-// A place of a report has that question and that answer.
-fn line(rt: &impl Abort, report: &Report, place: usize, asked: Asked, answer: Answer) {
-    let seen = report.lines.as_slice().get(place).copied();
-    assert_eq!(rt; seen, Some(Line { asked, answer }));
+// The line of a step that was accepted.
+fn is_accepted_step(line: &Line, step: usize) -> bool {
+    match line {
+        Line {
+            asked: Asked::Step(place),
+            answer: Answer::Replied(_),
+        } => *place == step,
+        _ => false,
+    }
 }
 
 // The first steps of a report are accepted, each at its own place.
 fn accepted(rt: &impl Abort, report: &Report, steps: usize) {
     for step in 0..steps {
-        let is_accepted = match report.lines.as_slice().get(step) {
-            Some(
-                Line {
-                    asked: Asked::Step(place),
-                    answer: Answer::Replied(_),
-                },
-            ) => *place == step,
-            _ => false,
-        };
-        assert!(rt; is_accepted, "step {step}");
+        let line = report.lines.as_slice().get(step).expect(rt, "a line");
+        holds(rt, "an accepted step", is_accepted_step(line, step));
     }
 }
 
 /// Each step is accepted, and nothing else was asked.
 pub(crate) fn is_accepted(rt: &impl Abort, report: &Report) {
     accepted(rt, report, STEPS);
-    assert_eq!(rt; report.lines.len(), STEPS);
+    equal(rt, "lines", report.lines.len() as u64, STEPS as u64);
 }
 
 // What a step opens.
@@ -50,7 +48,7 @@ fn opened(step: usize) -> Option<Kind> {
 }
 
 // The undos of the first steps, the newest first, until nothing is open.
-fn undos_of(alloc: Global, steps: usize) -> Result<Vec<Line>, Fail> {
+fn undos_of(alloc: Global, steps: usize) -> Result<Vec<Line>, AllocError> {
     let mut undos = Vec::new(alloc);
     let mut left = 0u16;
     for step in 0..steps {
@@ -67,24 +65,32 @@ fn undos_of(alloc: Global, steps: usize) -> Result<Vec<Line>, Fail> {
     Ok(undos)
 }
 
+// The exit of the REC that runs behind the step that enters it.
+fn exit() -> Line {
+    Line {
+        asked: Asked::Exit(RecNo::new(0)),
+        answer: Answer::Replied(Reply::Done),
+    }
+}
+
+// The lines behind that first one.
+fn behind<'a>(rt: &impl Abort, lines: &'a [Line], first: Line) -> &'a [Line] {
+    let (seen, rest) = lines.split_first().expect(rt, "a line");
+    holds(rt, "the line", *seen == first);
+    rest
+}
+
 /// The steps before one are accepted, and that one is refused. Then a REC that runs exits, and all is undone.
-pub(crate) fn is_refused(
-    rt: &impl Abort,
-    alloc: Global,
-    report: &Report,
-    refused: usize,
-) -> Result<(), Fail> {
+pub(crate) fn is_refused(rt: &impl Abort, alloc: Global, report: &Report, refused: usize) {
     accepted(rt, report, refused);
     let refusal = Answer::Refused(Refusal::Rmi(Rmi::INPUT));
-    line(rt, report, refused, Asked::Step(refused), refusal);
-    let mut place = refused.saturating_add(1);
-    if refused > ENTER {
-        let exit = Asked::Exit(RecNo::new(0));
-        line(rt, report, place, exit, Answer::Replied(Reply::Done));
-        place = place.saturating_add(1);
-    }
-    let undos = undos_of(alloc, refused)?;
-    let rest = report.lines.as_slice().get(place..);
-    assert_eq!(rt; rest, Some(undos.as_slice()));
-    Ok(())
+    let rest = report.lines.as_slice().get(refused..).expect(rt, "lines");
+    let rest = behind(rt, rest, step(refused, refusal));
+    let rest = if refused > ENTER {
+        behind(rt, rest, exit())
+    } else {
+        rest
+    };
+    let undos = undos_of(alloc, refused).expect(rt, "memory");
+    lines_are(rt, rest, undos.as_slice());
 }

@@ -2,17 +2,17 @@
 ghost use Rattle.std.specs.Prelude.{◌≡◌, []};
 ghost use Rattle.builders.specs.Names.{AreNamed};
 
-use crate::hosts::{booted, started};
-use crate::wanted::equal;
+use crate::hosts::{booted, let_go, started};
+use crate::lines::build;
+use crate::wanted::{equal, holds};
 use builders::{Blanks, CloseFault, Ledgers, Seat, Shared};
-use granule_addr::{BuildId, PageOff};
+use granule_addr::PageOff;
 use page_arena::PlainStore;
 use realm_host::{Cmd, Host, Kind, Refusal, Reply, Undone};
 use std::alloc::Global;
 use std::marker::Brand;
 use std::process::Abort;
 use std::sync::Wait;
-use std::test::Fail;
 
 // A seat asks for a command, and is answered so.
 fn asks<R: Wait + Abort, L: Ledgers>(
@@ -32,14 +32,21 @@ fn fills<R: Wait + Abort, L: Ledgers>(
     shared: &Shared<PlainStore, L>,
     seat: &mut Seat<L>,
     value: u8,
-) -> Result<(), Fail> {
-    let offset = PageOff::new(7).ok_or("an offset")?;
-    let (take, fill) = (Cmd::Take { order: 0 }, Cmd::Fill { page: 0, value });
+) {
+    let take = Cmd::Take { order: 0 };
     asks(rt, shared, seat, take, Ok(Reply::FirstPage(0)));
+    let fill = Cmd::Fill { page: 0, value };
     asks(rt, shared, seat, fill, Ok(Reply::Done));
+    let offset = PageOff::new(7).expect(rt, "an offset");
     let peek = Cmd::Peek { page: 0, offset };
     asks(rt, shared, seat, peek, Ok(Reply::Byte(value)));
-    Ok(())
+}
+
+// A seat undoes a delegation, its second act.
+fn undoes<R: Wait + Abort, L: Ledgers>(rt: &R, shared: &Shared<PlainStore, L>, seat: &mut Seat<L>) {
+    let kind = Kind::Delegate;
+    let seen = shared.undo(rt, seat);
+    holds(rt, "undone", seen == Ok(Undone { kind, left: 1 }));
 }
 
 // A seat keeps a mark, delegates its page, and goes back.
@@ -47,16 +54,12 @@ fn goes_back<R: Wait + Abort, L: Ledgers>(
     rt: &R,
     shared: &Shared<PlainStore, L>,
     seat: &mut Seat<L>,
-) -> Result<(), Fail> {
-    let mark = shared.mark(rt, seat).ok().ok_or("a mark")?;
+) {
+    let mark = shared.mark(rt, seat).expect(rt, "a mark");
     asks(rt, shared, seat, Cmd::Delegate { page: 0 }, Ok(Reply::Done));
-    assert_eq!(rt; shared.check_back(rt, seat, mark), Ok(1));
-    let undone = Undone {
-        kind: Kind::Delegate,
-        left: 1,
-    };
-    assert_eq!(rt; shared.undo(rt, seat), Ok(undone));
-    Ok(())
+    let seen = shared.check_back(rt, seat, mark);
+    holds(rt, "acts above", seen == Ok(1));
+    undoes(rt, shared, seat);
 }
 
 // A seat works on its page, and is refused another's.
@@ -65,13 +68,12 @@ fn works<R: Wait + Abort, L: Ledgers>(
     shared: &Shared<PlainStore, L>,
     seat: &mut Seat<L>,
     value: u8,
-) -> Result<(), Fail> {
-    fills(rt, shared, seat, value)?;
-    goes_back(rt, shared, seat)?;
+) {
+    fills(rt, shared, seat, value);
+    goes_back(rt, shared, seat);
     let fill = Cmd::Fill { page: 1, value };
     asks(rt, shared, seat, fill, Err(Refusal::NotLeased(1)));
     equal(rt, "events", seat.count() as u64, 5);
-    Ok(())
 }
 
 // The seats of two builds work, one after the other.
@@ -79,13 +81,18 @@ fn all_work<R: Wait + Abort, L: Ledgers>(
     rt: &R,
     shared: &Shared<PlainStore, L>,
     seats: &mut [Seat<L>],
-) -> Result<(), Fail> {
+) {
     equal(rt, "seats", seats.len() as u64, 2);
     for seat in seats {
         let value = 10 + seat.build().number();
-        works(rt, shared, seat, value)?;
+        works(rt, shared, seat, value);
     }
-    Ok(())
+}
+
+// A host that was closed has ten events.
+fn has_ten_events(rt: &impl Abort, host: Host<PlainStore>) {
+    equal(rt, "events", host.history().len() as u64, 10);
+    let_go(host);
 }
 
 // Closes a host that has ten events. At `Some` is what was wrong.
@@ -94,12 +101,24 @@ fn fault_of_close<L: Ledgers>(
     shared: Shared<PlainStore, L>,
     seats: Vec<Seat<L>>,
 ) -> Option<CloseFault> {
-    let (fault, host) = match shared.close(seats) {
-        Ok(host) => (None, host),
-        Err((fault, host)) => (Some(fault), host),
-    };
-    equal(rt, "events", host.history().len() as u64, 10);
-    fault
+    match shared.close(seats) {
+        Ok(host) => {
+            has_ten_events(rt, host);
+            None
+        }
+        Err((fault, host)) => {
+            has_ten_events(rt, host);
+            Some(fault)
+        }
+    }
+}
+
+// The seats of both builds, or that of build 0 alone.
+fn kept<L: Ledgers>(mut seats: Vec<Seat<L>>, with_both: bool) -> Vec<Seat<L>> {
+    if !with_both {
+        seats.pop();
+    }
+    seats
 }
 
 // Two builds work on a shared host. It is closed with the seats of both, or with that of build 0 alone; at `Some` is what
@@ -110,17 +129,14 @@ fn closed<R: Wait + Abort, L: Ledgers>(
     blanks: Blanks,
     host: Host<PlainStore>,
     with_both: bool,
-) -> Result<Option<CloseFault>, Fail>
+) -> Option<CloseFault>
     requires empty { host.history ≡ [] }
     requires opened { host ≡ L.opened }
     requires named { AreNamed L.names blanks }
 {
-    let (shared, mut seats) = started::<PlainStore, L>(alloc, blanks, host)?;
-    all_work(rt, &shared, seats.as_mut_slice())?;
-    if !with_both {
-        seats.pop();
-    }
-    Ok(fault_of_close(rt, shared, seats))
+    let (shared, mut seats) = started::<L>(rt, alloc, blanks, host);
+    all_work(rt, &shared, seats.as_mut_slice());
+    fault_of_close(rt, shared, kept(seats, with_both))
 }
 
 // As `closed`, on a host of four pages and two builds.
@@ -128,21 +144,20 @@ fn booted_and_closed<R: Wait + Abort>(
     rt: &R,
     alloc: Global,
     with_both: bool,
-) -> Result<Option<CloseFault>, Fail> {
-    let host = booted(alloc, 4, 0, 2)?;
+) -> Option<CloseFault> {
+    let host = booted(rt, alloc, 4, 0, 2);
     closed::<R, Brand>(rt, alloc, Blanks::new(), host, with_both)
 }
 
 #[test]
-fn closes_with_each_seat(rt: HostRuntime) -> Result<(), Fail> {
-    assert_eq!(rt; booted_and_closed(&rt, rt.alloc(), true)?, None);
-    Ok(())
+fn closes_with_each_seat(rt: HostRuntime) {
+    let fault = booted_and_closed(&rt, rt.alloc(), true);
+    holds(&rt, "no fault", fault.is_none());
 }
 
 #[test]
-fn misses_a_seat(rt: HostRuntime) -> Result<(), Fail> {
-    let second = BuildId::new(1).unwrap();
-    let want = Some(CloseFault::SeatMissing(second));
-    assert_eq!(rt; booted_and_closed(&rt, rt.alloc(), false)?, want);
-    Ok(())
+fn misses_a_seat(rt: HostRuntime) {
+    let fault = booted_and_closed(&rt, rt.alloc(), false);
+    let want = CloseFault::SeatMissing(build(1));
+    holds(&rt, "build 1 is missing", fault == Some(want));
 }

@@ -2,7 +2,7 @@
 ghost use Rattle.std.specs.Prelude.{◌+◌, ◌*◌};
 
 use builders::{Ledgers, SeatTeller};
-use page_arena::PageStore;
+use page_arena::PlainStore;
 use realm_host::{Cmd, Mark, Refusal, Reply, Undone};
 use realm_model::Rmi;
 use std::sync::Wait;
@@ -10,8 +10,8 @@ use workers::Teller;
 
 /// Passes each question on to a seat, but refuses one, counted from 0, without asking the host.
 #[derive(Drop)]
-pub struct Refusing<'a, R: Wait, S: PageStore, L: Ledgers> {
-    pub teller: SeatTeller<'a, R, S, L>,
+pub struct Refusing<'a, R: Wait, L: Ledgers> {
+    pub teller: SeatTeller<'a, R, PlainStore, L>,
     pub asked: usize,
     pub refused: Option<usize>,
 }
@@ -27,7 +27,7 @@ fn check(asked: &mut usize, refused: Option<usize>) -> Result<(), Refusal> {
     }
 }
 
-impl<'a, R: Wait, S: PageStore, L: Ledgers> Teller for Refusing<'a, R, S, L> {
+impl<'a, R: Wait, L: Ledgers> Teller for Refusing<'a, R, L> {
     ghost tells = { λ refusing exchanges. Unit {0} };
 
     // that of the seat

@@ -2,7 +2,8 @@
 ghost use Rattle.std.specs.Prelude.{◌≡◌, ◌+◌, ◌*◌, ◌≤◌, [], length, vec_capacity};
 
 use crate::lines;
-use crate::lines::{replied, step};
+use crate::lines::{build, replied, step};
+use crate::wanted::{holds, lines_are};
 use build_books::{Books, Mark};
 use build_commands::{Cmd, Refusal, Reply, Step};
 use granule_addr::{BuildId, RecNo};
@@ -10,7 +11,6 @@ use realm_host::{Kind, Undone};
 use std::alloc::{AllocError, Global};
 use std::process::Abort;
 use std::sync::atomic::{AtomicU64, Ordering};
-use std::test::Fail;
 use workers::{Answer, Asked, Gate, Line, Report, Stuck, Teller, work};
 
 // Accepts all questions but those two, counted from 0. An undo always leaves 1.
@@ -180,28 +180,21 @@ fn takes_all(report: &mut Report, case: &Case, mark: Mark, steps: &[Step]) -> bo
 }
 
 // A worker takes the steps, and has these lines then, and has ended or not.
-fn works(
-    rt: &impl Abort,
-    alloc: Global,
-    case: &Case,
-    steps: &[Step],
-    want: &[Line],
-    ended: bool,
-) -> Result<(), Fail> {
+fn works(rt: &impl Abort, alloc: Global, case: &Case, steps: &[Step], want: &[Line], ended: bool) {
     assert!(rt; steps.len() <= 16);
-    let mark = first_mark(alloc)?;
+    let mark = first_mark(alloc).expect(rt, "memory");
+    let lines = Vec::with_capacity(alloc, 2 * steps.len() + 1).expect(rt, "memory");
     let mut report = Report {
-        build: BuildId::new(0).unwrap(),
-        lines: Vec::with_capacity(alloc, 2 * steps.len() + 1)?,
+        build: build(0),
+        lines,
     };
     let has_ended = takes_all(&mut report, case, mark, steps);
-    assert_eq!(rt; has_ended, ended);
-    assert_eq!(rt; report.lines.as_slice(), want);
-    Ok(())
+    holds(rt, "how it ends", has_ended == ended);
+    lines_are(rt, report.lines.as_slice(), want);
 }
 
 #[test]
-fn refused_step_is_followed_by_undos(rt: HostRuntime) -> Result<(), Fail> {
+fn refused_step_is_followed_by_undos(rt: HostRuntime) {
     let steps = [delegate(), delegate(), delegate(), Step::Undo];
     let case = Case { refused: 2, ..ALL };
     let want = [
@@ -211,11 +204,11 @@ fn refused_step_is_followed_by_undos(rt: HostRuntime) -> Result<(), Fail> {
         undone(Asked::Undo),
         undone(Asked::Undo),
     ];
-    works(&rt, rt.alloc(), &case, &steps, &want, true)
+    works(&rt, rt.alloc(), &case, &steps, &want, true);
 }
 
 #[test]
-fn refused_undo_ends_it(rt: HostRuntime) -> Result<(), Fail> {
+fn refused_undo_ends_it(rt: HostRuntime) {
     let steps = [delegate(), delegate(), delegate()];
     let case = Case {
         refused: 2,
@@ -223,11 +216,11 @@ fn refused_undo_ends_it(rt: HostRuntime) -> Result<(), Fail> {
         ..ALL
     };
     let want = [done(0), done(1), refused(2), undo_refused()];
-    works(&rt, rt.alloc(), &case, &steps, &want, true)
+    works(&rt, rt.alloc(), &case, &steps, &want, true);
 }
 
 #[test]
-fn nothing_is_told_of_a_turn_that_does_not_come(rt: HostRuntime) -> Result<(), Fail> {
+fn nothing_is_told_of_a_turn_that_does_not_come(rt: HostRuntime) {
     let steps = [delegate(), delegate(), delegate()];
     let case = Case {
         refused: 2,
@@ -235,11 +228,11 @@ fn nothing_is_told_of_a_turn_that_does_not_come(rt: HostRuntime) -> Result<(), F
         ..ALL
     };
     let want = [done(0), done(1), refused(2), undone(Asked::Undo)];
-    works(&rt, rt.alloc(), &case, &steps, &want, false)
+    works(&rt, rt.alloc(), &case, &steps, &want, false);
 }
 
 #[test]
-fn abort_undoes_what_its_own_replies_count(rt: HostRuntime) -> Result<(), Fail> {
+fn abort_undoes_what_its_own_replies_count(rt: HostRuntime) {
     let steps = [delegate(), delegate(), Step::Abort, Step::Abort, Step::Back];
     let want = [
         done(0),
@@ -249,11 +242,11 @@ fn abort_undoes_what_its_own_replies_count(rt: HostRuntime) -> Result<(), Fail> 
         step(3, Answer::Nothing),
         step(4, Answer::Refused(Refusal::NothingToUndo)),
     ];
-    works(&rt, rt.alloc(), &ALL, &steps, &want, true)
+    works(&rt, rt.alloc(), &ALL, &steps, &want, true);
 }
 
 #[test]
-fn running_recs_exit_in_rising_number(rt: HostRuntime) -> Result<(), Fail> {
+fn running_recs_exit_in_rising_number(rt: HostRuntime) {
     let steps = [enter(5), enter(3), delegate(), enter(5), Step::Abort];
     let want = [
         done(0),
@@ -265,11 +258,11 @@ fn running_recs_exit_in_rising_number(rt: HostRuntime) -> Result<(), Fail> {
         exited(5),
         undone(Asked::Undo),
     ];
-    works(&rt, rt.alloc(), &ALL, &steps, &want, true)
+    works(&rt, rt.alloc(), &ALL, &steps, &want, true);
 }
 
 #[test]
-fn way_back_is_no_longer_than_the_journal(rt: HostRuntime) -> Result<(), Fail> {
+fn way_back_is_no_longer_than_the_journal(rt: HostRuntime) {
     let steps = [delegate(), Step::Mark, delegate(), Step::Back, Step::Back];
     let case = Case { above: 7, ..ALL };
     let want = [
@@ -280,11 +273,11 @@ fn way_back_is_no_longer_than_the_journal(rt: HostRuntime) -> Result<(), Fail> {
         undone(Asked::Step(3)),
         step(4, Answer::Nothing),
     ];
-    works(&rt, rt.alloc(), &case, &steps, &want, true)
+    works(&rt, rt.alloc(), &case, &steps, &want, true);
 }
 
 #[test]
-fn looking_back_takes_a_turn(rt: HostRuntime) -> Result<(), Fail> {
+fn looking_back_takes_a_turn(rt: HostRuntime) {
     let steps = [delegate(), Step::Mark, delegate(), Step::Back];
     let case = Case {
         above: 2,
@@ -297,5 +290,5 @@ fn looking_back_takes_a_turn(rt: HostRuntime) -> Result<(), Fail> {
         done(2),
         undone(Asked::Step(3)),
     ];
-    works(&rt, rt.alloc(), &case, &steps, &want, false)
+    works(&rt, rt.alloc(), &case, &steps, &want, false);
 }

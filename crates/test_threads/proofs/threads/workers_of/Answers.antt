@@ -5,4 +5,5 @@ use Rattle.test_threads.proofs.threads.workers_of.Goals as goal
 
 pub loop-preserved : goal.loop-preserved
 loop-preserved g c =
-    rw c.in_ok-push.ensures.items (All-push (λ (worker : WorkerView). worker.lines ≡ []) _ _ c.loop.invariant c.in_ok-worker_of.ensures)
+    let pushed = rw c.expect.ensures at c.push.ensures.items in
+    rw pushed (All-push (λ (worker : WorkerView). worker.lines ≡ []) _ _ c.loop.invariant c.worker_of.ensures)
