@@ -17,7 +17,7 @@ use Rattle.realm_plan.specs.Plan.{Plan}
 use Rattle.report_audit.specs.Fitting.{ReportFits}
 use Rattle.workers.specs.declared.report.Report.{Report}
 use Rattle.plan_threads.specs.Text.{report_lines, audit_line}
-use Rattle.plan_threads.specs.Threads.{new_workers, AreLeft, IsEndedRun, IsWorkersText, IsStuck, IsMismatch, IsWithoutWorkersText}
+use Rattle.plan_threads.specs.Threads.{new_workers, AreLeft, IsClosedRun, IsEndedRun, IsWorkersText, IsStuck, IsMismatch, IsWithoutWorkersText}
 use Rattle.plan_threads.specs.declared.fault.RunFault.{RunFault}
 use Rattle.plan_threads.specs.declared.fault.RunFault.TheVariants.{Memory, Mismatch}
 use Rattle.plan_threads.proofs.Reports.{workers_fit, reports_fit, text_of_workers}
@@ -37,34 +37,44 @@ is_stuck plan passes stops opened old new are_new run build waits = record {
 
 -- ---- all have ended
 
-module _ (plan : Plan) (passes stops : ℕ → ℕ → Type 0) (opened : HostView) (seats : List SeatView) (reports : List (Report × Vec Step)) (left : AreLeft plan passes stops opened seats reports)
-    (host : HostView) (back : IsHostGivenBack opened host seats) where
-  ended_run : IsEndedRun plan passes stops opened host left.workers
-  ended_run = record { run = left.run; ended = left.ended; given_back = subst (IsHostGivenBack opened host) left.seats_are back }
+ended_run : (plan : Plan) (passes stops : ℕ → ℕ → Type 0) (opened : HostView) (seats : List SeatView) (reports : List (Report × Vec Step)) (left : AreLeft plan passes stops opened seats reports)
+    (host : HostView) → IsHostGivenBack opened host seats → IsEndedRun plan passes stops opened host left.workers
+ended_run plan passes stops opened seats reports left host back =
+    record { run = left.run; ended = left.ended; given_back = subst (IsHostGivenBack opened host) left.seats_are back }
 
-  -- a host that is not closed
-  pub not_closed : (fault : CloseFault) → IsFault fault host seats → IsMismatch plan passes stops opened
-  not_closed fault bad = record { host = host; workers = left.workers; is_run = ended_run; differs = inl (fault, subst (IsFault fault host) left.seats_are bad) }
+-- a host that is not closed
+pub not_closed : (plan : Plan) (passes stops : ℕ → ℕ → Type 0) (opened : HostView) (seats : List SeatView) (reports : List (Report × Vec Step)) → AreLeft plan passes stops opened seats reports
+    → (host : HostView) → IsHostGivenBack opened host seats → (fault : CloseFault) → IsFault fault host seats → IsMismatch plan passes stops opened
+not_closed plan passes stops opened seats reports left host back fault bad = record {
+  host = host;
+  workers = left.workers;
+  is_run = ended_run plan passes stops opened seats reports left host back;
+  differs = inl (fault, subst (IsFault fault host) left.seats_are bad);
+}
+
+module _ (plan : Plan) (passes stops : ℕ → ℕ → Type 0) (opened host : HostView) (reports : List (Report × Vec Step)) (run : IsClosedRun plan passes stops opened host reports) where
+  are_ended : IsEndedRun plan passes stops opened host run.left.workers
+  are_ended = ended_run plan passes stops opened run.seats reports run.left host run.given_back
 
   -- a report that does not fit
   pub misfit : (All (ReportFits host.history) reports → ⊥) → IsMismatch plan passes stops opened
   misfit bad = record {
     host = host;
-    workers = left.workers;
-    is_run = ended_run;
-    differs = inr (λ fit. bad (reports_fit host.history left.workers reports left.reports_are fit));
+    workers = run.left.workers;
+    is_run = are_ended;
+    differs = inr (λ fit. bad (reports_fit host.history run.left.workers reports run.left.reports_are fit));
   }
 
   -- the text
-  pub is_text : (text : List ℕ) → IsClosed host seats → All (ReportFits host.history) reports
+  pub is_text : (text : List ℕ) → All (ReportFits host.history) reports
       → text ≡ flat_map (report_lines plan) reports ++ (map_text host ++ audit_line) → IsWorkersText plan passes stops opened text
-  is_text text closed fit whole = record {
+  is_text text fit whole = record {
     host = host;
-    workers = left.workers;
-    is_run = ended_run;
-    closed = subst (IsClosed host) left.seats_are closed;
-    fit = workers_fit host.history left.workers reports left.reports_are fit;
-    whole = whole ∙ ap (λ (lines : List ℕ). lines ++ (map_text host ++ audit_line)) (text_of_workers plan left.workers reports left.reports_are);
+    workers = run.left.workers;
+    is_run = are_ended;
+    closed = subst (IsClosed host) run.left.seats_are run.closed;
+    fit = workers_fit host.history run.left.workers reports run.left.reports_are fit;
+    whole = whole ∙ ap (λ (lines : List ℕ). lines ++ (map_text host ++ audit_line)) (text_of_workers plan run.left.workers reports run.left.reports_are);
   }
 
 -- ---- what a call says of its text, or of why there is none

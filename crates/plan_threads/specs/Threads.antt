@@ -55,6 +55,13 @@ pub record AreLeft (plan : Plan) (passes stops : ℕ → ℕ → Type 0) (opened
   pub seats_are : seats ≡ worker_seats workers
   pub reports_are : AllZip IsReportOf workers reports
 
+-- They have left this host, which was closed for their seats, and these reports.
+pub record IsClosedRun (plan : Plan) (passes stops : ℕ → ℕ → Type 0) (opened host : HostView) (reports : List (Report × Vec Step)) : Type 0 where
+  pub seats : List SeatView
+  pub left : AreLeft plan passes stops opened seats reports
+  pub given_back : IsHostGivenBack opened host seats
+  pub closed : IsClosed host seats
+
 -- the worker's accepted lines tell its build's events in the history, one by one
 abbrev pub WorkerFits : List Event → WorkerView → Type 0
 WorkerFits history worker = DoesFit worker.seat.build worker.steps worker.lines history

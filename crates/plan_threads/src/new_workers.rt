@@ -1,5 +1,5 @@
 //! A worker for each build of a plan.
-ghost use Rattle.std.specs.Prelude.{◌≡◌, ◌<◌, map, vec_len, IfOk};
+ghost use Rattle.std.specs.Prelude.{◌≡◌, ◌<◌, ◌≤◌, [], false, map, vec_len, IfOk};
 ghost use Rattle.std.specs.List.{range_with_len};
 ghost use Rattle.plan_steps.specs.Asked.{asked};
 ghost use Rattle.realm_plan.specs.PlanView.{plan_view};
@@ -23,6 +23,22 @@ fn asked_of(alloc: Global, steps: &[PlanStep]) -> Result<Vec<Step>, AllocError>
     Ok(asks)
 }
 
+// The worker of a seat that has no event, with these steps.
+fn worker_with<L: Ledgers>(
+    alloc: Global,
+    seat: Seat<L>,
+    steps: Vec<Step>,
+) -> Result<Worker<L>, AllocError>
+    requires trail { seat.trail ≡ [] }
+    requires few { vec_len steps ≤ 1024 }
+    ensures { IfOk result (λ worker. worker ≡ record { seat = seat; steps = steps.items; lines = []; ended = false }) }
+{
+    match Worker::build(alloc, seat, steps) {
+        Ok(worker) => Ok(worker),
+        Err((error, _seat, _steps)) => Err(error),
+    }
+}
+
 // The worker of a new seat, with the steps of its build.
 fn worker_of<L: Ledgers>(
     alloc: Global,
@@ -35,10 +51,7 @@ fn worker_of<L: Ledgers>(
     ensures { IfOk result (λ worker. worker ≡ new_worker (plan_view plan.now) build) }
 {
     let steps = asked_of(alloc, plan.builds[build].as_slice())?;
-    match Worker::build(alloc, seat, steps) {
-        Ok(worker) => Ok(worker),
-        Err((error, _seat, _steps)) => Err(error),
-    }
+    worker_with(alloc, seat, steps)
 }
 
 /// The worker of each build, which has asked nothing, in their order.

@@ -1,7 +1,7 @@
 //! All builds of a plan at once.
 ghost use Rattle.std.specs.Prelude.{◌≡◌, [], map, vec_len, string_bytes, IfOk, IfErr};
 ghost use Rattle.realm_plan.specs.PlanView.{plan_view};
-ghost use Rattle.plan_threads.specs.Threads.{AreLeft, IsWithoutWorkersText, IsWorkersText};
+ghost use Rattle.plan_threads.specs.Threads.{AreLeft, IsClosedRun, IsWithoutWorkersText, IsWorkersText};
 ghost use Rattle.builders.specs.Seats.{new_seat};
 ghost use Rattle.std.specs.List.{range_with_len};
 ghost use Rattle.plan_threads.specs.Order.{OrderIsNotTold};
@@ -11,15 +11,16 @@ use crate::ends::{Ends, ends_of};
 use crate::fault::RunFault;
 use crate::new_workers::workers_of;
 use crate::text::audited_text_of;
+use build_commands::Step;
 use builders::{Blanks, Ledgers, Seat, Shared, run_builds};
 use page_arena::PageStore;
 use realm_host::Host;
 use realm_plan::Plan;
-use std::alloc::Global;
+use std::alloc::{AllocError, Global};
 use std::marker::{Brand, Send, Sync};
 use std::sync::Wait;
 use std::thread::Threads;
-use workers::Gate;
+use workers::{Gate, Report};
 
 // The workers of the plan's builds run in new seats of a shared host, and end. What they leave.
 fn work_all<
@@ -47,6 +48,48 @@ fn work_all<
     Ok(ends)
 }
 
+// The host behind a lock, with a seat for each of its builds.
+fn started<S: PageStore + Drop, L: Ledgers>(
+    alloc: Global,
+    blanks: Blanks,
+    host: Host<S>,
+) -> Result<(Shared<S, L>, Vec<Seat<L>>), AllocError>
+    requires empty { host.history ≡ [] }
+    requires opened { host ≡ L.opened }
+    requires named { AreNamed L.names blanks }
+    ensures { IfOk result (λ r. r.1.items ≡ map new_seat (range_with_len 0 host.limits.builds)) }
+{
+    match Shared::start(alloc, blanks, host) {
+        Ok(started) => Ok(started),
+        Err((error, _blanks, _host)) => Err(error),
+    }
+}
+
+// The workers of the plan's builds run in new seats of a shared host, which is closed behind them. The host, and their reports.
+fn closed_run<
+    R: Threads + Wait + Sync,
+    S: PageStore + Drop + Send,
+    G: Gate + Sync,
+    L: Ledgers + Send + Sync,
+>(
+    rt: &R,
+    alloc: Global,
+    plan: &Plan,
+    shared: Shared<S, L>,
+    seats: Vec<Seat<L>>,
+    gate: &G,
+) -> Result<(Host<S>, Vec<(Report, Vec<Step>)>), RunFault>
+    requires { seats.items ≡ map new_seat (range_with_len 0 (vec_len plan.now.builds)) }
+    ensures ok { IfOk result (λ r. IsClosedRun (plan_view plan.now) (G.passes gate.now) (G.stops gate.now) L.opened r.0 r.1.items) }
+    ensures err { IfErr result (IsWithoutWorkersText (plan_view plan.now) (G.passes gate.now) (G.stops gate.now) L.opened) }
+{
+    let Ends { seats, reports } = work_all(rt, alloc, plan, &shared, seats, gate)?;
+    match shared.close(seats) {
+        Ok(host) => Ok((host, reports)),
+        Err(_) => Err(RunFault::Mismatch),
+    }
+}
+
 // As `run_text`, with ledgers of these names.
 fn run_with<
     R: Threads + Wait + Sync,
@@ -68,14 +111,8 @@ fn run_with<
     ensures ok { IfOk result (λ text. IsWorkersText (plan_view plan.now) (G.passes gate.now) (G.stops gate.now) host (string_bytes text)) }
     ensures err { IfErr result (IsWithoutWorkersText (plan_view plan.now) (G.passes gate.now) (G.stops gate.now) host) }
 {
-    let (shared, seats) = match Shared::<S, L>::start(alloc, blanks, host) {
-        Ok(started) => started,
-        Err((error, _blanks, _host)) => return Err(error.into()),
-    };
-    let Ends { seats, reports } = work_all(rt, alloc, plan, &shared, seats, gate)?;
-    let Ok(host) = shared.close(seats) else {
-        return Err(RunFault::Mismatch);
-    };
+    let (shared, seats) = started::<S, L>(alloc, blanks, host)?;
+    let (host, reports) = closed_run(rt, alloc, plan, shared, seats, gate)?;
     audited_text_of(alloc, plan, reports.as_slice(), &host)
 }
 

@@ -1,4 +1,5 @@
 pub mod Lists
 pub mod Needs
+pub mod Pieces
 pub mod Runs
 mod Told

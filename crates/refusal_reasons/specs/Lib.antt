@@ -1,3 +1,4 @@
+pub mod Pieces
 pub mod Words
 pub mod Lines
 pub mod Pages

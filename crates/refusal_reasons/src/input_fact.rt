@@ -1,7 +1,12 @@
 //! What the input checks of pages and of IPAs ask. RMM 1.0, RMI command conditions.
-use crate::names::StateName;
+ghost use Rattle.std.specs.Prelude.{◌≡◌, ◌++◌, OnOk, string_bytes};
+ghost use Rattle.refusal_reasons.specs.Words.{input_words};
+
+use crate::names::state_name;
+use crate::piece::Piece::{Number, Words};
+use crate::piece::push_pieces;
 use realm_model::GranuleState;
-use std::fmt;
+use std::alloc::AllocError;
 
 /// What is asked of pages and of IPAs.
 #[derive(Clone, Copy)]
@@ -20,41 +25,65 @@ pub enum InputFact {
     OneTable(u32, u16),
 }
 
-impl fmt::Display for InputFact {
-    ghost use Rattle.std.specs.Prelude.{Some};
-    ghost use Rattle.refusal_reasons.specs.Words.{input_words};
-
-    ghost output = { λ fact. Some (input_words fact) };
-
-    fn fmt<W: fmt::Write>(&self, f: &mut fmt::Formatter<W>) -> fmt::Result {
-        match *self {
-            InputFact::Page(page, wanted, Some(found)) => {
-                write!(
-                    f,
-                    "page {page} is {}: {}",
-                    StateName(wanted),
-                    StateName(found)
-                )
-            }
-            InputFact::Page(page, wanted, None) => write!(
-                f,
-                "page {page} is {}",
-                StateName(wanted)
-            ),
-            InputFact::Protected(ipa, width) => {
-                write!(f, "IPA granule {ipa} is protected: width {width}")
-            }
-            InputFact::Level(level) => write!(f, "the level is 2 or 3: {level}"),
-            InputFact::Start(ipa, level) => {
-                write!(f, "a table of level {level} may begin at IPA granule {ipa}")
-            }
-            InputFact::Count(count) => write!(f, "the count is 1 to 512: {count}"),
-            InputFact::OneTable(ipa, count) => {
-                write!(
-                    f,
-                    "{count} pages from IPA granule {ipa} on lie in one table"
-                )
-            }
-        }
+/// Appends what is asked, and behind a colon what is there.
+pub(crate) fn push_input(text: &mut String, fact: &InputFact) -> Result<(), AllocError>
+    ensures { OnOk result (string_bytes text.new ≡ string_bytes text.old ++ input_words fact.now) }
+{
+    match *fact {
+        InputFact::Page(page, wanted, Some(found)) => push_pieces(
+            text,
+            &[
+                Words("page "),
+                Number(page as u64),
+                Words(" is "),
+                Words(state_name(wanted)),
+                Words(": "),
+                Words(state_name(found)),
+            ],
+        ),
+        InputFact::Page(page, wanted, None) => push_pieces(
+            text,
+            &[
+                Words("page "),
+                Number(page as u64),
+                Words(" is "),
+                Words(state_name(wanted)),
+            ],
+        ),
+        InputFact::Protected(ipa, width) => push_pieces(
+            text,
+            &[
+                Words("IPA granule "),
+                Number(ipa as u64),
+                Words(" is protected: width "),
+                Number(width as u64),
+            ],
+        ),
+        InputFact::Level(level) => push_pieces(
+            text,
+            &[Words("the level is 2 or 3: "), Number(level as u64)],
+        ),
+        InputFact::Start(ipa, level) => push_pieces(
+            text,
+            &[
+                Words("a table of level "),
+                Number(level as u64),
+                Words(" may begin at IPA granule "),
+                Number(ipa as u64),
+            ],
+        ),
+        InputFact::Count(count) => push_pieces(
+            text,
+            &[Words("the count is 1 to 512: "), Number(count as u64)],
+        ),
+        InputFact::OneTable(ipa, count) => push_pieces(
+            text,
+            &[
+                Number(count as u64),
+                Words(" pages from IPA granule "),
+                Number(ipa as u64),
+                Words(" on lie in one table"),
+            ],
+        ),
     }
 }

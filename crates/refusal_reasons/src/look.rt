@@ -1,16 +1,16 @@
 //! A check, with what it looks at.
-ghost use Rattle.std.specs.Prelude.{◌≡◌, ◌∷◌, ◌++◌, [], OnOk};
+ghost use Rattle.std.specs.Prelude.{◌≡◌, ◌∷◌, ◌++◌, [], OnOk, string_bytes};
+ghost use Rattle.refusal_reasons.specs.Words.{fact_words};
 
-use crate::build_fact::BuildFact;
-use crate::input_fact::InputFact;
-use crate::realm_fact::RealmFact;
-use crate::rec_fact::RecFact;
-use crate::room_fact::RoomFact;
-use crate::undo_fact::UndoFact;
-use crate::walk_fact::WalkFact;
+use crate::build_fact::{BuildFact, push_build};
+use crate::input_fact::{InputFact, push_input};
+use crate::realm_fact::{RealmFact, push_realm};
+use crate::rec_fact::{RecFact, push_rec};
+use crate::room_fact::{RoomFact, push_room};
+use crate::undo_fact::{UndoFact, push_undo};
+use crate::walk_fact::{WalkFact, push_walk};
 use realm_host::Refusal;
 use std::alloc::AllocError;
-use std::fmt;
 
 /// What a check asks, and the numbers that it looks at.
 #[derive(Clone, Copy)]
@@ -24,22 +24,18 @@ pub enum Fact {
     Walk(WalkFact),
 }
 
-impl fmt::Display for Fact {
-    ghost use Rattle.std.specs.Prelude.{Some};
-    ghost use Rattle.refusal_reasons.specs.Words.{fact_words};
-
-    ghost output = { λ fact. Some (fact_words fact) };
-
-    fn fmt<W: fmt::Write>(&self, f: &mut fmt::Formatter<W>) -> fmt::Result {
-        match *self {
-            Fact::Build(fact) => write!(f, "{fact}"),
-            Fact::Room(fact) => write!(f, "{fact}"),
-            Fact::Undo(fact) => write!(f, "{fact}"),
-            Fact::Input(fact) => write!(f, "{fact}"),
-            Fact::Realm(fact) => write!(f, "{fact}"),
-            Fact::Rec(fact) => write!(f, "{fact}"),
-            Fact::Walk(fact) => write!(f, "{fact}"),
-        }
+/// Appends what a check asks, and behind a colon what is there.
+pub(crate) fn push_fact(text: &mut String, fact: &Fact) -> Result<(), AllocError>
+    ensures { OnOk result (string_bytes text.new ≡ string_bytes text.old ++ fact_words fact.now) }
+{
+    match fact {
+        Fact::Build(fact) => push_build(text, fact),
+        Fact::Room(fact) => push_room(text, fact),
+        Fact::Undo(fact) => push_undo(text, fact),
+        Fact::Input(fact) => push_input(text, fact),
+        Fact::Realm(fact) => push_realm(text, fact),
+        Fact::Rec(fact) => push_rec(text, fact),
+        Fact::Walk(fact) => push_walk(text, fact),
     }
 }
 

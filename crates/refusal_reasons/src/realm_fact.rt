@@ -1,7 +1,12 @@
 //! What is asked of a realm that is to be made, and of one that is there. RMM 1.0, RMI_REALM_CREATE, Realm attributes.
-use crate::names::RealmName;
+ghost use Rattle.std.specs.Prelude.{◌≡◌, ◌++◌, OnOk, string_bytes};
+ghost use Rattle.refusal_reasons.specs.Words.{realm_words};
+
+use crate::names::realm_name;
+use crate::piece::Piece::{Number, Words};
+use crate::piece::push_pieces;
 use realm_model::RealmState;
-use std::fmt;
+use std::alloc::AllocError;
 
 /// What is asked of a realm.
 #[derive(Clone, Copy)]
@@ -18,29 +23,36 @@ pub enum RealmFact {
     State(RealmState, Option<RealmState>),
 }
 
-impl fmt::Display for RealmFact {
-    ghost use Rattle.std.specs.Prelude.{Some};
-    ghost use Rattle.refusal_reasons.specs.Words.{realm_words};
-
-    ghost output = { λ fact. Some (realm_words fact) };
-
-    fn fmt<W: fmt::Write>(&self, f: &mut fmt::Formatter<W>) -> fmt::Result {
-        match *self {
-            RealmFact::Width(width) => write!(f, "the IPA width is 39 to 43: {width}"),
-            RealmFact::Adjacent => write!(f, "the starting tables are adjacent granules"),
-            RealmFact::Multiple(count) => {
-                write!(f, "the first starting table is a multiple of {count}")
-            }
-            RealmFact::Apart => write!(f, "the RD is no starting table"),
-            RealmFact::State(wanted, Some(found)) => {
-                write!(
-                    f,
-                    "the realm is {}: {}",
-                    RealmName(wanted),
-                    RealmName(found)
-                )
-            }
-            RealmFact::State(wanted, None) => write!(f, "the realm is {}", RealmName(wanted)),
-        }
+/// Appends what is asked, and behind a colon what is there.
+pub(crate) fn push_realm(text: &mut String, fact: &RealmFact) -> Result<(), AllocError>
+    ensures { OnOk result (string_bytes text.new ≡ string_bytes text.old ++ realm_words fact.now) }
+{
+    match *fact {
+        RealmFact::Width(width) => push_pieces(
+            text,
+            &[Words("the IPA width is 39 to 43: "), Number(width as u64)],
+        ),
+        RealmFact::Adjacent => text.push_str("the starting tables are adjacent granules"),
+        RealmFact::Multiple(count) => push_pieces(
+            text,
+            &[
+                Words("the first starting table is a multiple of "),
+                Number(count as u64),
+            ],
+        ),
+        RealmFact::Apart => text.push_str("the RD is no starting table"),
+        RealmFact::State(wanted, Some(found)) => push_pieces(
+            text,
+            &[
+                Words("the realm is "),
+                Words(realm_name(wanted)),
+                Words(": "),
+                Words(realm_name(found)),
+            ],
+        ),
+        RealmFact::State(wanted, None) => push_pieces(
+            text,
+            &[Words("the realm is "), Words(realm_name(wanted))],
+        ),
     }
 }

@@ -1,8 +1,13 @@
 //! What is asked of a REC that is to be made, and of one that is there. RMM 1.0, RMI_REC_CREATE, REC attributes.
-use crate::names::RecName;
+ghost use Rattle.std.specs.Prelude.{◌≡◌, ◌++◌, OnOk, string_bytes};
+ghost use Rattle.refusal_reasons.specs.Words.{rec_words};
+
+use crate::names::rec_name;
+use crate::piece::Piece::{Number, Words};
+use crate::piece::push_pieces;
 use granule_addr::RecNo;
 use realm_model::RecState;
-use std::fmt;
+use std::alloc::AllocError;
 
 /// What is asked of a REC.
 #[derive(Clone, Copy)]
@@ -17,29 +22,44 @@ pub enum RecFact {
     State(RecNo, RecState, Option<RecState>),
 }
 
-impl fmt::Display for RecFact {
-    ghost use Rattle.std.specs.Prelude.{Some};
-    ghost use Rattle.refusal_reasons.specs.Words.{rec_words};
-
-    ghost output = { λ fact. Some (rec_words fact) };
-
-    fn fmt<W: fmt::Write>(&self, f: &mut fmt::Formatter<W>) -> fmt::Result {
-        match *self {
-            RecFact::Distinct => write!(f, "no granule is named twice"),
-            RecFact::Auxiliaries(given, wanted) => {
-                write!(f, "a REC has {wanted} auxiliary granules: {given}")
-            }
-            RecFact::There(number) => write!(f, "the realm has REC {}", number.number()),
-            RecFact::State(number, wanted, Some(found)) => write!(
-                f,
-                "REC {} is {}: {}",
-                number.number(),
-                RecName(wanted),
-                RecName(found)
-            ),
-            RecFact::State(number, wanted, None) => {
-                write!(f, "REC {} is {}", number.number(), RecName(wanted))
-            }
-        }
+/// Appends what is asked, and behind a colon what is there.
+pub(crate) fn push_rec(text: &mut String, fact: &RecFact) -> Result<(), AllocError>
+    ensures { OnOk result (string_bytes text.new ≡ string_bytes text.old ++ rec_words fact.now) }
+{
+    match *fact {
+        RecFact::Distinct => text.push_str("no granule is named twice"),
+        RecFact::Auxiliaries(given, wanted) => push_pieces(
+            text,
+            &[
+                Words("a REC has "),
+                Number(wanted as u64),
+                Words(" auxiliary granules: "),
+                Number(given as u64),
+            ],
+        ),
+        RecFact::There(number) => push_pieces(
+            text,
+            &[Words("the realm has REC "), Number(number.number() as u64)],
+        ),
+        RecFact::State(number, wanted, Some(found)) => push_pieces(
+            text,
+            &[
+                Words("REC "),
+                Number(number.number() as u64),
+                Words(" is "),
+                Words(rec_name(wanted)),
+                Words(": "),
+                Words(rec_name(found)),
+            ],
+        ),
+        RecFact::State(number, wanted, None) => push_pieces(
+            text,
+            &[
+                Words("REC "),
+                Number(number.number() as u64),
+                Words(" is "),
+                Words(rec_name(wanted)),
+            ],
+        ),
     }
 }

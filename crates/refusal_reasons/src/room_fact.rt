@@ -1,6 +1,11 @@
 //! What is asked of the room of a build, and of what all builds share.
+ghost use Rattle.std.specs.Prelude.{◌≡◌, ◌++◌, OnOk, string_bytes};
+ghost use Rattle.refusal_reasons.specs.Words.{room_words};
+
+use crate::piece::Piece::{Number, Words};
+use crate::piece::push_pieces;
 use granule_addr::Vmid;
-use std::fmt;
+use std::alloc::AllocError;
 
 /// What refusals 9 to 12 ask.
 #[derive(Clone, Copy)]
@@ -15,28 +20,41 @@ pub enum RoomFact {
     Block(u8, u16),
 }
 
-impl fmt::Display for RoomFact {
-    ghost use Rattle.std.specs.Prelude.{Some};
-    ghost use Rattle.refusal_reasons.specs.Words.{room_words};
-
-    ghost output = { λ fact. Some (room_words fact) };
-
-    fn fmt<W: fmt::Write>(&self, f: &mut fmt::Formatter<W>) -> fmt::Result {
-        match *self {
-            RoomFact::Journal(open) => write!(f, "fewer than 512 acts are open: {open}"),
-            RoomFact::History(left, needed) => {
-                write!(f, "the history has room for {needed} more: for {left}")
-            }
-            RoomFact::Vmid(Some(lowest)) => {
-                write!(f, "a VMID is free: the lowest is {}", lowest.number())
-            }
-            RoomFact::Vmid(None) => write!(f, "a VMID is free: each is a realm's"),
-            RoomFact::Block(order, free) => {
-                write!(
-                    f,
-                    "an aligned block of order {order} is free: {free} pages are"
-                )
-            }
-        }
+/// Appends what is asked, and behind a colon what is there.
+pub(crate) fn push_room(text: &mut String, fact: &RoomFact) -> Result<(), AllocError>
+    ensures { OnOk result (string_bytes text.new ≡ string_bytes text.old ++ room_words fact.now) }
+{
+    match *fact {
+        RoomFact::Journal(open) => push_pieces(
+            text,
+            &[Words("fewer than 512 acts are open: "), Number(open as u64)],
+        ),
+        RoomFact::History(left, needed) => push_pieces(
+            text,
+            &[
+                Words("the history has room for "),
+                Number(needed as u64),
+                Words(" more: for "),
+                Number(left as u64),
+            ],
+        ),
+        RoomFact::Vmid(Some(lowest)) => push_pieces(
+            text,
+            &[
+                Words("a VMID is free: the lowest is "),
+                Number(lowest.number() as u64),
+            ],
+        ),
+        RoomFact::Vmid(None) => text.push_str("a VMID is free: each is a realm's"),
+        RoomFact::Block(order, free) => push_pieces(
+            text,
+            &[
+                Words("an aligned block of order "),
+                Number(order as u64),
+                Words(" is free: "),
+                Number(free as u64),
+                Words(" pages are"),
+            ],
+        ),
     }
 }

@@ -1,5 +1,10 @@
 //! What is asked of what a build has open.
-use std::fmt;
+ghost use Rattle.std.specs.Prelude.{◌≡◌, ◌++◌, OnOk, string_bytes};
+ghost use Rattle.refusal_reasons.specs.Words.{undo_words};
+
+use crate::piece::Piece::{Number, Words};
+use crate::piece::push_pieces;
+use std::alloc::AllocError;
 
 /// What refusals 7 and 8 ask.
 #[derive(Clone, Copy)]
@@ -16,19 +21,21 @@ pub enum UndoFact {
     AboveRests,
 }
 
-impl fmt::Display for UndoFact {
-    ghost use Rattle.std.specs.Prelude.{Some};
-    ghost use Rattle.refusal_reasons.specs.Words.{undo_words};
-
-    ghost output = { λ fact. Some (undo_words fact) };
-
-    fn fmt<W: fmt::Write>(&self, f: &mut fmt::Formatter<W>) -> fmt::Result {
-        match *self {
-            UndoFact::Open(open) => write!(f, "the build has an act open: {open}"),
-            UndoFact::NewestRests => write!(f, "the newest open act made no REC that runs"),
-            UndoFact::AllRest(running) => write!(f, "no REC of the build runs: {running}"),
-            UndoFact::Mark => write!(f, "the build has a mark"),
-            UndoFact::AboveRests => write!(f, "no act above the mark made a REC that runs"),
-        }
+/// Appends what is asked, and behind a colon what is there.
+pub(crate) fn push_undo(text: &mut String, fact: &UndoFact) -> Result<(), AllocError>
+    ensures { OnOk result (string_bytes text.new ≡ string_bytes text.old ++ undo_words fact.now) }
+{
+    match *fact {
+        UndoFact::Open(open) => push_pieces(
+            text,
+            &[Words("the build has an act open: "), Number(open as u64)],
+        ),
+        UndoFact::NewestRests => text.push_str("the newest open act made no REC that runs"),
+        UndoFact::AllRest(running) => push_pieces(
+            text,
+            &[Words("no REC of the build runs: "), Number(running as u64)],
+        ),
+        UndoFact::Mark => text.push_str("the build has a mark"),
+        UndoFact::AboveRests => text.push_str("no act above the mark made a REC that runs"),
     }
 }

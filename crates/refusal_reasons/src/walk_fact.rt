@@ -1,8 +1,13 @@
 //! What is asked of the translation of a realm. RMM 1.0, RTT walk, RTT entry.
-use crate::names::EntryName;
+ghost use Rattle.std.specs.Prelude.{◌≡◌, ◌++◌, OnOk, string_bytes};
+ghost use Rattle.refusal_reasons.specs.Words.{walk_words};
+
+use crate::names::entry_name;
+use crate::piece::Piece::{Number, Words};
+use crate::piece::push_pieces;
 use granule_addr::Gran;
 use realm_model::EntryState;
-use std::fmt;
+use std::alloc::AllocError;
 
 /// What is asked of where a walk ends.
 #[derive(Clone, Copy)]
@@ -19,47 +24,75 @@ pub enum WalkFact {
     Free(u32, u16),
 }
 
-impl fmt::Display for WalkFact {
-    ghost use Rattle.std.specs.Prelude.{Some};
-    ghost use Rattle.refusal_reasons.specs.Words.{walk_words};
-
-    ghost output = { λ fact. Some (walk_words fact) };
-
-    fn fmt<W: fmt::Write>(&self, f: &mut fmt::Formatter<W>) -> fmt::Result {
-        match *self {
-            WalkFact::Walk(ipa, to, ended) => {
-                write!(
-                    f,
-                    "the walk of IPA granule {ipa} ends at level {to}: {ended}"
-                )
-            }
-            WalkFact::Entry(level, wanted, Some(found)) => write!(
-                f,
-                "the entry at level {level} is {}: {}",
-                EntryName(wanted),
-                EntryName(found)
-            ),
-            WalkFact::Entry(level, wanted, None) => {
-                write!(f, "the entry at level {level} is {}", EntryName(wanted))
-            }
-            WalkFact::NoTable(level, Some(found)) => {
-                write!(
-                    f,
-                    "the entry at level {level} is not TABLE: {}",
-                    EntryName(found)
-                )
-            }
-            WalkFact::NoTable(level, None) => write!(f, "the entry at level {level} is not TABLE"),
-            WalkFact::Leads(Some(granule)) => {
-                write!(f, "the entry leads to a page: granule {}", granule.number())
-            }
-            WalkFact::Leads(None) => write!(f, "the entry leads to a page"),
-            WalkFact::Free(ipa, count) => {
-                write!(
-                    f,
-                    "{count} entries from IPA granule {ipa} on are UNASSIGNED"
-                )
-            }
-        }
+/// Appends what is asked, and behind a colon what is there.
+pub(crate) fn push_walk(text: &mut String, fact: &WalkFact) -> Result<(), AllocError>
+    ensures { OnOk result (string_bytes text.new ≡ string_bytes text.old ++ walk_words fact.now) }
+{
+    match *fact {
+        WalkFact::Walk(ipa, to, ended) => push_pieces(
+            text,
+            &[
+                Words("the walk of IPA granule "),
+                Number(ipa as u64),
+                Words(" ends at level "),
+                Number(to as u64),
+                Words(": "),
+                Number(ended as u64),
+            ],
+        ),
+        WalkFact::Entry(level, wanted, Some(found)) => push_pieces(
+            text,
+            &[
+                Words("the entry at level "),
+                Number(level as u64),
+                Words(" is "),
+                Words(entry_name(wanted)),
+                Words(": "),
+                Words(entry_name(found)),
+            ],
+        ),
+        WalkFact::Entry(level, wanted, None) => push_pieces(
+            text,
+            &[
+                Words("the entry at level "),
+                Number(level as u64),
+                Words(" is "),
+                Words(entry_name(wanted)),
+            ],
+        ),
+        WalkFact::NoTable(level, Some(found)) => push_pieces(
+            text,
+            &[
+                Words("the entry at level "),
+                Number(level as u64),
+                Words(" is not TABLE: "),
+                Words(entry_name(found)),
+            ],
+        ),
+        WalkFact::NoTable(level, None) => push_pieces(
+            text,
+            &[
+                Words("the entry at level "),
+                Number(level as u64),
+                Words(" is not TABLE"),
+            ],
+        ),
+        WalkFact::Leads(Some(granule)) => push_pieces(
+            text,
+            &[
+                Words("the entry leads to a page: granule "),
+                Number(granule.number() as u64),
+            ],
+        ),
+        WalkFact::Leads(None) => text.push_str("the entry leads to a page"),
+        WalkFact::Free(ipa, count) => push_pieces(
+            text,
+            &[
+                Number(count as u64),
+                Words(" entries from IPA granule "),
+                Number(ipa as u64),
+                Words(" on are UNASSIGNED"),
+            ],
+        ),
     }
 }
