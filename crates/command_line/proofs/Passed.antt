@@ -1,15 +1,17 @@
--- Words that have no fault: each value that a row holds has passed the parser of its argument. Of a subcommand whose
--- other arguments ask for help or for the version alone.
-use Rattle.std.proofs.Common.{◌≡◌, ℕ, zero, suc, List, [], ◌∷◌, ◌++◌, Bool, true, false, cond, refl, sym, subst, ◌⊎◌, inl, inr, length, drop, arith}
+-- Words that have no fault: each value that a row holds has passed the parser of its argument. Of subcommands whose other arguments
+-- are set by a value too, or ask for help or for the version.
+use Rattle.std.proofs.Common.{◌≡◌, ℕ, zero, suc, List, [], ◌∷◌, ◌++◌, Bool, true, false, cond, refl, sym, subst, ◌∙◌, ◌⊎◌, inl, inr, length, drop, arith}
 use Rattle.std.specs.Prelude.{◌||◌, ◌&&◌, find, fold, Option, Some, None, option_map, is_some, encode_utf8, slice_get}
 use Rattle.std.specs.Option.{option_map_or}
 use Rattle.std.specs.Str.{bytes_eq, chars}
-use Rattle.std.proofs.lemmas.Bool.{cases_Bool, ne_eqb, true≢false}
+use Rattle.std.proofs.lemmas.Bool.{cases_Bool, ne_eqb, true≢false, false≢true}
 use Rattle.std.proofs.lemmas.Option.{same_Some}
+use Rattle.std.proofs.lemmas.Slice.Eq.{bytes_eq-Decides}
 use Rattle.clap.specs.Facts.{parser_of_value, unwrap_or_range}
 use Rattle.clap.specs.Values.{Accepts, read_as, refused_kind, is_request}
 use Rattle.clap.specs.ValueTests.{accepts}
 use Rattle.clap.proofs.ValueTestLemmas.{accepts-Accepts}
+use Rattle.clap.specs.declared.builder.value_parser.Reading.{Reading}
 use Rattle.clap.specs.declared.builder.value_parser.ValueParser.{ValueParser}
 use Rattle.clap.specs.declared.error.kind.ErrorKind.{ErrorKind}
 use Rattle.clap.specs.Kinds.{Kinds, or_else, value_kinds, range_kinds, request_kinds}
@@ -36,13 +38,17 @@ each_append : (P : Row → Type 0) (xs ys : List Row) → Each P xs → Each P y
 each_append P [] ys h k = k
 each_append P (r ∷ rs) ys h k = (h.0, each_append P rs ys h.1 k)
 
--- the values of the row passed the rule's parser, and are read as it says
+-- where the row is the rule's, its values passed the rule's parser, and are read as it says
 abbrev pub IsPassed : Rule → Row → Type 0
-IsPassed a r = (values_fault a r.values ≡ []) × (r.reading ≡ reading_by a)
+IsPassed a r = bytes_eq r.id a.id ≡ true → (values_fault a r.values ≡ []) × (r.reading ≡ reading_by a)
 
--- the rule, or one that asks for help or for the version
+-- another rule that is set by a value
+abbrev pub IsOtherSet : Rule → Rule → Type 0
+IsOtherSet a x = (bytes_eq x.id a.id ≡ false) × (action_of x ≡ action.Set) × (x.defaults ≡ [])
+
+-- the rule, or one that asks for help or for the version, or another that is set by a value
 abbrev pub IsOrAsks : Rule → Rule → Type 0
-IsOrAsks a x = (x ≡ a) ⊎ ((is_request (action_of x) ≡ true) × (x.defaults ≡ []))
+IsOrAsks a x = (x ≡ a) ⊎ (((is_request (action_of x) ≡ true) × (x.defaults ≡ [])) ⊎ IsOtherSet a x)
 
 abbrev pub AreOrAsk : Rule → List Rule → Type 0
 AreOrAsk a [] = Unit {0}
@@ -64,22 +70,34 @@ no_values_fault a (x ∷ xs) ys h k =
     rw both.0 (no_values_fault a xs ys both.1 k)
 
 row_changed : (P : Row → Type 0) (id : Text) (change : Row → List Row) (missing rows : List Row)
-    → ((r : Row) → P r → Each P (change r)) → Each P missing → Each P rows → Each P (at_row id change missing rows)
+    → ((r : Row) → bytes_eq r.id id ≡ true → P r → Each P (change r)) → Each P missing → Each P rows → Each P (at_row id change missing rows)
 row_changed P id change missing [] changed there h = there
-row_changed P id change missing (r ∷ rs) changed there h = elim (bytes_eq r.id id) as (λ b. Each P (cond b (change r ++ rs) (r ∷ at_row id change missing rs))) [
-  | true ↦ each_append P (change r) rs (changed r h.0) h.1
-  | false ↦ (h.0, row_changed P id change missing rs changed there h.1)
-]
+row_changed P id change missing (r ∷ rs) changed there h =
+    elim (bytes_eq r.id id) as (λ b. bytes_eq r.id id ≡ b → Each P (cond b (change r ++ rs) (r ∷ at_row id change missing rs))) [
+      | true ↦ λ here. each_append P (change r) rs (changed r here h.0) h.1
+      | false ↦ λ there_is. (h.0, row_changed P id change missing rs changed there h.1)
+    ] refl
 
 values_added : (a : Rule) (id : Text) (s : ValueSource) (values : List Text) (rows : List Row) → values_fault a values ≡ [] → Each (IsPassed a) rows
     → Each (IsPassed a) (with_values id (reading_by a) s values rows)
 values_added a id s values rows pass h =
     row_changed (IsPassed a) id (more_values s values) _ rows
-    (λ r p. ((no_values_fault a r.values values p.0 pass, p.1), tt))
-    ((pass, refl), tt) h
+    (λ r here p. ((λ own. (no_values_fault a r.values values (p own).0 pass, (p own).1)), tt))
+    ((λ own. (pass, refl)), tt) h
+
+-- a row of an argument is none of another's
+other_row : (a x : Text) (r : Row) → bytes_eq x a ≡ false → bytes_eq r.id x ≡ true → bytes_eq r.id a ≡ true → ⊥
+other_row a x r apart here own = false≢true (sym apart ∙ subst (λ t. bytes_eq t a ≡ true) ((bytes_eq-Decides r.id x).0 here) own)
+
+others_added : (a : Rule) (id : Text) (how : Reading) (s : ValueSource) (values : List Text) (rows : List Row) → bytes_eq id a.id ≡ false → Each (IsPassed a) rows
+    → Each (IsPassed a) (with_values id how s values rows)
+others_added a id how s values rows apart h =
+    row_changed (IsPassed a) id (more_values s values) _ rows
+    (λ r here p. ((λ own. absurd (other_row a.id id r apart here own)), tt))
+    ((λ own. absurd (false≢true (sym apart ∙ own))), tt) h
 
 row_left_out : (P : Row → Type 0) (id : Text) (rows : List Row) → Each P rows → Each P (without id rows)
-row_left_out P id rows h = row_changed P id (λ _. []) [] rows (λ r p. tt) tt h
+row_left_out P id rows h = row_changed P id (λ _. []) [] rows (λ r here p. tt) tt h
 
 set_passed : (a : Rule) (again : Bool) (values : List Text) (rows : List Row) → action_of a ≡ action.Set → use_fault again a values rows ≡ []
     → Each (IsPassed a) rows → Each (IsPassed a) (used a values rows)
@@ -103,7 +121,9 @@ asked_same action.Version a values rows e = refl
 use_passed : (a x : Rule) (again : Bool) (values : List Text) (rows : List Row) → action_of a ≡ action.Set → IsOrAsks a x → use_fault again x values rows ≡ []
     → Each (IsPassed a) rows → Each (IsPassed a) (used x values rows)
 use_passed a x again values rows set (inl is) e h = rw is (set_passed a again values rows set (rw is at e) h)
-use_passed a x again values rows set (inr asks) e h = rw (asked_same (action_of x) x (values_or_missing x values) rows asks.0) h
+use_passed a x again values rows set (inr (inl asks)) e h = rw (asked_same (action_of x) x (values_or_missing x values) rows asks.0) h
+use_passed a x again values rows set (inr (inr other)) e h =
+    rw other.1 (others_added a x.id (reading_by x) _ (values_or_missing x values) (without x.id rows) other.0 (row_left_out (IsPassed a) x.id rows h))
 
 -- ---- the walk over the words
 
@@ -294,13 +314,17 @@ module _ (a : Rule) (set : action_of a ≡ action.Set) (s : Shape) (fits : AreOr
       go true none = p
       go false none = set_default_passed a.defaults rows none p
 
-  default_passed : (x : Rule) (rows : List Row) → IsOrAsks a x → default_fault rows x ≡ [] → Passed rows → Passed (with_default rows x)
-  default_passed x rows (inl is) e p = rw is (own_default_passed rows (rw is at e) p)
-  default_passed x rows (inr asks) e p = go (has_row x.id rows)
+  no_default : (x : Rule) (rows : List Row) → x.defaults ≡ [] → Passed rows → Passed (with_default rows x)
+  no_default x rows none p = go (has_row x.id rows)
     where
       go : (has : Bool) → Passed (cond has rows (default_rows x.id (reading_by x) x.defaults rows))
       go true = p
-      go false = rw asks.1 p
+      go false = rw none p
+
+  default_passed : (x : Rule) (rows : List Row) → IsOrAsks a x → default_fault rows x ≡ [] → Passed rows → Passed (with_default rows x)
+  default_passed x rows (inl is) e p = rw is (own_default_passed rows (rw is at e) p)
+  default_passed x rows (inr (inl asks)) e p = no_default x rows asks.1 p
+  default_passed x rows (inr (inr other)) e p = no_default x rows other.2 p
 
   defaults_passed : (rules : List Rule) (rows : List Row) → AreOrAsk a rules → defaults_fault rows rules ≡ [] → Passed rows → Passed (fold with_default rows rules)
   unfolding defaults_fault
@@ -354,12 +378,12 @@ first_passed a (v ∷ vs) text e is =
     (v, sym (same_Some _ _ is), (none_of_both (value_kinds a.ignore_case (parser_of_value a.parser) v) (values_fault a vs) e).0)
 
 -- the text that is read of such rows
-pub text_passed : (a : Rule) (id : Text) (rows : List Row) (text : Text) → Each (IsPassed a) rows → one_of id rows ≡ Some text
+pub text_passed : (a : Rule) (rows : List Row) (text : Text) → Each (IsPassed a) rows → one_of a.id rows ≡ Some text
     → (t : Text) × (text ≡ read_as (reading_by a) t) × (value_kinds a.ignore_case (parser_of_value a.parser) t ≡ [])
-text_passed a id [] text h is = absurd (cc)
-text_passed a id (r ∷ rs) text h is = elim (cases_Bool (bytes_eq r.id id)) [
-  | inl here ↦ let at : row_text r ≡ Some text = rw here at is in first_passed a r.values text h.0.0 (rw h.0.1 at at)
-  | inr there ↦ text_passed a id rs text h.1 (rw there at is)
+text_passed a [] text h is = absurd (cc)
+text_passed a (r ∷ rs) text h is = elim (cases_Bool (bytes_eq r.id a.id)) [
+  | inl here ↦ let at : row_text r ≡ Some text = rw here at is in first_passed a r.values text (h.0 here).0 (rw ((h.0 here).1) at at)
+  | inr there ↦ text_passed a rs text h.1 (rw there at is)
 ]
 
 accepted_if : (b : Bool) (k : ErrorKind) → (cond b [] (k ∷ [])) ≡ [] → b ≡ true

@@ -56,13 +56,13 @@ built_erase = filled erase_option
 
 pub erase_passed : (words : List Text) → fault_of realmhost words ≡ [] → (rows : List Row) → option_map (λ p. p.1) (subcommand_of realmhost words) ≡ Some rows
     → Each (IsPassed built_erase) rows
-erase_passed words e = values_passed realmhost words e built_erase refl ((inl refl, (inr (refl, refl), tt)), ((inr (refl, refl), tt), tt))
+erase_passed words e = values_passed realmhost words e built_erase refl ((inl refl, (inr (inl (refl, refl)), tt)), ((inr (inl (refl, refl)), tt), tt))
 
 -- a text of such rows is read as a number from 0 to 7
 erase_in_range : (rows : List Row) (text : Text) → Each (IsPassed built_erase) rows → one_of (codes "erase") rows ≡ Some text
     → (t : Text) × (text ≡ without_minus t) × IsSignedIn (pos 0) (pos 7) t
 erase_in_range rows text passed is =
-    let p = text_passed built_erase (codes "erase") rows text passed is in
+    let p = text_passed built_erase rows text passed is in
     (p.0, p.1, accepted false (parser.Signed (pos 0) (pos 7)) p.0 p.2)
 
 pub erase_from : {E : Type 0} (rows : List Row) (o : Option Text) (b : Option ℕ) (gives : List ℕ → Result ℕ E → Type 0)

@@ -8,4 +8,5 @@ pub mod Applied
 pub mod Taking
 pub mod Checked
 pub mod Why
+pub mod Orders
 pub mod Printed

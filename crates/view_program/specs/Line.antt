@@ -1,11 +1,36 @@
 -- What the words ask for, by what `clap` says of their subcommand.
-use Rattle.std.specs.Prelude.{◌≡◌, List, [], codes, Option, Some, None}
-use Rattle.clap.specs.Words.{Row, Text, fault_of, one_of, subcommand_of, subcommand_rows_of}
+use Rattle.std.specs.Prelude.{◌≡◌, ℕ, List, [], codes, Option, Some, None, option_map, unwrap_or, min, Ok}
+use Rattle.std.specs.Str.Parse.{ParsesUnsigned}
+use Rattle.clap.specs.Words.{Row, Text, found_of, rows_of, fault_of, one_of, subcommand_of, subcommand_rows_of}
 use Rattle.clap.specs.declared.parser.matches.ArgMatches.{ArgMatches}
 use Rattle.realmhost_line.specs.Line.{IsErase}
 use Rattle.view_program.specs.Program.{realmview}
+use Rattle.view_program.specs.declared.orders.Orders.{Orders}
+use Rattle.view_program.specs.declared.orders.Orders.TheVariants.{First, Drawn}
 use Rattle.view_program.specs.declared.line.Asked.{Asked}
-use Rattle.view_program.specs.declared.line.Asked.TheVariants.{History, Apply, Json, Page, Why, Check}
+use Rattle.view_program.specs.declared.line.Asked.TheVariants.{History, Apply, Json, Page, Why, Explore, Check}
+
+-- The number of 32 bits that the text is read as, where one is given. `clap` lets no other text through.
+abbrev pub IsNumber : Option Text → Option ℕ → Type 0
+IsNumber None number = number ≡ None
+IsNumber (Some text) None = ⊥
+IsNumber (Some text) (Some number) = ParsesUnsigned {E = Unit {0}} 32 10 text (Ok number)
+
+-- At most a million orders where nothing is said of it. Orders are drawn where it is said how many, or by which seed: a thousand
+-- where a seed is given alone, and by the seed 0 where none is given.
+abbrev pub orders_asked : Option ℕ → Option ℕ → Option ℕ → Orders
+orders_asked most None None = First (unwrap_or most 1000000)
+orders_asked most sample seed = Drawn (min (unwrap_or sample 1000) (unwrap_or most 1000000)) (unwrap_or seed 0)
+
+-- the orders that the options of such rows ask for
+pub record AreAsked (rows : List Row) (orders : Orders) : Type 0 where
+  pub most : Option ℕ
+  pub sample : Option ℕ
+  pub seed : Option ℕ
+  pub is_most : IsNumber (one_of (codes "most") rows) most
+  pub is_sample : IsNumber (one_of (codes "sample") rows) sample
+  pub is_seed : IsNumber (one_of (codes "seed") rows) seed
+  pub asked : orders ≡ orders_asked most sample seed
 
 abbrev pub IsViewSubcommand : Option (Text × List Row) → Asked → Type 0
 IsViewSubcommand None asked = ⊥
@@ -14,7 +39,14 @@ IsViewSubcommand (Some found) (Apply erase) = (found.0 ≡ codes "apply") × IsE
 IsViewSubcommand (Some found) Json = found.0 ≡ codes "json"
 IsViewSubcommand (Some found) Page = found.0 ≡ codes "page"
 IsViewSubcommand (Some found) Why = found.0 ≡ codes "why"
+IsViewSubcommand (Some found) (Explore orders) = (found.0 ≡ codes "explore") × AreAsked found.1 orders
 IsViewSubcommand (Some found) Check = found.0 ≡ codes "check"
+
+-- these are the matches of the subcommand of some words that have no fault
+pub record AreExplored (matches : ArgMatches) : Type 0 where
+  pub words : List Text
+  pub no_fault : fault_of realmview words ≡ []
+  pub rows : option_map (λ p. p.1) (subcommand_of realmview words) ≡ Some (rows_of (found_of matches))
 
 -- these are the matches of some words that have no fault
 pub record IsOfWords (matches : ArgMatches) : Type 0 where

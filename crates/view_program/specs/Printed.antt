@@ -16,10 +16,11 @@ use Rattle.view_program.specs.Json.{IsJsonText}
 use Rattle.view_program.specs.PageData.{IsPageText}
 use Rattle.view_program.specs.Checked.{IsCheckEnd}
 use Rattle.view_program.specs.Why.{IsWhyText}
+use Rattle.view_program.specs.Orders.{IsOrdersText, IsWithoutOrders}
 use Rattle.view_program.specs.declared.checking.Verdict.{Verdict}
 use Rattle.view_program.specs.declared.checking.Verdict.TheVariants.{Done, HasErrors}
 use Rattle.view_program.specs.declared.line.Asked.{Asked}
-use Rattle.view_program.specs.declared.line.Asked.TheVariants.{History, Apply, Json, Page, Why, Check}
+use Rattle.view_program.specs.declared.line.Asked.TheVariants.{History, Apply, Json, Page, Why, Explore, Check}
 use Rattle.view_program.specs.declared.fault.Fault.TheVariants.{Plan, NoOpening, NoEvent, Refused, EraseNamesNoBuild, Memory, Device}
 
 -- the input is a history with this map
@@ -90,4 +91,5 @@ IsRunEnd (Apply erase) unread input old new result = EndsAs (IsApplyEnd erase un
 IsRunEnd Json unread input old new result = EndsAs (IsPlanEnd IsJsonText (IsWithoutText None) unread input old new) result
 IsRunEnd Page unread input old new result = EndsAs (IsPlanEnd IsPageText (IsWithoutText None) unread input old new) result
 IsRunEnd Why unread input old new result = EndsAs (IsPlanEnd IsWhyText (IsWithoutText None) unread input old new) result
+IsRunEnd (Explore orders) unread input old new result = EndsAs (IsPlanEnd (IsOrdersText orders) (IsWithoutOrders orders) unread input old new) result
 IsRunEnd Check unread input old new result = IsCheckEnd unread input old new result

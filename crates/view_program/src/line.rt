@@ -1,11 +1,12 @@
 //! The command line.
 ghost use Rattle.std.specs.Prelude.{◌≡◌, IfOk, false, nat_lt, if◌then◌else◌, Some, None, option_and_then};
-ghost use Rattle.clap.specs.Words.{app_of, rule_of, subcommand_rows_of};
+ghost use Rattle.clap.specs.Words.{app_of, rule_of, found_of, rows_of, subcommand_rows_of};
 ghost use Rattle.clap.specs.declared.builder.command.Command.TheViews.{out-Command as fields_of};
 ghost use Rattle.realmhost_line.specs.Program.{erase_option};
-ghost use Rattle.view_program.specs.Line.{IsOfWords, IsViewSubcommand};
-ghost use Rattle.view_program.specs.Program.{history_subcommand, apply_subcommand, json_subcommand, page_subcommand, why_subcommand, check_subcommand, realmview_alone, realmview};
+ghost use Rattle.view_program.specs.Line.{IsOfWords, AreExplored, AreAsked, IsViewSubcommand};
+ghost use Rattle.view_program.specs.Program.{history_subcommand, apply_subcommand, json_subcommand, page_subcommand, why_subcommand, number_option, explore_subcommand, check_subcommand, realmview_alone, realmview};
 
+use crate::orders::{Orders, orders_asked};
 use clap::{Arg, ArgAction, ArgMatches, Command, Error, value_parser};
 use granule_addr::BuildId;
 use std::alloc::{AllocError, Global};
@@ -25,10 +26,12 @@ pub enum Asked {
     Check,
     /// Write the run of a plan, with the checks of each turn that is refused.
     Why,
+    /// Write what orders of a plan's turns come to.
+    Explore(Orders),
 }
 
 const ABOUT: &str =
-    "Shows plans of realmhost: what is wrong with them, why steps are refused, their histories as text, where a history leads, and their runs as JSON and as pages.";
+    "Shows plans of realmhost: what is wrong with them, why steps are refused, what other orders of their turns come to, their histories as text, where a history leads, and their runs as JSON and as pages.";
 
 const HISTORY: &str =
     "Replays the plan on standard input, and writes its history: the size of the machine, and an event a line";
@@ -60,6 +63,17 @@ const WHY: &str =
     "Replays the plan on standard input, and writes below each turn that is refused its checks, up to the one that fails";
 
 const WHY_EXAMPLE: &str = "Example: realmview why < plans/retry.toml";
+
+const EXPLORE: &str =
+    "Runs the turns of the plan on standard input in each order, and writes how often each step is refused, and the maps in the end";
+
+const EXPLORE_EXAMPLE: &str = "Example: realmview explore < plans/retry.toml";
+
+const MOST: &str = "Runs at most N orders, those of lower builds first [default: 1000000]";
+
+const SAMPLE: &str = "Runs K orders that are drawn at random [default: 1000, where a seed is given]";
+
+const SEED: &str = "Draws orders by the random numbers of the seed S [default: 0]";
 
 const ERASE: &str = "Leaves the events of build B out";
 
@@ -126,6 +140,30 @@ fn why<'a>(alloc: Global) -> Command<'a>
     why.after_help(WHY_EXAMPLE)
 }
 
+// An option with a number of 32 bits.
+fn number<'a>(alloc: Global, name: &'a str, value: &'a str, help: &'a str) -> Arg<'a>
+    ensures rule { rule_of result ≡ number_option name.now }
+    ensures local { result.global ≡ false }
+{
+    Arg::new(alloc, name)
+        .long(name)
+        .value_name(value)
+        .help(help)
+        .action(ArgAction::Set)
+        .value_parser(value_parser!(u32))
+}
+
+fn explore<'a>(alloc: Global) -> Result<Command<'a>, AllocError>
+    ensures { IfOk result (λ c. (app_of c ≡ explore_subcommand) × ((fields_of c).has_globals ≡ false)) }
+{
+    let explore = Command::new(alloc, "explore")
+        .about(EXPLORE)
+        .after_help(EXPLORE_EXAMPLE);
+    let bounded = explore.arg(number(alloc, "most", "N", MOST))?;
+    let sampled = bounded.arg(number(alloc, "sample", "K", SAMPLE))?;
+    sampled.arg(number(alloc, "seed", "S", SEED))
+}
+
 fn program<'a>(alloc: Global) -> Command<'a>
     ensures { app_of result ≡ realmview_alone }
 {
@@ -147,7 +185,9 @@ fn command<'a>(alloc: Global) -> Result<Command<'a>, AllocError>
     let three = both.subcommand(json(alloc))?;
     let four = three.subcommand(page(alloc))?;
     let five = four.subcommand(why(alloc))?;
-    five.subcommand(check(alloc))
+    let explore = explore(alloc)?;
+    let six = five.subcommand(explore)?;
+    six.subcommand(check(alloc))
 }
 
 // The build of a number, if there may be one.
@@ -155,6 +195,18 @@ fn build_of(number: Option<u8>) -> Option<BuildId>
     ensures { result ≡ option_and_then (λ n. if nat_lt n 8 then Some n else None) number }
 {
     BuildId::new(number?)
+}
+
+// The orders that are asked for by the words that clap has matched.
+fn orders_by(explore: &ArgMatches) -> Orders
+    requires { AreExplored explore.now }
+    ensures { AreAsked (rows_of (found_of explore.now)) result }
+{
+    orders_asked(
+        explore.get_one("most"),
+        explore.get_one("sample"),
+        explore.get_one("seed"),
+    )
 }
 
 // What is asked for by the words that clap has matched.
@@ -176,6 +228,9 @@ fn asked_by(matches: &ArgMatches) -> Asked
     }
     if matches.subcommand_matches("why").is_some() {
         return Asked::Why;
+    }
+    if let Some(explore) = matches.subcommand_matches("explore") {
+        return Asked::Explore(orders_by(explore));
     }
     Asked::Check
 }

@@ -2,7 +2,7 @@
 ghost use Rattle.std.specs.Prelude.{◌≡◌, ◌↔◌, ◌⊎◌, false, true};
 ghost use Rattle.view_program.specs.Printed.{IsDeviceFault, IsRunEnd};
 
-use crate::{Asked, Fault, Verdict, apply, check, history, json, page, why};
+use crate::{Asked, Fault, Verdict, apply, check, explore, history, json, page, why};
 use std::alloc::Global;
 use std::io::{Read, Write};
 use told_device::Told;
@@ -25,6 +25,7 @@ pub fn run<R: Read, W: Write>(
         Asked::Json => json(alloc, input, output)?,
         Asked::Page => page(alloc, input, output)?,
         Asked::Check => return check(alloc, input, output),
+        Asked::Explore(orders) => explore(alloc, input, output, orders)?,
         Asked::Why => why(alloc, input, output)?,
     }
     Ok(Verdict::Done)

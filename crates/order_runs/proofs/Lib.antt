@@ -1,0 +1,11 @@
+pub mod Nexts
+pub mod TurnsLeft
+pub mod Chosen
+pub mod GoingOn
+pub mod Tallies
+pub mod Orders
+pub mod AllOrders
+pub mod Runs
+pub mod Counted
+pub mod Smooth
+pub mod Drawing

@@ -1,0 +1,39 @@
+-- Orders of turns: which comes before which, and which there are.
+use Rattle.std.specs.Prelude.{◌≡◌, ℕ, ◌<◌, ◌⊎◌, Bool, true, List, [], ◌∷◌, ◌++◌, Option, Some, None, string_bytes}
+use Rattle.build_books.specs.View.{HostView}
+use Rattle.realm_plan.specs.Plan.{Plan}
+use Rattle.plan_runs.specs.Run.{map_text}
+use Rattle.order_runs.specs.Next.{could, next_of}
+use Rattle.order_runs.specs.Chosen.{lowest_of, IsChosenRun, GoesOn}
+use Rattle.order_runs.specs.Totals.{Visit}
+use Rattle.order_runs.specs.declared.choice.Choice.{Choice}
+
+-- They are the same up to a turn that a lower build has.
+abbrev pub IsBefore : List Choice → List Choice → Type 0
+IsBefore (choice ∷ choices) (other ∷ others) = (choice.build < other.build) ⊎ ((choice ≡ other) × IsBefore choices others)
+IsBefore _ _ = ⊥
+
+-- ---- the orders that are visited
+
+-- The run of an order that begins so, and has the lowest build that has a step left at each further turn; and its map.
+pub record IsVisit (plan : Plan) (host : HostView) (front : List Choice) (visit : Visit) : Type 0 where
+  pub goes_on : GoesOn front visit.choices
+  pub to : HostView
+  pub is_run : IsChosenRun plan host visit.choices to visit.ends
+  pub map : string_bytes visit.map ≡ map_text to
+
+-- The visits of orders, each the next of the one before; the first begins with `front`, and what comes next begins with `rest`.
+abbrev pub AreVisits : Plan → HostView → Option (List Choice) → List Visit → Option (List Choice) → Type 0
+AreVisits plan host front [] rest = rest ≡ front
+AreVisits plan host None (visit ∷ visits) rest = ⊥
+AreVisits plan host (Some front) (visit ∷ visits) rest =
+    IsVisit plan host front visit × AreVisits plan host (next_of visit.choices) visits rest
+
+-- ---- the orders that there are
+
+-- An order where `left` says which builds have a step left behind these turns: each build that has a turn has a step left, and
+-- none has in the end.
+abbrev pub IsOrder : (List ℕ → List Bool) → List ℕ → List Choice → Type 0
+IsOrder left before [] = lowest_of (left before) ≡ None
+IsOrder left before (choice ∷ choices) =
+    (choice.left ≡ left before) × (could choice.left choice.build ≡ true) × IsOrder left (before ++ choice.build ∷ []) choices

@@ -1,0 +1,8 @@
+//! What is chosen at a turn.
+
+/// The build that has a turn, and which builds could have had it: those with a step left.
+#[derive(Clone, Copy, Debug, PartialEq, Eq)]
+pub struct Choice {
+    pub build: usize,
+    pub left: [bool; 8],
+}

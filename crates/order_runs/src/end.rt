@@ -1,0 +1,10 @@
+//! How steps end.
+use build_commands::Refusal;
+
+/// That a build's step is used up, and why it was refused, where it was.
+#[derive(Clone, Copy, Debug, PartialEq, Eq)]
+pub struct StepEnd {
+    pub build: usize,
+    pub step: usize,
+    pub refusal: Option<Refusal>,
+}

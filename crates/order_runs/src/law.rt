@@ -1,0 +1,36 @@
+//! Laws of orders.
+ghost use Rattle.std.specs.Prelude.{◌≡◌, ℕ, Bool, List, [], Option, None, Some, All, AllPairs, Contains, length, map};
+ghost use Rattle.build_books.specs.View.{HostView};
+ghost use Rattle.realm_plan.specs.Plan.{Plan};
+ghost use Rattle.plan_runs.specs.Run.{IsToldRun};
+ghost use Rattle.order_runs.specs.Chosen.{IsChosenRun};
+ghost use Rattle.order_runs.specs.Order.{IsBefore, AreVisits, IsOrder};
+ghost use Rattle.order_runs.specs.Totals.{Visit, order_of};
+ghost use Rattle.order_runs.specs.declared.choice.Choice.{Choice};
+ghost use Rattle.order_runs.specs.declared.end.StepEnd.{StepEnd};
+
+/// A run of an order is a run of the plan that has this order.
+pub fn a_run_is_one_of_the_plan()
+    ensures { (plan : Plan) (host : HostView) (choices : List Choice) (to : HostView) (ends : List StepEnd)
+        → IsChosenRun plan host choices to ends
+        → (text : List ℕ) × IsToldRun (record plan { order = order_of choices }) host to [] text }
+{}
+
+/// Of two orders that are visited one after the other, at once or later, the first is before the second, so none is visited
+/// twice.
+pub fn visited_orders_rise()
+    ensures rise { (plan : Plan) (host : HostView) (front rest : Option (List Choice)) (visits : List Visit)
+        → AreVisits plan host front visits rest
+        → AllPairs (λ (one other : Visit). IsBefore one.choices other.choices) visits }
+    ensures never_twice { (order : List Choice) → IsBefore order order → ⊥ }
+{}
+
+/// Where the first order is the lowest one, and none comes next, every order was visited: whatever says which of eight builds have
+/// a step left behind which turns, if the orders that were visited agree with it, no order that agrees with it is missing.
+pub fn every_order_is_visited()
+    ensures { (plan : Plan) (host : HostView) (visits : List Visit) (left : List ℕ → List Bool)
+        → ((before : List ℕ) → length (left before) ≡ 8)
+        → AreVisits plan host (Some []) visits None
+        → All (λ (visit : Visit). IsOrder left [] visit.choices) visits
+        → (order : List Choice) → IsOrder left [] order → Contains (map (λ (visit : Visit). visit.choices) visits) order }
+{}

@@ -1,0 +1,45 @@
+-- What one more order comes to, and why orders may not be run.
+use Rattle.std.specs.Prelude.{◌≡◌, List, [], ◌∷◌, ◌++◌, length, Option, Some}
+use Rattle.realm_plan.specs.Plan.{Plan}
+use Rattle.realm_program.specs.Replay.{opening_host}
+use Rattle.realm_program.specs.declared.fault.Fault.{Fault}
+use Rattle.realm_program.specs.declared.fault.Fault.TheVariants.{Memory, Mismatch}
+use Rattle.order_runs.specs.Chosen.{CannotBeKept, first_stage}
+use Rattle.order_runs.specs.Order.{IsVisit, AreVisits}
+use Rattle.order_runs.specs.Totals.{Visit, AreTotals}
+use Rattle.order_runs.specs.Drawn.{IsDrawn}
+use Rattle.rand_core.specs.Stream.{Stream}
+use Rattle.order_runs.specs.declared.choice.Choice.{Choice}
+use Rattle.order_runs.specs.declared.totals.Totals.{Totals}
+
+-- The order that begins so was run on a host of its own, had these turns, and is counted.
+pub record IsCounted (plan : Plan) (front choices : List Choice) (old new : Totals) : Type 0 where
+  pub visit : Visit
+  pub choices_are : visit.choices ≡ choices
+  pub is_visit : IsVisit plan (opening_host plan) front visit
+  pub counted : (visits : List Visit) → AreTotals (length plan.builds) visits old → AreTotals (length plan.builds) (visits ++ visit ∷ []) new
+
+-- An order that the stream draws was run on a host of its own, and is counted.
+pub record IsDrawnAndCounted (plan : Plan) (stream after : Stream) (old new : Totals) : Type 0 where
+  pub visit : Visit
+  pub is_drawn : IsDrawn plan (opening_host plan) stream visit after
+  pub counted : (visits : List Visit) → AreTotals (length plan.builds) visits old → AreTotals (length plan.builds) (visits ++ visit ∷ []) new
+
+-- why the order that begins so was not run: allocation failed, or these turns cannot be kept to
+abbrev pub IsNotRun : Plan → List Choice → Fault → Type 0
+IsNotRun plan front Memory = Unit {0}
+IsNotRun plan front Mismatch = CannotBeKept plan (first_stage (opening_host plan)) front
+IsNotRun plan front fault = ⊥
+
+-- Orders were run, and the next one cannot be gone on with as the run before it says.
+pub record IsBroken (plan : Plan) : Type 0 where
+  pub visits : List Visit
+  pub front : List Choice
+  pub are_visits : AreVisits plan (opening_host plan) (Some []) visits (Some front)
+  pub cannot : CannotBeKept plan (first_stage (opening_host plan)) front
+
+-- why the orders of a plan are not run: allocation failed, or a host did not answer the same to the same
+abbrev pub IsNotExplored : Plan → Fault → Type 0
+IsNotExplored plan Memory = Unit {0}
+IsNotExplored plan Mismatch = IsBroken plan
+IsNotExplored plan fault = ⊥

@@ -1,0 +1,105 @@
+//! All orders are run, one after the other.
+ghost use Rattle.std.specs.Prelude.{◌≡◌, ◌-◌, ◌^◌, ◌<◌, OnOk, IfOk, IfErr};
+ghost use Rattle.realm_plan.specs.PlanView.{plan_view};
+ghost use Rattle.realm_program.specs.Replay.{opening_host};
+ghost use Rattle.order_runs.specs.Explored.{IsExplored};
+ghost use Rattle.orders_text.specs.Exploring.{IsCounted, IsDrawnAndCounted, IsNotRun, IsNotExplored};
+ghost use Rattle.order_runs.specs.Drawn.{IsSampled};
+
+use buddy::BuddyArena;
+use order_runs::{Choice, StepEnd, Totals, next_order, run_drawn, run_order};
+use plan_runs::map_text;
+use realm_plan::Plan;
+use realm_program::{Fault, boot};
+use rand_core::Rng;
+use std::alloc::{AllocError, Global};
+
+/// What the orders of a plan come to: all that there are, or the first so many.
+#[derive(Debug, Drop)]
+pub struct Explored {
+    pub totals: Totals,
+    /// Whether there are no more.
+    pub is_whole: bool,
+}
+
+// Runs the order that begins with the choices on a host of its own, and counts it. The choices are then those of the whole order.
+fn visit(
+    alloc: Global,
+    plan: &Plan,
+    choices: &mut Vec<Choice>,
+    ends: &mut Vec<StepEnd>,
+    totals: &mut Totals,
+) -> Result<(), Fault>
+    requires { totals.old.orders < 2 ^ 64 - 1 }
+    ensures ok { OnOk result (IsCounted (plan_view plan.now) choices.old.items choices.new.items totals.old totals.new) }
+    ensures err { IfErr result (IsNotRun (plan_view plan.now) choices.old.items) }
+{
+    let mut host = boot::<BuddyArena>(alloc, plan)?;
+    if !run_order(&mut host, plan, choices, ends)? {
+        return Err(Fault::Mismatch);
+    }
+    let map = map_text(alloc, &host)?;
+    totals.add(alloc, plan.builds.len(), choices, ends, map)?;
+    Ok(())
+}
+
+// Runs an order that is drawn on a host of its own, and counts it.
+fn visit_drawn<R: Rng>(
+    alloc: Global,
+    plan: &Plan,
+    rng: &mut R,
+    choices: &mut Vec<Choice>,
+    ends: &mut Vec<StepEnd>,
+    totals: &mut Totals,
+) -> Result<(), AllocError>
+    requires { totals.old.orders < 2 ^ 64 - 1 }
+    ensures { OnOk result (IsDrawnAndCounted (plan_view plan.now) (R.stream rng.old) (R.stream rng.new) totals.old totals.new) }
+{
+    let mut host = boot::<BuddyArena>(alloc, plan)?;
+    run_drawn(&mut host, plan, rng, choices, ends)?;
+    let map = map_text(alloc, &host)?;
+    totals.add(alloc, plan.builds.len(), choices, ends, map)?;
+    Ok(())
+}
+
+/// Runs so many orders of a plan's turns, each on a host of its own. At each turn the build that has it is drawn of those with a step
+/// left, and an order may come more than once. What the plan says of its order is set aside. At an `Err` allocation failed.
+pub fn sample<R: Rng>(
+    alloc: Global,
+    plan: &Plan,
+    count: u32,
+    rng: &mut R,
+) -> Result<Totals, AllocError>
+    ensures { IfOk result (IsSampled (plan_view plan.now) (opening_host (plan_view plan.now)) (R.stream rng.old) count) }
+{
+    let mut totals = Totals::new(alloc);
+    let mut choices = Vec::new(alloc);
+    let mut ends = Vec::new(alloc);
+    for _ in 0..count {
+        visit_drawn(alloc, plan, rng, &mut choices, &mut ends, &mut totals)?;
+    }
+    Ok(totals)
+}
+
+/// Runs the orders of a plan's turns, from the lowest on, at most so many, each on a host of its own. What the plan says of its
+/// order is set aside.
+///
+/// Errors: Memory, where allocation failed; Mismatch, where an order cannot be gone on with as the run before it says, which no
+/// host does that answers the same to the same.
+pub fn explore(alloc: Global, plan: &Plan, most: u32) -> Result<Explored, Fault>
+    ensures ok { IfOk result (λ it. IsExplored (plan_view plan.now) (opening_host (plan_view plan.now)) most it.totals it.is_whole) }
+    ensures err { IfErr result (IsNotExplored (plan_view plan.now)) }
+{
+    let mut totals = Totals::new(alloc);
+    let mut choices = Vec::new(alloc);
+    let mut ends = Vec::new(alloc);
+    for _ in 0..most {
+        visit(alloc, plan, &mut choices, &mut ends, &mut totals)?;
+        if !next_order(&mut choices) {
+            let is_whole = true;
+            return Ok(Explored { totals, is_whole });
+        }
+    }
+    let is_whole = false;
+    Ok(Explored { totals, is_whole })
+}

@@ -1,0 +1,131 @@
+//! The lines of what orders come to.
+ghost use Rattle.std.specs.Prelude.{◌≡◌, ◌++◌, OnOk, string_bytes};
+ghost use Rattle.realm_plan.specs.PlanView.{plan_view};
+ghost use Rattle.orders_text.specs.Lines.{shown_text, orders_line, drawn_line, end_line, step_lines, smooth_line, smooth_lines, map_lines};
+
+use crate::order::OrderText;
+use build_commands::Refusal;
+use order_runs::{StepEnd, Tally};
+use plan_runs::step_after;
+use plan_steps::{PlanStep, RefusalText, StepText};
+use realm_plan::Plan;
+use std::alloc::AllocError;
+use std::fmt;
+
+/// How a step ended: accepted, or refused.
+#[derive(Clone, Copy)]
+struct EndWords(Option<Refusal>);
+
+impl fmt::Display for EndWords {
+    ghost use Rattle.std.specs.Prelude.{Some};
+    ghost use Rattle.orders_text.specs.Lines.{end_words};
+
+    ghost output = { λ end. Some (end_words end.0) };
+
+    fn fmt<W: fmt::Write>(&self, f: &mut fmt::Formatter<W>) -> fmt::Result {
+        match self.0 {
+            Some(refusal) => write!(f, "no {}", RefusalText(refusal)),
+            None => f.write_str("ok"),
+        }
+    }
+}
+
+/// Appends the line of how many orders there are: so many, or that there are more.
+pub(crate) fn push_count(text: &mut String, orders: u64, is_whole: bool) -> Result<(), AllocError>
+    ensures { OnOk result (string_bytes text.new ≡ string_bytes text.old ++ orders_line orders is_whole) }
+{
+    if is_whole {
+        writeln!(text, "orders {orders}")
+    } else {
+        writeln!(text, "orders more than {orders}")
+    }
+}
+
+/// Appends the line of how many orders were drawn.
+pub(crate) fn push_drawn_count(text: &mut String, orders: u64) -> Result<(), AllocError>
+    ensures { OnOk result (string_bytes text.new ≡ string_bytes text.old ++ drawn_line orders) }
+{
+    writeln!(text, "orders drawn {orders}")
+}
+
+// Appends how many orders show a thing, and the first of them.
+fn push_shown(text: &mut String, count: u64, first: &[usize]) -> Result<(), AllocError>
+    ensures { OnOk result (string_bytes text.new ≡ string_bytes text.old ++ shown_text count first.now) }
+{
+    writeln!(text, " in {count}, {}", OrderText(first))
+}
+
+// Appends the line of how a step of a build ended.
+fn push_end(
+    text: &mut String,
+    step: &PlanStep,
+    tally: &Tally<StepEnd>,
+) -> Result<(), AllocError>
+    ensures { OnOk result (string_bytes text.new ≡ string_bytes text.old ++ end_line step.now tally.now) }
+{
+    let end = tally.thing;
+    let words = EndWords(end.refusal);
+    write!(
+        text,
+        "step {} {} {} = {words}",
+        end.build,
+        end.step,
+        StepText(step)
+    )?;
+    push_shown(text, tally.count, &tally.first)
+}
+
+/// Appends the lines of how a step of a build ended, if the plan has it.
+pub(crate) fn push_step(
+    text: &mut String,
+    plan: &Plan,
+    ends: &[Tally<StepEnd>],
+    build: usize,
+    place: usize,
+) -> Result<(), AllocError>
+    ensures { OnOk result (string_bytes text.new ≡ string_bytes text.old ++ step_lines (plan_view plan.now) ends.now build place) }
+{
+    let Some(step) = step_after(plan, build, place) else {
+        return Ok(());
+    };
+    for tally in ends {
+        if tally.thing.build == build && tally.thing.step == place {
+            push_end(text, step, tally)?;
+        }
+    }
+    Ok(())
+}
+
+// Appends the line of a build that was never refused in some orders.
+fn push_never_refused(text: &mut String, tally: &Tally<usize>) -> Result<(), AllocError>
+    ensures { OnOk result (string_bytes text.new ≡ string_bytes text.old ++ smooth_line tally.now) }
+{
+    let first = OrderText(&tally.first);
+    writeln!(text, "never refused {} in {}, {first}", tally.thing, tally.count)
+}
+
+/// Appends the line of how often a build was never refused.
+pub(crate) fn push_smooth(
+    text: &mut String,
+    smooth: &[Tally<usize>],
+    build: usize,
+) -> Result<(), AllocError>
+    ensures { OnOk result (string_bytes text.new ≡ string_bytes text.old ++ smooth_lines smooth.now build) }
+{
+    for tally in smooth {
+        if tally.thing == build {
+            return push_never_refused(text, tally);
+        }
+    }
+    writeln!(text, "never refused {build} in 0")?;
+    Ok(())
+}
+
+/// Appends the line of a map in the end, and the map.
+pub(crate) fn push_map(text: &mut String, tally: &Tally<String>) -> Result<(), AllocError>
+    ensures { OnOk result (string_bytes text.new ≡ string_bytes text.old ++ map_lines tally.now) }
+{
+    text.push_str("map")?;
+    push_shown(text, tally.count, &tally.first)?;
+    text.push_str(&tally.thing)
+}

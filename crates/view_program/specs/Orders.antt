@@ -1,0 +1,44 @@
+-- What the orders of a plan come to, as text.
+use Rattle.std.specs.Prelude.{◌≡◌, ℕ, Bool, List}
+use Rattle.rand_core.specs.Steps.{stream_of, steps_u64_high}
+use Rattle.rand_core.specs.Stream.{Stream}
+use Rattle.rand_xoshiro.specs.SplitMix64.{splitmix_seed}
+use Rattle.rand_xoshiro.specs.Xoshiro256.{of_seed, plus_plus}
+use Rattle.realm_plan.specs.Plan.{Plan}
+use Rattle.realm_program.specs.Replay.{opening_host}
+use Rattle.realm_program.specs.declared.fault.Fault.{Fault}
+use Rattle.realm_program.specs.declared.fault.Fault.TheVariants.{Memory}
+use Rattle.order_runs.specs.Drawn.{IsSampled}
+use Rattle.order_runs.specs.Explored.{IsExplored}
+use Rattle.order_runs.specs.declared.totals.Totals.{Totals}
+use Rattle.orders_text.specs.Exploring.{IsNotExplored}
+use Rattle.orders_text.specs.Lines.{orders_text, drawn_text}
+use Rattle.view_program.specs.declared.orders.Orders.{Orders}
+use Rattle.view_program.specs.declared.orders.Orders.TheVariants.{First, Drawn}
+
+-- of all orders that there are, from the lowest on, or of the first so many
+pub record IsFirstText (most : ℕ) (plan : Plan) (text : List ℕ) : Type 0 where
+  pub totals : Totals
+  pub is_whole : Bool
+  pub explored : IsExplored plan (opening_host plan) most totals is_whole
+  pub whole : text ≡ orders_text plan totals is_whole
+
+-- the numbers of xoshiro256++ from this seed on
+abbrev pub numbers_of : ℕ → Stream
+numbers_of seed = stream_of (steps_u64_high plus_plus) (of_seed (splitmix_seed 32 seed))
+
+-- of so many orders that are drawn by the numbers of a seed
+pub record IsDrawnText (count seed : ℕ) (plan : Plan) (text : List ℕ) : Type 0 where
+  pub totals : Totals
+  pub sampled : IsSampled plan (opening_host plan) (numbers_of seed) count totals
+  pub whole : text ≡ drawn_text plan totals
+
+abbrev pub IsOrdersText : Orders → Plan → List ℕ → Type 0
+IsOrdersText (First most) plan text = IsFirstText most plan text
+IsOrdersText (Drawn count seed) plan text = IsDrawnText count seed plan text
+
+-- why there is none: allocation failed, or a host did not answer the same to the same
+abbrev pub IsWithoutOrders : Orders → Plan → Fault → Type 0
+IsWithoutOrders (First most) plan fault = IsNotExplored plan fault
+IsWithoutOrders (Drawn count seed) plan Memory = Unit {0}
+IsWithoutOrders (Drawn count seed) plan fault = ⊥

@@ -1,0 +1,98 @@
+//! A plan in, what its orders come to out.
+ghost use Rattle.std.specs.Prelude.{◌≡◌, ◌+◌, ◌≤◌, ◌↔◌, ◌⊎◌, false, true, Err, IfOk, IfErr, string_bytes};
+ghost use Rattle.realm_plan.specs.PlanView.{plan_view};
+ghost use Rattle.realm_program.specs.Printed.{IsEnd};
+ghost use Rattle.realm_program.specs.declared.fault.Fault.TheVariants.{Device};
+ghost use Rattle.orders_text.specs.Exploring.{IsNotExplored};
+ghost use Rattle.orders_text.specs.Lines.{orders_text, drawn_text};
+ghost use Rattle.view_program.specs.Orders.{IsFirstText, IsDrawnText, IsOrdersText, IsWithoutOrders};
+
+use crate::orders::Orders;
+use order_runs::Totals;
+use orders_text::{Explored, explore as run_first, push_drawn, push_orders, sample};
+use rand_core::SeedableRng;
+use rand_xoshiro::Xoshiro256PlusPlus;
+use realm_plan::Plan;
+use realm_program::{Fault, PlanText, print};
+use std::alloc::{AllocError, Global};
+use std::io::{Read, Write};
+use told_device::Told;
+
+// The text of what the first orders come to.
+fn text_of_first(alloc: Global, plan: &Plan, explored: &Explored) -> Result<String, AllocError>
+    ensures { IfOk result (λ text. string_bytes text ≡ orders_text (plan_view plan.now) explored.now.totals explored.now.is_whole) }
+{
+    let mut text = String::new(alloc);
+    push_orders(&mut text, plan, explored)?;
+    Ok(text)
+}
+
+// The text of what orders that are drawn come to.
+fn text_of_drawn(alloc: Global, plan: &Plan, totals: &Totals) -> Result<String, AllocError>
+    ensures { IfOk result (λ text. string_bytes text ≡ drawn_text (plan_view plan.now) totals.now) }
+{
+    let mut text = String::new(alloc);
+    push_drawn(&mut text, plan, totals)?;
+    Ok(text)
+}
+
+// Runs the orders of a plan, at most so many, and tells what they come to.
+fn run_first_of(alloc: Global, plan: &Plan, most: u32) -> Result<String, Fault>
+    ensures ok { IfOk result (λ text. IsFirstText most (plan_view plan.now) (string_bytes text)) }
+    ensures err { IfErr result (IsNotExplored (plan_view plan.now)) }
+{
+    let explored = run_first(alloc, plan, most)?;
+    Ok(text_of_first(alloc, plan, &explored)?)
+}
+
+// Runs so many orders that are drawn by the numbers of a seed, and tells what they come to.
+fn run_drawn_of(alloc: Global, plan: &Plan, count: u32, seed: u32) -> Result<String, AllocError>
+    ensures { IfOk result (λ text. IsDrawnText count seed (plan_view plan.now) (string_bytes text)) }
+{
+    let mut numbers = Xoshiro256PlusPlus::seed_from_u64(seed as u64);
+    let totals = sample(alloc, plan, count, &mut numbers)?;
+    text_of_drawn(alloc, plan, &totals)
+}
+
+// The text of what the orders that are asked for come to.
+fn orders_text_of(alloc: Global, plan: &Plan, orders: Orders) -> Result<String, Fault>
+    ensures ok { IfOk result (λ text. IsOrdersText orders (plan_view plan.now) (string_bytes text)) }
+    ensures err { IfErr result (IsWithoutOrders orders (plan_view plan.now)) }
+{
+    match orders {
+        Orders::First(most) => run_first_of(alloc, plan, most),
+        Orders::Drawn(count, seed) => Ok(run_drawn_of(alloc, plan, count, seed)?),
+    }
+}
+
+impl PlanText for Orders {
+    ghost is_text = { IsOrdersText };
+
+    ghost is_without = { IsWithoutOrders };
+
+    fn text_of(&self, alloc: Global, plan: &Plan) -> Result<Vec<u8>, Fault> {
+        Ok(orders_text_of(alloc, plan, *self)?.into_bytes())
+    }
+}
+
+/// Reads a plan, runs its builds' turns in other orders, and writes how many these are, how each step of each build ended, in how
+/// many orders each build was never refused, and the maps in the end, each with the first order that shows it.
+///
+/// The text is made whole before any of it is written. Errors: the fault of a plan; Memory, where allocation failed; Mismatch,
+/// where a host did not answer the same to the same; Device, where a read failed, and then nothing is written, or a write, and
+/// then a prefix of the text is.
+pub fn explore<R: Read, W: Write>(
+    alloc: Global,
+    input: &mut Told<R>,
+    output: &mut Told<W>,
+    orders: Orders,
+) -> Result<(), Fault>
+    requires readable { input.old.failed ≡ false }
+    requires writable { output.old.failed ≡ false }
+    ensures end { IsEnd (IsOrdersText orders) (IsWithoutOrders orders) input.new.failed
+        (R.remaining input.old.device) (W.contents output.old.device) (W.contents output.new.device) result }
+    ensures device { ((input.new.failed ≡ true) ⊎ (output.new.failed ≡ true)) ↔ (result ≡ Err Device) }
+    ensures asked { input.new.reads ≤ input.old.reads + 1048578 }
+{
+    print(&orders, alloc, input, output)
+}
