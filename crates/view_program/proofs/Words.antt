@@ -77,16 +77,14 @@ built_number name = filled (number_option name)
 
 pub erase_passed : (words : List Text) → fault_of realmview words ≡ [] → (rows : List Row) → option_map (λ p. p.1) (subcommand_of realmview words) ≡ Some rows
     → Each (IsPassed built_erase) rows
-erase_passed words e = values_passed realmview words e built_erase refl (
-  (inl refl, (inr (inl (refl, refl)), tt)),
-  (inl refl, (inr (inl (refl, refl)), tt)),
-  (inr (inl (refl, refl)), tt),
-  (inr (inl (refl, refl)), tt),
-  (inr (inl (refl, refl)), tt),
-  (inr (inr (refl, (refl, refl))), (inr (inr (refl, (refl, refl))), (inr (inr (refl, (refl, refl))), (inr (inl (refl, refl)), tt)))),
-  (inr (inl (refl, refl)), tt),
-  tt,
-)
+erase_passed words e = values_passed realmview words e built_erase refl
+    ((inl refl, (inr (inl (refl, refl)), tt)),
+    ((inl refl, (inr (inl (refl, refl)), tt)),
+    ((inr (inl (refl, refl)), tt),
+    ((inr (inl (refl, refl)), tt),
+    ((inr (inl (refl, refl)), tt),
+    ((inr (inr (refl, refl, refl)), (inr (inr (refl, refl, refl)), (inr (inr (refl, refl, refl)), (inr (inl (refl, refl)), tt)))),
+    ((inr (inl (refl, refl)), tt), tt)))))))
 
 -- ---- numbers of orders
 
@@ -100,42 +98,36 @@ number_passed name set fits words e = values_passed realmview words e (built_num
 -- the options of other subcommands, and those of `explore`, are set by a value; each subcommand has one that asks for help
 pub most_passed : (words : List Text) → fault_of realmview words ≡ [] → (rows : List Row) → option_map (λ p. p.1) (subcommand_of realmview words) ≡ Some rows
     → Each (IsPassed (built_number (codes "most"))) rows
-most_passed = number_passed (codes "most") refl (
-  (inr (inr (refl, (refl, refl))), (inr (inl (refl, refl)), tt)),
-  (inr (inr (refl, (refl, refl))), (inr (inl (refl, refl)), tt)),
-  (inr (inl (refl, refl)), tt),
-  (inr (inl (refl, refl)), tt),
-  (inr (inl (refl, refl)), tt),
-  (inl refl, (inr (inr (refl, (refl, refl))), (inr (inr (refl, (refl, refl))), (inr (inl (refl, refl)), tt)))),
-  (inr (inl (refl, refl)), tt),
-  tt,
-)
+most_passed = number_passed (codes "most") refl
+    ((inr (inr (refl, refl, refl)), (inr (inl (refl, refl)), tt)),
+    ((inr (inr (refl, refl, refl)), (inr (inl (refl, refl)), tt)),
+    ((inr (inl (refl, refl)), tt),
+    ((inr (inl (refl, refl)), tt),
+    ((inr (inl (refl, refl)), tt),
+    ((inl refl, (inr (inr (refl, refl, refl)), (inr (inr (refl, refl, refl)), (inr (inl (refl, refl)), tt)))),
+    ((inr (inl (refl, refl)), tt), tt)))))))
 
 pub sample_passed : (words : List Text) → fault_of realmview words ≡ [] → (rows : List Row) → option_map (λ p. p.1) (subcommand_of realmview words) ≡ Some rows
     → Each (IsPassed (built_number (codes "sample"))) rows
-sample_passed = number_passed (codes "sample") refl (
-  (inr (inr (refl, (refl, refl))), (inr (inl (refl, refl)), tt)),
-  (inr (inr (refl, (refl, refl))), (inr (inl (refl, refl)), tt)),
-  (inr (inl (refl, refl)), tt),
-  (inr (inl (refl, refl)), tt),
-  (inr (inl (refl, refl)), tt),
-  (inr (inr (refl, (refl, refl))), (inl refl, (inr (inr (refl, (refl, refl))), (inr (inl (refl, refl)), tt)))),
-  (inr (inl (refl, refl)), tt),
-  tt,
-)
+sample_passed = number_passed (codes "sample") refl
+    ((inr (inr (refl, refl, refl)), (inr (inl (refl, refl)), tt)),
+    ((inr (inr (refl, refl, refl)), (inr (inl (refl, refl)), tt)),
+    ((inr (inl (refl, refl)), tt),
+    ((inr (inl (refl, refl)), tt),
+    ((inr (inl (refl, refl)), tt),
+    ((inr (inr (refl, refl, refl)), (inl refl, (inr (inr (refl, refl, refl)), (inr (inl (refl, refl)), tt)))),
+    ((inr (inl (refl, refl)), tt), tt)))))))
 
 pub seed_passed : (words : List Text) → fault_of realmview words ≡ [] → (rows : List Row) → option_map (λ p. p.1) (subcommand_of realmview words) ≡ Some rows
     → Each (IsPassed (built_number (codes "seed"))) rows
-seed_passed = number_passed (codes "seed") refl (
-  (inr (inr (refl, (refl, refl))), (inr (inl (refl, refl)), tt)),
-  (inr (inr (refl, (refl, refl))), (inr (inl (refl, refl)), tt)),
-  (inr (inl (refl, refl)), tt),
-  (inr (inl (refl, refl)), tt),
-  (inr (inl (refl, refl)), tt),
-  (inr (inr (refl, (refl, refl))), (inr (inr (refl, (refl, refl))), (inl refl, (inr (inl (refl, refl)), tt)))),
-  (inr (inl (refl, refl)), tt),
-  tt,
-)
+seed_passed = number_passed (codes "seed") refl
+    ((inr (inr (refl, refl, refl)), (inr (inl (refl, refl)), tt)),
+    ((inr (inr (refl, refl, refl)), (inr (inl (refl, refl)), tt)),
+    ((inr (inl (refl, refl)), tt),
+    ((inr (inl (refl, refl)), tt),
+    ((inr (inl (refl, refl)), tt),
+    ((inr (inr (refl, refl, refl)), (inr (inr (refl, refl, refl)), (inl refl, (inr (inl (refl, refl)), tt)))),
+    ((inr (inl (refl, refl)), tt), tt)))))))
 
 -- a text of such rows is read as a number of 32 bits
 number_in_range : (name : Text) → parser_of_value (built_number name).parser ≡ parser.Signed (pos 0) (pos 4294967295) → (rows : List Row) (text : Text)
@@ -177,13 +169,10 @@ module _ (sub : Option (Text × List Row)) (rows : List Row) (b : Option ℕ) wh
           let same_rows : s.1 ≡ rows = cc in
           (same_name, rw same_rows erase)
 
-  pub explore_is_asked : (orders : Orders) → name_in sub ≡ Some (codes "explore") → option_map (λ p. p.1) sub ≡ Some rows → AreAsked rows orders
-      → IsViewSubcommand sub (Explore orders)
-  explore_is_asked orders name found are = asked sub name found
-    where
-      asked : (s : Option (Text × List Row)) → name_in s ≡ Some (codes "explore") → option_map (λ p. p.1) s ≡ Some rows → IsViewSubcommand s (Explore orders)
-      asked None name found = absurd (cc)
-      asked (Some s) name found =
-          let same_name : s.0 ≡ codes "explore" = cc in
-          let same_rows : s.1 ≡ rows = cc in
-          (same_name, rw same_rows are)
+pub explore_is_asked : (sub : Option (Text × List Row)) (rows : List Row) (orders : Orders) → name_in sub ≡ Some (codes "explore") → option_map (λ p. p.1) sub ≡ Some rows
+    → AreAsked rows orders → IsViewSubcommand sub (Explore orders)
+explore_is_asked None rows orders name found are = absurd (cc)
+explore_is_asked (Some s) rows orders name found are =
+    let same_name : s.0 ≡ codes "explore" = cc in
+    let same_rows : s.1 ≡ rows = cc in
+    (same_name, rw same_rows are)

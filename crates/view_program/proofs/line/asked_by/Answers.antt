@@ -33,14 +33,14 @@ pub orders_by-requires : goal.orders_by-requires
 orders_by-requires c = record {
   words = c.requires.words;
   no_fault = c.requires.no_fault;
-  rows = ap (option_map (λ p. p.1)) c.requires.found ∙ c.in-Some-subcommand_matches-6.ensures.rows;
+  rows = ap (option_map (λ p. p.1)) c.requires.found ∙ c.in-Some-subcommand_matches-2.ensures.rows;
 }
 
-pub returns-in-Some-subcommand_matches-6 : goal.returns-in-Some-subcommand_matches-6
-returns-in-Some-subcommand_matches-6 c =
-    let name = sym (name_of_rows c.args.matches.now _ refl) ∙ c.in-Some-subcommand_matches-6.ensures.found.0 refl in
-    explore_is_asked (subcommand_rows_of c.args.matches.now) (rows_of (found_of c.in-Some-subcommand_matches-6.explore.now)) c.orders_by.result name
-    c.in-Some-subcommand_matches-6.ensures.rows c.orders_by.ensures
+pub returns-in-Some-subcommand_matches-2 : goal.returns-in-Some-subcommand_matches-2
+returns-in-Some-subcommand_matches-2 c =
+    let name = sym (name_of_rows c.args.matches.now _ refl) ∙ c.in-Some-subcommand_matches-2.ensures.found.0 refl in
+    explore_is_asked (subcommand_rows_of c.args.matches.now) (rows_of (found_of c.in-Some-subcommand_matches-2.explore.now)) c.orders_by.result name
+    c.in-Some-subcommand_matches-2.ensures.rows c.orders_by.ensures
 
 pub returns : goal.returns
 returns c =
@@ -51,5 +51,5 @@ returns c =
       no_json = λ is. false≢true (sym c.if-is_some.false ∙ (c.is_some.ensures ∙ c.subcommand_matches-3.ensures.found.1 (name ∙ is)));
       no_page = λ is. false≢true (sym c.if-is_some-2.false ∙ (c.is_some-2.ensures ∙ c.subcommand_matches-4.ensures.found.1 (name ∙ is)));
       no_why = λ is. false≢true (sym c.if-is_some-3.false ∙ (c.is_some-3.ensures ∙ c.subcommand_matches-5.ensures.found.1 (name ∙ is)));
-      no_explore = λ is. false≢true (c.in_default-subcommand_matches-6.ensures.found.1 (name ∙ is));
+      no_explore = λ is. false≢true (c.in_default-subcommand_matches-2.ensures.found.1 (name ∙ is));
     }))
