@@ -1,2 +1,3 @@
 pub mod Visits
 pub mod Samples
+pub mod Unseen

@@ -1,11 +1,8 @@
 -- Orders that are drawn, one after the other.
-use Rattle.std.proofs.Common.{◌≡◌, ℕ, ◌+◌, List, [], ◌∷◌, ◌++◌, length, length-append, string_bytes, refl, sym, subst, arith}
-use Rattle.std.specs.declared.alloc.Global.{Global}
-use Rattle.std.specs.declared.string.String.{String}
+use Rattle.std.proofs.Common.{◌≡◌, ℕ, ◌+◌, List, [], ◌∷◌, ◌++◌, length, length-append, refl, subst, arith}
 use Rattle.rand_core.specs.Stream.{Stream}
 use Rattle.build_books.specs.View.{HostView}
 use Rattle.realm_plan.specs.Plan.{Plan}
-use Rattle.plan_runs.specs.Run.{map_text}
 use Rattle.realm_program.specs.Replay.{opening_host}
 use Rattle.order_runs.specs.Chosen.{IsChosenRun}
 use Rattle.order_runs.specs.Drawn.{AreDrawn, IsDrawn, AreSamples, IsSampled}
@@ -13,7 +10,7 @@ use Rattle.order_runs.specs.Totals.{Visit, AreTotals}
 use Rattle.order_runs.specs.declared.choice.Choice.{Choice}
 use Rattle.order_runs.specs.declared.end.StepEnd.{StepEnd}
 use Rattle.order_runs.specs.declared.totals.Totals.{Totals}
-use Rattle.orders_text.specs.Exploring.{IsDrawnAndCounted}
+use Rattle.orders_text.specs.Exploring.{IsAdded, IsDrawnAndCounted}
 
 AreSamples-more :
     (plan : Plan) (host : HostView) (stream : Stream) (visits : List Visit) (now : Stream) (visit : Visit) (after : Stream)
@@ -48,18 +45,15 @@ IsSampled-whole plan stream count now totals is =
 
 -- The run of an order that is drawn, on a fresh host, counted.
 pub IsDrawnAndCounted-run :
-    (plan : Plan) (stream after : Stream) (fresh to : HostView) (choices cs : List Choice) (ends es : List StepEnd) (map_of_it : String Global) (old new : Totals) (n : ℕ)
-    → fresh ≡ opening_host plan → cs ≡ choices → es ≡ ends → n ≡ length plan.builds
+    (plan : Plan) (stream after : Stream) (fresh to : HostView) (choices cs : List Choice) (ends es : List StepEnd) (old new : Totals)
+    → fresh ≡ opening_host plan → cs ≡ choices → es ≡ ends
     → AreDrawn stream choices after × IsChosenRun plan fresh choices to ends
-    → string_bytes map_of_it ≡ map_text to
-    → ((visits : List Visit) → AreTotals n visits old → AreTotals n (visits ++ record { choices = cs; ends = es; map = map_of_it } ∷ []) new)
+    → IsAdded plan to cs es old new
     → IsDrawnAndCounted plan stream after old new
-IsDrawnAndCounted-run plan stream after fresh to choices cs ends es map_of_it old new n opens same_choices same_ends builds is is_map counted =
-    let visit : Visit = record { choices = choices; ends = ends; map = map_of_it } in
-    let same : record { choices = cs; ends = es; map = map_of_it } ≡ visit = (λ i. record { choices = same_choices i; ends = same_ends i; map = map_of_it }) in
+IsDrawnAndCounted-run plan stream after fresh to choices cs ends es old new opens same_choices same_ends is added =
+    let here : IsAdded plan to choices ends old new = subst (λ xs. IsAdded plan to choices xs old new) same_ends (subst (λ xs. IsAdded plan to xs es old new) same_choices added) in
     record {
-      visit = visit;
-      is_drawn = record { are_drawn = is.0; to = to; is_run = subst (λ host. IsChosenRun plan host choices to ends) opens is.1; map = is_map };
-      counted = λ visits are. subst (λ k. AreTotals k (visits ++ visit ∷ []) new) builds
-          (subst (λ v. AreTotals n (visits ++ v ∷ []) new) same (counted visits (subst (λ k. AreTotals k visits old) (sym builds) are)));
+      visit = record { choices = choices; ends = ends; map = here.map };
+      is_drawn = record { are_drawn = is.0; to = to; is_run = subst (λ host. IsChosenRun plan host choices to ends) opens is.1; map = here.is_map };
+      counted = here.counted;
     }

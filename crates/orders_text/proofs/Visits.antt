@@ -8,18 +8,21 @@ use Rattle.realm_plan.specs.Plan.{Plan}
 use Rattle.realm_plan.specs.PlanView.{plan_view}
 use Rattle.realm_plan.specs.declared.plan.Plan as code
 use Rattle.plan_runs.specs.Run.{map_text}
+use Rattle.plan_runs.proofs.Settings.{fresh_like-run}
+use Rattle.realm_host.specs.Recorded.{fresh_like}
 use Rattle.realm_program.specs.Replay.{opening_host}
 use Rattle.realm_program.specs.declared.fault.Fault.{Fault}
 use Rattle.realm_program.specs.declared.fault.Fault.TheVariants.{Plan as IsFaulty, EraseNamesNoBuild, Memory, Stuck, Mismatch, Device}
 use Rattle.order_runs.specs.Next.{next_of}
 use Rattle.order_runs.specs.Chosen.{GoesOn, IsChosenRun}
 use Rattle.order_runs.specs.Order.{IsVisit, AreVisits}
-use Rattle.order_runs.specs.Totals.{Visit, AreTotals}
+use Rattle.order_runs.specs.Totals.{Visit, AreTotals, order_of}
+use Rattle.order_runs.proofs.Runs.{run_of_plan}
 use Rattle.order_runs.specs.Explored.{IsExplored}
 use Rattle.order_runs.specs.declared.choice.Choice.{Choice}
 use Rattle.order_runs.specs.declared.end.StepEnd.{StepEnd}
 use Rattle.order_runs.specs.declared.totals.Totals.{Totals}
-use Rattle.orders_text.specs.Exploring.{IsCounted, IsNotRun, IsNotExplored}
+use Rattle.orders_text.specs.Exploring.{IsAdded, IsCounted, IsNotRun, IsNotExplored}
 
 -- one more
 pub AreVisits-more :
@@ -102,26 +105,43 @@ IsNotExplored-not_run plan count front totals Device so_far is = absurd is
 
 -- ---- one more order
 
+-- a run leaves the settings as they were
+pub opens_same :
+    (plan : Plan) (fresh to : HostView) (choices : List Choice) (ends : List StepEnd)
+    → fresh ≡ opening_host plan → IsChosenRun plan fresh choices to ends → opening_host plan ≡ fresh_like to
+opens_same plan fresh to choices ends opens is =
+    let told = run_of_plan plan fresh choices to ends is in
+    ap fresh_like (sym opens) ∙ fresh_like-run (record plan { order = order_of choices }) fresh to [] told.0 told.1
+
 pub builds_are : (plan : code.Plan) (n : ℕ) → n ≡ vec_len plan.builds → n ≡ length (plan_view plan).builds
 builds_are plan n is = is ∙ plan.builds.ok.0 ∙ sym (length-map plan.builds.items (λ b. b.items))
 
+-- a run with these turns and ends, as the slices have them
+pub IsAdded-run :
+    (plan : Plan) (host : HostView) (choices : List Choice) (ends : List StepEnd) (map_of_it : String Global) (old new : Totals) (n : ℕ)
+    → n ≡ length plan.builds → string_bytes map_of_it ≡ map_text host
+    → ((visits : List Visit) → AreTotals n visits old → AreTotals n (visits ++ record { choices = choices; ends = ends; map = map_of_it } ∷ []) new)
+    → IsAdded plan host choices ends old new
+IsAdded-run plan host choices ends map_of_it old new n builds is_map counted = record {
+  map = map_of_it;
+  is_map = is_map;
+  counted = λ visits are. subst (λ k. AreTotals k (visits ++ record { choices = choices; ends = ends; map = map_of_it } ∷ []) new) builds
+      (counted visits (subst (λ k. AreTotals k visits old) (sym builds) are));
+}
+
 -- The run of an order on a fresh host, counted.
 pub IsCounted-kept :
-    (plan : Plan) (fresh to : HostView) (front choices cs : List Choice) (ends es : List StepEnd) (map_of_it : String Global) (old new : Totals) (n : ℕ) (kept : Bool)
-    (Other : Type 0)
-    → fresh ≡ opening_host plan → cs ≡ choices → es ≡ ends → n ≡ length plan.builds
+    (plan : Plan) (fresh to : HostView) (front choices cs : List Choice) (ends es : List StepEnd) (old new : Totals) (kept : Bool) (Other : Type 0)
+    → fresh ≡ opening_host plan → cs ≡ choices → es ≡ ends
     → MatchBool kept (GoesOn front choices × IsChosenRun plan fresh choices to ends) Other → kept ≡ true
-    → string_bytes map_of_it ≡ map_text to
-    → ((visits : List Visit) → AreTotals n visits old → AreTotals n (visits ++ record { choices = cs; ends = es; map = map_of_it } ∷ []) new)
+    → IsAdded plan to cs es old new
     → IsCounted plan front choices old new
-IsCounted-kept plan fresh to front choices cs ends es map_of_it old new n kept Other opens same_choices same_ends builds match told is_map counted =
+IsCounted-kept plan fresh to front choices cs ends es old new kept Other opens same_choices same_ends match told added =
     let is = subst (λ t. MatchBool t (GoesOn front choices × IsChosenRun plan fresh choices to ends) Other) told match in
-    let visit : Visit = record { choices = choices; ends = ends; map = map_of_it } in
-    let same : record { choices = cs; ends = es; map = map_of_it } ≡ visit = (λ i. record { choices = same_choices i; ends = same_ends i; map = map_of_it }) in
+    let here : IsAdded plan to choices ends old new = subst (λ xs. IsAdded plan to choices xs old new) same_ends (subst (λ xs. IsAdded plan to xs es old new) same_choices added) in
     record {
-      visit = visit;
+      visit = record { choices = choices; ends = ends; map = here.map };
       choices_are = refl;
-      is_visit = record { goes_on = is.0; to = to; is_run = subst (λ host. IsChosenRun plan host choices to ends) opens is.1; map = is_map };
-      counted = λ visits are. subst (λ k. AreTotals k (visits ++ visit ∷ []) new) builds
-          (subst (λ v. AreTotals n (visits ++ v ∷ []) new) same (counted visits (subst (λ k. AreTotals k visits old) (sym builds) are)));
+      is_visit = record { goes_on = is.0; to = to; is_run = subst (λ host. IsChosenRun plan host choices to ends) opens is.1; map = here.is_map };
+      counted = here.counted;
     }

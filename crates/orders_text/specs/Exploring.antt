@@ -1,6 +1,10 @@
 -- What one more order comes to, and why orders may not be run.
-use Rattle.std.specs.Prelude.{◌≡◌, List, [], ◌∷◌, ◌++◌, length, Option, Some}
+use Rattle.std.specs.Prelude.{◌≡◌, List, [], ◌∷◌, ◌++◌, length, Some, string_bytes}
+use Rattle.std.specs.declared.alloc.Global.{Global}
+use Rattle.std.specs.declared.string.String.{String}
+use Rattle.build_books.specs.View.{HostView}
 use Rattle.realm_plan.specs.Plan.{Plan}
+use Rattle.plan_runs.specs.Run.{map_text}
 use Rattle.realm_program.specs.Replay.{opening_host}
 use Rattle.realm_program.specs.declared.fault.Fault.{Fault}
 use Rattle.realm_program.specs.declared.fault.Fault.TheVariants.{Memory, Mismatch}
@@ -10,7 +14,15 @@ use Rattle.order_runs.specs.Totals.{Visit, AreTotals}
 use Rattle.order_runs.specs.Drawn.{IsDrawn}
 use Rattle.rand_core.specs.Stream.{Stream}
 use Rattle.order_runs.specs.declared.choice.Choice.{Choice}
+use Rattle.order_runs.specs.declared.end.StepEnd.{StepEnd}
 use Rattle.order_runs.specs.declared.totals.Totals.{Totals}
+
+-- A run with these turns and ends led to this host, and is counted with its map.
+pub record IsAdded (plan : Plan) (host : HostView) (choices : List Choice) (ends : List StepEnd) (old new : Totals) : Type 0 where
+  pub map : String Global
+  pub is_map : string_bytes map ≡ map_text host
+  pub counted : (visits : List Visit) → AreTotals (length plan.builds) visits old
+      → AreTotals (length plan.builds) (visits ++ record { choices = choices; ends = ends; map = map } ∷ []) new
 
 -- The order that begins so was run on a host of its own, had these turns, and is counted.
 pub record IsCounted (plan : Plan) (front choices : List Choice) (old new : Totals) : Type 0 where

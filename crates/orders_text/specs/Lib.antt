@@ -1,3 +1,4 @@
 pub mod Order
 pub mod Exploring
 pub mod Lines
+pub mod Leaving

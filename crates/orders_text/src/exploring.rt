@@ -2,16 +2,19 @@
 ghost use Rattle.std.specs.Prelude.{◌≡◌, ◌-◌, ◌^◌, ◌<◌, OnOk, IfOk, IfErr};
 ghost use Rattle.realm_plan.specs.PlanView.{plan_view};
 ghost use Rattle.realm_program.specs.Replay.{opening_host};
+ghost use Rattle.realm_host.specs.Recorded.{fresh_like};
 ghost use Rattle.order_runs.specs.Explored.{IsExplored};
-ghost use Rattle.orders_text.specs.Exploring.{IsCounted, IsDrawnAndCounted, IsNotRun, IsNotExplored};
+ghost use Rattle.orders_text.specs.Exploring.{IsAdded, IsCounted, IsDrawnAndCounted, IsNotRun, IsNotExplored};
 ghost use Rattle.order_runs.specs.Drawn.{IsSampled};
 
+use crate::leaving::leave_nothing;
 use buddy::BuddyArena;
 use order_runs::{Choice, StepEnd, Totals, next_order, run_drawn, run_order};
 use plan_runs::map_text;
+use rand_core::Rng;
+use realm_host::Host;
 use realm_plan::Plan;
 use realm_program::{Fault, boot};
-use rand_core::Rng;
 use std::alloc::{AllocError, Global};
 
 /// What the orders of a plan come to: all that there are, or the first so many.
@@ -20,6 +23,28 @@ pub struct Explored {
     pub totals: Totals,
     /// Whether there are no more.
     pub is_whole: bool,
+}
+
+// Counts a run that led to this host. It is tried that no build with nothing open is seen in the map.
+fn count_run(
+    alloc: Global,
+    plan: &Plan,
+    host: Host<BuddyArena>,
+    choices: &[Choice],
+    ends: &[StepEnd],
+    totals: &mut Totals,
+) -> Result<(), AllocError>
+    requires few { totals.old.orders < 2 ^ 64 - 1 }
+    requires opens { opening_host (plan_view plan.now) ≡ fresh_like host }
+    ensures { OnOk result (IsAdded (plan_view plan.now) host choices.now ends.now totals.old totals.new) }
+{
+    let map = map_text(alloc, &host)?;
+    let books = host.into_books();
+    if !leave_nothing(alloc, plan, &books, &map)? {
+        unreachable!()
+    }
+    totals.add(alloc, plan.builds.len(), choices, ends, map)?;
+    Ok(())
 }
 
 // Runs the order that begins with the choices on a host of its own, and counts it. The choices are then those of the whole order.
@@ -38,8 +63,7 @@ fn visit(
     if !run_order(&mut host, plan, choices, ends)? {
         return Err(Fault::Mismatch);
     }
-    let map = map_text(alloc, &host)?;
-    totals.add(alloc, plan.builds.len(), choices, ends, map)?;
+    count_run(alloc, plan, host, choices, ends, totals)?;
     Ok(())
 }
 
@@ -57,8 +81,7 @@ fn visit_drawn<R: Rng>(
 {
     let mut host = boot::<BuddyArena>(alloc, plan)?;
     run_drawn(&mut host, plan, rng, choices, ends)?;
-    let map = map_text(alloc, &host)?;
-    totals.add(alloc, plan.builds.len(), choices, ends, map)?;
+    count_run(alloc, plan, host, choices, ends, totals)?;
     Ok(())
 }
 

@@ -6,6 +6,8 @@
 #![tactic(auto)]
 
 mod exploring;
+pub mod law;
+mod leaving;
 mod lines;
 mod order;
 mod text;

@@ -56,11 +56,7 @@ fn push_shown(text: &mut String, count: u64, first: &[usize]) -> Result<(), Allo
 }
 
 // Appends the line of how a step of a build ended.
-fn push_end(
-    text: &mut String,
-    step: &PlanStep,
-    tally: &Tally<StepEnd>,
-) -> Result<(), AllocError>
+fn push_end(text: &mut String, step: &PlanStep, tally: &Tally<StepEnd>) -> Result<(), AllocError>
     ensures { OnOk result (string_bytes text.new ≡ string_bytes text.old ++ end_line step.now tally.now) }
 {
     let end = tally.thing;
@@ -101,7 +97,11 @@ fn push_never_refused(text: &mut String, tally: &Tally<usize>) -> Result<(), All
     ensures { OnOk result (string_bytes text.new ≡ string_bytes text.old ++ smooth_line tally.now) }
 {
     let first = OrderText(&tally.first);
-    writeln!(text, "never refused {} in {}, {first}", tally.thing, tally.count)
+    writeln!(
+        text,
+        "never refused {} in {}, {first}",
+        tally.thing, tally.count
+    )
 }
 
 /// Appends the line of how often a build was never refused.

@@ -51,11 +51,7 @@ fn push_builds(
 }
 
 // Appends the lines of how often so many builds were never refused.
-fn push_smooths(
-    text: &mut String,
-    smooth: &[Tally<usize>],
-    builds: usize,
-) -> Result<(), AllocError>
+fn push_smooths(text: &mut String, smooth: &[Tally<usize>], builds: usize) -> Result<(), AllocError>
     ensures { OnOk result (string_bytes text.new ≡ string_bytes text.old ++ flat_map (smooth_lines smooth.now) (range_with_len 0 builds)) }
 {
     for build in 0..builds {

@@ -13,6 +13,7 @@ mod lines;
 mod map;
 mod place;
 mod report;
+mod room;
 mod run;
 mod turn;
 
@@ -21,5 +22,6 @@ pub use lines::push_turn;
 pub use map::{map_text, push_map};
 pub use place::Place;
 pub use report::push_report;
+pub use room::text_for;
 pub use run::{run_turns, step_after, take_turn};
 pub use turn::step_turn;

@@ -10,7 +10,7 @@ ghost use Rattle.plan_threads.specs.declared.fault.RunFault.TheVariants.{Memory,
 use crate::fault::RunFault;
 use build_commands::Step;
 use page_arena::PageStore;
-use plan_runs::{push_map, push_report};
+use plan_runs::{push_map, push_report, text_for};
 use realm_host::Host;
 use realm_plan::Plan;
 use report_audit::fit_all;
@@ -44,7 +44,7 @@ fn text_of<S: PageStore>(
 ) -> Result<String, AllocError>
     ensures { IfOk result (λ text. string_bytes text ≡ flat_map (report_lines (plan_view plan.now)) reports.now ++ (map_text host.now ++ audit_line)) }
 {
-    let mut text = String::new(alloc);
+    let mut text = text_for(alloc, plan)?;
     push_reports(&mut text, plan, reports)?;
     push_map(&mut text, host)?;
     text.push_str("audit ok\n")?;

@@ -1,5 +1,5 @@
 //! The whole of an input, as far as a plan may be long.
-ghost use Rattle.std.specs.Prelude.{◌≡◌, ◌+◌, ◌≤◌, ◌↔◌, false, true, IfOk, IfSome, Err};
+ghost use Rattle.std.specs.Prelude.{◌≡◌, ◌+◌, ◌≤◌, ◌↔◌, [], false, true, IfOk, IfSome, Err};
 ghost use Rattle.realm_program.specs.Whole.{kept_of};
 ghost use Rattle.realm_program.specs.declared.input.ReadError.TheVariants.{Device};
 
@@ -22,6 +22,17 @@ pub enum ReadError {
     Device,
 }
 
+// An empty list of bytes, with room for all that is kept, if there is so much: one that grows is copied, and takes the memory of both
+// meanwhile.
+fn room(alloc: Global) -> Vec<u8>
+    ensures { result.items ≡ [] }
+{
+    match Vec::with_capacity(alloc, KEPT) {
+        Ok(bytes) => bytes,
+        Err(_) => Vec::new(alloc),
+    }
+}
+
 /// All that the reader gives, or its first 1,048,577 bytes where there are more.
 ///
 /// `Device` is given where a read failed, and `Memory` only where allocation failed.
@@ -32,7 +43,7 @@ pub fn read_whole<R: Read>(alloc: Global, input: &mut Told<R>) -> Result<Vec<u8>
     ensures not_lowered { input.old.reads ≤ input.new.reads }
     ensures bytes { IfOk result (λ v. IfSome (R.remaining input.old.device) (λ xs. v.items ≡ kept_of xs)) }
 {
-    let mut bytes = Vec::new(alloc);
+    let mut bytes = room(alloc);
     let mut buf = [0u8; 4096];
     for _ in 0..MOST_READS {
         let room = (KEPT - bytes.len()).min(buf.len());

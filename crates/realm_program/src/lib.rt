@@ -19,4 +19,4 @@ pub use fault::Fault;
 pub use input::{ReadError, read_whole};
 pub use printing::{PlanText, print};
 pub use source::plan_in;
-pub use text::{replay, text_of};
+pub use text::{map_without, replay, text_of};

@@ -14,7 +14,7 @@ use crate::fault::Fault;
 use crate::printing::{PlanText, print};
 use buddy::BuddyArena;
 use granule_addr::BuildId;
-use plan_runs::{map_text, push_map, run_turns};
+use plan_runs::{map_text, push_map, run_turns, text_for};
 use realm_host::{Books, Host, apply_without};
 use realm_plan::Plan;
 use std::alloc::{AllocError, Global};
@@ -43,7 +43,7 @@ fn push_text<S: Built>(alloc: Global, plan: &Plan, text: &mut String) -> Result<
 pub fn text_of<S: Built>(alloc: Global, plan: &Plan) -> Result<String, AllocError>
     ensures { IfOk result (λ text. IsText (plan_view plan.now) (string_bytes text)) }
 {
-    let mut text = String::new(alloc);
+    let mut text = text_for(alloc, plan)?;
     push_text::<S>(alloc, plan, &mut text)?;
     Ok(text)
 }
@@ -52,13 +52,14 @@ pub fn text_of<S: Built>(alloc: Global, plan: &Plan) -> Result<String, AllocErro
 fn books_of(alloc: Global, plan: &Plan) -> Result<Books, AllocError>
     ensures { IfOk result (RunLeadsTo (plan_view plan.now)) }
 {
-    let mut lines = String::new(alloc);
+    let mut lines = text_for(alloc, plan)?;
     let host = run_plan::<BuddyArena>(alloc, plan, &mut lines)?;
     Ok(host.into_books())
 }
 
-// The map of a host's history without the build's events: it is applied to a fresh host of the plan.
-fn map_without(
+/// The map of a host's history without the build's events: it is applied to a fresh host of the plan. The one error is that
+/// allocation failed.
+pub fn map_without(
     alloc: Global,
     plan: &Plan,
     books: &Books,

@@ -77,14 +77,25 @@ built_number name = filled (number_option name)
 
 pub erase_passed : (words : List Text) → fault_of realmview words ≡ [] → (rows : List Row) → option_map (λ p. p.1) (subcommand_of realmview words) ≡ Some rows
     → Each (IsPassed built_erase) rows
-erase_passed words e = values_passed realmview words e built_erase refl
-    ((inl refl, (inr (inl (refl, refl)), tt)),
-    ((inl refl, (inr (inl (refl, refl)), tt)),
-    ((inr (inl (refl, refl)), tt),
-    ((inr (inl (refl, refl)), tt),
-    ((inr (inl (refl, refl)), tt),
-    ((inr (inr (refl, refl, refl)), (inr (inr (refl, refl, refl)), (inr (inr (refl, refl, refl)), (inr (inl (refl, refl)), tt)))),
-    ((inr (inl (refl, refl)), tt), tt)))))))
+erase_passed words e = values_passed realmview words e built_erase refl (
+  (inl refl, (inr (inl (refl, refl)), tt)),
+  (
+    (inl refl, (inr (inl (refl, refl)), tt)),
+    (
+      (inr (inl (refl, refl)), tt),
+      (
+        (inr (inl (refl, refl)), tt),
+        (
+          (inr (inl (refl, refl)), tt),
+          (
+            (inr (inr (refl, refl, refl)), (inr (inr (refl, refl, refl)), (inr (inr (refl, refl, refl)), (inr (inl (refl, refl)), tt)))),
+            ((inr (inl (refl, refl)), tt), tt),
+          ),
+        ),
+      ),
+    ),
+  ),
+)
 
 -- ---- numbers of orders
 
@@ -98,36 +109,69 @@ number_passed name set fits words e = values_passed realmview words e (built_num
 -- the options of other subcommands, and those of `explore`, are set by a value; each subcommand has one that asks for help
 pub most_passed : (words : List Text) → fault_of realmview words ≡ [] → (rows : List Row) → option_map (λ p. p.1) (subcommand_of realmview words) ≡ Some rows
     → Each (IsPassed (built_number (codes "most"))) rows
-most_passed = number_passed (codes "most") refl
-    ((inr (inr (refl, refl, refl)), (inr (inl (refl, refl)), tt)),
-    ((inr (inr (refl, refl, refl)), (inr (inl (refl, refl)), tt)),
-    ((inr (inl (refl, refl)), tt),
-    ((inr (inl (refl, refl)), tt),
-    ((inr (inl (refl, refl)), tt),
-    ((inl refl, (inr (inr (refl, refl, refl)), (inr (inr (refl, refl, refl)), (inr (inl (refl, refl)), tt)))),
-    ((inr (inl (refl, refl)), tt), tt)))))))
+most_passed = number_passed (codes "most") refl (
+  (inr (inr (refl, refl, refl)), (inr (inl (refl, refl)), tt)),
+  (
+    (inr (inr (refl, refl, refl)), (inr (inl (refl, refl)), tt)),
+    (
+      (inr (inl (refl, refl)), tt),
+      (
+        (inr (inl (refl, refl)), tt),
+        (
+          (inr (inl (refl, refl)), tt),
+          (
+            (inl refl, (inr (inr (refl, refl, refl)), (inr (inr (refl, refl, refl)), (inr (inl (refl, refl)), tt)))),
+            ((inr (inl (refl, refl)), tt), tt),
+          ),
+        ),
+      ),
+    ),
+  ),
+)
 
 pub sample_passed : (words : List Text) → fault_of realmview words ≡ [] → (rows : List Row) → option_map (λ p. p.1) (subcommand_of realmview words) ≡ Some rows
     → Each (IsPassed (built_number (codes "sample"))) rows
-sample_passed = number_passed (codes "sample") refl
-    ((inr (inr (refl, refl, refl)), (inr (inl (refl, refl)), tt)),
-    ((inr (inr (refl, refl, refl)), (inr (inl (refl, refl)), tt)),
-    ((inr (inl (refl, refl)), tt),
-    ((inr (inl (refl, refl)), tt),
-    ((inr (inl (refl, refl)), tt),
-    ((inr (inr (refl, refl, refl)), (inl refl, (inr (inr (refl, refl, refl)), (inr (inl (refl, refl)), tt)))),
-    ((inr (inl (refl, refl)), tt), tt)))))))
+sample_passed = number_passed (codes "sample") refl (
+  (inr (inr (refl, refl, refl)), (inr (inl (refl, refl)), tt)),
+  (
+    (inr (inr (refl, refl, refl)), (inr (inl (refl, refl)), tt)),
+    (
+      (inr (inl (refl, refl)), tt),
+      (
+        (inr (inl (refl, refl)), tt),
+        (
+          (inr (inl (refl, refl)), tt),
+          (
+            (inr (inr (refl, refl, refl)), (inl refl, (inr (inr (refl, refl, refl)), (inr (inl (refl, refl)), tt)))),
+            ((inr (inl (refl, refl)), tt), tt),
+          ),
+        ),
+      ),
+    ),
+  ),
+)
 
 pub seed_passed : (words : List Text) → fault_of realmview words ≡ [] → (rows : List Row) → option_map (λ p. p.1) (subcommand_of realmview words) ≡ Some rows
     → Each (IsPassed (built_number (codes "seed"))) rows
-seed_passed = number_passed (codes "seed") refl
-    ((inr (inr (refl, refl, refl)), (inr (inl (refl, refl)), tt)),
-    ((inr (inr (refl, refl, refl)), (inr (inl (refl, refl)), tt)),
-    ((inr (inl (refl, refl)), tt),
-    ((inr (inl (refl, refl)), tt),
-    ((inr (inl (refl, refl)), tt),
-    ((inr (inr (refl, refl, refl)), (inr (inr (refl, refl, refl)), (inl refl, (inr (inl (refl, refl)), tt)))),
-    ((inr (inl (refl, refl)), tt), tt)))))))
+seed_passed = number_passed (codes "seed") refl (
+  (inr (inr (refl, refl, refl)), (inr (inl (refl, refl)), tt)),
+  (
+    (inr (inr (refl, refl, refl)), (inr (inl (refl, refl)), tt)),
+    (
+      (inr (inl (refl, refl)), tt),
+      (
+        (inr (inl (refl, refl)), tt),
+        (
+          (inr (inl (refl, refl)), tt),
+          (
+            (inr (inr (refl, refl, refl)), (inr (inr (refl, refl, refl)), (inl refl, (inr (inl (refl, refl)), tt)))),
+            ((inr (inl (refl, refl)), tt), tt),
+          ),
+        ),
+      ),
+    ),
+  ),
+)
 
 -- a text of such rows is read as a number of 32 bits
 number_in_range : (name : Text) → parser_of_value (built_number name).parser ≡ parser.Signed (pos 0) (pos 4294967295) → (rows : List Row) (text : Text)

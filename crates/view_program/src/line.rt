@@ -71,7 +71,8 @@ const EXPLORE_EXAMPLE: &str = "Example: realmview explore < plans/retry.toml";
 
 const MOST: &str = "Runs at most N orders, those of lower builds first [default: 1000000]";
 
-const SAMPLE: &str = "Runs K orders that are drawn at random [default: 1000, where a seed is given]";
+const SAMPLE: &str =
+    "Runs K orders that are drawn at random [default: 1000, where a seed is given]";
 
 const SEED: &str = "Draws orders by the random numbers of the seed S [default: 0]";
 

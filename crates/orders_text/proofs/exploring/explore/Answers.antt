@@ -1,4 +1,4 @@
-use Rattle.std.proofs.Common.{Err, ◌≡◌, ◌∙◌, true, ap, sym, subst}
+use Rattle.std.proofs.Common.{Err, ◌∙◌, ap, sym, subst}
 use Rattle.std.specs.Prelude.{IfErr}
 use Rattle.std.proofs.lemmas.Result.{err_from_is_err_and}
 use Rattle.realm_plan.specs.PlanView.{plan_view}

@@ -1,4 +1,3 @@
-use Rattle.std.proofs.Common.{◌≡◌}
 use Rattle.realm_plan.specs.PlanView.{plan_view}
 use Rattle.orders_text.proofs.Visits.{IsSoFar}
 use Rattle.orders_text.proofs.exploring.explore.Given as goal

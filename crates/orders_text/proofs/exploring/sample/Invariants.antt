@@ -1,4 +1,3 @@
-use Rattle.std.proofs.Common.{◌≡◌}
 use Rattle.realm_plan.specs.PlanView.{plan_view}
 use Rattle.orders_text.proofs.Samples.{IsSampling}
 use Rattle.orders_text.proofs.exploring.sample.Given as goal

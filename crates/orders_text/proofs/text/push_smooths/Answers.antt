@@ -1,5 +1,4 @@
 use Rattle.std.proofs.Common.{string_bytes, refl}
-use Rattle.realm_plan.specs.PlanView.{plan_view}
 use Rattle.plan_runs.proofs.MapLines.{lines_more}
 use Rattle.orders_text.specs.Lines.{smooth_lines}
 use Rattle.orders_text.proofs.text.push_smooths.Goals as goal

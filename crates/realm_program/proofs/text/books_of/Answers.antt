@@ -11,5 +11,5 @@ returns c =
     let lines = string_bytes c.run_plan.new.lines in
     subst (λ (last : HostView). RunLeadsTo plan last) (sym c.into_books.ensures) (record {
       lines = lines;
-      run = subst (λ (old : List ℕ). IsToldRun plan (opening_host plan) c.in_ok-host.host old lines) c.new-lines.ensures.bytes c.in_ok-host.ensures;
+      run = subst (λ (old : List ℕ). IsToldRun plan (opening_host plan) c.in_ok-host.host old lines) c.in_ok-lines.ensures c.in_ok-host.ensures;
     })
