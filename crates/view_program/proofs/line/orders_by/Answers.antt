@@ -1,6 +1,6 @@
-use Rattle.std.proofs.Common.{◌∙◌, ◌≡◌, ℕ, List, Option, None, refl, codes}
+use Rattle.std.proofs.Common.{◌∙◌, refl, codes}
 use Rattle.std.specs.Str.Parse.{ParsesUnsigned, ExplainsUnsignedError, HasUnsignedDigitsIfOk}
-use Rattle.clap.specs.Words.{Row, Text, found_of, rows_of, one_of}
+use Rattle.clap.specs.Words.{found_of, rows_of}
 use Rattle.clap.proofs.WalkLemmas.{one_text-rows}
 use Rattle.view_program.proofs.Words.{most_passed, sample_passed, seed_passed, number_from}
 use Rattle.view_program.proofs.line.orders_by.Goals as goal

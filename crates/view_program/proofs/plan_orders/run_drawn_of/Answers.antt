@@ -1,11 +1,10 @@
-use Rattle.std.proofs.Common.{string_bytes, subst, ap}
+use Rattle.std.proofs.Common.{subst}
 use Rattle.std.proofs.lemmas.Result.{IfOk-weaker}
 use Rattle.realm_plan.specs.PlanView.{plan_view}
 use Rattle.rand_core.specs.Steps.{stream_of, steps_u64_high}
 use Rattle.rand_xoshiro.specs.Xoshiro256.{plus_plus}
 use Rattle.realm_program.specs.Replay.{opening_host}
 use Rattle.order_runs.specs.Drawn.{IsSampled}
-use Rattle.view_program.specs.Orders.{IsDrawnText}
 use Rattle.view_program.proofs.plan_orders.run_drawn_of.Goals as goal
 
 pub returns : goal.returns
