@@ -6,7 +6,7 @@ use Rattle.std.proofs.lemmas.List.FromFn.{get_or-map-range_with_len}
 use Rattle.realm_plan.specs.Plan.{Plan}
 use Rattle.plan_runs.specs.declared.place.Place.{Place}
 use Rattle.order_runs.specs.Next.{could}
-use Rattle.order_runs.specs.Chosen.{has_left, builds_left, lowest_of, IsOpen, Stage, IsStep, AreChosen, CannotBeKept}
+use Rattle.order_runs.specs.Chosen.{has_left, builds_left, lowest_of, IsOpen, Stage, IsStageTurn, AreChosen, CannotBeKept}
 use Rattle.order_runs.specs.declared.choice.Choice.{Choice}
 
 -- ---- what can be chosen
@@ -43,10 +43,10 @@ open_inside plan places choice is = (could_is plan places choice.left choice.bui
 
 pub AreChosen-more :
     (plan : Plan) (from : Stage) (front : List Choice) (at : Stage) (choice : Choice) (to : Stage)
-    → AreChosen plan from front at → IsOpen plan at.at.places choice → IsStep plan at choice.build to
+    → AreChosen plan from front at → IsOpen plan at.at.places choice → IsStageTurn plan at choice.build to
     → AreChosen plan from (front ++ choice ∷ []) to
 AreChosen-more plan from [] at choice to is can step =
-    (subst (λ (s : Stage). IsOpen plan s.at.places choice) is can, to, subst (λ s. IsStep plan s choice.build to) is step, refl)
+    (subst (λ (s : Stage). IsOpen plan s.at.places choice) is can, to, subst (λ s. IsStageTurn plan s choice.build to) is step, refl)
 AreChosen-more plan from (first ∷ front) at choice to is can step =
     (is.0, is.1, is.2, AreChosen-more plan is.1 front at choice to is.3 can step)
 
@@ -62,7 +62,7 @@ AreChosen-append plan from (first ∷ front) at more to is rest = (is.0, is.1, i
 pub AreChosen-next :
     (plan : Plan) (from : Stage) (choices : List Choice) (i : ℕ) (at : Stage) (d : Choice) (to : Stage)
     → i < length choices → AreChosen plan from (take i choices) at
-    → IsOpen plan at.at.places (get_or choices i d) → IsStep plan at (get_or choices i d).build to
+    → IsOpen plan at.at.places (get_or choices i d) → IsStageTurn plan at (get_or choices i d).build to
     → AreChosen plan from (take (i + 1) choices) to
 AreChosen-next plan from choices i at d to inside is can step =
     subst (λ cs. AreChosen plan from cs to) (sym (take_more choices i d inside)) (AreChosen-more plan from (take i choices) at (get_or choices i d) to is can step)

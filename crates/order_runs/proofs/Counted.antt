@@ -8,7 +8,7 @@ use Rattle.std.proofs.Math.Seq.{take-append_seam}
 use Rattle.std.proofs.lemmas.List.{map-append}
 use Rattle.std.proofs.lemmas.List.Folds.{list_any-append}
 use Rattle.std.proofs.lemmas.List.Sums.{sum_by-append}
-use Rattle.order_runs.specs.Tally.{Seen, Counted, is_shown, firsts, times, counted, counted_of, bump, is_known}
+use Rattle.order_runs.specs.Tally.{Sighting, Counted, is_shown, firsts, times, counted, counted_of, bump, is_known}
 use Rattle.order_runs.specs.declared.tally.Tally.{Tally}
 
 list_any_map : {X Y : Type 0} (p : Y → Bool) (f : X → Y) (xs : List X) → list_any p (map f xs) ≡ list_any (λ x. p (f x)) xs
@@ -35,7 +35,7 @@ module _ {K : Type 0} (same : K → K → Bool) where
   -- ---- what is first
 
   firsts-push :
-      (earlier seen : List (Seen K)) (s : Seen K)
+      (earlier seen : List (Sighting K)) (s : Sighting K)
       → firsts same earlier (seen ++ s ∷ []) ≡ firsts same earlier seen ++ (if is_shown same (earlier ++ seen) s.thing then [] else s ∷ [])
   firsts-push earlier [] s =
       append-nil (if is_shown same earlier s.thing then [] else s ∷ []) ∙ ap (λ es. if is_shown same es s.thing then [] else s ∷ []) (sym (append-nil earlier))
@@ -47,18 +47,18 @@ module _ {K : Type 0} (same : K → K → Bool) where
 
   module _ (equal : IsEquivalence same) where
     -- what is the same as a thing is shown where the thing is
-    shown_alike : (x y : K) → same x y ≡ true → (earlier : List (Seen K)) → is_shown same earlier x ≡ is_shown same earlier y
+    shown_alike : (x y : K) → same x y ≡ true → (earlier : List (Sighting K)) → is_shown same earlier x ≡ is_shown same earlier y
     shown_alike x y is [] = refl
     shown_alike x y is (e ∷ earlier) =
         λ i. (equal.symm e.thing x ∙ equal.congr x y e.thing is ∙ equal.symm y e.thing) i || shown_alike x y is earlier i
 
-    shown_later : (earlier : List (Seen K)) (t : Seen K) (thing : K) → is_shown same earlier thing ≡ false → same t.thing thing ≡ false → is_shown same (earlier ++ t ∷ []) thing ≡ false
+    shown_later : (earlier : List (Sighting K)) (t : Sighting K) (thing : K) → is_shown same earlier thing ≡ false → same t.thing thing ≡ false → is_shown same (earlier ++ t ∷ []) thing ≡ false
     shown_later earlier t thing unseen other =
         list_any-append (λ s. same s.thing thing) earlier (t ∷ []) ∙ or_falses (is_shown same earlier thing) (same t.thing thing || false) unseen
         (or_falses (same t.thing thing) false other refl)
 
     firsts_step :
-        (earlier : List (Seen K)) (t : Seen K) (seen : List (Seen K)) (thing : K) (shown alike : Bool)
+        (earlier : List (Sighting K)) (t : Sighting K) (seen : List (Sighting K)) (thing : K) (shown alike : Bool)
         → (is_shown same (earlier ++ t ∷ []) thing ≡ false → is_shown same (firsts same (earlier ++ t ∷ []) seen) thing ≡ is_shown same seen thing)
         → is_shown same earlier t.thing ≡ shown → same t.thing thing ≡ alike → is_shown same earlier thing ≡ false
         → is_shown same ((if shown then [] else t ∷ []) ++ firsts same (earlier ++ t ∷ []) seen) thing ≡ (alike || is_shown same seen thing)
@@ -70,7 +70,7 @@ module _ {K : Type 0} (same : K → K → Bool) where
 
     -- Among the firsts is each thing that is shown.
     firsts_shown :
-        (earlier seen : List (Seen K)) (thing : K)
+        (earlier seen : List (Sighting K)) (thing : K)
         → is_shown same earlier thing ≡ false
         → is_shown same (firsts same earlier seen) thing ≡ is_shown same seen thing
     firsts_shown earlier [] thing unseen = refl
@@ -79,7 +79,7 @@ module _ {K : Type 0} (same : K → K → Bool) where
 
     -- ---- how often
 
-    unseen_times : (seen : List (Seen K)) (thing : K) → is_shown same seen thing ≡ false → count_by (λ s. same thing s.thing) seen ≡ 0
+    unseen_times : (seen : List (Sighting K)) (thing : K) → is_shown same seen thing ≡ false → count_by (λ s. same thing s.thing) seen ≡ 0
     unseen_times [] thing unseen = refl
     unseen_times (s ∷ seen) thing unseen =
         let parts = or_false (same s.thing thing) (is_shown same seen thing) unseen in
@@ -87,7 +87,7 @@ module _ {K : Type 0} (same : K → K → Bool) where
         let rest = unseen_times seen thing parts.1 in
         sum_by-append (λ x. cond (same thing x.thing) 1 0) (s ∷ []) seen ∙ ap (λ b. 0 + cond b 1 0 + count_by (λ x. same thing x.thing) seen) none ∙ omega arith
 
-    times-push : (seen : List (Seen K)) (s : Seen K) (thing : K) → times same (seen ++ s ∷ []) thing
+    times-push : (seen : List (Sighting K)) (s : Sighting K) (thing : K) → times same (seen ++ s ∷ []) thing
         ≡ (if same thing s.thing then min (times same seen thing + 1) (2 ^ 64 - 1) else times same seen thing)
     times-push seen s thing =
         ap (λ n. min n (2 ^ 64 - 1)) (sum_by-append (λ x. cond (same thing x.thing) 1 0) seen (s ∷ []))
@@ -97,10 +97,10 @@ module _ {K : Type 0} (same : K → K → Bool) where
           | false ↦ omega arith
         ]
 
-    counted_at : List (Seen K) → Seen K → Counted K
+    counted_at : List (Sighting K) → Sighting K → Counted K
     counted_at seen s = record { thing = s.thing; count = times same seen s.thing; first = s.order }
 
-    one : (seen : List (Seen K)) (s : Seen K) (shown : Bool) → is_shown same seen s.thing ≡ shown
+    one : (seen : List (Sighting K)) (s : Sighting K) (shown : Bool) → is_shown same seen s.thing ≡ shown
         → map (counted_at (seen ++ s ∷ [])) (if shown then [] else s ∷ []) ≡ (if shown then [] else record { thing = s.thing; count = 1; first = s.order } ∷ [])
     unfolding counted_at
     one seen s true is = refl
@@ -111,7 +111,7 @@ module _ {K : Type 0} (same : K → K → Bool) where
         λ i. record { thing = s.thing; count = once i; first = s.order } ∷ []
 
     pub counted-push :
-        (seen : List (Seen K)) (s : Seen K)
+        (seen : List (Sighting K)) (s : Sighting K)
         → counted same (seen ++ s ∷ []) ≡ map (bump same s.thing) (counted same seen) ++
         (if is_shown same seen s.thing then [] else record { thing = s.thing; count = 1; first = s.order } ∷ [])
     unfolding counted counted_at
@@ -124,7 +124,7 @@ module _ {K : Type 0} (same : K → K → Bool) where
         ++ one seen s (is_shown same seen s.thing) refl i)
 
     pub known_is :
-        (tallies : List (Tally K)) (seen : List (Seen K)) (thing : K) → map counted_of tallies ≡ counted same seen → is_known same thing tallies ≡ is_shown same seen thing
+        (tallies : List (Tally K)) (seen : List (Sighting K)) (thing : K) → map counted_of tallies ≡ counted same seen → is_known same thing tallies ≡ is_shown same seen thing
     unfolding counted counted_at
     known_is tallies seen thing are =
         sym (list_any_map (λ c. same c.thing thing) counted_of tallies) ∙ ap (list_any (λ c. same c.thing thing)) are
@@ -132,7 +132,7 @@ module _ {K : Type 0} (same : K → K → Bool) where
 
     -- ---- the tallies
 
-    module _ (tallies bumped : List (Tally K)) (seen : List (Seen K)) (s : Seen K) (are : map counted_of tallies ≡ counted same seen)
+    module _ (tallies bumped : List (Tally K)) (seen : List (Sighting K)) (s : Sighting K) (are : map counted_of tallies ≡ counted same seen)
         (is_bumped : map counted_of bumped ≡ map (bump same s.thing) (map counted_of tallies)) where
       after : map counted_of bumped ++ (if is_known same s.thing tallies then [] else record { thing = s.thing; count = 1; first = s.order } ∷ []) ≡ counted same (seen ++ s ∷ [])
       after =

@@ -12,8 +12,8 @@ use Rattle.realm_plan.specs.Plan.{Plan}
 use Rattle.plan_runs.specs.Place.{first_place}
 use Rattle.plan_runs.specs.declared.place.Place.{Place}
 use Rattle.order_runs.specs.Next.{could}
-use Rattle.order_runs.specs.Chosen.{builds_left, lowest_of, Stage, first_stage, IsStep, AreChosen, IsChosenRun}
-use Rattle.order_runs.specs.Drawn.{builds_of, drawn, AreDrawn, IsDrawnTo}
+use Rattle.order_runs.specs.Chosen.{builds_left, lowest_of, Stage, first_stage, IsStageTurn, AreChosen, IsChosenRun}
+use Rattle.order_runs.specs.Drawn.{builds_with_steps, drawn, AreDrawn, IsDrawnTo}
 use Rattle.order_runs.specs.declared.choice.Choice.{Choice}
 use Rattle.order_runs.specs.declared.end.StepEnd.{StepEnd}
 use Rattle.order_runs.proofs.Chosen.{AreChosen-more}
@@ -49,8 +49,8 @@ kept_without p n is = sym (kept_more p n ∙ ap (λ b. kept_below p n ++ (if b t
 
 -- a build that is drawn has a step left
 pub drawn_could : (stream : Stream) (left : List Bool) (build : ℕ) → drawn stream left ≡ Some build → could left build ≡ true
-unfolding builds_of
-drawn_could stream left build is = kept_is (could left) (range_with_len 0 8) ((next_u32 stream).0 % length (builds_of left)) build is
+unfolding builds_with_steps
+drawn_could stream left build is = kept_is (could left) (range_with_len 0 8) ((next_u32 stream).0 % length (builds_with_steps left)) build is
 
 none_kept : (p : ℕ → Bool) (xs : List ℕ) → filter p xs ≡ [] → find p xs ≡ None
 none_kept p [] none = refl
@@ -66,8 +66,8 @@ none_there (x ∷ ns) n none = absurd (let some = slice_get-get_or (x ∷ ns) (n
 
 -- where none is drawn, none has a step left
 none_lowest : (stream : Stream) (left : List Bool) → drawn stream left ≡ None → lowest_of left ≡ None
-unfolding builds_of lowest_of
-none_lowest stream left none = none_kept (could left) (range_with_len 0 8) (none_there (builds_of left) (next_u32 stream).0 none)
+unfolding builds_with_steps lowest_of
+none_lowest stream left none = none_kept (could left) (range_with_len 0 8) (none_there (builds_with_steps left) (next_u32 stream).0 none)
 
 -- ---- so far
 
@@ -86,7 +86,7 @@ AreDrawn-more stream (c ∷ choices) at choice is draws = (is.0, AreDrawn-more (
 pub IsDrawing-more :
     (plan : Plan) (stream : Stream) (from : Stage) (choices : List Choice) (at : Stage) (choice : Choice) (to : Stage) (new : List Choice) (now after : Stream)
     → IsDrawing plan stream from choices at now
-    → choice.left ≡ builds_left plan at.at.places → drawn now choice.left ≡ Some choice.build → IsStep plan at choice.build to
+    → choice.left ≡ builds_left plan at.at.places → drawn now choice.left ≡ Some choice.build → IsStageTurn plan at choice.build to
     → new ≡ choices ++ choice ∷ [] → after ≡ (next_u32 now).1
     → IsDrawing plan stream from new to after
 IsDrawing-more plan stream from choices at choice to new now after is left draws step pushed used = rw (pushed, used) (record {

@@ -3,7 +3,7 @@ use Rattle.std.proofs.Common.{◌≡◌, true, MatchBool, replicate, Bool, None,
 use Rattle.std.proofs.lemmas.List.Elements.{All-nil, All-push}
 use Rattle.build_books.specs.View.{HostView}
 use Rattle.realm_plan.specs.Plan.{Plan}
-use Rattle.order_runs.specs.Chosen.{builds_left, lowest_of, Stage, first_stage, IsStep, AreChosen, IsChosenRun, GoesOn, GoesOnTo}
+use Rattle.order_runs.specs.Chosen.{builds_left, lowest_of, Stage, first_stage, IsStageTurn, AreChosen, IsChosenRun, IsLowestAfter, GoesOnTo}
 use Rattle.order_runs.proofs.Chosen.{lowest_is, AreChosen-more, AreChosen-append}
 use Rattle.order_runs.specs.declared.choice.Choice.{Choice}
 use Rattle.order_runs.specs.declared.end.StepEnd.{StepEnd}
@@ -23,7 +23,7 @@ IsGoingOn-none plan from front = record { more = []; appended = sym (append-nil 
 pub IsGoingOn-more :
     (plan : Plan) (from : Stage) (front choices : List Choice) (at : Stage) (choice : Choice) (to : Stage) (new : List Choice)
     → IsGoingOn plan from front choices at
-    → choice.left ≡ builds_left plan at.at.places → lowest_of choice.left ≡ Some choice.build → IsStep plan at choice.build to → new ≡ choices ++ choice ∷ []
+    → choice.left ≡ builds_left plan at.at.places → lowest_of choice.left ≡ Some choice.build → IsStageTurn plan at choice.build to → new ≡ choices ++ choice ∷ []
     → IsGoingOn plan from front new to
 IsGoingOn-more plan from front choices at choice to new is left lowest step pushed =
     record {
@@ -43,7 +43,7 @@ GoesOnTo-whole plan from front choices to left is same none =
 pub IsChosenRun-whole :
     (plan : Plan) (host : HostView) (front choices : List Choice) (at to : Stage)
     → AreChosen plan (first_stage host) front at → GoesOnTo plan at front choices to
-    → GoesOn front choices × IsChosenRun plan host choices to.at.host to.ends
+    → IsLowestAfter front choices × IsChosenRun plan host choices to.at.host to.ends
 IsChosenRun-whole plan host front choices at to is on = (
   record { more = on.more; appended = on.appended; lowest = on.lowest },
   record {
@@ -61,7 +61,7 @@ pub IsChosenRun-kept :
     → places ≡ replicate 8 first_place → noted ≡ [] → kept ≡ front
     → MatchBool test (AreChosen plan (record { at = record { host = host; places = places }; ends = noted }) kept at) Other → test ≡ true
     → GoesOnTo plan at front choices to
-    → GoesOn front choices × IsChosenRun plan host choices to.at.host to.ends
+    → IsLowestAfter front choices × IsChosenRun plan host choices to.at.host to.ends
 IsChosenRun-kept plan host places noted kept front choices at to test Other first none same match told on =
     let from : Stage = record { at = record { host = host; places = places }; ends = noted } in
     let begins : from ≡ first_stage host = λ i. record { at = record { host = host; places = first i }; ends = none i } in

@@ -5,12 +5,12 @@ use Rattle.build_books.specs.View.{HostView}
 use Rattle.realm_plan.specs.Plan.{Plan}
 use Rattle.plan_runs.specs.Run.{Turn, AreTurns, turn_text, IsToldRun}
 use Rattle.order_runs.specs.Chosen.{Stage, AreChosen, IsChosenRun}
-use Rattle.order_runs.specs.Totals.{order_of}
+use Rattle.order_runs.specs.Totals.{chosen_order}
 use Rattle.order_runs.specs.declared.choice.Choice.{Choice}
 use Rattle.order_runs.specs.declared.end.StepEnd.{StepEnd}
 
 turns_of : (plan : Plan) (order : List ℕ) (from : Stage) (choices : List Choice) (to : Stage) → AreChosen plan from choices to → (turns : List Turn) × AreTurns
-    (record plan { order = order }) (order_of choices) from.at turns to.at
+    (record plan { order = order }) (chosen_order choices) from.at turns to.at
 turns_of plan order from [] to are = ([], ap (λ (s : Stage). s.at) are)
 turns_of plan order from (choice ∷ choices) to are =
     let later = turns_of plan order are.1 choices to are.3 in
@@ -19,7 +19,7 @@ turns_of plan order from (choice ∷ choices) to are =
 pub run_of_plan :
     (plan : Plan) (host : HostView) (choices : List Choice) (to : HostView) (ends : List StepEnd)
     → IsChosenRun plan host choices to ends
-    → (text : List ℕ) × IsToldRun (record plan { order = order_of choices }) host to [] text
+    → (text : List ℕ) × IsToldRun (record plan { order = chosen_order choices }) host to [] text
 run_of_plan plan host choices to ends is =
-    let turns = turns_of plan (order_of choices) _ choices is.last is.chosen in
+    let turns = turns_of plan (chosen_order choices) _ choices is.last is.chosen in
     (flat_map turn_text turns.0, record { turns = turns.0; end = is.last.at; is_run = turns.1; host = is.host; appended = refl })

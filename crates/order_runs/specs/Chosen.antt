@@ -38,13 +38,13 @@ pub record Stage : Type 0 where
   pub at : Position
   pub ends : List StepEnd
 
-abbrev pub refusal_of : TurnAnswer → Option Refusal
-refusal_of (Refused refusal) = Some refusal
-refusal_of _ = None
+abbrev pub refusal_in : TurnAnswer → Option Refusal
+refusal_in (Refused refusal) = Some refusal
+refusal_in _ = None
 
 abbrev pub refusal_of_turn : Option (PlanStep × TurnAnswer) → Option Refusal
 refusal_of_turn None = None
-refusal_of_turn (Some told) = refusal_of told.1
+refusal_of_turn (Some told) = refusal_in told.1
 
 -- the end of a turn's step, where the turn uses it up
 abbrev pub ended : Turn → ℕ → ℕ → List StepEnd
@@ -52,7 +52,7 @@ ended turn before after =
     if before == after then [] else record { build = turn.build; step = before; refusal = refusal_of_turn turn.told } ∷ []
 
 -- A turn of the build leads from one stage to the other.
-pub record IsStep (plan : Plan) (from : Stage) (build : ℕ) (to : Stage) : Type 0 where
+pub record IsStageTurn (plan : Plan) (from : Stage) (build : ℕ) (to : Stage) : Type 0 where
   pub turn : Turn
   pub of_build : turn.build ≡ build
   pub is_turn : IsTurn plan from.at turn to.at
@@ -64,7 +64,7 @@ pub record IsStep (plan : Plan) (from : Stage) (build : ℕ) (to : Stage) : Type
 abbrev pub AreChosen : Plan → Stage → List Choice → Stage → Type 0
 AreChosen plan from [] to = to ≡ from
 AreChosen plan from (choice ∷ choices) to =
-    IsOpen plan from.at.places choice × (between : Stage) × IsStep plan from choice.build between × AreChosen plan between choices to
+    IsOpen plan from.at.places choice × (between : Stage) × IsStageTurn plan from choice.build between × AreChosen plan between choices to
 
 -- no turn is done
 abbrev pub first_stage : HostView → Stage
@@ -79,7 +79,7 @@ pub record IsChosenRun (plan : Plan) (from : HostView) (choices : List Choice) (
   pub ends : last.ends ≡ noted
 
 -- An order begins with these choices, and goes on with the lowest build that has a step left.
-pub record GoesOn (front choices : List Choice) : Type 0 where
+pub record IsLowestAfter (front choices : List Choice) : Type 0 where
   pub more : List Choice
   pub appended : choices ≡ front ++ more
   pub lowest : All (λ choice. lowest_of choice.left ≡ Some choice.build) more

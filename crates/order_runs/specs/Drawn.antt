@@ -12,12 +12,12 @@ use Rattle.order_runs.specs.declared.choice.Choice.{Choice}
 use Rattle.order_runs.specs.declared.totals.Totals.{Totals}
 
 -- the builds that have a step left
-unfoldable pub builds_of : List Bool → List ℕ
-builds_of left = filter (could left) (range_with_len 0 8)
+unfoldable pub builds_with_steps : List Bool → List ℕ
+builds_with_steps left = filter (could left) (range_with_len 0 8)
 
 -- The one of them that the next number draws: by what is left of it when it is divided by how many they are.
 abbrev pub drawn : Stream → List Bool → Option ℕ
-drawn stream left = slice_get (builds_of left) ((next_u32 stream).0 % length (builds_of left))
+drawn stream left = slice_get (builds_with_steps left) ((next_u32 stream).0 % length (builds_with_steps left))
 
 -- A number draws the build of each turn. So many are left behind them.
 abbrev pub AreDrawn : Stream → List Choice → Stream → Type 0

@@ -4,7 +4,7 @@ use Rattle.build_books.specs.View.{HostView}
 use Rattle.realm_plan.specs.Plan.{Plan}
 use Rattle.plan_runs.specs.Run.{map_text}
 use Rattle.order_runs.specs.Next.{could, next_of}
-use Rattle.order_runs.specs.Chosen.{lowest_of, IsChosenRun, GoesOn}
+use Rattle.order_runs.specs.Chosen.{lowest_of, IsChosenRun, IsLowestAfter}
 use Rattle.order_runs.specs.Totals.{Visit}
 use Rattle.order_runs.specs.declared.choice.Choice.{Choice}
 
@@ -17,7 +17,7 @@ IsBefore _ _ = ⊥
 
 -- The run of an order that begins so, and has the lowest build that has a step left at each further turn; and its map.
 pub record IsVisit (plan : Plan) (host : HostView) (front : List Choice) (visit : Visit) : Type 0 where
-  pub goes_on : GoesOn front visit.choices
+  pub goes_on : IsLowestAfter front visit.choices
   pub to : HostView
   pub is_run : IsChosenRun plan host visit.choices to visit.ends
   pub map : string_bytes visit.map ≡ map_text to

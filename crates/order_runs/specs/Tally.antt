@@ -4,7 +4,7 @@ use Rattle.std.specs.List.{list_any}
 use Rattle.order_runs.specs.declared.tally.Tally.{Tally}
 
 -- A thing, and the order that shows it.
-pub record Seen (K : Type 0) : Type 0 where
+pub record Sighting (K : Type 0) : Type 0 where
   pub thing : K
   pub order : List ℕ
 
@@ -14,21 +14,21 @@ pub record Counted (K : Type 0) : Type 0 where
   pub count : ℕ
   pub first : List ℕ
 
-abbrev pub is_shown : {K : Type 0} → (K → K → Bool) → List (Seen K) → K → Bool
+abbrev pub is_shown : {K : Type 0} → (K → K → Bool) → List (Sighting K) → K → Bool
 is_shown same seen thing = list_any (λ s. same s.thing thing) seen
 
 -- What is shown for the first time, where this was shown earlier.
-abbrev pub firsts : {K : Type 0} → (K → K → Bool) → List (Seen K) → List (Seen K) → List (Seen K)
+abbrev pub firsts : {K : Type 0} → (K → K → Bool) → List (Sighting K) → List (Sighting K) → List (Sighting K)
 firsts same earlier [] = []
 firsts same earlier (s ∷ seen) =
     (if is_shown same earlier s.thing then [] else s ∷ []) ++ firsts same (earlier ++ s ∷ []) seen
 
 -- at most what a counter of 64 bits can hold
-abbrev pub times : {K : Type 0} → (K → K → Bool) → List (Seen K) → K → ℕ
+abbrev pub times : {K : Type 0} → (K → K → Bool) → List (Sighting K) → K → ℕ
 times same seen thing = min (count_by (λ s. same thing s.thing) seen) (2 ^ 64 - 1)
 
 -- Each thing that was shown, in the order of their first times.
-unfoldable pub counted : {K : Type 0} → (K → K → Bool) → List (Seen K) → List (Counted K)
+unfoldable pub counted : {K : Type 0} → (K → K → Bool) → List (Sighting K) → List (Counted K)
 counted same seen = map (λ s. record { thing = s.thing; count = times same seen s.thing; first = s.order }) (firsts same [] seen)
 
 -- A thing that is shown once more.

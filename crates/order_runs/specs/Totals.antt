@@ -1,11 +1,12 @@
 -- What runs come to.
+use mathlib.Core.Bool.{beq}
 use Rattle.std.specs.Prelude.{◌≡◌, ℕ, ◌==◌, nat_eq, Bool, not, ◌&&◌, List, map, filter, length, is_some, string_bytes}
 use Rattle.std.specs.List.{flat_map, list_any, range_with_len}
 use Rattle.std.specs.Str.{bytes_eq}
 use Rattle.std.specs.declared.alloc.Global.{Global}
 use Rattle.std.specs.declared.string.String.{String}
 use Rattle.order_runs.specs.Same.{same_end}
-use Rattle.order_runs.specs.Tally.{Seen, counted, counted_of}
+use Rattle.order_runs.specs.Tally.{Sighting, counted, counted_of}
 use Rattle.order_runs.specs.declared.choice.Choice.{Choice}
 use Rattle.order_runs.specs.declared.end.StepEnd.{StepEnd}
 use Rattle.order_runs.specs.declared.totals.Totals.{Totals}
@@ -16,29 +17,36 @@ pub record Visit : Type 0 where
   pub ends : List StepEnd
   pub map : String Global
 
-abbrev pub order_of : List Choice → List ℕ
-order_of choices = map (λ choice. choice.build) choices
+abbrev pub chosen_order : List Choice → List ℕ
+chosen_order choices = map (λ choice. choice.build) choices
 
-abbrev pub seen_in : {K : Type 0} → List Choice → K → Seen K
-seen_in choices thing = record { thing = thing; order = order_of choices }
+abbrev pub sighting_in : {K : Type 0} → List Choice → K → Sighting K
+sighting_in choices thing = record { thing = thing; order = chosen_order choices }
 
-abbrev pub ends_seen : Visit → List (Seen StepEnd)
-ends_seen visit = map (seen_in visit.choices) visit.ends
+abbrev pub ends_seen : Visit → List (Sighting StepEnd)
+ends_seen visit = map (sighting_in visit.choices) visit.ends
 
-abbrev pub map_seen : Visit → Seen (String Global)
-map_seen visit = seen_in visit.choices visit.map
+abbrev pub map_seen : Visit → Sighting (String Global)
+map_seen visit = sighting_in visit.choices visit.map
 
 -- a step of the build that was refused
 abbrev pub refuses : ℕ → StepEnd → Bool
 refuses build end = end.build == build && is_some end.refusal
+
+-- whether any step was refused
+abbrev pub has_refusal : List StepEnd → Bool
+has_refusal ends = list_any (λ end. is_some end.refusal) ends
+
+abbrev pub whole_seen : Visit → Sighting Bool
+whole_seen visit = sighting_in visit.choices (has_refusal visit.ends)
 
 -- no step of the build was refused
 abbrev pub is_smooth : List StepEnd → ℕ → Bool
 is_smooth ends build = not (list_any (refuses build) ends)
 
 -- the builds, of so many, that were never refused
-abbrev pub smooth_seen : ℕ → Visit → List (Seen ℕ)
-smooth_seen builds visit = map (seen_in visit.choices) (filter (is_smooth visit.ends) (range_with_len 0 builds))
+abbrev pub smooth_seen : ℕ → Visit → List (Sighting ℕ)
+smooth_seen builds visit = map (sighting_in visit.choices) (filter (is_smooth visit.ends) (range_with_len 0 builds))
 
 abbrev pub same_text : String Global → String Global → Bool
 same_text text other = bytes_eq (string_bytes text) (string_bytes other)
@@ -46,6 +54,7 @@ same_text text other = bytes_eq (string_bytes text) (string_bytes other)
 -- The totals are those of these runs of a plan of so many builds.
 pub record AreTotals (builds : ℕ) (visits : List Visit) (totals : Totals) : Type 0 where
   pub orders : totals.orders ≡ length visits
+  pub wholes : map counted_of totals.wholes.items ≡ counted beq (map whole_seen visits)
   pub ends : map counted_of totals.ends.items ≡ counted same_end (flat_map ends_seen visits)
   pub maps : map counted_of totals.maps.items ≡ counted same_text (map map_seen visits)
   pub smooth : map counted_of totals.smooth.items ≡ counted nat_eq (flat_map (smooth_seen builds) visits)

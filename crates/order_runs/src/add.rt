@@ -2,8 +2,8 @@
 ghost use Rattle.std.specs.Prelude.{◌≡◌, ◌++◌, ◌-◌, ◌^◌, ◌<◌, ℕ, nat_eq, [], ◌∷◌, List, map, filter, OnOk};
 ghost use Rattle.std.specs.List.{list_any, range_with_len};
 ghost use Rattle.order_runs.specs.Same.{same_end};
-ghost use Rattle.order_runs.specs.Tally.{Seen, counted, counted_of};
-ghost use Rattle.order_runs.specs.Totals.{Visit, seen_in, refuses, is_smooth, AreTotals};
+ghost use Rattle.order_runs.specs.Tally.{Sighting, counted, counted_of};
+ghost use Rattle.order_runs.specs.Totals.{Visit, sighting_in, refuses, has_refusal, is_smooth, AreTotals};
 
 use crate::choice::Choice;
 use crate::count::count;
@@ -19,8 +19,8 @@ fn count_ends(
     choices: &[Choice],
     ends: &[StepEnd],
 ) -> Result<(), AllocError>
-    ensures { OnOk result ((seen : List (Seen _)) → map counted_of tallies.old.items ≡ counted same_end seen
-        → map counted_of tallies.new.items ≡ counted same_end (seen ++ map (seen_in choices.now) ends.now)) }
+    ensures { OnOk result ((seen : List (Sighting _)) → map counted_of tallies.old.items ≡ counted same_end seen
+        → map counted_of tallies.new.items ≡ counted same_end (seen ++ map (sighting_in choices.now) ends.now)) }
 {
     for end in ends {
         count(alloc, tallies, *end, choices)?;
@@ -42,6 +42,13 @@ fn is_refused(ends: &[StepEnd], build: usize) -> bool
     ends.iter().any(|end| refuses(build, end))
 }
 
+// Whether any step was refused.
+fn has_refusal(ends: &[StepEnd]) -> bool
+    ensures { result ≡ has_refusal ends.now }
+{
+    ends.iter().any(|end| end.refusal.is_some())
+}
+
 // Counts the builds, of so many, that were never refused.
 fn count_smooth(
     alloc: Global,
@@ -50,8 +57,8 @@ fn count_smooth(
     choices: &[Choice],
     ends: &[StepEnd],
 ) -> Result<(), AllocError>
-    ensures { OnOk result ((seen : List (Seen _)) → map counted_of tallies.old.items ≡ counted nat_eq seen
-        → map counted_of tallies.new.items ≡ counted nat_eq (seen ++ map (seen_in choices.now) (filter (is_smooth ends.now) (range_with_len 0 builds)))) }
+    ensures { OnOk result ((seen : List (Sighting _)) → map counted_of tallies.old.items ≡ counted nat_eq seen
+        → map counted_of tallies.new.items ≡ counted nat_eq (seen ++ map (sighting_in choices.now) (filter (is_smooth ends.now) (range_with_len 0 builds)))) }
 {
     for build in 0..builds {
         if !is_refused(ends, build) {
@@ -68,6 +75,7 @@ impl Totals {
     {
         Totals {
             orders: 0,
+            wholes: Vec::new(alloc),
             ends: Vec::new(alloc),
             maps: Vec::new(alloc),
             smooth: Vec::new(alloc),
@@ -87,6 +95,7 @@ impl Totals {
         ensures { OnOk result ((visits : List Visit) → AreTotals builds visits self.old
             → AreTotals builds (visits ++ record { choices = choices.now; ends = ends.now; map = map } ∷ []) self.new) }
     {
+        count(alloc, &mut self.wholes, has_refusal(ends), choices)?;
         count_ends(alloc, &mut self.ends, choices, ends)?;
         count_smooth(alloc, &mut self.smooth, builds, choices, ends)?;
         count(alloc, &mut self.maps, map, choices)?;

@@ -1,6 +1,6 @@
 //! One more thing that an order shows.
 ghost use Rattle.std.specs.Prelude.{◌≡◌, ◌++◌, [], ◌∷◌, List, map, OnOk, IfOk};
-ghost use Rattle.order_runs.specs.Tally.{Seen, counted, counted_of, bump, is_known};
+ghost use Rattle.order_runs.specs.Tally.{Sighting, counted, counted_of, bump, is_known};
 
 use crate::choice::Choice;
 use crate::tally::Tally;
@@ -35,7 +35,7 @@ pub(crate) fn count<K: Eq + Drop>(
     thing: K,
     order: &[Choice],
 ) -> Result<(), AllocError>
-    ensures { OnOk result ((seen : List (Seen _)) → map counted_of tallies.old.items ≡ counted K.eq seen
+    ensures { OnOk result ((seen : List (Sighting _)) → map counted_of tallies.old.items ≡ counted K.eq seen
         → map counted_of tallies.new.items ≡ counted K.eq (seen ++ record { thing = thing; order = map (λ choice. choice.build) order.now } ∷ [])) }
 {
     if bump(tallies, &thing) {

@@ -3,7 +3,7 @@ ghost use Rattle.std.specs.Prelude.{◌≡◌, [], OnOk, IfSome, IfNone};
 ghost use Rattle.rand_core.specs.Stream.{next_u32};
 ghost use Rattle.realm_plan.specs.PlanView.{plan_view};
 ghost use Rattle.order_runs.specs.Chosen.{IsChosenRun};
-ghost use Rattle.order_runs.specs.Drawn.{builds_of, drawn, AreDrawn, IsDrawnTo};
+ghost use Rattle.order_runs.specs.Drawn.{builds_with_steps, drawn, AreDrawn, IsDrawnTo};
 ghost use Rattle.order_runs.specs.TurnsLeft.{AreSteady};
 
 use crate::choice::Choice;
@@ -18,9 +18,9 @@ use realm_plan::Plan;
 use std::alloc::AllocError;
 
 // The builds that have a step left.
-#[tactic(auto, unfolding(crate::specs::Drawn::builds_of))]
-fn builds_of(left: &[bool; 8]) -> ArrayVec<usize, 8>
-    ensures { result.items ≡ builds_of left.now }
+#[tactic(auto, unfolding(crate::specs::Drawn::builds_with_steps))]
+fn builds_with_steps(left: &[bool; 8]) -> ArrayVec<usize, 8>
+    ensures { result.items ≡ builds_with_steps left.now }
 {
     let mut builds = ArrayVec::new();
     for build in 0..8 {
@@ -37,7 +37,7 @@ fn draw<R: Rng>(rng: &mut R, left: &[bool; 8]) -> Option<usize>
     ensures used { IfSome result (λ _. R.stream rng.new ≡ (next_u32 (R.stream rng.old)).1) }
     ensures unused { IfNone result (R.stream rng.new ≡ R.stream rng.old) }
 {
-    let builds = builds_of(left);
+    let builds = builds_with_steps(left);
     if builds.is_empty() {
         return None;
     }

@@ -5,7 +5,7 @@ ghost use Rattle.realm_plan.specs.Plan.{Plan};
 ghost use Rattle.plan_runs.specs.Run.{IsToldRun};
 ghost use Rattle.order_runs.specs.Chosen.{IsChosenRun};
 ghost use Rattle.order_runs.specs.Order.{IsBefore, AreVisits, IsOrder};
-ghost use Rattle.order_runs.specs.Totals.{Visit, order_of};
+ghost use Rattle.order_runs.specs.Totals.{Visit, chosen_order};
 ghost use Rattle.order_runs.specs.declared.choice.Choice.{Choice};
 ghost use Rattle.order_runs.specs.declared.end.StepEnd.{StepEnd};
 
@@ -13,7 +13,7 @@ ghost use Rattle.order_runs.specs.declared.end.StepEnd.{StepEnd};
 pub fn a_run_is_one_of_the_plan()
     ensures { (plan : Plan) (host : HostView) (choices : List Choice) (to : HostView) (ends : List StepEnd)
         → IsChosenRun plan host choices to ends
-        → (text : List ℕ) × IsToldRun (record plan { order = order_of choices }) host to [] text }
+        → (text : List ℕ) × IsToldRun (record plan { order = chosen_order choices }) host to [] text }
 {}
 
 /// Of two orders that are visited one after the other, at once or later, the first is before the second, so none is visited

@@ -3,7 +3,7 @@ ghost use Rattle.std.specs.Prelude.{◌≡◌, ◌^◌, ◌<◌, ◌↔◌, IsTr
 ghost use Rattle.std.specs.Bool.{OnTrue, OnFalse, MatchBool};
 ghost use Rattle.realm_plan.specs.PlanView.{plan_view};
 ghost use Rattle.plan_runs.specs.Run.{place_of};
-ghost use Rattle.order_runs.specs.Chosen.{has_left, builds_left, lowest_of, refusal_of, IsOpen, Stage, IsStep, AreChosen, first_stage, IsChosenRun, GoesOn, GoesOnTo, CannotBeKept};
+ghost use Rattle.order_runs.specs.Chosen.{has_left, builds_left, lowest_of, refusal_in, IsOpen, Stage, IsStageTurn, AreChosen, first_stage, IsChosenRun, IsLowestAfter, GoesOnTo, CannotBeKept};
 ghost use Rattle.order_runs.specs.TurnsLeft.{AreSteady, turns_left};
 
 use crate::choice::Choice;
@@ -45,8 +45,8 @@ fn lowest_of(left: &[bool; 8]) -> Option<usize>
     (0..8).find(|build| left[*build])
 }
 
-fn refusal_of(answer: TurnAnswer) -> Option<Refusal>
-    ensures { result ≡ refusal_of answer }
+fn refusal_in(answer: TurnAnswer) -> Option<Refusal>
+    ensures { result ≡ refusal_in answer }
 {
     match answer {
         TurnAnswer::Refused(refusal) => Some(refusal),
@@ -65,7 +65,7 @@ pub(crate) fn take_step<S: PageStore>(
     requires left { has_left (plan_view plan.now) places.old build ≡ true }
     requires inside { build < 8 }
     requires steady { AreSteady (plan_view plan.now) places.old }
-    ensures step { OnOk result (IsStep (plan_view plan.now) (record { at = record { host = host.old; places = places.old }; ends = ends.old.items })
+    ensures step { OnOk result (IsStageTurn (plan_view plan.now) (record { at = record { host = host.old; places = places.old }; ends = ends.old.items })
         build (record { at = record { host = host.new; places = places.new }; ends = ends.new.items })) }
     ensures steady { AreSteady (plan_view plan.now) places.new }
     ensures fewer { turns_left (plan_view plan.now).builds places.new < turns_left (plan_view plan.now).builds places.old }
@@ -79,7 +79,7 @@ pub(crate) fn take_step<S: PageStore>(
         ends.push(StepEnd {
             build,
             step: before,
-            refusal: refusal_of(answer),
+            refusal: refusal_in(answer),
         })?;
     }
     Ok(())
@@ -152,7 +152,7 @@ pub fn run_order<S: PageStore>(
     ends: &mut Vec<StepEnd>,
 ) -> Result<bool, AllocError>
     ensures { IfOk result (λ kept. MatchBool kept
-        (GoesOn choices.old.items choices.new.items × IsChosenRun (plan_view plan.now) host.old choices.new.items host.new ends.new.items)
+        (IsLowestAfter choices.old.items choices.new.items × IsChosenRun (plan_view plan.now) host.old choices.new.items host.new ends.new.items)
         (CannotBeKept (plan_view plan.now) (first_stage host.old) choices.old.items)) }
 {
     ends.clear();

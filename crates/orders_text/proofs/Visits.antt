@@ -14,15 +14,15 @@ use Rattle.realm_program.specs.Replay.{opening_host}
 use Rattle.realm_program.specs.declared.fault.Fault.{Fault}
 use Rattle.realm_program.specs.declared.fault.Fault.TheVariants.{Plan as IsFaulty, EraseNamesNoBuild, Memory, Stuck, Mismatch, Device}
 use Rattle.order_runs.specs.Next.{next_of}
-use Rattle.order_runs.specs.Chosen.{GoesOn, IsChosenRun}
+use Rattle.order_runs.specs.Chosen.{IsLowestAfter, IsChosenRun}
 use Rattle.order_runs.specs.Order.{IsVisit, AreVisits}
-use Rattle.order_runs.specs.Totals.{Visit, AreTotals, order_of}
+use Rattle.order_runs.specs.Totals.{Visit, AreTotals, chosen_order}
 use Rattle.order_runs.proofs.Runs.{run_of_plan}
 use Rattle.order_runs.specs.Explored.{IsExplored}
 use Rattle.order_runs.specs.declared.choice.Choice.{Choice}
 use Rattle.order_runs.specs.declared.end.StepEnd.{StepEnd}
 use Rattle.order_runs.specs.declared.totals.Totals.{Totals}
-use Rattle.orders_text.specs.Exploring.{IsAdded, IsCounted, IsNotRun, IsNotExplored}
+use Rattle.orders_text.specs.Exploring.{IsAdded, IsOrderCounted, IsNotRun, IsNotExplored}
 
 -- one more
 pub AreVisits-more :
@@ -45,7 +45,7 @@ pub record IsSoFar (plan : Plan) (count : ℕ) (front : List Choice) (totals : T
 pub IsSoFar-none : (plan : Plan) (front : List Choice) (totals : Totals) → front ≡ [] → ((builds : ℕ) → AreTotals builds [] totals) → IsSoFar plan 0 front totals
 IsSoFar-none plan front totals none new = record { visits = []; are_visits = ap Some none; are_totals = new (length plan.builds); so_many = refl }
 
-module _ (plan : Plan) (count : ℕ) (front choices : List Choice) (old new : Totals) (so_far : IsSoFar plan count front old) (is : IsCounted plan front choices old new) where
+module _ (plan : Plan) (count : ℕ) (front choices : List Choice) (old new : Totals) (so_far : IsSoFar plan count front old) (is : IsOrderCounted plan front choices old new) where
   -- all of them, and the one that is counted now
   abbrev all : List Visit
   all = so_far.visits ++ is.visit ∷ []
@@ -111,7 +111,7 @@ pub opens_same :
     → fresh ≡ opening_host plan → IsChosenRun plan fresh choices to ends → opening_host plan ≡ fresh_like to
 opens_same plan fresh to choices ends opens is =
     let told = run_of_plan plan fresh choices to ends is in
-    ap fresh_like (sym opens) ∙ fresh_like-run (record plan { order = order_of choices }) fresh to [] told.0 told.1
+    ap fresh_like (sym opens) ∙ fresh_like-run (record plan { order = chosen_order choices }) fresh to [] told.0 told.1
 
 pub builds_are : (plan : code.Plan) (n : ℕ) → n ≡ vec_len plan.builds → n ≡ length (plan_view plan).builds
 builds_are plan n is = is ∙ plan.builds.ok.0 ∙ sym (length-map plan.builds.items (λ b. b.items))
@@ -130,14 +130,14 @@ IsAdded-run plan host choices ends map_of_it old new n builds is_map counted = r
 }
 
 -- The run of an order on a fresh host, counted.
-pub IsCounted-kept :
+pub IsOrderCounted-kept :
     (plan : Plan) (fresh to : HostView) (front choices cs : List Choice) (ends es : List StepEnd) (old new : Totals) (kept : Bool) (Other : Type 0)
     → fresh ≡ opening_host plan → cs ≡ choices → es ≡ ends
-    → MatchBool kept (GoesOn front choices × IsChosenRun plan fresh choices to ends) Other → kept ≡ true
+    → MatchBool kept (IsLowestAfter front choices × IsChosenRun plan fresh choices to ends) Other → kept ≡ true
     → IsAdded plan to cs es old new
-    → IsCounted plan front choices old new
-IsCounted-kept plan fresh to front choices cs ends es old new kept Other opens same_choices same_ends match told added =
-    let is = subst (λ t. MatchBool t (GoesOn front choices × IsChosenRun plan fresh choices to ends) Other) told match in
+    → IsOrderCounted plan front choices old new
+IsOrderCounted-kept plan fresh to front choices cs ends es old new kept Other opens same_choices same_ends match told added =
+    let is = subst (λ t. MatchBool t (IsLowestAfter front choices × IsChosenRun plan fresh choices to ends) Other) told match in
     let here : IsAdded plan to choices ends old new = subst (λ xs. IsAdded plan to choices xs old new) same_ends (subst (λ xs. IsAdded plan to xs es old new) same_choices added) in
     record {
       visit = record { choices = choices; ends = ends; map = here.map };

@@ -25,7 +25,7 @@ pub record IsAdded (plan : Plan) (host : HostView) (choices : List Choice) (ends
       → AreTotals (length plan.builds) (visits ++ record { choices = choices; ends = ends; map = map } ∷ []) new
 
 -- The order that begins so was run on a host of its own, had these turns, and is counted.
-pub record IsCounted (plan : Plan) (front choices : List Choice) (old new : Totals) : Type 0 where
+pub record IsOrderCounted (plan : Plan) (front choices : List Choice) (old new : Totals) : Type 0 where
   pub visit : Visit
   pub choices_are : visit.choices ≡ choices
   pub is_visit : IsVisit plan (opening_host plan) front visit

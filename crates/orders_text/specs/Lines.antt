@@ -29,25 +29,29 @@ orders_line orders is_whole = (if is_whole then codes "orders " else codes "orde
 abbrev pub drawn_line : ℕ → List ℕ
 drawn_line orders = codes "orders drawn " ++ (decimal orders ++ 10 ∷ [])
 
--- how many orders show a thing, and the first of them
-abbrev pub shown_text : ℕ → List ℕ → List ℕ
-shown_text count first = codes " in " ++ (decimal count ++ (codes ", " ++ (order_text first ++ 10 ∷ [])))
+-- how many orders show a thing, and the first of them, where it is not each of so many
+abbrev pub shown_text : ℕ → ℕ → List ℕ → List ℕ
+shown_text orders count first = if count == orders then codes " in all\n" else codes " in " ++ (decimal count ++ (codes ", " ++ (order_text first ++ 10 ∷ [])))
+
+-- of whole orders: in how many any step was refused, or none was
+abbrev pub whole_line : ℕ → Tally Bool → List ℕ
+whole_line orders tally = (if tally.thing then codes "some step refused" else codes "no step refused") ++ shown_text orders tally.count tally.first.items
 
 -- the build, the place of the step in it, the step as it stands in the plan, and how it ended
-abbrev pub end_line : PlanStep → Tally StepEnd → List ℕ
-end_line step tally =
+abbrev pub end_line : ℕ → PlanStep → Tally StepEnd → List ℕ
+end_line orders step tally =
     codes "step "
     ++ (decimal tally.thing.build
     ++ (32 ∷ decimal tally.thing.step
-    ++ (32 ∷ spelling step ++ (codes " = " ++ (end_words tally.thing.refusal ++ shown_text tally.count tally.first.items)))))
+    ++ (32 ∷ spelling step ++ (codes " = " ++ (end_words tally.thing.refusal ++ shown_text orders tally.count tally.first.items)))))
 
 -- in how many orders a build was never refused
-abbrev pub smooth_line : Tally ℕ → List ℕ
-smooth_line tally = codes "never refused " ++ (decimal tally.thing ++ shown_text tally.count tally.first.items)
+abbrev pub smooth_line : ℕ → Tally ℕ → List ℕ
+smooth_line orders tally = codes "never refused " ++ (decimal tally.thing ++ shown_text orders tally.count tally.first.items)
 
 -- a map in the end
-abbrev pub map_lines : Tally (String Global) → List ℕ
-map_lines tally = codes "map" ++ (shown_text tally.count tally.first.items ++ string_bytes tally.thing)
+abbrev pub map_lines : ℕ → Tally (String Global) → List ℕ
+map_lines orders tally = codes "map" ++ (shown_text orders tally.count tally.first.items ++ string_bytes tally.thing)
 
 -- ---- the whole
 
@@ -55,29 +59,31 @@ abbrev pub is_end_of : ℕ → ℕ → Tally StepEnd → Bool
 is_end_of build place tally = tally.thing.build == build && tally.thing.step == place
 
 -- how the step ended, if there is one
-abbrev pub ends_of : List (Tally StepEnd) → ℕ → ℕ → Option PlanStep → List ℕ
-ends_of ends build place None = []
-ends_of ends build place (Some step) = flat_map (end_line step) (filter (is_end_of build place) ends)
+abbrev pub ends_of : Totals → ℕ → ℕ → Option PlanStep → List ℕ
+ends_of totals build place None = []
+ends_of totals build place (Some step) = flat_map (end_line totals.orders step) (filter (is_end_of build place) totals.ends.items)
 
 abbrev pub step_count : Plan → ℕ → ℕ
 step_count plan build = unwrap_or (option_map length (slice_get plan.builds build)) 0
 
-abbrev pub step_lines : Plan → List (Tally StepEnd) → ℕ → ℕ → List ℕ
-step_lines plan ends build place = ends_of ends build place (step_after plan build place)
+abbrev pub step_lines : Plan → Totals → ℕ → ℕ → List ℕ
+step_lines plan totals build place = ends_of totals build place (step_after plan build place)
 
-abbrev pub build_lines : Plan → List (Tally StepEnd) → ℕ → List ℕ
-build_lines plan ends build = flat_map (step_lines plan ends build) (range_with_len 0 (step_count plan build))
+abbrev pub build_lines : Plan → Totals → ℕ → List ℕ
+build_lines plan totals build = flat_map (step_lines plan totals build) (range_with_len 0 (step_count plan build))
 
 -- in how many orders the build was never refused, be it none
-abbrev pub smooth_lines : List (Tally ℕ) → ℕ → List ℕ
-smooth_lines [] build = codes "never refused " ++ (decimal build ++ codes " in 0\n")
-smooth_lines (tally ∷ smooth) build = if tally.thing == build then smooth_line tally else smooth_lines smooth build
+abbrev pub smooth_lines : ℕ → List (Tally ℕ) → ℕ → List ℕ
+smooth_lines orders [] build = codes "never refused " ++ (decimal build ++ codes " in 0\n")
+smooth_lines orders (tally ∷ smooth) build = if tally.thing == build then smooth_line orders tally else smooth_lines orders smooth build
 
--- How often each step of each build ended in which way, and how often each build was never refused; and the maps in the end.
+-- How often nothing was refused; how often each step of each build ended in which way, and how often each build was never refused; and
+-- the maps in the end.
 abbrev pub totals_text : Plan → Totals → List ℕ
 totals_text plan totals =
-    flat_map (build_lines plan totals.ends.items) (range_with_len 0 (length plan.builds))
-    ++ (flat_map (smooth_lines totals.smooth.items) (range_with_len 0 (length plan.builds)) ++ flat_map map_lines totals.maps.items)
+    flat_map (whole_line totals.orders) totals.wholes.items
+    ++ (flat_map (build_lines plan totals) (range_with_len 0 (length plan.builds))
+    ++ (flat_map (smooth_lines totals.orders totals.smooth.items) (range_with_len 0 (length plan.builds)) ++ flat_map (map_lines totals.orders) totals.maps.items))
 
 -- of all orders, or of the first ones
 abbrev pub orders_text : Plan → Totals → Bool → List ℕ

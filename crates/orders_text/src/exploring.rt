@@ -4,7 +4,7 @@ ghost use Rattle.realm_plan.specs.PlanView.{plan_view};
 ghost use Rattle.realm_program.specs.Replay.{opening_host};
 ghost use Rattle.realm_host.specs.Recorded.{fresh_like};
 ghost use Rattle.order_runs.specs.Explored.{IsExplored};
-ghost use Rattle.orders_text.specs.Exploring.{IsAdded, IsCounted, IsDrawnAndCounted, IsNotRun, IsNotExplored};
+ghost use Rattle.orders_text.specs.Exploring.{IsAdded, IsOrderCounted, IsDrawnAndCounted, IsNotRun, IsNotExplored};
 ghost use Rattle.order_runs.specs.Drawn.{IsSampled};
 
 use crate::leaving::leave_nothing;
@@ -56,7 +56,7 @@ fn visit(
     totals: &mut Totals,
 ) -> Result<(), Fault>
     requires { totals.old.orders < 2 ^ 64 - 1 }
-    ensures ok { OnOk result (IsCounted (plan_view plan.now) choices.old.items choices.new.items totals.old totals.new) }
+    ensures ok { OnOk result (IsOrderCounted (plan_view plan.now) choices.old.items choices.new.items totals.old totals.new) }
     ensures err { IfErr result (IsNotRun (plan_view plan.now) choices.old.items) }
 {
     let mut host = boot::<BuddyArena>(alloc, plan)?;

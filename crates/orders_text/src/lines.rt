@@ -1,11 +1,11 @@
 //! The lines of what orders come to.
 ghost use Rattle.std.specs.Prelude.{◌≡◌, ◌++◌, OnOk, string_bytes};
 ghost use Rattle.realm_plan.specs.PlanView.{plan_view};
-ghost use Rattle.orders_text.specs.Lines.{shown_text, orders_line, drawn_line, end_line, step_lines, smooth_line, smooth_lines, map_lines};
+ghost use Rattle.orders_text.specs.Lines.{shown_text, orders_line, drawn_line, whole_line, end_line, step_lines, smooth_line, smooth_lines, map_lines};
 
 use crate::order::OrderText;
 use build_commands::Refusal;
-use order_runs::{StepEnd, Tally};
+use order_runs::{StepEnd, Tally, Totals};
 use plan_runs::step_after;
 use plan_steps::{PlanStep, RefusalText, StepText};
 use realm_plan::Plan;
@@ -48,16 +48,41 @@ pub(crate) fn push_drawn_count(text: &mut String, orders: u64) -> Result<(), All
     writeln!(text, "orders drawn {orders}")
 }
 
-// Appends how many orders show a thing, and the first of them.
-fn push_shown(text: &mut String, count: u64, first: &[usize]) -> Result<(), AllocError>
-    ensures { OnOk result (string_bytes text.new ≡ string_bytes text.old ++ shown_text count first.now) }
+// Appends how many of so many orders show a thing, and the first of them where it is not each.
+fn push_shown(text: &mut String, orders: u64, count: u64, first: &[usize]) -> Result<(), AllocError>
+    ensures { OnOk result (string_bytes text.new ≡ string_bytes text.old ++ shown_text orders count first.now) }
 {
-    writeln!(text, " in {count}, {}", OrderText(first))
+    if count == orders {
+        writeln!(text, " in all")
+    } else {
+        writeln!(text, " in {count}, {}", OrderText(first))
+    }
+}
+
+/// Appends the line of how many orders had a step that was refused, or none.
+pub(crate) fn push_whole(
+    text: &mut String,
+    orders: u64,
+    tally: &Tally<bool>,
+) -> Result<(), AllocError>
+    ensures { OnOk result (string_bytes text.new ≡ string_bytes text.old ++ whole_line orders tally.now) }
+{
+    text.push_str(if tally.thing {
+        "some step refused"
+    } else {
+        "no step refused"
+    })?;
+    push_shown(text, orders, tally.count, &tally.first)
 }
 
 // Appends the line of how a step of a build ended.
-fn push_end(text: &mut String, step: &PlanStep, tally: &Tally<StepEnd>) -> Result<(), AllocError>
-    ensures { OnOk result (string_bytes text.new ≡ string_bytes text.old ++ end_line step.now tally.now) }
+fn push_end(
+    text: &mut String,
+    orders: u64,
+    step: &PlanStep,
+    tally: &Tally<StepEnd>,
+) -> Result<(), AllocError>
+    ensures { OnOk result (string_bytes text.new ≡ string_bytes text.old ++ end_line orders step.now tally.now) }
 {
     let end = tally.thing;
     let words = EndWords(end.refusal);
@@ -68,53 +93,54 @@ fn push_end(text: &mut String, step: &PlanStep, tally: &Tally<StepEnd>) -> Resul
         end.step,
         StepText(step)
     )?;
-    push_shown(text, tally.count, &tally.first)
+    push_shown(text, orders, tally.count, &tally.first)
 }
 
 /// Appends the lines of how a step of a build ended, if the plan has it.
 pub(crate) fn push_step(
     text: &mut String,
     plan: &Plan,
-    ends: &[Tally<StepEnd>],
+    totals: &Totals,
     build: usize,
     place: usize,
 ) -> Result<(), AllocError>
-    ensures { OnOk result (string_bytes text.new ≡ string_bytes text.old ++ step_lines (plan_view plan.now) ends.now build place) }
+    ensures { OnOk result (string_bytes text.new ≡ string_bytes text.old ++ step_lines (plan_view plan.now) totals.now build place) }
 {
     let Some(step) = step_after(plan, build, place) else {
         return Ok(());
     };
-    for tally in ends {
+    for tally in &totals.ends {
         if tally.thing.build == build && tally.thing.step == place {
-            push_end(text, step, tally)?;
+            push_end(text, totals.orders, step, tally)?;
         }
     }
     Ok(())
 }
 
 // Appends the line of a build that was never refused in some orders.
-fn push_never_refused(text: &mut String, tally: &Tally<usize>) -> Result<(), AllocError>
-    ensures { OnOk result (string_bytes text.new ≡ string_bytes text.old ++ smooth_line tally.now) }
+fn push_never_refused(
+    text: &mut String,
+    orders: u64,
+    tally: &Tally<usize>,
+) -> Result<(), AllocError>
+    ensures { OnOk result (string_bytes text.new ≡ string_bytes text.old ++ smooth_line orders tally.now) }
 {
-    let first = OrderText(&tally.first);
-    writeln!(
-        text,
-        "never refused {} in {}, {first}",
-        tally.thing, tally.count
-    )
+    write!(text, "never refused {}", tally.thing)?;
+    push_shown(text, orders, tally.count, &tally.first)
 }
 
 /// Appends the line of how often a build was never refused.
 pub(crate) fn push_smooth(
     text: &mut String,
+    orders: u64,
     smooth: &[Tally<usize>],
     build: usize,
 ) -> Result<(), AllocError>
-    ensures { OnOk result (string_bytes text.new ≡ string_bytes text.old ++ smooth_lines smooth.now build) }
+    ensures { OnOk result (string_bytes text.new ≡ string_bytes text.old ++ smooth_lines orders smooth.now build) }
 {
     for tally in smooth {
         if tally.thing == build {
-            return push_never_refused(text, tally);
+            return push_never_refused(text, orders, tally);
         }
     }
     writeln!(text, "never refused {build} in 0")?;
@@ -122,10 +148,14 @@ pub(crate) fn push_smooth(
 }
 
 /// Appends the line of a map in the end, and the map.
-pub(crate) fn push_map(text: &mut String, tally: &Tally<String>) -> Result<(), AllocError>
-    ensures { OnOk result (string_bytes text.new ≡ string_bytes text.old ++ map_lines tally.now) }
+pub(crate) fn push_map(
+    text: &mut String,
+    orders: u64,
+    tally: &Tally<String>,
+) -> Result<(), AllocError>
+    ensures { OnOk result (string_bytes text.new ≡ string_bytes text.old ++ map_lines orders tally.now) }
 {
     text.push_str("map")?;
-    push_shown(text, tally.count, &tally.first)?;
+    push_shown(text, orders, tally.count, &tally.first)?;
     text.push_str(&tally.thing)
 }

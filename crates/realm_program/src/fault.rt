@@ -25,7 +25,8 @@ pub enum Fault {
     /// A build's worker waited in vain for a turn.
     #[error("thread")]
     Stuck(BuildId),
-    /// What workers report, or what their seats have noted, does not fit the history. Of a run in threads alone.
+    /// What workers report, or what their seats have noted, does not fit the history: of a run in threads. Or an order of turns
+    /// cannot be gone on with as the run before it says: of runs in many orders.
     #[error("mismatch")]
     Mismatch,
     /// A read or a write failed.

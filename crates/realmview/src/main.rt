@@ -1,5 +1,5 @@
-//! Shows plans: what is wrong with one, why its steps are refused, the history of its run as text, its run as data and as a
-//! page, and the map that a history leads to. The plan or the history comes on standard input.
+//! Shows plans: what is wrong with one, why its steps are refused, what other orders of its turns come to, the history of its run as
+//! text, its run as data and as a page, and the map that a history leads to. The plan or the history comes on standard input.
 #![tactic(auto)]
 
 ghost use Rattle.std.specs.Prelude.{◌≡◌, IfErr};

@@ -24,13 +24,13 @@ pub record IsFirstText (most : ℕ) (plan : Plan) (text : List ℕ) : Type 0 whe
   pub whole : text ≡ orders_text plan totals is_whole
 
 -- the numbers of xoshiro256++ from this seed on
-abbrev pub numbers_of : ℕ → Stream
-numbers_of seed = stream_of (steps_u64_high plus_plus) (of_seed (splitmix_seed 32 seed))
+abbrev pub random_numbers : ℕ → Stream
+random_numbers seed = stream_of (steps_u64_high plus_plus) (of_seed (splitmix_seed 32 seed))
 
 -- of so many orders that are drawn by the numbers of a seed
 pub record IsDrawnText (count seed : ℕ) (plan : Plan) (text : List ℕ) : Type 0 where
   pub totals : Totals
-  pub sampled : IsSampled plan (opening_host plan) (numbers_of seed) count totals
+  pub sampled : IsSampled plan (opening_host plan) (random_numbers seed) count totals
   pub whole : text ≡ drawn_text plan totals
 
 abbrev pub IsOrdersText : Orders → Plan → List ℕ → Type 0

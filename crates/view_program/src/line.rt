@@ -65,14 +65,14 @@ const WHY: &str =
 const WHY_EXAMPLE: &str = "Example: realmview why < plans/retry.toml";
 
 const EXPLORE: &str =
-    "Runs the turns of the plan on standard input in each order, and writes how often each step is refused, and the maps in the end";
+    "Runs the plan on standard input in every order of its builds' turns, and writes in how many orders each step is refused, and the maps in the end";
 
-const EXPLORE_EXAMPLE: &str = "Example: realmview explore < plans/retry.toml";
+const EXPLORE_EXAMPLE: &str = "Example: realmview explore < plans/some-orders.toml";
 
-const MOST: &str = "Runs at most N orders, those of lower builds first [default: 1000000]";
+const MOST: &str = "Runs at most N orders, in lexicographic order [default: 1000000]";
 
 const SAMPLE: &str =
-    "Runs K orders that are drawn at random [default: 1000, where a seed is given]";
+    "Draws K orders at random, never more than N [default: 1000, where a seed is given]";
 
 const SEED: &str = "Draws orders by the random numbers of the seed S [default: 0]";
 

@@ -1,11 +1,11 @@
 use Rattle.std.proofs.Common.{◌≡◌, List, ◌++◌, map, take}
 use Rattle.order_runs.specs.Same.{same_end}
-use Rattle.order_runs.specs.Tally.{Seen, counted, counted_of}
-use Rattle.order_runs.specs.Totals.{seen_in}
+use Rattle.order_runs.specs.Tally.{Sighting, counted, counted_of}
+use Rattle.order_runs.specs.Totals.{sighting_in}
 use Rattle.order_runs.specs.declared.end.StepEnd.{StepEnd}
 use Rattle.order_runs.proofs.add.count_ends.Given as goal
 
 abbrev pub invariant-loop-end : goal.invariant-loop-end
 invariant-loop-end l =
-    (seen : List (Seen StepEnd)) → map counted_of l.fn.tallies.items ≡ counted same_end seen
-    → map counted_of l.tallies.items ≡ counted same_end (seen ++ map (seen_in l.choices) (take l.end-index l.ends))
+    (seen : List (Sighting StepEnd)) → map counted_of l.fn.tallies.items ≡ counted same_end seen
+    → map counted_of l.tallies.items ≡ counted same_end (seen ++ map (sighting_in l.choices) (take l.end-index l.ends))

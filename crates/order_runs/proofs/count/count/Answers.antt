@@ -1,5 +1,5 @@
 use Rattle.std.proofs.Common.{◌≡◌, [], ◌∷◌, ◌++◌, length, map, take, drop, ap, sym, ◌∙◌}
-use Rattle.order_runs.specs.Tally.{Seen, counted_of, bump, is_known}
+use Rattle.order_runs.specs.Tally.{Sighting, counted_of, bump, is_known}
 use Rattle.order_runs.specs.declared.choice.Choice.{Choice}
 use Rattle.order_runs.specs.declared.tally.Tally.{Tally}
 use Rattle.order_runs.proofs.Counted.{shown_again, shown_first, written_back}
@@ -27,7 +27,7 @@ returns-then-bump g c = λ seen are.
 pub returns : goal.returns
 returns g c = λ seen are.
     let at = (goal.at.returns g c).After-bump in
-    let s : Seen _ = record { thing = c.args.thing; order = map (λ (choice : Choice). choice.build) c.args.order.now } in
+    let s : Sighting _ = record { thing = c.args.thing; order = map (λ (choice : Choice). choice.build) c.args.order.now } in
     let tally : Tally _ = record { thing = c.args.thing; count = 1; first = c.in_ok-first.first } in
     ap (map counted_of) (c.in_ok-push.ensures.items ∙ ap (λ ts. ts ++ tally ∷ []) (back g at))
     ∙ shown_first g.K.PartialEq.eq g.met.K.Eq.laws c.args.tallies.now.items c.bump.new.tallies seen s are (bumped g at) tally (sym (known g at) ∙ c.if-bump.false)

@@ -6,4 +6,4 @@ use Rattle.orders_text.proofs.text.push_build.Given as goal
 
 abbrev pub invariant-loop-place : goal.invariant-loop-place
 invariant-loop-place l =
-    string_bytes l.text ≡ string_bytes l.fn.text ++ flat_map (step_lines (plan_view l.plan) l.ends l.build) (range_with_len 0 l.place)
+    string_bytes l.text ≡ string_bytes l.fn.text ++ flat_map (step_lines (plan_view l.plan) l.totals l.build) (range_with_len 0 l.place)

@@ -6,6 +6,6 @@ use Rattle.orders_text.proofs.text.push_builds.Goals as goal
 
 pub loop-build-preserved : goal.loop-build-preserved
 loop-build-preserved c =
-    lines_more (build_lines (plan_view c.args.plan.now) c.args.ends.now) c.loop-build.build (string_bytes c.args.text.now) (string_bytes c.loop-build.text)
-    (build_lines (plan_view c.args.plan.now) c.args.ends.now c.loop-build.build) (string_bytes c.push_build.new.text)
+    lines_more (build_lines (plan_view c.args.plan.now) c.args.totals.now) c.loop-build.build (string_bytes c.args.text.now) (string_bytes c.loop-build.text)
+    (build_lines (plan_view c.args.plan.now) c.args.totals.now c.loop-build.build) (string_bytes c.push_build.new.text)
     c.loop-build.invariant c.in_ok-push_build.ensures refl

@@ -4,4 +4,4 @@ use Rattle.orders_text.specs.Lines.{map_lines}
 use Rattle.orders_text.proofs.text.push_maps.Given as goal
 
 abbrev pub invariant-loop-map : goal.invariant-loop-map
-invariant-loop-map l = string_bytes l.text ≡ string_bytes l.fn.text ++ flat_map map_lines (take l.map-index l.maps)
+invariant-loop-map l = string_bytes l.text ≡ string_bytes l.fn.text ++ flat_map (map_lines l.orders) (take l.map-index l.maps)

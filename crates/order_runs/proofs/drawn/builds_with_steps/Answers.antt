@@ -2,10 +2,10 @@ use Rattle.std.proofs.Common.{◌≡◌, ◌∙◌, ◌++◌, ◌∷◌, [], ap,
 use Rattle.std.specs.Prelude.{filter}
 use Rattle.std.specs.List.{range_with_len}
 use Rattle.order_runs.specs.Next.{could}
-use Rattle.order_runs.specs.Drawn.{builds_of}
+use Rattle.order_runs.specs.Drawn.{builds_with_steps}
 use Rattle.order_runs.proofs.Drawing.{kept_with, kept_without}
-use Rattle.order_runs.proofs.drawn.builds_of.Goals as goal
-use Rattle.order_runs.proofs.drawn.builds_of.Goals.{then-left-build, else-left-build}
+use Rattle.order_runs.proofs.drawn.builds_with_steps.Goals as goal
+use Rattle.order_runs.proofs.drawn.builds_with_steps.Goals.{then-left-build, else-left-build}
 
 pub loop-build-preserved : goal.loop-build-preserved
 loop-build-preserved c =
@@ -18,7 +18,7 @@ loop-build-preserved c =
     ]
 
 pub returns : goal.returns
-unfolding builds_of
+unfolding builds_with_steps
 returns c =
     let all : c.loop-build.build ≡ 8 = (let past = c.loop-build-test.false in let most = c.loop-build.auto.build-end in omega arith) in
     c.loop-build.invariant ∙ ap (λ n. filter (could c.args.left.now) (range_with_len 0 n)) all
