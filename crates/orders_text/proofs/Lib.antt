@@ -1,3 +1,4 @@
 pub mod Visits
 pub mod Samples
 pub mod Unseen
+pub mod Joined

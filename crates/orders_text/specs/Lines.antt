@@ -1,5 +1,5 @@
 -- The text of what orders come to.
-use Rattle.std.specs.Prelude.{ℕ, ◌==◌, Bool, ◌&&◌, List, [], ◌∷◌, ◌++◌, codes, filter, length, if◌then◌else◌, Option, Some, None, option_map, unwrap_or, slice_get, string_bytes}
+use Rattle.std.specs.Prelude.{ℕ, ◌==◌, Bool, true, false, ◌&&◌, List, [], ◌∷◌, ◌++◌, codes, filter, length, if◌then◌else◌, Option, Some, None, option_map, unwrap_or, slice_get, string_bytes}
 use Rattle.std.specs.List.{flat_map, range_with_len}
 use Rattle.std.specs.Fmt.{decimal}
 use Rattle.std.specs.declared.alloc.Global.{Global}
@@ -33,9 +33,13 @@ drawn_line orders = codes "orders drawn " ++ (decimal orders ++ 10 ∷ [])
 abbrev pub shown_text : ℕ → ℕ → List ℕ → List ℕ
 shown_text orders count first = if count == orders then codes " in all\n" else codes " in " ++ (decimal count ++ (codes ", " ++ (order_text first ++ 10 ∷ [])))
 
--- of whole orders: in how many any step was refused, or none was
+-- of whole orders: whether any step was refused, and in how many
+abbrev pub whole_words : Bool → List ℕ
+whole_words true = codes "some step refused"
+whole_words false = codes "no step refused"
+
 abbrev pub whole_line : ℕ → Tally Bool → List ℕ
-whole_line orders tally = (if tally.thing then codes "some step refused" else codes "no step refused") ++ shown_text orders tally.count tally.first.items
+whole_line orders tally = whole_words tally.thing ++ shown_text orders tally.count tally.first.items
 
 -- the build, the place of the step in it, the step as it stands in the plan, and how it ended
 abbrev pub end_line : ℕ → PlanStep → Tally StepEnd → List ℕ

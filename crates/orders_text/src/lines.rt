@@ -1,7 +1,7 @@
 //! The lines of what orders come to.
 ghost use Rattle.std.specs.Prelude.{◌≡◌, ◌++◌, OnOk, string_bytes};
 ghost use Rattle.realm_plan.specs.PlanView.{plan_view};
-ghost use Rattle.orders_text.specs.Lines.{shown_text, orders_line, drawn_line, whole_line, end_line, step_lines, smooth_line, smooth_lines, map_lines};
+ghost use Rattle.orders_text.specs.Lines.{shown_text, orders_line, drawn_line, whole_words, whole_line, end_line, step_lines, smooth_line, smooth_lines, map_lines};
 
 use crate::order::OrderText;
 use build_commands::Refusal;
@@ -59,6 +59,17 @@ fn push_shown(text: &mut String, orders: u64, count: u64, first: &[usize]) -> Re
     }
 }
 
+// What is said of whole orders.
+fn whole_words(is_refused: bool) -> &'static str
+    ensures { result.now ≡ whole_words is_refused }
+{
+    if is_refused {
+        "some step refused"
+    } else {
+        "no step refused"
+    }
+}
+
 /// Appends the line of how many orders had a step that was refused, or none.
 pub(crate) fn push_whole(
     text: &mut String,
@@ -67,12 +78,9 @@ pub(crate) fn push_whole(
 ) -> Result<(), AllocError>
     ensures { OnOk result (string_bytes text.new ≡ string_bytes text.old ++ whole_line orders tally.now) }
 {
-    text.push_str(if tally.thing {
-        "some step refused"
-    } else {
-        "no step refused"
-    })?;
-    push_shown(text, orders, tally.count, &tally.first)
+    text.push_str(whole_words(tally.thing))?;
+    push_shown(text, orders, tally.count, &tally.first)?;
+    Ok(())
 }
 
 // Appends the line of how a step of a build ended.
@@ -126,7 +134,8 @@ fn push_never_refused(
     ensures { OnOk result (string_bytes text.new ≡ string_bytes text.old ++ smooth_line orders tally.now) }
 {
     write!(text, "never refused {}", tally.thing)?;
-    push_shown(text, orders, tally.count, &tally.first)
+    push_shown(text, orders, tally.count, &tally.first)?;
+    Ok(())
 }
 
 /// Appends the line of how often a build was never refused.

@@ -95,7 +95,8 @@ fn push_totals(text: &mut String, plan: &Plan, totals: &Totals) -> Result<(), Al
     push_wholes(text, orders, &totals.wholes)?;
     push_builds(text, plan, totals, builds)?;
     push_smooths(text, orders, &totals.smooth, builds)?;
-    push_maps(text, orders, &totals.maps)
+    push_maps(text, orders, &totals.maps)?;
+    Ok(())
 }
 
 /// Appends what the orders of a plan come to: how many there are; in how many nothing was refused; of each step of each build how
