@@ -1,10 +1,12 @@
 -- A run of an order is a run of the plan that has this order.
-use Rattle.std.proofs.Common.{ℕ, List, [], ◌∷◌, refl, ap}
+use Rattle.std.proofs.Common.{◌≡◌, ◌⊎◌, inl, inr, ℕ, ◌==◌, Bool, true, false, if◌then◌else◌, List, [], ◌∷◌, ◌++◌, map, All, append_assoc, append-nil, refl, sym, ap, ◌∙◌}
+use Rattle.std.proofs.lemmas.List.Elements.{All-nil, All-cons}
 use Rattle.std.specs.List.{flat_map}
 use Rattle.build_books.specs.View.{HostView}
 use Rattle.realm_plan.specs.Plan.{Plan}
-use Rattle.plan_runs.specs.Run.{Turn, AreTurns, turn_text, IsToldRun}
-use Rattle.order_runs.specs.Chosen.{Stage, AreChosen, IsChosenRun}
+use Rattle.plan_runs.specs.Run.{Turn, AreTurns, place_of, turn_text, IsToldRun}
+use Rattle.order_runs.specs.Chosen.{Stage, first_stage, ended, refusal_of_turn, AreChosen, IsChosenRun}
+use Rattle.order_runs.specs.Told.{Line, IsNoted, AreTold}
 use Rattle.order_runs.specs.Totals.{chosen_order}
 use Rattle.order_runs.specs.declared.choice.Choice.{Choice}
 use Rattle.order_runs.specs.declared.end.StepEnd.{StepEnd}
@@ -23,3 +25,50 @@ pub run_of_plan :
 run_of_plan plan host choices to ends is =
     let turns = turns_of plan (chosen_order choices) _ choices is.last is.chosen in
     (flat_map turn_text turns.0, record { turns = turns.0; end = is.last.at; is_run = turns.1; host = is.host; appended = refl })
+
+-- ---- what is noted of turns
+
+abbrev end_of : Turn → ℕ → StepEnd
+end_of turn step = record { build = turn.build; step = step; refusal = refusal_of_turn turn.told }
+
+noted_if : (turn : Turn) (before : ℕ) (stays : Bool)
+    → ((if stays then [] else end_of turn before ∷ []) ≡ []) ⊎ ((step : ℕ) × ((if stays then [] else end_of turn before ∷ []) ≡ end_of turn step ∷ []))
+noted_if turn before true = inl refl
+noted_if turn before false = inr (before, refl)
+
+record Noted (plan : Plan) (order : List ℕ) (from to : Stage) (choices : List Choice) : Type 0 where
+  lines : List Line
+  are_turns : AreTurns (record plan { order = order }) (chosen_order choices) from.at (map (λ (line : Line). line.turn) lines) to.at
+  each : All IsNoted lines
+  ends_are : to.ends ≡ from.ends ++ flat_map (λ (line : Line). line.noted) lines
+
+noted : (plan : Plan) (order : List ℕ) (from : Stage) (choices : List Choice) (to : Stage) → AreChosen plan from choices to → Noted plan order from to choices
+noted plan order from [] to are = record {
+  lines = [];
+  are_turns = ap (λ (s : Stage). s.at) are;
+  each = All-nil IsNoted;
+  ends_are = ap (λ (s : Stage). s.ends) are ∙ sym (append-nil from.ends);
+}
+noted plan order from (choice ∷ choices) to are =
+    let step = are.2 in
+    let later = noted plan order are.1 choices to are.3 in
+    let line : Line = record { turn = step.turn; noted = ended step.turn (place_of from.at.places choice.build).done (place_of are.1.at.places choice.build).done } in
+    record {
+      lines = line ∷ later.lines;
+      are_turns = (step.of_build, are.1.at, step.is_turn, later.are_turns);
+      each = All-cons IsNoted line later.lines (noted_if step.turn (place_of from.at.places choice.build).done
+          ((place_of from.at.places choice.build).done == (place_of are.1.at.places choice.build).done)) later.each;
+      ends_are = later.ends_are ∙ ap (λ es. es ++ flat_map (λ (l : Line). l.noted) later.lines) step.noted ∙ append_assoc from.ends line.noted (flat_map (λ (l : Line). l.noted) later.lines);
+    }
+
+pub ends_told : (plan : Plan) (host : HostView) (choices : List Choice) (to : HostView) (ends : List StepEnd)
+    → IsChosenRun plan host choices to ends → AreTold (record plan { order = chosen_order choices }) host to ends
+ends_told plan host choices to ends is =
+    let all = noted plan (chosen_order choices) (first_stage host) choices is.last is.chosen in record {
+      lines = all.lines;
+      last = is.last.at;
+      are_turns = all.are_turns;
+      host_is = is.host;
+      each = all.each;
+      ends_are = sym is.ends ∙ all.ends_are;
+    }

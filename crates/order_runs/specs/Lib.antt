@@ -7,3 +7,4 @@ pub mod Totals
 pub mod Order
 pub mod Explored
 pub mod Drawn
+pub mod Told

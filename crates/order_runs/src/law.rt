@@ -4,6 +4,7 @@ ghost use Rattle.build_books.specs.View.{HostView};
 ghost use Rattle.realm_plan.specs.Plan.{Plan};
 ghost use Rattle.plan_runs.specs.Run.{IsToldRun};
 ghost use Rattle.order_runs.specs.Chosen.{IsChosenRun};
+ghost use Rattle.order_runs.specs.Told.{AreTold};
 ghost use Rattle.order_runs.specs.Order.{IsBefore, AreVisits, IsOrder};
 ghost use Rattle.order_runs.specs.Totals.{Visit, chosen_order};
 ghost use Rattle.order_runs.specs.declared.choice.Choice.{Choice};
@@ -33,4 +34,12 @@ pub fn every_order_is_visited()
         → AreVisits plan host (Some []) visits None
         → All (λ (visit : Visit). IsOrder left [] visit.choices) visits
         → (order : List Choice) → IsOrder left [] order → Contains (map (λ (visit : Visit). visit.choices) visits) order }
+{}
+
+/// What is noted of a run's steps is what the lines of the run tell: each end is that of a turn of the same build, with the refusal
+/// of its line, and they come in the order of the lines.
+pub fn ends_are_told()
+    ensures { (plan : Plan) (host : HostView) (choices : List Choice) (to : HostView) (ends : List StepEnd)
+        → IsChosenRun plan host choices to ends
+        → AreTold (record plan { order = chosen_order choices }) host to ends }
 {}

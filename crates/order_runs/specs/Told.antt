@@ -1,0 +1,26 @@
+-- What the lines of a run tell of how its steps end.
+use Rattle.std.specs.Prelude.{◌≡◌, ◌⊎◌, ℕ, List, [], ◌∷◌, map}
+use Rattle.std.specs.List.{All, flat_map}
+use Rattle.build_books.specs.View.{HostView}
+use Rattle.realm_plan.specs.Plan.{Plan}
+use Rattle.plan_runs.specs.Run.{Turn, Position, AreTurns, start}
+use Rattle.order_runs.specs.Chosen.{refusal_of_turn}
+use Rattle.order_runs.specs.declared.end.StepEnd.{StepEnd}
+
+-- a turn, and the end of its step, where it has one
+pub record Line : Type 0 where
+  pub turn : Turn
+  pub noted : List StepEnd
+
+-- None is noted of the turn, or one, of its build, with the refusal in its answer.
+abbrev pub IsNoted : Line → Type 0
+IsNoted line = (line.noted ≡ []) ⊎ ((step : ℕ) × (line.noted ≡ record { build = line.turn.build; step = step; refusal = refusal_of_turn line.turn.told } ∷ []))
+
+-- A run of the plan leads here, and these are the ends of its turns' steps.
+pub record AreTold (plan : Plan) (host to : HostView) (ends : List StepEnd) : Type 0 where
+  pub lines : List Line
+  pub last : Position
+  pub are_turns : AreTurns plan plan.order (start host) (map (λ (line : Line). line.turn) lines) last
+  pub host_is : last.host ≡ to
+  pub each : All IsNoted lines
+  pub ends_are : ends ≡ flat_map (λ (line : Line). line.noted) lines
