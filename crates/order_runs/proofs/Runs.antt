@@ -6,7 +6,7 @@ use Rattle.build_books.specs.View.{HostView}
 use Rattle.realm_plan.specs.Plan.{Plan}
 use Rattle.plan_runs.specs.Run.{Turn, AreTurns, place_of, turn_text, IsToldRun}
 use Rattle.order_runs.specs.Chosen.{Stage, first_stage, ended, refusal_of_turn, AreChosen, IsChosenRun}
-use Rattle.order_runs.specs.Told.{Line, IsNoted, AreTold}
+use Rattle.order_runs.specs.Told.{Line, IsEndOfTurn, AreTold}
 use Rattle.order_runs.specs.Totals.{chosen_order}
 use Rattle.order_runs.specs.declared.choice.Choice.{Choice}
 use Rattle.order_runs.specs.declared.end.StepEnd.{StepEnd}
@@ -39,14 +39,14 @@ noted_if turn before false = inr (before, refl)
 record Noted (plan : Plan) (order : List ℕ) (from to : Stage) (choices : List Choice) : Type 0 where
   lines : List Line
   are_turns : AreTurns (record plan { order = order }) (chosen_order choices) from.at (map (λ (line : Line). line.turn) lines) to.at
-  each : All IsNoted lines
+  each : All IsEndOfTurn lines
   ends_are : to.ends ≡ from.ends ++ flat_map (λ (line : Line). line.noted) lines
 
 noted : (plan : Plan) (order : List ℕ) (from : Stage) (choices : List Choice) (to : Stage) → AreChosen plan from choices to → Noted plan order from to choices
 noted plan order from [] to are = record {
   lines = [];
   are_turns = ap (λ (s : Stage). s.at) are;
-  each = All-nil IsNoted;
+  each = All-nil IsEndOfTurn;
   ends_are = ap (λ (s : Stage). s.ends) are ∙ sym (append-nil from.ends);
 }
 noted plan order from (choice ∷ choices) to are =
@@ -56,7 +56,7 @@ noted plan order from (choice ∷ choices) to are =
     record {
       lines = line ∷ later.lines;
       are_turns = (step.of_build, are.1.at, step.is_turn, later.are_turns);
-      each = All-cons IsNoted line later.lines (noted_if step.turn (place_of from.at.places choice.build).done
+      each = All-cons IsEndOfTurn line later.lines (noted_if step.turn (place_of from.at.places choice.build).done
           ((place_of from.at.places choice.build).done == (place_of are.1.at.places choice.build).done)) later.each;
       ends_are = later.ends_are ∙ ap (λ es. es ++ flat_map (λ (l : Line). l.noted) later.lines) step.noted ∙ append_assoc from.ends line.noted (flat_map (λ (l : Line). l.noted) later.lines);
     }

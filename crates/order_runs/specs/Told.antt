@@ -13,8 +13,8 @@ pub record Line : Type 0 where
   pub noted : List StepEnd
 
 -- None is noted of the turn, or one, of its build, with the refusal in its answer.
-abbrev pub IsNoted : Line → Type 0
-IsNoted line = (line.noted ≡ []) ⊎ ((step : ℕ) × (line.noted ≡ record { build = line.turn.build; step = step; refusal = refusal_of_turn line.turn.told } ∷ []))
+abbrev pub IsEndOfTurn : Line → Type 0
+IsEndOfTurn line = (line.noted ≡ []) ⊎ ((step : ℕ) × (line.noted ≡ record { build = line.turn.build; step = step; refusal = refusal_of_turn line.turn.told } ∷ []))
 
 -- A run of the plan leads here, and these are the ends of its turns' steps.
 pub record AreTold (plan : Plan) (host to : HostView) (ends : List StepEnd) : Type 0 where
@@ -22,5 +22,5 @@ pub record AreTold (plan : Plan) (host to : HostView) (ends : List StepEnd) : Ty
   pub last : Position
   pub are_turns : AreTurns plan plan.order (start host) (map (λ (line : Line). line.turn) lines) last
   pub host_is : last.host ≡ to
-  pub each : All IsNoted lines
+  pub each : All IsEndOfTurn lines
   pub ends_are : ends ≡ flat_map (λ (line : Line). line.noted) lines
