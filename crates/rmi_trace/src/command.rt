@@ -9,19 +9,17 @@ fn granule_command(word: &str, numbers: &[u32]) -> Option<Command>
     ensures { result ≡ granule_command_at word.now numbers.now }
 {
     match word {
-        "granule_delegate" => Some(Command::GranuleDelegate {
-            granule: one_operand(numbers)?,
-        }),
-        "granule_undelegate" => Some(Command::GranuleUndelegate {
-            granule: one_operand(numbers)?,
-        }),
+        "granule_delegate" => {
+            one_operand(numbers).map(|granule| Command::GranuleDelegate { granule })
+        }
+        "granule_undelegate" => {
+            one_operand(numbers).map(|granule| Command::GranuleUndelegate { granule })
+        }
         "host_fill" => {
-            let (granule, value) = two_operands(numbers)?;
-            Some(Command::HostFill { granule, value })
+            two_operands(numbers).map(|(granule, value)| Command::HostFill { granule, value })
         }
         "host_peek" => {
-            let (granule, offset) = two_operands(numbers)?;
-            Some(Command::HostPeek { granule, offset })
+            two_operands(numbers).map(|(granule, offset)| Command::HostPeek { granule, offset })
         }
         _ => None,
     }
@@ -32,20 +30,15 @@ fn realm_command(word: &str, numbers: &[u32]) -> Option<Command>
 {
     match word {
         "realm_create" => {
-            let (rd, root, vmid, width) = four_operands(numbers)?;
-            Some(Command::RealmCreate {
+            four_operands(numbers).map(|(rd, root, vmid, width)| Command::RealmCreate {
                 rd,
                 root,
                 vmid,
                 width,
             })
         }
-        "realm_activate" => Some(Command::RealmActivate {
-            rd: one_operand(numbers)?,
-        }),
-        "realm_destroy" => Some(Command::RealmDestroy {
-            rd: one_operand(numbers)?,
-        }),
+        "realm_activate" => one_operand(numbers).map(|rd| Command::RealmActivate { rd }),
+        "realm_destroy" => one_operand(numbers).map(|rd| Command::RealmDestroy { rd }),
         _ => None,
     }
 }
@@ -55,8 +48,7 @@ fn table_command(word: &str, numbers: &[u32]) -> Option<Command>
 {
     match word {
         "rtt_create" => {
-            let (rd, granule, ipa, level) = four_operands(numbers)?;
-            Some(Command::RttCreate {
+            four_operands(numbers).map(|(rd, granule, ipa, level)| Command::RttCreate {
                 rd,
                 granule,
                 ipa,
@@ -64,12 +56,10 @@ fn table_command(word: &str, numbers: &[u32]) -> Option<Command>
             })
         }
         "rtt_destroy" => {
-            let (rd, ipa, level) = three_operands(numbers)?;
-            Some(Command::RttDestroy { rd, ipa, level })
+            three_operands(numbers).map(|(rd, ipa, level)| Command::RttDestroy { rd, ipa, level })
         }
         "rtt_init_ripas" => {
-            let (rd, ipa, count) = three_operands(numbers)?;
-            Some(Command::RttInitRipas { rd, ipa, count })
+            three_operands(numbers).map(|(rd, ipa, count)| Command::RttInitRipas { rd, ipa, count })
         }
         _ => None,
     }
@@ -80,8 +70,7 @@ fn data_command(word: &str, numbers: &[u32]) -> Option<Command>
 {
     match word {
         "data_create" => {
-            let (rd, granule, ipa, source) = four_operands(numbers)?;
-            Some(Command::DataCreate {
+            four_operands(numbers).map(|(rd, granule, ipa, source)| Command::DataCreate {
                 rd,
                 granule,
                 ipa,
@@ -89,12 +78,14 @@ fn data_command(word: &str, numbers: &[u32]) -> Option<Command>
             })
         }
         "data_create_unknown" => {
-            let (rd, granule, ipa) = three_operands(numbers)?;
-            Some(Command::DataCreateUnknown { rd, granule, ipa })
+            three_operands(numbers).map(|(rd, granule, ipa)| Command::DataCreateUnknown {
+                rd,
+                granule,
+                ipa,
+            })
         }
         "data_destroy" => {
-            let (rd, ipa) = two_operands(numbers)?;
-            Some(Command::DataDestroy { rd, ipa })
+            two_operands(numbers).map(|(rd, ipa)| Command::DataDestroy { rd, ipa })
         }
         _ => None,
     }
@@ -118,18 +109,11 @@ fn rec_command(word: &str, numbers: &[u32]) -> Option<Command>
 {
     match word {
         "rec_create" => rec_create(numbers),
-        "rec_enter" => Some(Command::RecEnter {
-            rec: one_operand(numbers)?,
-        }),
-        "rec_exit" => Some(Command::RecExit {
-            rec: one_operand(numbers)?,
-        }),
-        "rec_destroy" => Some(Command::RecDestroy {
-            rec: one_operand(numbers)?,
-        }),
+        "rec_enter" => one_operand(numbers).map(|rec| Command::RecEnter { rec }),
+        "rec_exit" => one_operand(numbers).map(|rec| Command::RecExit { rec }),
+        "rec_destroy" => one_operand(numbers).map(|rec| Command::RecDestroy { rec }),
         "guest_write" => {
-            let (rec, ipa, offset, value) = four_operands(numbers)?;
-            Some(Command::GuestWrite {
+            four_operands(numbers).map(|(rec, ipa, offset, value)| Command::GuestWrite {
                 rec,
                 ipa,
                 offset,

@@ -23,25 +23,12 @@ fn reading(word: &str, numbers: &[u32]) -> Option<Reading>
     ensures { result ≡ reading_at word.now numbers.now }
 {
     match word {
-        "state" => Some(Reading::State {
-            granule: one_operand(numbers)?,
-        }),
-        "sum" => Some(Reading::Sum {
-            granule: one_operand(numbers)?,
-        }),
-        "word" => {
-            let (granule, index) = two_operands(numbers)?;
-            Some(Reading::Word { granule, index })
-        }
-        "realm" => Some(Reading::Realm {
-            granule: one_operand(numbers)?,
-        }),
-        "measurement" => Some(Reading::Measurement {
-            granule: one_operand(numbers)?,
-        }),
-        "rec" => Some(Reading::Rec {
-            granule: one_operand(numbers)?,
-        }),
+        "state" => one_operand(numbers).map(|granule| Reading::State { granule }),
+        "sum" => one_operand(numbers).map(|granule| Reading::Sum { granule }),
+        "word" => two_operands(numbers).map(|(granule, index)| Reading::Word { granule, index }),
+        "realm" => one_operand(numbers).map(|granule| Reading::Realm { granule }),
+        "measurement" => one_operand(numbers).map(|granule| Reading::Measurement { granule }),
+        "rec" => one_operand(numbers).map(|granule| Reading::Rec { granule }),
         _ => None,
     }
 }
