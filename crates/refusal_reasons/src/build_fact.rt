@@ -28,7 +28,7 @@ impl fmt::Display for BuildFact {
     fn fmt<W: fmt::Write>(&self, f: &mut fmt::Formatter<W>) -> fmt::Result {
         match *self {
             BuildFact::There(builds) => write!(f, "the build is one of {builds}"),
-            BuildFact::NotAborting => write!(f, "the build is not in abort"),
+            BuildFact::NotAborting => f.write_str("the build is not in abort"),
             BuildFact::Order(order) => write!(f, "the order is at most 9: {order}"),
             BuildFact::Page(page, Some(granule), _) => {
                 write!(f, "the build has page {page}: granule {}", granule.number())
@@ -43,7 +43,7 @@ impl fmt::Display for BuildFact {
                     rd.number()
                 )
             }
-            BuildFact::Realm(None) => write!(f, "the build has a realm"),
+            BuildFact::Realm(None) => f.write_str("the build has a realm"),
             BuildFact::NoRealm(Some(rd)) => {
                 write!(
                     f,
@@ -51,7 +51,7 @@ impl fmt::Display for BuildFact {
                     rd.number()
                 )
             }
-            BuildFact::NoRealm(None) => write!(f, "the build has no realm"),
+            BuildFact::NoRealm(None) => f.write_str("the build has no realm"),
         }
     }
 }

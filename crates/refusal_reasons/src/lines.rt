@@ -20,9 +20,9 @@ impl fmt::Display for ResultName {
 
     fn fmt<W: fmt::Write>(&self, f: &mut fmt::Formatter<W>) -> fmt::Result {
         match self.0.status {
-            Status::Input => write!(f, "RMI_ERROR_INPUT"),
-            Status::Realm => write!(f, "RMI_ERROR_REALM"),
-            Status::Rec => write!(f, "RMI_ERROR_REC"),
+            Status::Input => f.write_str("RMI_ERROR_INPUT"),
+            Status::Realm => f.write_str("RMI_ERROR_REALM"),
+            Status::Rec => f.write_str("RMI_ERROR_REC"),
             Status::Rtt => write!(f, "RMI_ERROR_RTT, index {}", self.0.index),
         }
     }

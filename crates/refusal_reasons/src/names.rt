@@ -1,6 +1,51 @@
 //! States by the names that RMM 1.0 gives them.
+ghost use Rattle.std.specs.Prelude.{◌≡◌};
+ghost use Rattle.refusal_reasons.specs.Words.{state_name, realm_name, rec_name, entry_name};
+
 use realm_model::{EntryState, GranuleState, RealmState, RecState};
 use std::fmt;
+
+fn state_name(state: GranuleState) -> &'static str
+    ensures { result.now ≡ state_name state }
+{
+    match state {
+        GranuleState::Undelegated => "UNDELEGATED",
+        GranuleState::Delegated => "DELEGATED",
+        GranuleState::Rd => "RD",
+        GranuleState::Rec => "REC",
+        GranuleState::RecAux => "REC_AUX",
+        GranuleState::Data => "DATA",
+        GranuleState::Rtt => "RTT",
+    }
+}
+
+fn realm_name(state: RealmState) -> &'static str
+    ensures { result.now ≡ realm_name state }
+{
+    match state {
+        RealmState::New => "NEW",
+        RealmState::Active => "ACTIVE",
+    }
+}
+
+fn rec_name(state: RecState) -> &'static str
+    ensures { result.now ≡ rec_name state }
+{
+    match state {
+        RecState::Ready => "READY",
+        RecState::Running => "RUNNING",
+    }
+}
+
+fn entry_name(state: EntryState) -> &'static str
+    ensures { result.now ≡ entry_name state }
+{
+    match state {
+        EntryState::Unassigned => "UNASSIGNED",
+        EntryState::Assigned => "ASSIGNED",
+        EntryState::Table => "TABLE",
+    }
+}
 
 /// The state of a granule, by its name.
 #[derive(Clone, Copy)]
@@ -8,20 +53,11 @@ pub struct StateName(pub GranuleState);
 
 impl fmt::Display for StateName {
     ghost use Rattle.std.specs.Prelude.{Some};
-    ghost use Rattle.refusal_reasons.specs.Words.{state_name};
 
     ghost output = { λ name. Some (state_name name.0) };
 
     fn fmt<W: fmt::Write>(&self, f: &mut fmt::Formatter<W>) -> fmt::Result {
-        match self.0 {
-            GranuleState::Undelegated => write!(f, "UNDELEGATED"),
-            GranuleState::Delegated => write!(f, "DELEGATED"),
-            GranuleState::Rd => write!(f, "RD"),
-            GranuleState::Rec => write!(f, "REC"),
-            GranuleState::RecAux => write!(f, "REC_AUX"),
-            GranuleState::Data => write!(f, "DATA"),
-            GranuleState::Rtt => write!(f, "RTT"),
-        }
+        f.write_str(state_name(self.0))
     }
 }
 
@@ -31,15 +67,11 @@ pub struct RealmName(pub RealmState);
 
 impl fmt::Display for RealmName {
     ghost use Rattle.std.specs.Prelude.{Some};
-    ghost use Rattle.refusal_reasons.specs.Words.{realm_name};
 
     ghost output = { λ name. Some (realm_name name.0) };
 
     fn fmt<W: fmt::Write>(&self, f: &mut fmt::Formatter<W>) -> fmt::Result {
-        match self.0 {
-            RealmState::New => write!(f, "NEW"),
-            RealmState::Active => write!(f, "ACTIVE"),
-        }
+        f.write_str(realm_name(self.0))
     }
 }
 
@@ -49,15 +81,11 @@ pub struct RecName(pub RecState);
 
 impl fmt::Display for RecName {
     ghost use Rattle.std.specs.Prelude.{Some};
-    ghost use Rattle.refusal_reasons.specs.Words.{rec_name};
 
     ghost output = { λ name. Some (rec_name name.0) };
 
     fn fmt<W: fmt::Write>(&self, f: &mut fmt::Formatter<W>) -> fmt::Result {
-        match self.0 {
-            RecState::Ready => write!(f, "READY"),
-            RecState::Running => write!(f, "RUNNING"),
-        }
+        f.write_str(rec_name(self.0))
     }
 }
 
@@ -67,15 +95,10 @@ pub struct EntryName(pub EntryState);
 
 impl fmt::Display for EntryName {
     ghost use Rattle.std.specs.Prelude.{Some};
-    ghost use Rattle.refusal_reasons.specs.Words.{entry_name};
 
     ghost output = { λ name. Some (entry_name name.0) };
 
     fn fmt<W: fmt::Write>(&self, f: &mut fmt::Formatter<W>) -> fmt::Result {
-        match self.0 {
-            EntryState::Unassigned => write!(f, "UNASSIGNED"),
-            EntryState::Assigned => write!(f, "ASSIGNED"),
-            EntryState::Table => write!(f, "TABLE"),
-        }
+        f.write_str(entry_name(self.0))
     }
 }

@@ -27,11 +27,11 @@ impl fmt::Display for RealmFact {
     fn fmt<W: fmt::Write>(&self, f: &mut fmt::Formatter<W>) -> fmt::Result {
         match *self {
             RealmFact::Width(width) => write!(f, "the IPA width is 39 to 43: {width}"),
-            RealmFact::Adjacent => write!(f, "the starting tables are adjacent granules"),
+            RealmFact::Adjacent => f.write_str("the starting tables are adjacent granules"),
             RealmFact::Multiple(count) => {
                 write!(f, "the first starting table is a multiple of {count}")
             }
-            RealmFact::Apart => write!(f, "the RD is no starting table"),
+            RealmFact::Apart => f.write_str("the RD is no starting table"),
             RealmFact::State(wanted, Some(found)) => {
                 write!(
                     f,

@@ -25,7 +25,7 @@ impl fmt::Display for RecFact {
 
     fn fmt<W: fmt::Write>(&self, f: &mut fmt::Formatter<W>) -> fmt::Result {
         match *self {
-            RecFact::Distinct => write!(f, "no granule is named twice"),
+            RecFact::Distinct => f.write_str("no granule is named twice"),
             RecFact::Auxiliaries(given, wanted) => {
                 write!(f, "a REC has {wanted} auxiliary granules: {given}")
             }

@@ -30,7 +30,7 @@ impl fmt::Display for RoomFact {
             RoomFact::Vmid(Some(lowest)) => {
                 write!(f, "a VMID is free: the lowest is {}", lowest.number())
             }
-            RoomFact::Vmid(None) => write!(f, "a VMID is free: all are in use"),
+            RoomFact::Vmid(None) => f.write_str("a VMID is free: all are in use"),
             RoomFact::Block(order, free) => {
                 write!(
                     f,

@@ -25,13 +25,13 @@ impl fmt::Display for UndoFact {
     fn fmt<W: fmt::Write>(&self, f: &mut fmt::Formatter<W>) -> fmt::Result {
         match *self {
             UndoFact::Open(open) => write!(f, "the build has an act open: {open}"),
-            UndoFact::NewestRests => write!(f, "the newest open act made no REC that runs"),
+            UndoFact::NewestRests => f.write_str("the newest open act made no REC that runs"),
             UndoFact::AllRest(running) => write!(
                 f,
                 "the RECs of the build are READY: all but {running}"
             ),
-            UndoFact::Mark => write!(f, "the build has a mark"),
-            UndoFact::AboveRests => write!(f, "no act above the mark made a REC that runs"),
+            UndoFact::Mark => f.write_str("the build has a mark"),
+            UndoFact::AboveRests => f.write_str("no act above the mark made a REC that runs"),
         }
     }
 }

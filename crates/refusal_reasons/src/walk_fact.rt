@@ -53,7 +53,7 @@ impl fmt::Display for WalkFact {
             WalkFact::Leads(Some(granule)) => {
                 write!(f, "the entry leads to a page: granule {}", granule.number())
             }
-            WalkFact::Leads(None) => write!(f, "the entry leads to a page"),
+            WalkFact::Leads(None) => f.write_str("the entry leads to a page"),
             WalkFact::Free(ipa, count) => {
                 write!(
                     f,
