@@ -66,7 +66,7 @@ install-c-library: ## copies the bench for C and Python alone below PREFIX, afte
 	install -m 644 examples/c/* $(SHARE)/realmhost/examples/c
 
 test: ## the whole gate from nothing: proofs, tests, what the built programs print, and the documents
-	rt ci
+	@tools/gate
 	@mkdir -p bin
 	@for it in $(PROGRAMS) test_memory; do install -m 755 crates/$$it/out/$$it bin/$$it || exit 1; done
 	@! command -v $(CC) > /dev/null || tools/c-library --after-ci

@@ -8,3 +8,7 @@ pub mod Order
 pub mod Explored
 pub mod Drawn
 pub mod Told
+pub mod OrderText
+pub mod Exploring
+pub mod Lines
+pub mod Leaving

@@ -9,6 +9,7 @@ ghost use Rattle.order_runs.specs.Order.{IsBefore, AreVisits, IsOrder};
 ghost use Rattle.order_runs.specs.Totals.{Visit, chosen_order};
 ghost use Rattle.order_runs.specs.declared.choice.Choice.{Choice};
 ghost use Rattle.order_runs.specs.declared.end.StepEnd.{StepEnd};
+ghost use Rattle.order_runs.specs.Leaving.{IsUnseen};
 
 /// A run of an order is a run of the plan that has this order.
 pub fn a_run_is_one_of_the_plan()
@@ -42,4 +43,9 @@ pub fn ends_are_told()
     ensures { (plan : Plan) (host : HostView) (choices : List Choice) (to : HostView) (ends : List StepEnd)
         → IsChosenRun plan host choices to ends
         → AreTold (record plan { order = chosen_order choices }) host to ends }
+{}
+
+/// A build that has nothing open is not seen in a map: it is that of the history without the build.
+pub fn builds_with_nothing_open_are_not_seen()
+    ensures { (host : HostView) (build : ℕ) → IsUnseen host build }
 {}

@@ -1,3 +1,4 @@
 pub mod Kept
 pub mod KeptPlan
 pub mod Ends
+pub mod Words

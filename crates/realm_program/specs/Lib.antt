@@ -3,3 +3,5 @@ pub mod Stop
 pub mod Whole
 pub mod Printed
 pub mod Replay
+pub mod Program
+pub mod Line

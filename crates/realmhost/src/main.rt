@@ -8,8 +8,7 @@ ghost use Rattle.realm_program.specs.Stop.{status_of_outcome, IsStatus};
 
 use builders::OpenGate;
 use command_line::{Stop, arguments};
-use realm_program::{Fault, replay};
-use realmhost_line::Line;
+use realm_program::{Fault, Line, replay};
 use run_program::run;
 use std::io::{Read, Write};
 use std::marker::Sync;

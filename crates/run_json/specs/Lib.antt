@@ -4,3 +4,4 @@ pub mod Changes
 pub mod Turns
 pub mod Worlds
 pub mod Document
+pub mod Page

@@ -1,1 +1,9 @@
 mod Faults
+pub mod Held
+pub mod Done
+pub mod Reading
+pub mod Answered
+pub mod Reports
+pub mod Seating
+pub mod Ended
+pub mod Orders

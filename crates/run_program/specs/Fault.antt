@@ -1,6 +1,6 @@
 -- Why nothing is printed of a run in threads.
-use Rattle.plan_threads.specs.declared.fault.RunFault.{RunFault}
-use Rattle.plan_threads.specs.declared.fault.RunFault.TheVariants as run_fault
+use Rattle.run_program.specs.declared.fault.RunFault.{RunFault}
+use Rattle.run_program.specs.declared.fault.RunFault.TheVariants as run_fault
 use Rattle.realm_program.specs.declared.fault.Fault.{Fault}
 use Rattle.realm_program.specs.declared.fault.Fault.TheVariants.{Memory, Stuck, Mismatch}
 

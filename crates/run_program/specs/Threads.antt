@@ -1,9 +1,9 @@
 -- What a run in threads prints.
 use Rattle.std.specs.Prelude.{ℕ, List}
 use Rattle.realm_plan.specs.Plan.{Plan}
-use Rattle.plan_threads.specs.Order.{OrderIsNotTold}
-use Rattle.plan_threads.specs.Threads as threads
-use Rattle.plan_threads.specs.declared.fault.RunFault.TheVariants as why
+use Rattle.run_program.specs.Order.{OrderIsNotTold}
+use Rattle.run_program.specs.Workers as threads
+use Rattle.run_program.specs.declared.fault.RunFault.TheVariants as why
 use Rattle.realm_program.specs.Replay.{opening_host}
 use Rattle.realm_program.specs.declared.fault.Fault.{Fault}
 use Rattle.realm_program.specs.declared.fault.Fault.TheVariants.{Memory, Stuck, Mismatch}

@@ -4,6 +4,20 @@
 //! turns.
 #![tactic(auto)]
 
+mod audit;
+mod command;
+mod ends;
+mod fault;
+pub mod law;
+mod line;
+mod new_workers;
+mod pages;
 mod running;
+mod text;
+mod undo;
+mod working;
 
+pub use audit::{fit_all, fits};
+pub use fault::RunFault;
 pub use running::run;
+pub use working::run_text;

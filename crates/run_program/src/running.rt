@@ -6,8 +6,8 @@ ghost use Rattle.run_program.specs.Threads.{IsThreadsText, IsWithoutThreadsText,
 ghost use Rattle.run_program.specs.Fault.{fault_of_run};
 ghost use Rattle.realm_program.specs.declared.fault.Fault.TheVariants.{Device};
 
+use crate::{RunFault, run_text};
 use buddy::BuddyArena;
-use plan_threads::{RunFault, run_text};
 use realm_plan::Plan;
 use realm_program::{Fault, boot, plan_in};
 use std::alloc::Global;

@@ -1,2 +1,4 @@
 pub mod Written
 pub mod Read
+pub mod Parts
+pub mod Nexts

@@ -1,2 +1,3 @@
 pub mod Told
 pub mod Whole
+pub mod Lines

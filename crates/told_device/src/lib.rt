@@ -4,6 +4,8 @@
 //! device's sake exactly where the device has failed.
 #![tactic(auto)]
 
+mod lines;
 mod told;
 
+pub use lines::{LineError, Lines, Next};
 pub use told::{DeviceFailed, Told};

@@ -5,7 +5,7 @@ use Rattle.std.proofs.Math.Nat.{eq-zero-or-pos}
 use Rattle.std.specs.Prelude.{Result, Ok, Err, IfOk}
 use Rattle.std.specs.Io.KnownBytes.{Consumes, IsAtEnd}
 use Rattle.trace_program.specs.Session.{Now}
-use Rattle.input_lines.specs.Lines.{lines_in}
+use Rattle.told_device.specs.Lines.{lines_in}
 use Rattle.trace_program.specs.Input.{kept_of_line}
 use Rattle.trace_program.specs.Verdict.{has_answer, is_only_performed, answers_in, performed_in, agreement_text, LineDiffers, AreAgreed, AllAgree, LastDiffers, IsTraceJudged}
 use Rattle.trace_program.specs.Checking.{CountsLine, IsAgreedSoFar, IsAgreedUnderway, StopsAtFeed}

@@ -7,7 +7,7 @@ use Rattle.std.specs.Io.KnownBytes.{Appends, Keeps}
 use Rattle.told_device.specs.Whole.{AppendsFront}
 use Rattle.told_device.proofs.Written.{appends_none, appends_more, appends_keeps}
 use Rattle.trace_program.specs.Session.{Now}
-use Rattle.input_lines.specs.Lines.{last_line}
+use Rattle.told_device.specs.Lines.{last_line}
 use Rattle.trace_program.specs.Input.{kept_of_line, IsCutShort}
 use Rattle.trace_program.specs.Answering.{IsSoFar, Writes, WritesFront}
 use Rattle.trace_program.proofs.Kept.{kept_none}

@@ -3,7 +3,7 @@ use Rattle.std.specs.Prelude.{◌≡◌, ℕ, Bool, true, false, List, [], ◌�
 use Rattle.std.specs.Io.KnownBytes.{Appends, Consumes}
 use Rattle.told_device.specs.Whole.{AppendsFront}
 use Rattle.trace_program.specs.Session.{Now, IsLineTold, IsSession}
-use Rattle.input_lines.specs.Lines.{parts_of}
+use Rattle.told_device.specs.Lines.{parts_of}
 use Rattle.trace_program.specs.Input.{kept_of_line, AreLinesAnswered}
 
 -- Lines of what was read are answered, and of the rest so much is kept.

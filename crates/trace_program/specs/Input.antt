@@ -1,7 +1,7 @@
 -- Lines of an input, and their answers.
 use Rattle.std.specs.Prelude.{◌≡◌, ℕ, List, ◌++◌, map, take, Option, None}
 use Rattle.std.specs.Io.KnownBytes.{Consumes, IsAtEnd, Appends}
-use Rattle.input_lines.specs.Lines.{lines_in}
+use Rattle.told_device.specs.Lines.{lines_in}
 use Rattle.told_device.specs.Whole.{AppendsFront}
 use Rattle.trace_program.specs.Session.{Now, IsSession}
 

@@ -10,7 +10,7 @@ use Rattle.rmi_trace.specs.declared.line.Line.{Line}
 use Rattle.rmi_trace.specs.declared.line.Line.TheVariants as line
 use Rattle.rmi_trace.specs.declared.request.Request.TheVariants.{Command, Reading}
 use Rattle.trace_program.specs.Session.{Now, IsTraceAnswer, written_with}
-use Rattle.input_lines.specs.Lines.{lines_in}
+use Rattle.told_device.specs.Lines.{lines_in}
 use Rattle.trace_program.specs.Input.{kept_of_line}
 use Rattle.trace_program.specs.declared.checking.Verdict.{Verdict}
 use Rattle.trace_program.specs.declared.checking.Verdict.TheVariants.{Agree, NoAnswers, Differ}

@@ -5,7 +5,7 @@ use Rattle.build_books.specs.View.{HostView}
 use Rattle.realm_host.specs.declared.why_not.WhyNot.{WhyNot}
 use Rattle.told_device.specs.Whole.{AppendsFront}
 use Rattle.told_device.proofs.Read.{keeps_same}
-use Rattle.input_lines.specs.Lines.{lines_in, IsLine, HasLongLine}
+use Rattle.told_device.specs.Lines.{lines_in, IsLine, HasLongLine}
 use Rattle.history_text.specs.Histories.{IsOpeningText}
 use Rattle.history_text.specs.declared.opening.Opening.{Opening}
 use Rattle.history_text.proofs.Short.{opening_is_short}

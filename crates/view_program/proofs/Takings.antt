@@ -3,7 +3,7 @@ use Rattle.std.proofs.Common.{◌≡◌, ◌↔◌, Bool, true, false, Ok, Err, 
 use mathlib.Core.List.{append-nil}
 use Rattle.build_books.specs.View.{HostView}
 use Rattle.realm_host.specs.Recorded.{fresh_like}
-use Rattle.input_lines.specs.Lines.{lines_in, IsLine, HasLongLine}
+use Rattle.told_device.specs.Lines.{lines_in, IsLine, HasLongLine}
 use Rattle.history_text.proofs.Short.{event_is_short}
 use Rattle.view_program.specs.Applied.{IsLineTaken, AreTaken, IsNoEvent}
 use Rattle.view_program.specs.Taking.{AreLinesTaken, IsUntaken, AreCutShort, AreNotTaken}

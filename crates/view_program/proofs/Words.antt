@@ -14,8 +14,8 @@ use Rattle.clap.specs.Walk.{action_of}
 use Rattle.clap.specs.declared.builder.action.ArgAction.TheVariants as action
 use Rattle.command_line.proofs.Passed.{AllAreOrAsk, Each, IsPassed, accepted, text_passed}
 use Rattle.command_line.proofs.Subcommands.{NamesOne, is_entered, is_one, name_in, values_passed}
-use Rattle.realmhost_line.specs.Line.{IsErase}
-use Rattle.realmhost_line.proofs.Words.{built_erase}
+use Rattle.realm_program.specs.Line.{IsErase}
+use Rattle.realm_program.proofs.Words.{built_erase}
 use Rattle.view_program.specs.Line.{IsNumber, AreAsked, IsViewSubcommand}
 use Rattle.view_program.specs.Program.{number_option, realmview}
 use Rattle.view_program.specs.declared.orders.Orders.{Orders}

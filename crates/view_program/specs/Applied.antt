@@ -6,7 +6,7 @@ use Rattle.build_books.specs.Booted.{booted}
 use Rattle.build_books.specs.View.{HostView, with_event}
 use Rattle.realm_host.specs.Recorded.{CanApply, IsWhyNot, IsWithout}
 use Rattle.realm_host.specs.declared.why_not.WhyNot.{WhyNot}
-use Rattle.input_lines.specs.Lines.{lines_in}
+use Rattle.told_device.specs.Lines.{lines_in}
 use Rattle.history_text.specs.Events.{IsEventText}
 use Rattle.history_text.specs.Histories.{IsOpeningText}
 use Rattle.history_text.specs.declared.opening.Opening.{Opening}

@@ -3,7 +3,7 @@ use Rattle.std.specs.Prelude.{◌≡◌, ℕ, List, [], codes, Option, Some, Non
 use Rattle.std.specs.Str.Parse.{ParsesUnsigned}
 use Rattle.clap.specs.Words.{Row, Text, found_of, rows_of, fault_of, one_of, subcommand_of, subcommand_rows_of}
 use Rattle.clap.specs.declared.parser.matches.ArgMatches.{ArgMatches}
-use Rattle.realmhost_line.specs.Line.{IsErase}
+use Rattle.realm_program.specs.Line.{IsErase}
 use Rattle.view_program.specs.Program.{realmview}
 use Rattle.view_program.specs.declared.orders.Orders.{Orders}
 use Rattle.view_program.specs.declared.orders.Orders.TheVariants.{First, Drawn}

@@ -11,8 +11,8 @@ use Rattle.realm_program.specs.declared.fault.Fault.TheVariants.{Memory}
 use Rattle.order_runs.specs.Drawn.{IsSampled}
 use Rattle.order_runs.specs.Explored.{IsExplored}
 use Rattle.order_runs.specs.declared.totals.Totals.{Totals}
-use Rattle.orders_text.specs.Exploring.{IsNotExplored}
-use Rattle.orders_text.specs.Lines.{orders_text, drawn_text}
+use Rattle.order_runs.specs.Exploring.{IsNotExplored}
+use Rattle.order_runs.specs.Lines.{orders_text, drawn_text}
 use Rattle.view_program.specs.declared.orders.Orders.{Orders}
 use Rattle.view_program.specs.declared.orders.Orders.TheVariants.{First, Drawn}
 

@@ -8,7 +8,7 @@ use Rattle.realm_program.specs.Replay.{opening_host}
 use Rattle.run_json.specs.Items.{comma}
 use Rattle.run_json.specs.Worlds.{IsWorldText}
 use Rattle.run_json.specs.Document.{IsDocument}
-use Rattle.run_page.specs.Page.{page_bytes}
+use Rattle.run_json.specs.Page.{page_bytes}
 
 -- the world of a host that has another's history without a build's events
 pub record IsWithoutWorld (host : HostView) (build : ℕ) (old new : List ℕ) : Type 0 where

@@ -3,7 +3,7 @@ use Rattle.std.specs.Prelude.{codes, true, Some, pos}
 use Rattle.clap.specs.Words.{App, Rule, Text, new_app, new_rule, with_rule, with_subcommand}
 use Rattle.clap.specs.declared.builder.action.ArgAction.TheVariants.{Set}
 use Rattle.clap.specs.declared.builder.value_parser.ValueParser.TheVariants as parser
-use Rattle.realmhost_line.specs.Program.{erase_option}
+use Rattle.realm_program.specs.Program.{erase_option}
 
 -- two have `--erase B`, B from 0 to 7
 abbrev pub history_subcommand : App

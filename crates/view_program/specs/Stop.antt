@@ -2,8 +2,8 @@
 use Rattle.std.specs.Prelude.{ℕ, Result, Ok, Err}
 use Rattle.command_line.specs.Stop.{status_of_stop}
 use Rattle.command_line.specs.declared.stop.Stop.{Stop}
-use Rattle.input_lines.specs.declared.lines.LineError.{LineError}
-use Rattle.input_lines.specs.declared.lines.LineError.TheVariants as line_error
+use Rattle.told_device.specs.declared.lines.LineError.{LineError}
+use Rattle.told_device.specs.declared.lines.LineError.TheVariants as line_error
 use Rattle.realm_program.specs.Fault as plan
 use Rattle.realm_program.specs.declared.input.ReadError.{ReadError}
 use Rattle.realm_program.specs.declared.input.ReadError.TheVariants as read_error

@@ -1,7 +1,7 @@
 -- Events that a host takes from the lines to come.
 use Rattle.std.specs.Prelude.{◌≡◌, ◌+◌, ℕ, List, ◌∷◌, ◌++◌, length, Option, IfSome}
 use Rattle.build_books.specs.View.{HostView}
-use Rattle.input_lines.specs.Lines.{lines_in}
+use Rattle.told_device.specs.Lines.{lines_in}
 use Rattle.view_program.specs.Applied.{AreTaken, IsNoEvent, IsEventRefused}
 use Rattle.view_program.specs.declared.fault.Fault.{Fault}
 use Rattle.view_program.specs.declared.fault.Fault.TheVariants.{NoEvent, Refused, Memory, Device}

@@ -12,12 +12,11 @@ use crate::taking::{opening_in, take_lines};
 use buddy::BuddyArena;
 use granule_addr::BuildId;
 use history_text::Opening;
-use input_lines::Lines;
 use plan_runs::map_text;
 use realm_host::{Host, apply_without};
 use std::alloc::{AllocError, Global};
 use std::io::{Read, Write};
-use told_device::Told;
+use told_device::{Lines, Told};
 
 // The host that the history in the input leads to, and the size of its machine.
 fn host_in<R: Read>(

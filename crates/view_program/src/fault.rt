@@ -3,12 +3,11 @@ ghost use Rattle.std.specs.Prelude.{◌≡◌};
 ghost use Rattle.view_program.specs.declared.fault.Fault.TheVariants.{Plan, Memory, Device};
 
 use command_line::Reason;
-use input_lines::LineError;
 use realm_host::WhyNot;
 use realm_program::ReadError;
 use std::alloc::AllocError;
 use thiserror::Error;
-use told_device::DeviceFailed;
+use told_device::{DeviceFailed, LineError};
 
 /// Why what was asked for is not printed, or a prefix of the text alone. Its line goes to standard error. Lines are counted
 /// from 1.

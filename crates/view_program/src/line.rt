@@ -2,7 +2,7 @@
 ghost use Rattle.std.specs.Prelude.{◌≡◌, IfOk, false, nat_lt, if◌then◌else◌, Some, None, option_and_then};
 ghost use Rattle.clap.specs.Words.{app_of, rule_of, found_of, rows_of, subcommand_rows_of};
 ghost use Rattle.clap.specs.declared.builder.command.Command.TheViews.{out-Command as fields_of};
-ghost use Rattle.realmhost_line.specs.Program.{erase_option};
+ghost use Rattle.realm_program.specs.Program.{erase_option};
 ghost use Rattle.view_program.specs.Line.{IsOfWords, AreExplored, AreAsked, IsViewSubcommand};
 ghost use Rattle.view_program.specs.Program.{history_subcommand, apply_subcommand, json_subcommand, page_subcommand, why_subcommand, number_option, explore_subcommand, check_subcommand, realmview_alone, realmview};
 

@@ -3,13 +3,12 @@ ghost use Rattle.std.specs.Prelude.{◌≡◌, ◌+◌, ◌≤◌, ◌↔◌, �
 ghost use Rattle.realm_plan.specs.PlanView.{plan_view};
 ghost use Rattle.realm_program.specs.Printed.{IsEnd};
 ghost use Rattle.realm_program.specs.declared.fault.Fault.TheVariants.{Device};
-ghost use Rattle.orders_text.specs.Exploring.{IsNotExplored};
-ghost use Rattle.orders_text.specs.Lines.{orders_text, drawn_text};
+ghost use Rattle.order_runs.specs.Exploring.{IsNotExplored};
+ghost use Rattle.order_runs.specs.Lines.{orders_text, drawn_text};
 ghost use Rattle.view_program.specs.Orders.{IsFirstText, IsDrawnText, IsOrdersText, IsWithoutOrders};
 
 use crate::orders::Orders;
-use order_runs::Totals;
-use orders_text::{Explored, explore as run_first, push_drawn, push_orders, sample};
+use order_runs::{Explored, Totals, explore as run_first, push_drawn, push_orders, sample};
 use rand_core::SeedableRng;
 use rand_xoshiro::Xoshiro256PlusPlus;
 use realm_plan::Plan;

@@ -1,7 +1,7 @@
 //! The lines of a history, taken by a host.
 ghost use Rattle.std.specs.Prelude.{◌≡◌, ◌↔◌, ◌+◌, true, false, length, Err, IfOk, IfErr, OnOk};
 ghost use Rattle.std.specs.Io.KnownBytes.{prepend_known};
-ghost use Rattle.input_lines.specs.Lines.{IsLine};
+ghost use Rattle.told_device.specs.Lines.{IsLine};
 ghost use Rattle.history_text.specs.Histories.{IsOpeningText};
 ghost use Rattle.view_program.specs.Applied.{IsLineTaken, IsNoHistoryIn};
 ghost use Rattle.view_program.specs.Taking.{AreLinesTaken, IsUntaken, AreNotTaken};
@@ -9,11 +9,10 @@ ghost use Rattle.view_program.specs.declared.fault.Fault.TheVariants.{Device};
 
 use crate::fault::Fault;
 use history_text::{MOST_LINE, Opening, parse_event, parse_opening};
-use input_lines::{Lines, Next};
 use page_arena::PageStore;
 use realm_host::Host;
 use std::io::Read;
-use told_device::Told;
+use told_device::{Lines, Next, Told};
 
 // The number of the line of the next event. The first line is the opening.
 fn next_number<S: PageStore>(host: &Host<S>) -> usize

@@ -1,7 +1,7 @@
 use Rattle.std.proofs.Common.{Err, ap, sym, ◌∙◌, subst, string_bytes}
 use Rattle.std.specs.Io.KnownBytes.{Appends}
 use Rattle.std.proofs.lemmas.Result.{err_from_is_err_and}
-use Rattle.plan_threads.proofs.Orders.{order_is_not_told}
+use Rattle.run_program.proofs.Orders.{order_is_not_told}
 use Rattle.realm_plan.specs.PlanView.{plan_view}
 use Rattle.realm_program.specs.Replay.{opening_host}
 use Rattle.told_device.specs.Whole.{AppendsFront}

@@ -5,7 +5,7 @@ use Rattle.std.proofs.lemmas.Bool.{false≢true}
 use Rattle.clap.specs.Words.{found_of, rows_of, subcommand_rows_of}
 use Rattle.clap.proofs.WalkLemmas.{one_text-rows}
 use Rattle.command_line.proofs.Subcommands.{name_of_rows}
-use Rattle.realmhost_line.proofs.Words.{erase_from}
+use Rattle.realm_program.proofs.Words.{erase_from}
 use Rattle.view_program.proofs.Words.{check_is_asked, history_is_asked, apply_is_asked, explore_is_asked, erase_passed}
 use Rattle.view_program.proofs.line.asked_by.Goals as goal
 

@@ -1,2 +1,0 @@
-pub mod Parts
-pub mod Nexts

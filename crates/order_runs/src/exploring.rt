@@ -1,0 +1,128 @@
+//! All orders are run, one after the other.
+ghost use Rattle.std.specs.Prelude.{◌≡◌, ◌-◌, ◌^◌, ◌<◌, OnOk, IfOk, IfErr};
+ghost use Rattle.realm_plan.specs.PlanView.{plan_view};
+ghost use Rattle.realm_program.specs.Replay.{opening_host};
+ghost use Rattle.realm_host.specs.Recorded.{fresh_like};
+ghost use Rattle.order_runs.specs.Explored.{IsExplored};
+ghost use Rattle.order_runs.specs.Exploring.{IsAdded, IsOrderCounted, IsDrawnAndCounted, IsNotRun, IsNotExplored};
+ghost use Rattle.order_runs.specs.Drawn.{IsSampled};
+
+use crate::leaving::leave_nothing;
+use crate::{Choice, StepEnd, Totals, next_order, run_drawn, run_order};
+use buddy::BuddyArena;
+use plan_runs::map_text;
+use rand_core::Rng;
+use realm_host::Host;
+use realm_plan::Plan;
+use realm_program::{Fault, boot};
+use std::alloc::{AllocError, Global};
+
+/// What the orders of a plan come to: all that there are, or the first so many.
+#[derive(Debug, Drop)]
+pub struct Explored {
+    pub totals: Totals,
+    /// Whether there are no more.
+    pub is_whole: bool,
+}
+
+// Counts a run that led to this host. It is tried that no build with nothing open is seen in the map.
+fn count_run(
+    alloc: Global,
+    plan: &Plan,
+    host: Host<BuddyArena>,
+    choices: &[Choice],
+    ends: &[StepEnd],
+    totals: &mut Totals,
+) -> Result<(), AllocError>
+    requires few { totals.old.orders < 2 ^ 64 - 1 }
+    requires opens { opening_host (plan_view plan.now) ≡ fresh_like host }
+    ensures { OnOk result (IsAdded (plan_view plan.now) host choices.now ends.now totals.old totals.new) }
+{
+    let map = map_text(alloc, &host)?;
+    let books = host.into_books();
+    if !leave_nothing(alloc, plan, &books, &map)? {
+        unreachable!()
+    }
+    totals.add(alloc, plan.builds.len(), choices, ends, map)?;
+    Ok(())
+}
+
+// Runs the order that begins with the choices on a host of its own, and counts it. The choices are then those of the whole order.
+fn visit(
+    alloc: Global,
+    plan: &Plan,
+    choices: &mut Vec<Choice>,
+    ends: &mut Vec<StepEnd>,
+    totals: &mut Totals,
+) -> Result<(), Fault>
+    requires { totals.old.orders < 2 ^ 64 - 1 }
+    ensures ok { OnOk result (IsOrderCounted (plan_view plan.now) choices.old.items choices.new.items totals.old totals.new) }
+    ensures err { IfErr result (IsNotRun (plan_view plan.now) choices.old.items) }
+{
+    let mut host = boot::<BuddyArena>(alloc, plan)?;
+    if !run_order(&mut host, plan, choices, ends)? {
+        return Err(Fault::Mismatch);
+    }
+    count_run(alloc, plan, host, choices, ends, totals)?;
+    Ok(())
+}
+
+// Runs an order that is drawn on a host of its own, and counts it.
+fn visit_drawn<R: Rng>(
+    alloc: Global,
+    plan: &Plan,
+    rng: &mut R,
+    choices: &mut Vec<Choice>,
+    ends: &mut Vec<StepEnd>,
+    totals: &mut Totals,
+) -> Result<(), AllocError>
+    requires { totals.old.orders < 2 ^ 64 - 1 }
+    ensures { OnOk result (IsDrawnAndCounted (plan_view plan.now) (R.stream rng.old) (R.stream rng.new) totals.old totals.new) }
+{
+    let mut host = boot::<BuddyArena>(alloc, plan)?;
+    run_drawn(&mut host, plan, rng, choices, ends)?;
+    count_run(alloc, plan, host, choices, ends, totals)?;
+    Ok(())
+}
+
+/// Runs so many orders of a plan's turns, each on a host of its own. At each turn the build that has it is drawn of those with a step
+/// left, and an order may come more than once. What the plan says of its order is set aside. At an `Err` allocation failed.
+pub fn sample<R: Rng>(
+    alloc: Global,
+    plan: &Plan,
+    count: u32,
+    rng: &mut R,
+) -> Result<Totals, AllocError>
+    ensures { IfOk result (IsSampled (plan_view plan.now) (opening_host (plan_view plan.now)) (R.stream rng.old) count) }
+{
+    let mut totals = Totals::new(alloc);
+    let mut choices = Vec::new(alloc);
+    let mut ends = Vec::new(alloc);
+    for _ in 0..count {
+        visit_drawn(alloc, plan, rng, &mut choices, &mut ends, &mut totals)?;
+    }
+    Ok(totals)
+}
+
+/// Runs the orders of a plan's turns, from the lowest on, at most so many, each on a host of its own. What the plan says of its
+/// order is set aside.
+///
+/// Errors: Memory, where allocation failed; Mismatch, where an order cannot be gone on with as the run before it says, which no
+/// host does that answers the same to the same.
+pub fn explore(alloc: Global, plan: &Plan, most: u32) -> Result<Explored, Fault>
+    ensures ok { IfOk result (λ it. IsExplored (plan_view plan.now) (opening_host (plan_view plan.now)) most it.totals it.is_whole) }
+    ensures err { IfErr result (IsNotExplored (plan_view plan.now)) }
+{
+    let mut totals = Totals::new(alloc);
+    let mut choices = Vec::new(alloc);
+    let mut ends = Vec::new(alloc);
+    for _ in 0..most {
+        visit(alloc, plan, &mut choices, &mut ends, &mut totals)?;
+        if !next_order(&mut choices) {
+            let is_whole = true;
+            return Ok(Explored { totals, is_whole });
+        }
+    }
+    let is_whole = false;
+    Ok(Explored { totals, is_whole })
+}

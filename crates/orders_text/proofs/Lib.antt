@@ -1,4 +1,0 @@
-pub mod Visits
-pub mod Samples
-pub mod Unseen
-pub mod Joined

@@ -1,4 +1,0 @@
-pub mod Order
-pub mod Exploring
-pub mod Lines
-pub mod Leaving

@@ -1,4 +1,0 @@
-pub mod Reports
-pub mod Seating
-pub mod Ended
-pub mod Orders

@@ -1,2 +1,0 @@
-pub mod Program
-pub mod Line

@@ -1,4 +1,0 @@
-pub mod Held
-pub mod Done
-pub mod Reading
-pub mod Answered

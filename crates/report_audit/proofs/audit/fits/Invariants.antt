@@ -1,5 +1,0 @@
-use Rattle.report_audit.proofs.Reading.{IsReadTo}
-use Rattle.report_audit.proofs.audit.fits.Given as goal
-
-abbrev pub invariant-loop-line : goal.invariant-loop-line
-invariant-loop-line l = IsReadTo l.report.build l.steps l.line-items l.history l.line-index l.next l.opened.items

@@ -1,3 +1,0 @@
-pub mod Fitting
-pub mod Picks
-pub mod Hosts

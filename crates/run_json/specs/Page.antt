@@ -1,0 +1,15 @@
+-- A page around data in JSON.
+use Rattle.std.specs.Prelude.{ℕ, List, [], ◌∷◌, ◌++◌, codes, ◌==◌, if◌then◌else◌}
+use Rattle.std.specs.List.{flat_map}
+use Rattle.run_json.specs.declared.template.TheConstants.{HEAD, TAIL}
+
+-- a byte of JSON: `<`, which can stand in a string alone, as its escape
+abbrev pub escaped_byte : ℕ → List ℕ
+escaped_byte byte = if byte == 60 then codes "\\u003c" else byte ∷ []
+
+abbrev pub escaped : List ℕ → List ℕ
+escaped json = flat_map escaped_byte json
+
+-- the template's head, the data, and the template's tail
+unfoldable pub page_bytes : List ℕ → List ℕ
+page_bytes json = HEAD.now ++ (escaped json ++ TAIL.now)

@@ -1,0 +1,32 @@
+//! The bytes of a page.
+ghost use Rattle.std.specs.Prelude.{◌≡◌, ◌++◌, OnOk, IfOk};
+ghost use Rattle.run_json.specs.Page.{escaped, page_bytes};
+
+use crate::template::{HEAD, TAIL};
+use std::alloc::{AllocError, Global};
+
+// Appends a text of JSON, in which no tag begins: each `<` stands as an escape.
+fn push_escaped(page: &mut Vec<u8>, json: &[u8]) -> Result<(), AllocError>
+    ensures { OnOk result (page.new.items ≡ page.old.items ++ escaped json.now) }
+{
+    for byte in json {
+        if *byte == b'<' {
+            page.extend_from_slice(b"\\u003c")?;
+        } else {
+            page.push(*byte)?;
+        }
+    }
+    Ok(())
+}
+
+/// The page of a run: the template's head, the data in JSON, and the template's tail. In the data each `<` stands as
+/// `\u003c`, so that it cannot end the script element that it is in. An `Err` comes only where allocation failed.
+pub fn page_of(alloc: Global, json: &[u8]) -> Result<Vec<u8>, AllocError>
+    ensures { IfOk result (λ page. page.items ≡ page_bytes json.now) }
+{
+    let mut page = Vec::new(alloc);
+    page.extend_from_slice(HEAD.as_bytes())?;
+    push_escaped(&mut page, json)?;
+    page.extend_from_slice(TAIL.as_bytes())?;
+    Ok(page)
+}

@@ -1,6 +1,0 @@
-use Rattle.std.proofs.Common.{◌≡◌, ◌++◌, take}
-use Rattle.run_page.specs.Page.{escaped}
-use Rattle.run_page.proofs.page.push_escaped.Given as goal
-
-abbrev pub invariant-loop-byte : goal.invariant-loop-byte
-invariant-loop-byte l = l.page.items ≡ l.fn.page.items ++ escaped (take l.byte-index l.json)

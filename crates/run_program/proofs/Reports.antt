@@ -1,0 +1,63 @@
+-- What holds of reports holds of the workers that left them.
+use Rattle.std.proofs.Common.{◌≡◌, ℕ, zero, suc, ◌++◌, List, [], ◌∷◌, refl, sym, subst, ap₂, arith}
+use Rattle.std.specs.Global.{Vec}
+use Rattle.std.specs.List.{AllZip, flat_map}
+use Rattle.std.specs.Prelude.{All}
+use Rattle.build_commands.specs.declared.cmd.Step.{Step}
+use Rattle.builders.specs.Workers.{WorkerView}
+use Rattle.plan_runs.specs.Report.{report_text}
+use Rattle.realm_model.specs.declared.act.Event.{Event}
+use Rattle.realm_plan.specs.Plan.{Plan}
+use Rattle.run_program.specs.Fitting.{DoesFit, ReportFits}
+use Rattle.workers.specs.declared.report.Report.{Report}
+use Rattle.workers.specs.declared.report.Line.{Line}
+use Rattle.run_program.specs.Text.{steps_of_build, report_lines}
+use Rattle.run_program.specs.Workers.{IsReportOf, WorkerFits, worker_text}
+
+-- ---- one
+
+fits_one : (history : List Event) (worker : WorkerView) (report : Report × Vec Step) → IsReportOf worker report → ReportFits history report → WorkerFits history worker
+fits_one history worker (report, asks) is fits =
+    subst (λ (b : ℕ). DoesFit b worker.steps worker.lines history) is.0
+    (subst (λ (ls : List Line). DoesFit report.build worker.steps ls history) is.1
+    (subst (λ (ss : List Step). DoesFit report.build ss report.lines.items history) is.2 fits))
+
+fits_back : (history : List Event) (worker : WorkerView) (report : Report × Vec Step) → IsReportOf worker report → WorkerFits history worker → ReportFits history report
+fits_back history worker (report, asks) is fits =
+    subst (λ (b : ℕ). DoesFit b asks.items report.lines.items history) (sym is.0)
+    (subst (λ (ls : List Line). DoesFit worker.seat.build asks.items ls history) (sym is.1)
+    (subst (λ (ss : List Step). DoesFit worker.seat.build ss worker.lines history) (sym is.2) fits))
+
+text_one : (plan : Plan) (worker : WorkerView) (report : Report × Vec Step) → IsReportOf worker report → report_lines plan report ≡ worker_text plan worker
+text_one plan worker (report, asks) is = ap₂ (λ (b : ℕ) (ls : List Line). report_text b (steps_of_build plan b) ls) is.0 is.1
+
+-- ---- all
+
+all_cons : {X : Type 0} (P : X → Type 0) (x : X) (xs : List X) → P x → All P xs → All P (x ∷ xs)
+all_cons P x xs p ps zero d lt = p
+all_cons P x xs p ps (suc k) d lt = ps k d (omega arith)
+
+all_tail : {X : Type 0} (P : X → Type 0) (x : X) (xs : List X) → All P (x ∷ xs) → All P xs
+all_tail P x xs all k d lt = all (suc k) d (omega arith)
+
+pub workers_fit : (history : List Event) (workers : List WorkerView) (reports : List (Report × Vec Step)) → AllZip IsReportOf workers reports
+    → All (ReportFits history) reports → All (WorkerFits history) workers
+workers_fit history [] reports zip fit = λ k d lt. absurd (omega arith)
+workers_fit history (w ∷ ws) [] zip fit = absurd zip
+workers_fit history (w ∷ ws) (r ∷ rs) zip fit =
+    all_cons (WorkerFits history) w ws (fits_one history w r zip.0 (fit 0 r (omega arith))) (workers_fit history ws rs zip.1 (all_tail (ReportFits history) r rs fit))
+
+pub reports_fit : (history : List Event) (workers : List WorkerView) (reports : List (Report × Vec Step)) → AllZip IsReportOf workers reports
+    → All (WorkerFits history) workers → All (ReportFits history) reports
+reports_fit history [] [] zip fit = λ k d lt. absurd (omega arith)
+reports_fit history [] (r ∷ rs) zip fit = absurd zip
+reports_fit history (w ∷ ws) [] zip fit = absurd zip
+reports_fit history (w ∷ ws) (r ∷ rs) zip fit =
+    all_cons (ReportFits history) r rs (fits_back history w r zip.0 (fit 0 w (omega arith))) (reports_fit history ws rs zip.1 (all_tail (WorkerFits history) w ws fit))
+
+pub text_of_workers : (plan : Plan) (workers : List WorkerView) (reports : List (Report × Vec Step)) → AllZip IsReportOf workers reports
+    → flat_map (report_lines plan) reports ≡ flat_map (worker_text plan) workers
+text_of_workers plan [] [] zip = refl
+text_of_workers plan [] (r ∷ rs) zip = absurd zip
+text_of_workers plan (w ∷ ws) [] zip = absurd zip
+text_of_workers plan (w ∷ ws) (r ∷ rs) zip = ap₂ (λ (a b : List ℕ). a ++ b) (text_one plan w r zip.0) (text_of_workers plan ws rs zip.1)

@@ -1,0 +1,87 @@
+//! A report beside a history.
+ghost use Rattle.std.specs.Prelude.{◌≡◌, ◌↔◌, ◌≤◌, length, drop, slice_get, true, IfOk, IfSome, OnOk};
+ghost use Rattle.std.specs.List.{All};
+ghost use Rattle.realm_model.specs.Stack.{pushed};
+ghost use Rattle.realm_model.specs.History.{events_of};
+ghost use Rattle.run_program.specs.Fitting.{DoesFit, ReportFits};
+
+use crate::line::{is_done, line_fits};
+use build_commands::Step;
+use granule_addr::BuildId;
+use realm_model::{Act, Event};
+use std::alloc::{AllocError, Global};
+use workers::Report;
+
+// The place of a build's next event from one on, or the end of the history.
+fn next_of(history: &[Event], build: BuildId, from: usize) -> usize
+    requires { from ≤ length history.now }
+    ensures within { result ≤ length history.now }
+    ensures same { events_of build (drop result history.now) ≡ events_of build (drop from history.now) }
+    ensures own { IfSome (slice_get history.now result) (λ event. event.build ≡ build) }
+{
+    for place in from..history.len() {
+        if history[place].build == build {
+            return place;
+        }
+    }
+    history.len()
+}
+
+// What is open after one more act.
+fn follow(opened: &mut Vec<Act>, act: &Act) -> Result<(), AllocError>
+    ensures { OnOk result (opened.new.items ≡ pushed opened.old.items act.now) }
+{
+    if act.is_paired() {
+        opened.push(act.again())?;
+    } else if act.is_reverse() {
+        opened.pop();
+    }
+    Ok(())
+}
+
+/// Whether the lines of a report tell the events of its build in a history, one by one.
+///
+/// The steps are the build's plan. The history is any list of events, and need not be legal. There are as many accepted
+/// lines as events of the build, and each asked for what its event did: for the command's act, page numbers turned into
+/// granules by the pages that the build had then, or for the reverse of what it had opened last. Its answer is the one
+/// that a host gives for that. A line of a mark tells how many acts were open. A line of a step that the plan does not
+/// have fits nowhere.
+///
+/// The error comes where the list of what is open cannot grow, and only there.
+pub fn fits(
+    alloc: Global,
+    history: &[Event],
+    report: &Report,
+    steps: &[Step],
+) -> Result<bool, AllocError>
+    ensures { IfOk result (λ told. (told ≡ true) ↔ DoesFit report.now.build steps.now report.now.lines.items history.now) }
+{
+    let mut opened = Vec::new(alloc);
+    let mut next = next_of(history, report.build, 0);
+    for line in report.lines.as_slice() {
+        if !line_fits(opened.as_slice(), history, next, steps, line) {
+            return Ok(false);
+        }
+        if is_done(&line.answer) {
+            follow(&mut opened, &history[next].act)?;
+            next = next_of(history, report.build, next + 1);
+        }
+    }
+    Ok(next == history.len())
+}
+
+/// Whether each of these reports fits the history, each beside the steps of its build's plan: as `fits` says of one.
+pub fn fit_all(
+    alloc: Global,
+    history: &[Event],
+    reports: &[(Report, Vec<Step>)],
+) -> Result<bool, AllocError>
+    ensures { IfOk result (λ told. (told ≡ true) ↔ All (ReportFits history.now) reports.now) }
+{
+    for (report, steps) in reports {
+        if !fits(alloc, history, report, steps.as_slice())? {
+            return Ok(false);
+        }
+    }
+    Ok(true)
+}

@@ -1,0 +1,72 @@
+//! What a command did, and what was told of it.
+ghost use Rattle.std.specs.Prelude.{◌≡◌, ◌↔◌, length, true, IsTrue};
+ghost use Rattle.std.specs.List.{flat_map};
+ghost use Rattle.build_commands.specs.Replies.{reply_of};
+ghost use Rattle.realm_model.specs.History.{pages_held};
+ghost use Rattle.run_program.specs.Fitting.{IsMadeOf, IsFittingAct, IsFittingReply};
+ghost use Rattle.run_program.specs.Picks.{picked_in};
+
+use crate::pages::{granules_of, has_pages};
+use build_commands::{Cmd, Picked, Reply, act_of, reply_of};
+use granule_addr::{RecNo, Vmid};
+use realm_model::Act;
+
+// What was picked for an act, where it holds what was.
+fn picked_for(act: &Act) -> Picked
+    ensures { result ≡ picked_in act.now }
+{
+    let mut picked = Picked {
+        vmid: Vmid::new(1).unwrap(),
+        number: RecNo::new(0),
+        byte: 0,
+    };
+    match act {
+        Act::Realm { vmid, .. } => picked.vmid = *vmid,
+        Act::Rec { number, .. } => picked.number = *number,
+        Act::Peek { byte, .. } => picked.byte = *byte,
+        _ => {}
+    }
+    picked
+}
+
+// Whether an act is a command's, of the granules of its pages.
+fn is_made_of(opened: &[Act], cmd: &Cmd, act: &Act) -> bool
+    ensures { IsTrue result ↔ IsMadeOf (flat_map pages_held opened.now) cmd.now act.now }
+{
+    let Some(granules) = granules_of(opened, cmd) else {
+        return false;
+    };
+    match act_of(cmd, &granules, picked_for(act)) {
+        Some(made) => made.is_same(act),
+        None => false,
+    }
+}
+
+// Whether an act is a command's. The block of a Take is any.
+fn is_act_of(opened: &[Act], cmd: &Cmd, act: &Act) -> bool
+    ensures { IsTrue result ↔ IsFittingAct (flat_map pages_held opened.now) cmd.now act.now }
+{
+    match (cmd, act) {
+        (Cmd::Take { order }, Act::Take { order: taken, .. }) => *order == taken.number(),
+        (Cmd::Take { .. }, _) => false,
+        _ => is_made_of(opened, cmd, act),
+    }
+}
+
+// Whether a reply is that to an act. A Take is told how many pages there were.
+fn is_reply_to(opened: &[Act], reply: &Reply, act: &Act) -> bool
+    ensures { IsTrue result ↔ (reply.now ≡ reply_of (length (flat_map pages_held opened.now)) act.now) }
+{
+    match (act, reply) {
+        (Act::Take { .. }, Reply::FirstPage(first)) => has_pages(opened, *first),
+        (Act::Take { .. }, _) => false,
+        _ => *reply == reply_of(0, act),
+    }
+}
+
+/// Whether a command of a build that has these acts open did this act, and was told this of it.
+pub(crate) fn is_replied(opened: &[Act], cmd: &Cmd, reply: &Reply, act: &Act) -> bool
+    ensures { IsTrue result ↔ IsFittingReply (flat_map pages_held opened.now) cmd.now reply.now act.now }
+{
+    is_act_of(opened, cmd, act) && is_reply_to(opened, reply, act)
+}

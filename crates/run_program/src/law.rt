@@ -1,0 +1,16 @@
+//! Laws of what fits.
+ghost use Rattle.std.specs.Prelude.{ℕ};
+ghost use Rattle.build_books.specs.View.{HostView};
+ghost use Rattle.build_books.specs.declared.mark.Mark.{Mark};
+ghost use Rattle.build_commands.specs.declared.cmd.Cmd.{Cmd};
+ghost use Rattle.build_commands.specs.declared.reply.Reply.{Reply};
+ghost use Rattle.build_commands.specs.declared.undone.Undone.{Undone};
+ghost use Rattle.run_program.specs.Hosts.{HostReplyFits, HostUndoFits, HostMarkFits};
+
+/// What a host answers to an accepted command or undo fits the one event that ends its history then, by what the build had
+/// before it. What it tells of a mark fits too.
+pub fn answers_of_a_host_fit()
+    ensures reply { (host : HostView) (build : ℕ) (cmd : Cmd) (reply : Reply) (new : HostView) → HostReplyFits host build cmd reply new }
+    ensures undo { (host : HostView) (build : ℕ) (undone : Undone) (new : HostView) → HostUndoFits host build undone new }
+    ensures mark { (host : HostView) (build : ℕ) (mark : Mark) (new : HostView) → HostMarkFits host build mark new }
+{}

@@ -1,0 +1,136 @@
+//! The granules of a command's pages, by what a build has open.
+ghost use Rattle.std.specs.Prelude.{◌≡◌, ◌↔◌, ◌+◌, ◌<◌, ◌≤◌, ◌++◌, List, ℕ, length, IsTrue, IfSome, IfNone};
+ghost use Rattle.std.specs.List.{flat_map, range_with_len};
+ghost use Rattle.build_commands.specs.Needs.{operands, tables_named};
+ghost use Rattle.realm_model.specs.History.{pages_held};
+ghost use Rattle.run_program.specs.Fitting.{granule_of_number, AreGranules};
+
+use arrayvec::ArrayVec;
+use build_commands::Cmd;
+use granule_addr::{Gran, IpaWidth, MOST_PAGES};
+use realm_model::Act;
+
+// How many pages an open act holds.
+fn held_count(act: &Act) -> u16
+    ensures value { result ≡ length (pages_held act.now) }
+    ensures few { result ≤ 512 }
+{
+    match act {
+        Act::Take { order, .. } => order.size(),
+        _ => 0,
+    }
+}
+
+// The granule of one of the pages that an open act holds.
+fn held_granule(act: &Act, place: u16) -> Option<Gran>
+    requires there { place < length (pages_held act.now) }
+    requires few { place < 512 }
+    ensures { result ≡ granule_of_number (pages_held act.now) place }
+{
+    match act {
+        Act::Take { first, .. } => Gran::new(first.number() + place, MOST_PAGES),
+        _ => None,
+    }
+}
+
+// The granule of a page of a build that has these acts open.
+fn granule_at(opened: &[Act], page: usize) -> Option<Gran>
+    ensures { result ≡ granule_of_number (flat_map pages_held opened.now) page }
+{
+    let mut left = page;
+    for act in opened {
+        let count = held_count(act) as usize;
+        if left < count {
+            return held_granule(act, left as u16);
+        }
+        left -= count;
+    }
+    None
+}
+
+/// Whether a build that has these acts open has so many pages.
+pub(crate) fn has_pages(opened: &[Act], count: u16) -> bool
+    ensures { IsTrue result ↔ (length (flat_map pages_held opened.now) ≡ count) }
+{
+    let mut left = count;
+    for act in opened {
+        let held = held_count(act);
+        if left < held {
+            return false;
+        }
+        left -= held;
+    }
+    left == 0
+}
+
+// How many starting tables a command names.
+fn tables_named(width: u8) -> u16
+    ensures value { result ≡ tables_named width }
+    ensures few { result ≤ 16 }
+{
+    match IpaWidth::new(width) {
+        Some(width) => width.start_count(),
+        None => 1,
+    }
+}
+
+// Puts the numbers from one on at the end.
+fn push_run(numbers: &mut ArrayVec<usize, 17>, first: usize, count: u16)
+    requires room { length numbers.old.items + count ≤ 17 }
+    requires first { first ≤ 65535 }
+    ensures { numbers.new.items ≡ numbers.old.items ++ range_with_len first count }
+{
+    for place in 0..count {
+        numbers.push(first + place as usize);
+    }
+}
+
+// Puts the numbers of a list at the end.
+fn push_all(numbers: &mut ArrayVec<usize, 17>, more: &[u16])
+    requires { length numbers.old.items + length more.now ≤ 17 }
+    ensures { numbers.new.items ≡ numbers.old.items ++ more.now }
+{
+    for number in more {
+        numbers.push(*number as usize);
+    }
+}
+
+// The numbers of the pages that a command names.
+#[tactic(auto, unfolding(build_commands::specs::Needs::operands))]
+fn operands(cmd: &Cmd) -> ArrayVec<usize, 17>
+    ensures { result.items ≡ operands cmd.now }
+{
+    let mut numbers = ArrayVec::new();
+    match cmd {
+        Cmd::Fill { page, .. }
+        | Cmd::Peek { page, .. }
+        | Cmd::Delegate { page }
+        | Cmd::Rtt { page, .. }
+        | Cmd::Unknown { page, .. } => numbers.push(*page as usize),
+        Cmd::Data { page, source, .. } => push_all(&mut numbers, &[*page, *source]),
+        Cmd::Realm { rd, root, width } => {
+            numbers.push(*rd as usize);
+            push_run(&mut numbers, *root as usize, tables_named(*width));
+        }
+        Cmd::Rec { page, auxiliaries } => {
+            numbers.push(*page as usize);
+            push_all(&mut numbers, auxiliaries.as_slice());
+        }
+        _ => {}
+    }
+    numbers
+}
+
+/// The granules of the pages that a command names, for a build that has these acts open. None where one of the pages is
+/// not there, or is no granule of a machine.
+pub(crate) fn granules_of(opened: &[Act], cmd: &Cmd) -> Option<ArrayVec<Gran, 17>>
+    ensures some { IfSome result (λ granules. AreGranules (flat_map pages_held opened.now) (operands cmd.now) granules.items) }
+    ensures none { IfNone result ((granules : List ℕ) → ¬ AreGranules (flat_map pages_held opened.now) (operands cmd.now) granules) }
+{
+    let numbers = operands(cmd);
+    let mut granules = ArrayVec::new();
+    for page in numbers.as_slice() {
+        granules.push(granule_at(opened, *page)?);
+    }
+    Some(granules)
+}

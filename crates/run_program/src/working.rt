@@ -1,0 +1,102 @@
+//! All builds of a plan at once.
+ghost use Rattle.std.specs.Prelude.{◌≡◌, [], map, vec_len, string_bytes, IfOk, IfErr};
+ghost use Rattle.realm_plan.specs.PlanView.{plan_view};
+ghost use Rattle.run_program.specs.Workers.{AreLeft, IsWithoutWorkersText, IsWorkersText};
+ghost use Rattle.builders.specs.Seats.{new_seat};
+ghost use Rattle.std.specs.List.{range_with_len};
+ghost use Rattle.run_program.specs.Order.{OrderIsNotTold};
+ghost use Rattle.builders.specs.Names.{AreNamed};
+
+use crate::ends::{Ends, ends_of};
+use crate::fault::RunFault;
+use crate::new_workers::workers_of;
+use crate::text::audited_text_of;
+use builders::{Blanks, Ledgers, Seat, Shared, run_builds};
+use page_arena::PageStore;
+use realm_host::Host;
+use realm_plan::Plan;
+use std::alloc::Global;
+use std::marker::{Brand, Send, Sync};
+use std::sync::Wait;
+use std::thread::Threads;
+use workers::Gate;
+
+// The workers of the plan's builds run in new seats of a shared host, and end. What they leave.
+fn work_all<
+    R: Threads + Wait + Sync,
+    S: PageStore + Send,
+    G: Gate + Sync,
+    L: Ledgers + Send + Sync,
+>(
+    rt: &R,
+    alloc: Global,
+    plan: &Plan,
+    shared: &Shared<S, L>,
+    seats: Vec<Seat<L>>,
+    gate: &G,
+) -> Result<Ends<L>, RunFault>
+    requires { seats.items ≡ map new_seat (range_with_len 0 (vec_len plan.now.builds)) }
+    ensures ok { IfOk result (λ ends. AreLeft (plan_view plan.now) (G.passes gate.now) (G.stops gate.now) L.opened ends.seats.items ends.reports.items) }
+    ensures err { IfErr result (IsWithoutWorkersText (plan_view plan.now) (G.passes gate.now) (G.stops gate.now) L.opened) }
+{
+    let mut workers = workers_of(alloc, plan, seats)?;
+    if let Err(build) = run_builds(rt, shared, workers.as_mut_slice(), gate) {
+        return Err(RunFault::Stuck(build));
+    }
+    let ends = ends_of(alloc, workers)?;
+    Ok(ends)
+}
+
+// As `run_text`, with ledgers of these names.
+fn run_with<
+    R: Threads + Wait + Sync,
+    S: PageStore + Drop + Send,
+    G: Gate + Sync,
+    L: Ledgers + Send + Sync,
+>(
+    rt: &R,
+    alloc: Global,
+    plan: &Plan,
+    blanks: Blanks,
+    host: Host<S>,
+    gate: &G,
+) -> Result<String, RunFault>
+    requires empty { host.history ≡ [] }
+    requires builds { host.limits.builds ≡ vec_len plan.now.builds }
+    requires opened { host ≡ L.opened }
+    requires named { AreNamed L.names blanks }
+    ensures ok { IfOk result (λ text. IsWorkersText (plan_view plan.now) (G.passes gate.now) (G.stops gate.now) host (string_bytes text)) }
+    ensures err { IfErr result (IsWithoutWorkersText (plan_view plan.now) (G.passes gate.now) (G.stops gate.now) host) }
+{
+    let (shared, seats) = match Shared::<S, L>::start(alloc, blanks, host) {
+        Ok(started) => started,
+        Err((error, _blanks, _host)) => return Err(error.into()),
+    };
+    let Ends { seats, reports } = work_all(rt, alloc, plan, &shared, seats, gate)?;
+    let Ok(host) = shared.close(seats) else {
+        return Err(RunFault::Mismatch);
+    };
+    audited_text_of(alloc, plan, reports.as_slice(), &host)
+}
+
+/// Runs each build of a plan by a worker in a thread of its own, on a host that has no history, and gives the text of the
+/// run, made whole in memory: the lines of the reports by build, the host's map, and `audit ok`. Runs in which each build got
+/// the same have the same map, in whatever order the builds came through the lock.
+///
+/// Errors: Stuck, with the lowest build whose worker waited in vain for a turn of the gate; Mismatch, where the host is not
+/// closed, or a report does not fit its history; Memory, where allocation failed.
+pub fn run_text<R: Threads + Wait + Sync, S: PageStore + Drop + Send, G: Gate + Sync>(
+    rt: &R,
+    alloc: Global,
+    plan: &Plan,
+    host: Host<S>,
+    gate: &G,
+) -> Result<String, RunFault>
+    requires empty { host.history ≡ [] }
+    requires builds { host.limits.builds ≡ vec_len plan.now.builds }
+    ensures ok { IfOk result (λ text. IsWorkersText (plan_view plan.now) (G.passes gate.now) (G.stops gate.now) host (string_bytes text)) }
+    ensures err { IfErr result (IsWithoutWorkersText (plan_view plan.now) (G.passes gate.now) (G.stops gate.now) host) }
+    ensures order { OrderIsNotTold (plan_view plan.now) (G.passes gate.now) (G.stops gate.now) host }
+{
+    run_with::<R, S, G, Brand>(rt, alloc, plan, Blanks::new(), host, gate)
+}

@@ -1,0 +1,68 @@
+//! Gates at which builds wait for one another, or wait in vain.
+use granule_addr::BuildId;
+use std::sync::atomic::{AtomicU64, Ordering};
+use std::thread;
+use std::time::{Clock, Duration};
+use workers::{Gate, Stuck};
+
+/// Lets a build's turn 2 pass only after the other one of two builds has asked for its turn 2.
+#[derive(Drop)]
+pub(crate) struct Together<'a, C: Clock> {
+    clock: &'a C,
+    first: AtomicU64,
+    second: AtomicU64,
+}
+
+impl<'a, C: Clock> From<&'a C> for Together<'a, C> {
+    /// A gate that sleeps by this clock while it waits.
+    fn from(clock: &'a C) -> Together<'a, C> {
+        Together {
+            clock,
+            first: AtomicU64::new(0),
+            second: AtomicU64::new(0),
+        }
+    }
+}
+
+impl<'a, C: Clock> Gate for Together<'a, C> {
+    ghost passes = { λ gate build turn. Unit {0} };
+
+    ghost stops = { λ gate build turn. Unit {0} };
+
+    fn pass(&self, build: BuildId, turn: usize) -> Result<(), Stuck> {
+        if turn < 2 {
+            return Ok(());
+        }
+        let (mine, other) = if build.number() == 0 {
+            (&self.first, &self.second)
+        } else {
+            (&self.second, &self.first)
+        };
+        mine.store(1, Ordering::SeqCst);
+        for _ in 0..10_000 {
+            if other.load(Ordering::SeqCst) == 1 {
+                return Ok(());
+            }
+            thread::sleep(self.clock, Duration::from_millis(1));
+        }
+        Err(Stuck)
+    }
+}
+
+/// Stops all builds but build 0 at their turn 1.
+#[derive(Drop)]
+pub(crate) struct ForBuild0;
+
+impl Gate for ForBuild0 {
+    ghost passes = { λ gate build turn. Unit {0} };
+
+    ghost stops = { λ gate build turn. Unit {0} };
+
+    fn pass(&self, build: BuildId, turn: usize) -> Result<(), Stuck> {
+        if build.number() == 0 || turn == 0 {
+            Ok(())
+        } else {
+            Err(Stuck)
+        }
+    }
+}

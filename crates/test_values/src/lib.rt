@@ -1,0 +1,42 @@
+//! Worked values of stores, of what the monitor stands on, and of the host.
+//!
+//! Of both stores of pages: sizes, blocks, bytes, and how many orders a call of the arena looks at. Of the monitor: the numbers of
+//! a machine, the words of results and of table entries, and the bytes that are measured. Of the host, over both stores: calls that no
+//! plan makes, or whose answers no plan prints.
+//!
+//! The expected values are worked out by hand or by another tool, since a proof cannot see a mistake that a definition and the
+//! code share. What the monitor's commands answer, and what they leave in their pages, is in `traces/`.
+#![tactic(auto)]
+
+#[cfg(test)]
+mod aborts;
+#[cfg(test)]
+mod blocks;
+#[cfg(test)]
+mod bytes;
+#[cfg(test)]
+mod calls;
+#[cfg(test)]
+mod hosts;
+#[cfg(test)]
+mod marks;
+#[cfg(test)]
+mod measured;
+#[cfg(test)]
+mod measurement;
+#[cfg(test)]
+mod names;
+#[cfg(test)]
+mod numbers;
+#[cfg(test)]
+mod readings;
+#[cfg(test)]
+mod recorded;
+#[cfg(test)]
+mod refusals;
+#[cfg(test)]
+mod sizes;
+#[cfg(test)]
+mod visits;
+#[cfg(test)]
+mod wanted;
