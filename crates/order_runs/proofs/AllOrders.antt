@@ -5,7 +5,7 @@ use Rattle.std.specs.Prelude.{nat_lt, option_map, Contains}
 use Rattle.std.specs.List.{find, range_with_len}
 use Rattle.std.proofs.lemmas.Bool.{lt-ltb}
 use Rattle.std.proofs.lemmas.Bool.Decides.{eqb_tells}
-use Rattle.std.proofs.lemmas.List.Elements.{All-head, All-tail}
+use Rattle.std.proofs.lemmas.List.Elements.{All-head, All-tail, All-nil, All-cons}
 use Rattle.build_books.specs.View.{HostView}
 use Rattle.realm_plan.specs.Plan.{Plan}
 use Rattle.order_runs.specs.Next.{could, next_build, go_on, next_of}
@@ -165,23 +165,50 @@ module _ (left : List ℕ → List Bool) (eight : (before : List ℕ) → length
 contains_later : {X : Type 0} (x y : X) (xs : List X) → Contains xs y → Contains (x ∷ xs) y
 contains_later x y xs at = (suc at.0, (let h = at.1 in omega arith), at.2)
 
-module _ (plan : Plan) (host : HostView) (left : List ℕ → List Bool) (eight : (before : List ℕ) → length (left before) ≡ 8) where
-  found :
+module _ (plan : Plan) (host : HostView) (left : List ℕ → List Bool) (eight : (before : List ℕ) → length (left before) ≡ 8) (rest : Option (List Choice)) where
+  -- The order was visited; or it comes later than all that were, and then there are more.
+  abbrev pub IsFoundOrLater : List Visit → List Choice → Type 0
+  IsFoundOrLater visits order =
+      Contains (map (λ (v : Visit). v.choices) visits) order ⊎ (All (λ (v : Visit). IsBefore v.choices order) visits × (rest ≡ None → ⊥))
+
+  later_too : (visit : Visit) (visits : List Visit) (order : List Choice) → IsBefore visit.choices order → IsFoundOrLater visits order → IsFoundOrLater (visit ∷ visits) order
+  later_too visit visits order before (inl found) = inl (contains_later visit.choices order (map (λ (v : Visit). v.choices) visits) found)
+  later_too visit visits order before (inr later) = inr (All-cons (λ (v : Visit). IsBefore v.choices order) visit visits before later.0, later.1)
+
+  found_or_later :
       (visit : Visit) (front : Option (List Choice)) (visits : List Visit) (order : List Choice)
-      → next_of visit.choices ≡ front → AreVisits plan host front visits None
+      → next_of visit.choices ≡ front → AreVisits plan host front visits rest
       → IsOrder left [] visit.choices → All (λ (v : Visit). IsOrder left [] v.choices) visits → IsOrder left [] order
       → (visit.choices ≡ order) ⊎ IsBefore visit.choices order
-      → Contains (visit.choices ∷ map (λ (v : Visit). v.choices) visits) order
-  found visit front visits order next are is those this (inl same) = (0, omega arith, same)
-  found visit front [] order next are is those this (inr before) = absurd (no_last left eight [] visit.choices order is this (next ∙ sym are) before)
-  found visit None (v ∷ visits) order next are is those this (inr before) = absurd are
-  found visit (Some front) (v ∷ visits) order next are is those this (inr before) =
+      → IsFoundOrLater (visit ∷ visits) order
+  found_or_later visit front visits order next are is those this (inl same) = inl (0, omega arith, same)
+  found_or_later visit front [] order next are is those this (inr before) =
+      inr (
+        All-cons (λ (v : Visit). IsBefore v.choices order) visit [] before (All-nil (λ (v : Visit). IsBefore v.choices order)),
+        λ none. no_last left eight [] visit.choices order is this (next ∙ sym are ∙ none) before,
+      )
+  found_or_later visit None (v ∷ visits) order next are is those this (inr before) = absurd are
+  found_or_later visit (Some front) (v ∷ visits) order next are is those this (inr before) =
       let here = All-head (λ (x : Visit). IsOrder left [] x.choices) v visits those in
       let goes_on = are.0.goes_on in
-      contains_later visit.choices order (map (λ (x : Visit). x.choices) (v ∷ visits))
-      (found v (next_of v.choices) visits order refl are.1 here (All-tail (λ (x : Visit). IsOrder left [] x.choices) v visits those) this
+      later_too visit (v ∷ visits) order before
+      (found_or_later v (next_of v.choices) visits order refl are.1 here (All-tail (λ (x : Visit). IsOrder left [] x.choices) v visits those) this
       (subst (λ cs. (cs ≡ order) ⊎ IsBefore cs order) (sym goes_on.appended)
       (no_gap left eight [] visit.choices order front goes_on.more is this next goes_on.lowest (subst (IsOrder left []) goes_on.appended here) before)))
+
+  pub visited_or_later :
+      (visits : List Visit)
+      → AreVisits plan host (Some []) visits rest
+      → All (λ (visit : Visit). IsOrder left [] visit.choices) visits
+      → (order : List Choice) → IsOrder left [] order
+      → IsFoundOrLater visits order
+  visited_or_later [] are those order this = inr (All-nil (λ (v : Visit). IsBefore v.choices order), λ none. cc)
+  visited_or_later (v ∷ visits) are those order this =
+      let here = All-head (λ (x : Visit). IsOrder left [] x.choices) v visits those in
+      let goes_on = are.0.goes_on in
+      found_or_later v (next_of v.choices) visits order refl are.1 here (All-tail (λ (x : Visit). IsOrder left [] x.choices) v visits those) this
+      (subst (λ cs. (cs ≡ order) ⊎ IsBefore cs order) (sym goes_on.appended)
+      (lowest_first left eight [] goes_on.more order goes_on.lowest (subst (IsOrder left []) goes_on.appended here) this))
 
 pub all_visited :
     (plan : Plan) (host : HostView) (visits : List Visit) (left : List ℕ → List Bool)
@@ -190,10 +217,15 @@ pub all_visited :
     → All (λ (visit : Visit). IsOrder left [] visit.choices) visits
     → (order : List Choice) → IsOrder left [] order
     → Contains (map (λ (visit : Visit). visit.choices) visits) order
-all_visited plan host [] left eight are those order this = absurd cc
-all_visited plan host (v ∷ visits) left eight are those order this =
-    let here = All-head (λ (x : Visit). IsOrder left [] x.choices) v visits those in
-    let goes_on = are.0.goes_on in
-    found plan host left eight v (next_of v.choices) visits order refl are.1 here (All-tail (λ (x : Visit). IsOrder left [] x.choices) v visits those) this
-    (subst (λ cs. (cs ≡ order) ⊎ IsBefore cs order) (sym goes_on.appended)
-    (lowest_first left eight [] goes_on.more order goes_on.lowest (subst (IsOrder left []) goes_on.appended here) this))
+all_visited plan host visits left eight are those order this =
+    elim (visited_or_later plan host left eight None visits are those order this) [ inl found ↦ found | inr later ↦ absurd (later.1 refl) ]
+
+pub lowest_visited :
+    (plan : Plan) (host : HostView) (visits : List Visit) (rest : Option (List Choice)) (left : List ℕ → List Bool)
+    → ((before : List ℕ) → length (left before) ≡ 8)
+    → AreVisits plan host (Some []) visits rest
+    → All (λ (visit : Visit). IsOrder left [] visit.choices) visits
+    → (order : List Choice) → IsOrder left [] order
+    → Contains (map (λ (visit : Visit). visit.choices) visits) order ⊎ All (λ (visit : Visit). IsBefore visit.choices order) visits
+lowest_visited plan host visits rest left eight are those order this =
+    elim (visited_or_later plan host left eight rest visits are those order this) [ inl found ↦ inl found | inr later ↦ inr later.0 ]

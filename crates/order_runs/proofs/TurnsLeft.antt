@@ -1,6 +1,6 @@
 -- Each turn leaves fewer.
 use Rattle.std.proofs.Common.{◌≡◌, ◌≢◌, ℕ, zero, suc, ◌+◌, ◌-◌, ◌*◌, ◌^◌, ◌<◌, ◌==◌, if◌then◌else◌, true, false, List, [], ◌∷◌, length, Option, Some, None, Result, Ok, Err, ◌⊎◌}
-use Rattle.std.proofs.Common.{inl, inr, slice_set, slice_index_or, ap, sym, subst, ◌∙◌, refl, arith}
+use Rattle.std.proofs.Common.{inl, inr, slice_set, slice_index_or, replicate, ap, sym, subst, ◌∙◌, refl, arith}
 use Rattle.std.specs.Prelude.{slice_get, is_some, option_and_then}
 use Rattle.std.specs.Bool.{OnTrue, OnFalse}
 use Rattle.std.proofs.lemmas.Bool.Decides.{eqb_tells}
@@ -17,10 +17,11 @@ use Rattle.realm_plan.specs.Plan.{Plan}
 use Rattle.plan_runs.specs.Place.{first_place, moved_on}
 use Rattle.plan_runs.specs.Report.{undoes_many}
 use Rattle.plan_runs.specs.Run.{Position, Turn, place_of, step_after, IsTurnOf, IsTurn}
-use Rattle.plan_runs.specs.Turn.{left_after, to_go_back, above_mark, IsOneOfMany, IsTurnOfMany, IsToAbort, IsStepTurn}
+use Rattle.plan_runs.specs.Turn.{told_of_one, left_after, to_go_back, above_mark, IsOneOfMany, IsTurnOfMany, IsToAbort, IsStepTurn}
 use Rattle.plan_runs.specs.declared.answer.TurnAnswer.{TurnAnswer}
-use Rattle.plan_runs.specs.declared.answer.TurnAnswer.TheVariants.{Nothing}
+use Rattle.plan_runs.specs.declared.answer.TurnAnswer.TheVariants.{Nothing, Ended, Undone as Undid}
 use Rattle.plan_runs.specs.declared.place.Place.{Place}
+use Rattle.order_runs.specs.Chosen.{refusal_in, refusal_of_turn}
 use Rattle.order_runs.specs.TurnsLeft.{is_of_many, AreSteady, turns_of_place, turns_left}
 
 -- ---- a step's turn
@@ -295,3 +296,95 @@ pub fewer_after :
     → turns_left plan.builds to.places < turns_left plan.builds from.places
 fewer_after plan from turn to steady inside some few is =
     fewer_of plan from turn to (step_after plan turn.build (place_of from.places turn.build).done) steady inside refl some few is
+
+-- ---- a refused turn uses its step up
+
+-- The answer is no refusal, or nothing is left to undo.
+abbrev IsAcceptedOrAtRest : TurnAnswer → Place → Type 0
+IsAcceptedOrAtRest answer after = (refusal_in answer ≡ None) ⊎ (after.left ≡ 0)
+
+one_accepted : (left : ℕ) (it : Undone) → refusal_in (told_of_one left (Ok it)) ≡ None
+one_accepted left it = elim (left == 0) as (λ b. refusal_in (if b then Ended it.kind else Undid it.kind) ≡ None) [ true ↦ refl | false ↦ refl ]
+
+one_of_many :
+    (left : ℕ) (place : Place) (result : Result Undone Refusal) (answer : TurnAnswer) (after : Place)
+    → answer ≡ told_of_one left result → after ≡ record place { left = left_after left result }
+    → IsAcceptedOrAtRest answer after
+one_of_many left place (Ok it) answer after told is = inl (ap refusal_in told ∙ one_accepted left it)
+one_of_many left place (Err refusal) answer after told is = inr (ap (λ (p : Place). p.left) is)
+
+many :
+    (count : Result ℕ Refusal) (host : HostView) (build : ℕ) (place : Place) (answer : TurnAnswer) (new : HostView) (after : Place)
+    → Counts count place
+    → IsTurnOfMany count host build place answer new after
+    → IsAcceptedOrAtRest answer after
+many (Err refusal) host build place answer new after known is =
+    elim (zero_or_not place.left) as (λ _. IsAcceptedOrAtRest answer after) [
+      | inl none ↦ inr (ap (λ (p : Place). p.left) is.2 ∙ none.1)
+      | inr more ↦ (let e = subst (λ b. OnFalse b (◌≡◌ {A = Result ℕ Refusal} (Err refusal) (Ok place.left))) more.0 known in absurd cc)
+    ]
+many (Ok count) host build place answer new after known is =
+    elim (zero_or_not count) as (λ _. IsAcceptedOrAtRest answer after) [
+      | inl none ↦ (let same = subst (λ b. OnTrue b ((answer ≡ Nothing) × (new ≡ host) × (after ≡ place))) none.0 is.0 in inl (ap refusal_in same.0))
+      | inr more ↦ (let one : IsOneOfMany host build place (count - 1) answer new after = subst (λ b. OnFalse b (IsOneOfMany host build place (count - 1) answer new after)) more.0 is.1 in
+          one_of_many (count - 1) place one.result answer after one.told one.place_is)
+    ]
+
+accepted_or_at_rest :
+    (host : HostView) (build : ℕ) (place : Place) (step : PlanStep) (answer : TurnAnswer) (new : HostView) (after : Place)
+    → (undoes_many step ≡ false → place.left ≡ 0)
+    → IsStepTurn host build place (asked step) answer new after
+    → IsAcceptedOrAtRest answer after
+accepted_or_at_rest host build place (Whole (Ask cmd)) answer new after steady is = inr (ap (λ (p : Place). p.left) is.1 ∙ steady refl)
+accepted_or_at_rest host build place (Whole Undo) answer new after steady is = inr (ap (λ (p : Place). p.left) is.1 ∙ steady refl)
+accepted_or_at_rest host build place (Whole Abort) answer new after steady is =
+    many is.count is.begun build place answer new after (abort_counts host build place is.count is.begun is.to_undo) is.is_turn
+accepted_or_at_rest host build place (Whole Mark) answer new after steady is = inr (ap (λ (p : Place). p.left) is.place_is ∙ steady refl)
+accepted_or_at_rest host build place (Whole Back) answer new after steady is =
+    many (to_go_back host build place) host build place answer new after (back_counts host build place) is
+accepted_or_at_rest host build place (WidthLeftOut rd root) answer new after steady is = inr (ap (λ (p : Place). p.left) is.1 ∙ steady refl)
+
+moved_done : (after : Place) → after.left ≡ 0 → (moved_on after).done ≡ after.done + 1
+moved_done after none = rw none refl
+
+-- Where as many steps are done as before, the turn was not refused.
+accepted_of :
+    (plan : Plan) (from : Position) (turn : Turn) (to : Position) (step : Option PlanStep)
+    → AreSteady plan from.places → turn.build < 8 → step_after plan turn.build (place_of from.places turn.build).done ≡ step
+    → IsTurnOf step from turn to
+    → (place_of from.places turn.build).done ≡ (place_of to.places turn.build).done
+    → refusal_of_turn turn.told ≡ None
+accepted_of plan from turn to None steady inside there is stays = ap refusal_of_turn is.0
+accepted_of plan from turn to (Some step) steady inside there is stays =
+    let all = steady.all in
+    let within : turn.build < length from.places = omega arith in
+    let less = less_of_turn plan from turn to step steady there is in
+    let done = less.0.done in
+    let place = place_of-same from.places turn.build (moved_on is.1) to.places within is.4 in
+    elim (accepted_or_at_rest from.host turn.build (place_of from.places turn.build) step is.0 to.host is.1
+    (λ single. steady.steady turn.build (ap is_of_many there ∙ single)) is.3) as (λ _. refusal_of_turn turn.told ≡ None) [
+      | inl accepted ↦ ap refusal_of_turn is.2 ∙ accepted
+      | inr rest ↦ (let moved = ap (λ (p : Place). p.done) place ∙ moved_done is.1 rest in absurd (omega arith))
+    ]
+
+pub accepted_where_it_stays :
+    (plan : Plan) (from : Position) (turn : Turn) (to : Position)
+    → AreSteady plan from.places → turn.build < 8 → IsTurn plan from turn to
+    → ((place_of from.places turn.build).done == (place_of to.places turn.build).done) ≡ true
+    → refusal_of_turn turn.told ≡ None
+accepted_where_it_stays plan from turn to steady inside is stays =
+    accepted_of plan from turn to (step_after plan turn.build (place_of from.places turn.build).done) steady inside refl is
+    (elim (eqb_tells (place_of from.places turn.build).done (place_of to.places turn.build).done) as (λ _. (place_of from.places turn.build).done ≡ (place_of to.places turn.build).done) [
+      | inl same ↦ same.1
+      | inr other ↦ absurd (let o = other.0 in cc)
+    ])
+
+-- ---- where no step is done
+
+first_at : (count build : ℕ) → slice_index_or (replicate count first_place) build first_place ≡ first_place
+first_at zero build = refl
+first_at (suc count) zero = refl
+first_at (suc count) (suc build) = first_at count build
+
+pub first_steady : (plan : Plan) → AreSteady plan (replicate 8 first_place)
+first_steady plan = record { all = refl; steady = λ build _. ap (λ (p : Place). p.left) (first_at 8 build) }

@@ -1,5 +1,5 @@
 -- What the lines of a run tell of how its steps end.
-use Rattle.std.specs.Prelude.{◌≡◌, ◌⊎◌, ℕ, List, [], ◌∷◌, map}
+use Rattle.std.specs.Prelude.{◌≡◌, ◌⊎◌, ℕ, List, [], ◌∷◌, map, None}
 use Rattle.std.specs.List.{All, flat_map}
 use Rattle.build_books.specs.View.{HostView}
 use Rattle.realm_plan.specs.Plan.{Plan}
@@ -12,9 +12,9 @@ pub record Line : Type 0 where
   pub turn : Turn
   pub noted : List StepEnd
 
--- None is noted of the turn, or one, of its build, with the refusal in its answer.
+-- None is noted of the turn, which then is not refused, or one, of its build, with the refusal in its answer.
 abbrev pub IsEndOfTurn : Line → Type 0
-IsEndOfTurn line = (line.noted ≡ []) ⊎ ((step : ℕ) × (line.noted ≡ record { build = line.turn.build; step = step; refusal = refusal_of_turn line.turn.told } ∷ []))
+IsEndOfTurn line = ((line.noted ≡ []) × (refusal_of_turn line.turn.told ≡ None)) ⊎ ((step : ℕ) × (line.noted ≡ record { build = line.turn.build; step = step; refusal = refusal_of_turn line.turn.told } ∷ []))
 
 -- A run of the plan leads here, and these are the ends of its turns' steps.
 pub record AreTold (plan : Plan) (host to : HostView) (ends : List StepEnd) : Type 0 where

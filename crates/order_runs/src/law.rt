@@ -1,9 +1,10 @@
 //! Laws of orders.
-ghost use Rattle.std.specs.Prelude.{◌≡◌, ℕ, Bool, List, [], Option, None, Some, All, AllPairs, Contains, length, map};
+ghost use Rattle.std.specs.Prelude.{◌≡◌, ◌↔◌, ◌⊎◌, ℕ, Bool, true, List, [], Option, None, Some, All, AllPairs, Contains, length, map};
 ghost use Rattle.build_books.specs.View.{HostView};
 ghost use Rattle.realm_plan.specs.Plan.{Plan};
 ghost use Rattle.plan_runs.specs.Run.{IsToldRun};
 ghost use Rattle.order_runs.specs.Chosen.{IsChosenRun};
+ghost use Rattle.order_runs.specs.Same.{same_end};
 ghost use Rattle.order_runs.specs.Told.{AreTold};
 ghost use Rattle.order_runs.specs.Order.{IsBefore, AreVisits, IsOrder};
 ghost use Rattle.order_runs.specs.Totals.{Visit, chosen_order};
@@ -37,12 +38,29 @@ pub fn every_order_is_visited()
         → (order : List Choice) → IsOrder left [] order → Contains (map (λ (visit : Visit). visit.choices) visits) order }
 {}
 
+/// Of the orders that agree with what says which builds have a step left, one that was not visited comes later than all that were,
+/// where the first was the lowest: orders that are run up to a bound are the lowest ones.
+pub fn orders_that_are_left_come_later()
+    ensures { (plan : Plan) (host : HostView) (visits : List Visit) (rest : Option (List Choice)) (left : List ℕ → List Bool)
+        → ((before : List ℕ) → length (left before) ≡ 8)
+        → AreVisits plan host (Some []) visits rest
+        → All (λ (visit : Visit). IsOrder left [] visit.choices) visits
+        → (order : List Choice) → IsOrder left [] order
+        → Contains (map (λ (visit : Visit). visit.choices) visits) order ⊎ All (λ (visit : Visit). IsBefore visit.choices order) visits }
+{}
+
 /// What is noted of a run's steps is what the lines of the run tell: each end is that of a turn of the same build, with the refusal
 /// of its line, and they come in the order of the lines.
 pub fn ends_are_told()
     ensures { (plan : Plan) (host : HostView) (choices : List Choice) (to : HostView) (ends : List StepEnd)
         → IsChosenRun plan host choices to ends
         → AreTold (record plan { order = chosen_order choices }) host to ends }
+{}
+
+/// Two ends of steps are counted as one exactly where they are the same: the end of the same step of the same build, with the same
+/// refusal and its numbers, or with none.
+pub fn ends_are_told_apart()
+    ensures { (one other : StepEnd) → (same_end one other ≡ true) ↔ (one ≡ other) }
 {}
 
 /// A build that has nothing open is not seen in a map: it is that of the history without the build.
