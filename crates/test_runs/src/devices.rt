@@ -64,7 +64,7 @@ pub(crate) struct Sink {
 
 impl Sink {
     /// Whether these are the bytes that were taken.
-    pub fn has(&self, bytes: &[u8]) -> bool {
+    pub(crate) fn has(&self, bytes: &[u8]) -> bool {
         self.got.as_slice() == bytes
     }
 }
