@@ -34,6 +34,12 @@ fn build<L: Ledgers>(
     Ok(())
 }
 
+fn tell(rt: &(impl Print + AllocGlobal), host: &Host<PlainStore>) -> Result<()> {
+    println!(rt; "{} events", host.history().len())?;
+    print!(rt; "{}", map_text(rt.alloc(), host)?)?;
+    Ok(())
+}
+
 // Shares a host, builds in a thread for each seat, and closes the host with the seats.
 fn run<R: Print + AllocGlobal + Threads + Wait + Sync, L: Ledgers + Send + Sync>(
     rt: &R,
@@ -44,21 +50,17 @@ fn run<R: Print + AllocGlobal + Threads + Wait + Sync, L: Ledgers + Send + Sync>
     requires opened { host ≡ L.opened }
     requires named { AreNamed L.names blanks }
 {
-    let (shared, mut seats) = Shared::<PlainStore, L>::start(rt.alloc(), blanks, host).map_err(|(
-        error,
-        _blanks,
-        _host,
-    )| error)?;
+    let Ok((shared, mut seats)) = Shared::<PlainStore, L>::start(rt.alloc(), blanks, host) else {
+        bail!("there is too little memory for the seats");
+    };
     let each = |_, seat: &mut Seat<L>| {
         let _answer = build(rt, &shared, seat);
     };
     for_each_mut(rt, &mut seats, 2, &each);
-    let Ok(host) = shared.close(seats) else {
-        bail!("the seats do not have the history");
-    };
-    println!(rt; "{} events", host.history().len())?;
-    print!(rt; "{}", map_text(rt.alloc(), &host)?)?;
-    Ok(())
+    match shared.close(seats) {
+        Ok(host) => tell(rt, &host),
+        Err(_) => bail!("the seats do not have the history"),
+    }
 }
 
 fn main(rt: HostRuntime) -> Result<()> {

@@ -36,14 +36,11 @@ fn ask_all<R: Wait, L: Ledgers>(
 }
 
 // Takes a page and fills it, and goes back to a mark.
-fn few_steps(alloc: Global) -> Result<Vec<Step>, AllocError> {
-    let mut steps = Vec::new(alloc);
-    steps.push(Step::Ask(Cmd::Take { order: 0 }))?;
-    steps.push(Step::Mark)?;
-    steps.push(Step::Ask(Cmd::Delegate { page: 0 }))?;
-    steps.push(Step::Back)?;
-    steps.push(Step::Ask(Cmd::Fill { page: 0, value: 1 }))?;
-    Ok(steps)
+fn few_steps(alloc: Global) -> Result<Vec<Step>, Fault> {
+    let take = Step::Ask(Cmd::Take { order: 0 });
+    let delegate = Step::Ask(Cmd::Delegate { page: 0 });
+    let fill = Step::Ask(Cmd::Fill { page: 0, value: 1 });
+    Ok(Vec::from_array(alloc, [take, Step::Mark, delegate, Step::Back, fill])?)
 }
 
 // A worker of what came back where there was no memory for one.
@@ -179,6 +176,10 @@ fn started<L: Ledgers>(
     }
 }
 
+fn tell_events(rt: &impl Print, host: &Host<BuddyArena>) {
+    let _told = println!(rt; "closed with {} events", host.history().len());
+}
+
 // Closes a host with all of its seats.
 fn close<L: Ledgers>(
     rt: &impl Print,
@@ -187,7 +188,7 @@ fn close<L: Ledgers>(
 ) -> Result<(), Fault> {
     match shared.close(seats) {
         Ok(host) => {
-            let _told = println!(rt; "closed with {} events", host.history().len());
+            tell_events(rt, &host);
             Ok(())
         }
         Err(_) => Err(Fault::Other),
