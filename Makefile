@@ -88,6 +88,6 @@ memcheck: build ## runs the programs under valgrind's memcheck
 fuzz: build ## runs COUNT plans and traces of each kind of random change, and long inputs
 	@tests/fuzz $(COUNT)
 
-bench: build ## CPU time and peak memory of the program over plans of several shapes, and how they grow, beside plain Rust (needs rustc)
+bench: build ## CPU time and peak memory of the program over plans of several shapes, and how they grow, beside plain Rust (needs cargo)
 	@bench/run --series
 	@bench/plot

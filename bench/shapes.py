@@ -106,7 +106,7 @@ SHAPES = {
     "threads: data commands": (lambda: plan(64, [data_commands() for _ in range(8)]), "run"),
     "threads: storm of aborts": (lambda: plan(64, [aborts() for _ in range(8)], turns=MOST_TURNS), "run"),
 }
-# The one shape of which nothing but the reader is measured, and plain Rust reads but a part of TOML: it has no ratio.
+# The one shape of which nothing but the reader is measured: it has no ratio.
 READ_ALONE = {"plan of 1 MiB, refused"}
 
 # What grows with what: of each series, the numbers, and the plan of one.

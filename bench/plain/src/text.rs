@@ -12,7 +12,10 @@ pub fn push_step(text: &mut String, build: usize, step: Step) {
         Step::Activate => write!(text, "{build} activate"),
         Step::Rtt(page, ipa, level) => write!(text, "{build} rtt {page} {ipa} {level}"),
         Step::Data(page, ipa, source) => write!(text, "{build} data {page} {ipa} {source}"),
-        Step::Rec(page) => write!(text, "{build} rec {page}"),
+        Step::Rec(page, auxiliaries) => {
+            write!(text, "{build} rec {page}").unwrap();
+            auxiliaries.numbers().iter().try_for_each(|it| write!(text, " {it}"))
+        }
         Step::Enter(rec) => write!(text, "{build} enter {rec}"),
         Step::Exit(rec) => write!(text, "{build} exit {rec}"),
         Step::Undo => write!(text, "{build} undo"),

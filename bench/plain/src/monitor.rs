@@ -1,6 +1,7 @@
 //! A simulated monitor: pages, free blocks, the state of each granule, and places for realms and RECs by granule.
 //! Entries of tables are words in the pages of the tables.
 use crate::buddy::Buddy;
+use crate::host::Auxiliaries;
 use crate::pages::Pages;
 use crate::sha256::sha256;
 
@@ -41,8 +42,7 @@ pub struct Realm {
 
 #[derive(Clone)]
 struct Rec {
-    auxiliaries: [u16; 16],
-    count: u8,
+    auxiliaries: Auxiliaries,
     _number: u16,
     runs: bool,
 }
@@ -74,10 +74,11 @@ pub struct Monitor {
     rec_counts: Vec<u16>,
     recs: Vec<Option<Rec>>,
     vmids: u8,
+    aux: usize,
 }
 
 impl Monitor {
-    pub fn new(count: usize, vmids: u8) -> Monitor {
+    pub fn new(count: usize, vmids: u8, aux: usize) -> Monitor {
         Monitor {
             pages: Pages::new(count),
             buddy: Buddy::new(count),
@@ -86,6 +87,7 @@ impl Monitor {
             rec_counts: vec![0; count],
             recs: vec![None; count],
             vmids,
+            aux,
         }
     }
 
@@ -268,10 +270,13 @@ impl Monitor {
         realm.measurement = sha256(&bytes[..32 + event.len()]);
     }
 
-    pub fn rec_create(&mut self, rd: usize, granule: usize, named: &[u16]) -> Result<u16, Rmi> {
+    pub fn rec_create(&mut self, rd: usize, granule: usize, auxiliaries: Auxiliaries) -> Result<u16, Rmi> {
         let Some(realm) = &mut self.realms[rd] else { return Err(INPUT) };
+        let named = auxiliaries.numbers();
         let is_free = |granule: usize| self.states[granule].0 == State::Delegated;
-        if !is_free(granule) || !named.iter().all(|&auxiliary| is_free(auxiliary.into())) {
+        let is_alone = |at: usize| usize::from(named[at]) != granule && !named[..at].contains(&named[at]);
+        let are_free = is_free(granule) && named.iter().all(|&auxiliary| is_free(auxiliary.into()));
+        if !are_free || named.len() != self.aux || !(0..named.len()).all(is_alone) {
             return Err(INPUT);
         }
         if realm.is_active {
@@ -280,12 +285,10 @@ impl Monitor {
         let number = realm.next;
         realm.next += 1;
         self.states[granule] = (State::Rec, Some(rd as u16));
-        let mut auxiliaries = [0; 16];
-        auxiliaries[..named.len()].copy_from_slice(named);
         for &auxiliary in named {
             self.states[auxiliary as usize] = (State::RecAux, Some(rd as u16));
         }
-        self.recs[granule] = Some(Rec { auxiliaries, count: named.len() as u8, _number: number, runs: false });
+        self.recs[granule] = Some(Rec { auxiliaries, _number: number, runs: false });
         self.rec_counts[rd] += 1;
         let mut event = [3, 0, 0, 0, 0];
         event[1..].copy_from_slice(&u32::from(number).to_be_bytes());
@@ -298,11 +301,11 @@ impl Monitor {
         if rec.runs {
             return Err(REC);
         }
-        let (auxiliaries, count) = (rec.auxiliaries, rec.count as usize);
+        let auxiliaries = rec.auxiliaries;
         self.recs[granule] = None;
         self.rec_counts[rd] -= 1;
         self.leave(granule);
-        for &auxiliary in &auxiliaries[..count] {
+        for &auxiliary in auxiliaries.numbers() {
             self.leave(auxiliary as usize);
         }
         Ok(())

@@ -1,7 +1,6 @@
 //! The same design in plain Rust with nothing proved, as a baseline: slots of pages, lists of free blocks by order, a
 //! granule table, places for realms and RECs, tables in pages, SHA-256, page stacks, journals, a history, threads
-//! behind one lock, and the text in one buffer. It reads the plans that `bench/run` makes into a tree of TOML values
-//! first, and prints what `realmhost` prints: `plain replay`, `plain replay --erase B`, `plain run`.
+//! behind one lock, and the text in one buffer. It reads plans by the `toml` crate, and prints what `realmhost` prints: `plain replay`, `plain replay --erase B`, `plain run`.
 mod buddy;
 mod host;
 mod monitor;
@@ -9,17 +8,19 @@ mod pages;
 mod sha256;
 mod text;
 mod threads;
-mod toml;
 
-use host::{Answer, Host, Step};
+use host::{Answer, Auxiliaries, Host, Step};
 use std::io::{Read, Write};
-use toml::{Table, Value};
+use toml::Value;
+use toml::value::Table;
 
 const MOST_STEPS: usize = 1024;
 const MOST_TURNS: usize = 16384;
 
 struct Plan {
     pages: usize,
+    vmids: u8,
+    aux: usize,
     room: usize,
     order: Vec<u8>,
     builds: Vec<Vec<Step>>,
@@ -37,7 +38,10 @@ fn step_of(text: &str) -> Step {
         "activate" => Step::Activate,
         "rtt" => Step::Rtt(number() as u16, number(), number() as u8),
         "data" => Step::Data(number() as u16, number(), number() as u16),
-        "rec" => Step::Rec(number() as u16),
+        "rec" => {
+            let page = number() as u16;
+            Step::Rec(page, Auxiliaries::new(words.map(|word| word.parse::<u16>().unwrap())))
+        }
         "enter" => Step::Enter(number() as u16),
         "exit" => Step::Exit(number() as u16),
         "undo" => Step::Undo,
@@ -54,10 +58,10 @@ fn number_of(table: &Table, key: &str, missing: usize) -> Option<usize> {
     }
 }
 
-fn steps_of(build: &Table) -> Option<Vec<Step>> {
+fn steps_of(build: &Value) -> Option<Vec<Step>> {
     let Some(Value::Array(texts)) = build.get("steps") else { return None };
     let step = |value: &Value| match value {
-        Value::Text(text) => Some(step_of(text)),
+        Value::String(text) => Some(step_of(text)),
         _ => None,
     };
     if texts.len() <= MOST_STEPS { texts.iter().map(step).collect() } else { None }
@@ -74,10 +78,12 @@ fn order_of(table: &Table, builds: usize) -> Option<Vec<u8>> {
 
 // The plan, or nothing where it is refused.
 fn plan_of(text: &str) -> Option<Plan> {
-    let table = toml::table_of(text)?;
-    let Some(Value::Tables(builds)) = table.get("build") else { return None };
+    let table: Table = toml::from_str(text).ok()?;
+    let Some(Value::Array(builds)) = table.get("build") else { return None };
     Some(Plan {
         pages: number_of(&table, "pages", 0).filter(|pages| (1..=4096).contains(pages))?,
+        vmids: number_of(&table, "vmids", 8).filter(|vmids| (1..=255).contains(vmids))? as u8,
+        aux: number_of(&table, "aux", 0).filter(|aux| *aux <= 16)?,
         room: number_of(&table, "history", 1024).filter(|room| (16..=16384).contains(room))?,
         order: order_of(&table, builds.len())?,
         builds: builds.iter().map(steps_of).collect::<Option<_>>()?,
@@ -91,7 +97,7 @@ fn read_plan() -> Option<Plan> {
 }
 
 fn booted(plan: &Plan) -> Host {
-    Host::new(plan.pages, 8, plan.builds.len(), plan.room)
+    Host::new(plan.pages, plan.vmids, plan.aux, plan.builds.len(), plan.room)
 }
 
 // A turn of a build: an abort that has begun goes on, one act a turn.

@@ -2,6 +2,29 @@
 //! and its RECs. A command is checked, performed and recorded; an undo performs the reverse of the newest open act.
 use crate::monitor::{Monitor, NO_REC, Rmi};
 
+/// The auxiliaries of a REC: pages in a step, granules in an act.
+#[derive(Clone, Copy, PartialEq)]
+pub struct Auxiliaries {
+    numbers: [u16; 16],
+    count: u8,
+}
+
+impl Auxiliaries {
+    /// Sixteen at most.
+    pub fn new(numbers: impl IntoIterator<Item = u16>) -> Auxiliaries {
+        let mut made = Auxiliaries { numbers: [0; 16], count: 0 };
+        for number in numbers {
+            made.numbers[made.count as usize] = number;
+            made.count += 1;
+        }
+        made
+    }
+
+    pub fn numbers(&self) -> &[u16] {
+        &self.numbers[..self.count as usize]
+    }
+}
+
 /// What one accepted command did.
 #[derive(Clone, Copy, PartialEq)]
 pub enum Act {
@@ -17,8 +40,8 @@ pub enum Act {
     UnRtt { granule: u16, ipa: u32, level: u8 },
     Data { granule: u16, ipa: u32, source: u16 },
     UnData { granule: u16, ipa: u32 },
-    Rec { granule: u16, auxiliaries: [u16; 16], count: u8, number: u16 },
-    UnRec { granule: u16, auxiliaries: [u16; 16], count: u8, number: u16 },
+    Rec { granule: u16, auxiliaries: Auxiliaries, number: u16 },
+    UnRec { granule: u16, auxiliaries: Auxiliaries, number: u16 },
     Enter { number: u16 },
     Exit { number: u16 },
 }
@@ -32,9 +55,7 @@ impl Act {
             Act::Realm { rd, root, vmid } => Some(Act::UnRealm { rd, root, vmid }),
             Act::Rtt { granule, ipa, level } => Some(Act::UnRtt { granule, ipa, level }),
             Act::Data { granule, ipa, .. } => Some(Act::UnData { granule, ipa }),
-            Act::Rec { granule, auxiliaries, count, number } => {
-                Some(Act::UnRec { granule, auxiliaries, count, number })
-            }
+            Act::Rec { granule, auxiliaries, number } => Some(Act::UnRec { granule, auxiliaries, number }),
             _ => None,
         }
     }
@@ -72,7 +93,7 @@ pub enum Step {
     Activate,
     Rtt(u16, u32, u8),
     Data(u16, u32, u16),
-    Rec(u16),
+    Rec(u16, Auxiliaries),
     Enter(u16),
     Exit(u16),
     Undo,
@@ -210,8 +231,8 @@ impl Books {
 }
 
 impl Host {
-    pub fn new(pages: usize, vmids: u8, builds: usize, room: usize) -> Host {
-        Host { monitor: Monitor::new(pages, vmids), books: Books::new(pages, builds, room) }
+    pub fn new(pages: usize, vmids: u8, aux: usize, builds: usize, room: usize) -> Host {
+        Host { monitor: Monitor::new(pages, vmids, aux), books: Books::new(pages, builds, room) }
     }
 
     pub fn build_count(&self) -> usize {
@@ -264,7 +285,11 @@ impl Host {
             Step::Activate => Act::Activate,
             Step::Rtt(page, ipa, level) => Act::Rtt { granule: granule(page)?, ipa, level },
             Step::Data(page, ipa, source) => Act::Data { granule: granule(page)?, ipa, source: granule(source)? },
-            Step::Rec(page) => Act::Rec { granule: granule(page)?, auxiliaries: [0; 16], count: 0, number: 0 },
+            Step::Rec(page, named) => {
+                let of = |page: &u16| granule(*page);
+                let auxiliaries: Vec<u16> = named.numbers().iter().map(of).collect::<Result<_, _>>()?;
+                Act::Rec { granule: granule(page)?, auxiliaries: Auxiliaries::new(auxiliaries), number: 0 }
+            }
             Step::Enter(number) => Act::Enter { number },
             Step::Exit(number) => Act::Exit { number },
             Step::Take(_) | Step::Undo | Step::Abort => unreachable!(),
@@ -300,11 +325,10 @@ impl Host {
                 monitor.data_create(books.rd(build)?, granule.into(), ipa, source.into())
             }
             Act::UnData { ipa, .. } => monitor.data_destroy(books.rd(build)?, ipa),
-            Act::Rec { granule, auxiliaries, count, .. } => {
-                let number = monitor
-                    .rec_create(books.rd(build)?, granule.into(), &auxiliaries[..count as usize])
-                    .map_err(refused)?;
-                return Ok(Act::Rec { granule, auxiliaries, count, number });
+            Act::Rec { granule, auxiliaries, .. } => {
+                let number =
+                    monitor.rec_create(books.rd(build)?, granule.into(), auxiliaries).map_err(refused)?;
+                return Ok(Act::Rec { granule, auxiliaries, number });
             }
             Act::UnRec { granule, .. } => monitor.rec_destroy(books.rd(build)?, granule.into()),
             Act::Enter { number } | Act::Exit { number } => {
@@ -371,8 +395,8 @@ impl Host {
         match act {
             Act::Fill { granule, .. }
             | Act::Delegate { granule }
-            | Act::Rtt { granule, .. }
-            | Act::Rec { granule, .. } => has(granule),
+            | Act::Rtt { granule, .. } => has(granule),
+            Act::Rec { granule, auxiliaries, .. } => has(granule) && auxiliaries.numbers().iter().all(|it| has(*it)),
             Act::Realm { rd, root, .. } => has(rd) && has(root),
             Act::Data { granule, source, .. } => has(granule) && has(source),
             _ => true,
