@@ -44,12 +44,17 @@ fn build(rt: &impl Print, host: &mut Host<PlainStore>, build: BuildId) -> io::Re
     println!(rt; "{:?}", host.abort(build))
 }
 
-fn main(rt: HostRuntime) -> Result<()> {
-    let mut host = booted(rt.alloc())?;
-    build(&rt, &mut host, BuildId::new(0).unwrap())?;
+// Tells what a build is answered, the history that this leaves, and how many pages are free then.
+fn show(rt: &impl Print, host: &mut Host<PlainStore>) -> io::Result<()> {
+    build(rt, host, BuildId::new(0).unwrap())?;
     for event in host.history() {
         println!(rt; "{}", EventText(event))?;
     }
-    println!(rt; "{} of {} pages are free", host.free_count(), host.pages())?;
+    println!(rt; "{} of {} pages are free", host.free_count(), host.pages())
+}
+
+fn main(rt: HostRuntime) -> Result<()> {
+    let mut host = booted(rt.alloc())?;
+    show(&rt, &mut host)?;
     Ok(())
 }

@@ -8,7 +8,7 @@ ghost use Rattle.order_runs.specs.Exploring.{IsAdded, IsOrderCounted, IsDrawnAnd
 ghost use Rattle.order_runs.specs.Drawn.{IsSampled};
 
 use crate::leaving::leave_nothing;
-use crate::{Choice, StepEnd, Totals, next_order, run_drawn, run_order};
+use crate::{Choice, Progress, StepEnd, Totals, next_order, run_drawn, run_order};
 use buddy::BuddyArena;
 use plan_runs::map_text;
 use rand_core::Rng;
@@ -86,12 +86,14 @@ fn visit_drawn<R: Rng>(
 }
 
 /// Runs so many orders of a plan's turns, each on a host of its own. At each turn the build that has it is drawn of those with a step
-/// left, and an order may come more than once. What the plan says of its order is set aside. At an `Err` allocation failed.
-pub fn sample<R: Rng>(
+/// left, and an order may come more than once. What the plan says of its order is set aside. `progress` is told of each. At an
+/// `Err` allocation failed.
+pub fn sample<R: Rng, P: Progress>(
     alloc: Global,
     plan: &Plan,
     count: u32,
     rng: &mut R,
+    progress: &P,
 ) -> Result<Totals, AllocError>
     ensures { IfOk result (IsSampled (plan_view plan.now) (opening_host (plan_view plan.now)) (R.stream rng.old) count) }
 {
@@ -100,16 +102,22 @@ pub fn sample<R: Rng>(
     let mut ends = Vec::new(alloc);
     for _ in 0..count {
         visit_drawn(alloc, plan, rng, &mut choices, &mut ends, &mut totals)?;
+        progress.told(totals.orders);
     }
     Ok(totals)
 }
 
 /// Runs the orders of a plan's turns, from the lowest on, at most so many, each on a host of its own. What the plan says of its
-/// order is set aside.
+/// order is set aside. `progress` is told of each.
 ///
 /// Errors: Memory, where allocation failed; Mismatch, where an order cannot be gone on with as the run before it says, which no
 /// host does that answers the same to the same.
-pub fn explore(alloc: Global, plan: &Plan, most: u32) -> Result<Explored, Fault>
+pub fn explore<P: Progress>(
+    alloc: Global,
+    plan: &Plan,
+    most: u32,
+    progress: &P,
+) -> Result<Explored, Fault>
     ensures ok { IfOk result (λ it. IsExplored (plan_view plan.now) (opening_host (plan_view plan.now)) most it.totals it.is_whole) }
     ensures err { IfErr result (IsNotExplored (plan_view plan.now)) }
 {
@@ -118,6 +126,7 @@ pub fn explore(alloc: Global, plan: &Plan, most: u32) -> Result<Explored, Fault>
     let mut ends = Vec::new(alloc);
     for _ in 0..most {
         visit(alloc, plan, &mut choices, &mut ends, &mut totals)?;
+        progress.told(totals.orders);
         if !next_order(&mut choices) {
             let is_whole = true;
             return Ok(Explored { totals, is_whole });

@@ -7,7 +7,10 @@ ghost use Rattle.std.specs.Process.{exit_status};
 ghost use Rattle.realm_program.specs.Stop.{IsStatus};
 ghost use Rattle.view_program.specs.Stop.{view_exit_status};
 
+mod meter;
+
 use command_line::{Stop, arguments};
+use meter::Meter;
 use std::process::ExitCode;
 use told_device::Told;
 use view_program::{Asked, Fault, Verdict, run};
@@ -19,7 +22,10 @@ fn show(rt: &HostRuntime) -> Result<Verdict, Stop<Fault>> {
     let asked = Asked::of(alloc, &words)?;
     let mut input = Told::new(rt.stdin());
     let mut output = Told::new(rt.stdout());
-    Ok(run(alloc, asked, &mut input, &mut output)?)
+    let meter = Meter::new(rt);
+    let outcome = run(alloc, asked, &mut input, &mut output, &meter);
+    meter.end();
+    Ok(outcome?)
 }
 
 /// The exit status. Where the program stops, standard error is told why. The errors of a plan stand on standard output.

@@ -8,7 +8,7 @@ ghost use Rattle.order_runs.specs.Lines.{orders_text, drawn_text};
 ghost use Rattle.view_program.specs.Orders.{IsFirstText, IsDrawnText, IsOrdersText, IsWithoutOrders};
 
 use crate::orders::Orders;
-use order_runs::{Explored, Totals, explore as run_first, push_drawn, push_orders, sample};
+use order_runs::{Explored, Progress, Totals, explore as run_first, push_drawn, push_orders, sample};
 use rand_core::SeedableRng;
 use rand_xoshiro::Xoshiro256PlusPlus;
 use realm_plan::Plan;
@@ -36,55 +36,79 @@ fn text_of_drawn(alloc: Global, plan: &Plan, totals: &Totals) -> Result<String, 
 }
 
 // Runs the orders of a plan, at most so many, and tells what they come to.
-fn run_first_of(alloc: Global, plan: &Plan, most: u32) -> Result<String, Fault>
+fn run_first_of<P: Progress>(
+    alloc: Global,
+    plan: &Plan,
+    most: u32,
+    progress: &P,
+) -> Result<String, Fault>
     ensures ok { IfOk result (λ text. IsFirstText most (plan_view plan.now) (string_bytes text)) }
     ensures err { IfErr result (IsNotExplored (plan_view plan.now)) }
 {
-    let explored = run_first(alloc, plan, most)?;
+    let explored = run_first(alloc, plan, most, progress)?;
     Ok(text_of_first(alloc, plan, &explored)?)
 }
 
 // Runs so many orders that are drawn by the numbers of a seed, and tells what they come to.
-fn run_drawn_of(alloc: Global, plan: &Plan, count: u32, seed: u32) -> Result<String, AllocError>
+fn run_drawn_of<P: Progress>(
+    alloc: Global,
+    plan: &Plan,
+    count: u32,
+    seed: u32,
+    progress: &P,
+) -> Result<String, AllocError>
     ensures { IfOk result (λ text. IsDrawnText count seed (plan_view plan.now) (string_bytes text)) }
 {
     let mut numbers = Xoshiro256PlusPlus::seed_from_u64(seed as u64);
-    let totals = sample(alloc, plan, count, &mut numbers)?;
+    let totals = sample(alloc, plan, count, &mut numbers, progress)?;
     text_of_drawn(alloc, plan, &totals)
 }
 
 // The text of what the orders that are asked for come to.
-fn orders_text_of(alloc: Global, plan: &Plan, orders: Orders) -> Result<String, Fault>
+fn orders_text_of<P: Progress>(
+    alloc: Global,
+    plan: &Plan,
+    orders: Orders,
+    progress: &P,
+) -> Result<String, Fault>
     ensures ok { IfOk result (λ text. IsOrdersText orders (plan_view plan.now) (string_bytes text)) }
     ensures err { IfErr result (IsWithoutOrders orders (plan_view plan.now)) }
 {
     match orders {
-        Orders::First(most) => run_first_of(alloc, plan, most),
-        Orders::Drawn(count, seed) => Ok(run_drawn_of(alloc, plan, count, seed)?),
+        Orders::First(most) => run_first_of(alloc, plan, most, progress),
+        Orders::Drawn(count, seed) => Ok(run_drawn_of(alloc, plan, count, seed, progress)?),
     }
 }
 
-impl PlanText for Orders {
-    ghost is_text = { IsOrdersText };
+// Orders to be run, and who is told how far that has come.
+#[derive(Drop)]
+struct Exploring<'a, P> {
+    orders: Orders,
+    progress: &'a P,
+}
 
-    ghost is_without = { IsWithoutOrders };
+impl<P: Progress> PlanText for Exploring<'_, P> {
+    ghost is_text = { λ asked. IsOrdersText asked.orders };
+
+    ghost is_without = { λ asked. IsWithoutOrders asked.orders };
 
     fn text_of(&self, alloc: Global, plan: &Plan) -> Result<Vec<u8>, Fault> {
-        Ok(orders_text_of(alloc, plan, *self)?.into_bytes())
+        Ok(orders_text_of(alloc, plan, self.orders, self.progress)?.into_bytes())
     }
 }
 
 /// Reads a plan, runs its builds' turns in other orders, and writes how many these are, how each step of each build ended, in how
 /// many orders each build was never refused, and the maps in the end, each with the first order that shows it.
 ///
-/// The text is made whole before any of it is written. Errors: the fault of a plan; Memory, where allocation failed; Mismatch,
-/// where a host did not answer the same to the same; Device, where a read failed, and then nothing is written, or a write, and
+/// `progress` is told of each order that was run. The text is made whole before any of it is written. Errors: the fault of a plan;
+/// Memory, where allocation failed; Mismatch, where a host did not answer the same to the same; Device, where a read failed, and then nothing is written, or a write, and
 /// then a prefix of the text is.
-pub fn explore<R: Read, W: Write>(
+pub fn explore<R: Read, W: Write, P: Progress>(
     alloc: Global,
     input: &mut Told<R>,
     output: &mut Told<W>,
     orders: Orders,
+    progress: &P,
 ) -> Result<(), Fault>
     requires readable { input.old.failed ≡ false }
     requires writable { output.old.failed ≡ false }
@@ -93,5 +117,5 @@ pub fn explore<R: Read, W: Write>(
     ensures device { ((input.new.failed ≡ true) ⊎ (output.new.failed ≡ true)) ↔ (result ≡ Err Device) }
     ensures asked { input.new.reads ≤ input.old.reads + 1048578 }
 {
-    print(&orders, alloc, input, output)
+    print(&Exploring { orders, progress }, alloc, input, output)
 }

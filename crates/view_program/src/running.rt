@@ -3,16 +3,18 @@ ghost use Rattle.std.specs.Prelude.{◌≡◌, ◌↔◌, ◌⊎◌, false, true
 ghost use Rattle.view_program.specs.Printed.{IsDeviceFault, IsRunEnd};
 
 use crate::{Asked, Fault, Verdict, apply, check, explore, history, json, page, why};
+use order_runs::Progress;
 use std::alloc::Global;
 use std::io::{Read, Write};
 use told_device::Told;
 
-/// Does what is asked, over any reader and any writer.
-pub fn run<R: Read, W: Write>(
+/// Does what is asked, over any reader and any writer. `progress` is told how far an exploration of orders has come.
+pub fn run<R: Read, W: Write, P: Progress>(
     alloc: Global,
     asked: Asked,
     input: &mut Told<R>,
     output: &mut Told<W>,
+    progress: &P,
 ) -> Result<Verdict, Fault>
     requires readable { input.old.failed ≡ false }
     requires writable { output.old.failed ≡ false }
@@ -25,7 +27,7 @@ pub fn run<R: Read, W: Write>(
         Asked::Json => json(alloc, input, output)?,
         Asked::Page => page(alloc, input, output)?,
         Asked::Check => return check(alloc, input, output),
-        Asked::Explore(orders) => explore(alloc, input, output, orders)?,
+        Asked::Explore(orders) => explore(alloc, input, output, orders, progress)?,
         Asked::Why => why(alloc, input, output)?,
     }
     Ok(Verdict::Done)

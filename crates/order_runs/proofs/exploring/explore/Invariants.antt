@@ -3,4 +3,4 @@ use Rattle.order_runs.proofs.Visits.{IsSoFar}
 use Rattle.order_runs.proofs.exploring.explore.Given as goal
 
 abbrev pub invariant-loop : goal.invariant-loop
-invariant-loop l = IsSoFar (plan_view l.plan) l.counter l.choices.items l.totals
+invariant-loop g l = IsSoFar (plan_view l.plan) l.counter l.choices.items l.totals

@@ -8,7 +8,7 @@ use Rattle.order_runs.specs.Drawn.{IsSampled}
 use Rattle.view_program.proofs.plan_orders.run_drawn_of.Goals as goal
 
 pub returns : goal.returns
-returns c =
+returns g c =
     let plan = plan_view c.args.plan.now in
     IfOk-weaker c.text_of_drawn.result _ _ (λ text is. record {
       totals = c.in_ok-totals.totals;
