@@ -48,6 +48,10 @@ next_of found ns fields (m ∷ ms) all same spelled =
 pub next_field : (most : ℕ) (found ns fields rest : List ℕ) → AreNumbers most ns → rest ≡ 32 ∷ fields → GoesOn found ns rest → Next found ns fields
 next_field most found ns fields rest are begins on = next_of found ns fields on.0 are.1 on.1 (sym begins ∙ on.2)
 
+-- there is none where as many were found as there may be
+pub full_has_no_next : (most : ℕ) (found ns fields : List ℕ) → AreNumbers most ns → length found ≡ most → Next found ns fields → ⊥
+full_has_no_next most found ns fields are full next = omega (arith, are.0, simp length-append at (ap length next.split))
+
 -- the numbers found and one more
 pub goes_on_more : (found ns fields : List ℕ) (n : ℕ) → n < 2 ^ 32 → before_space fields ≡ decimal n → Next found ns fields → GoesOn (found ++ n ∷ []) ns (from_space fields)
 goes_on_more found ns fields n small is next =

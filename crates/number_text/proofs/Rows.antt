@@ -1,6 +1,6 @@
 -- What the rows of words make: a value of the row's word, whose numbers are in its ranges.
-use Rattle.std.proofs.Common.{◌≡◌, ℕ, ◌≤◌, List, [], ◌∷◌, cond, leb, ◌&&◌, Option, Some, None, subst, inl, inr}
-use Rattle.std.specs.Option.{option_or}
+use Rattle.std.proofs.Common.{◌≡◌, ℕ, ◌≤◌, List, [], ◌∷◌, cond, leb, ◌&&◌, Bool, true, false, Option, Some, None, option_map, refl, subst, inl, inr}
+use Rattle.std.specs.Option.{option_or, option_zip}
 use Rattle.std.specs.Str.{bytes_eq}
 use Rattle.std.proofs.lemmas.Bool.{cases_Bool, leb-true, and_parts}
 use Rattle.std.proofs.lemmas.Slice.Eq.{bytes_eq-Decides}
@@ -55,6 +55,48 @@ module _ {A : Type 0} (P : List ℕ → A → Type 0) where
       let first = and_parts (leb k a) (leb l b) front.0 in
       subst (P (k ∷ l ∷ m ∷ n ∷ [])) same (good k l m n (leb-true k a first.0) (leb-true l b first.1) (leb-true m c front.1) (leb-true n d all.1))
   four_makes a b c d make good (k ∷ l ∷ m ∷ n ∷ o ∷ ns) value e = absurd (cc)
+
+-- ---- what a row makes of the operands that were found
+
+module _ {A B : Type 0} (f : A → B) where
+  map_test : (t : Bool) (x : A) → option_map f (cond t (Some x) None) ≡ cond t (Some (f x)) None
+  map_test true x = refl
+  map_test false x = refl
+
+pub zip_tests : {A B : Type 0} (s t : Bool) (x : A) (y : B) → option_zip (cond s (Some x) None) (cond t (Some y) None) ≡ cond (s && t) (Some (x, y)) None
+zip_tests true true x y = refl
+zip_tests true false x y = refl
+zip_tests false t x y = refl
+
+module _ {B : Type 0} (a : ℕ) (make : ℕ → B) where
+  pub one_made : (ns : List ℕ) (found : Option ℕ) → found ≡ one a (λ k. k) ns → option_map make found ≡ one a make ns
+  one_made [] found e = rw e refl
+  one_made (k ∷ []) found e = rw e (map_test make (leb k a) k)
+  one_made (k ∷ l ∷ ns) found e = rw e refl
+
+module _ {B : Type 0} (a b : ℕ) (make : ℕ → ℕ → B) where
+  pub two_made : (ns : List ℕ) (found : Option (ℕ × ℕ)) → found ≡ two a b (λ k l. (k, l)) ns → option_map (λ it. make it.0 it.1) found ≡ two a b make ns
+  two_made [] found e = rw e refl
+  two_made (k ∷ []) found e = rw e refl
+  two_made (k ∷ l ∷ []) found e = rw e (map_test (λ it. make it.0 it.1) (leb k a && leb l b) (k, l))
+  two_made (k ∷ l ∷ m ∷ ns) found e = rw e refl
+
+module _ {B : Type 0} (a b c : ℕ) (make : ℕ → ℕ → ℕ → B) where
+  pub three_made : (ns : List ℕ) (found : Option (ℕ × ℕ × ℕ)) → found ≡ three a b c (λ k l m. (k, l, m)) ns → option_map (λ it. make it.0 it.1 it.2) found ≡ three a b c make ns
+  three_made [] found e = rw e refl
+  three_made (k ∷ []) found e = rw e refl
+  three_made (k ∷ l ∷ []) found e = rw e refl
+  three_made (k ∷ l ∷ m ∷ []) found e = rw e (map_test (λ it. make it.0 it.1 it.2) (leb k a && leb l b && leb m c) (k, l, m))
+  three_made (k ∷ l ∷ m ∷ n ∷ ns) found e = rw e refl
+
+module _ {B : Type 0} (a b c d : ℕ) (make : ℕ → ℕ → ℕ → ℕ → B) where
+  pub four_made : (ns : List ℕ) (found : Option (ℕ × ℕ × ℕ × ℕ)) → found ≡ four a b c d (λ k l m n. (k, l, m, n)) ns → option_map (λ it. make it.0 it.1 it.2 it.3) found ≡ four a b c d make ns
+  four_made [] found e = rw e refl
+  four_made (k ∷ []) found e = rw e refl
+  four_made (k ∷ l ∷ []) found e = rw e refl
+  four_made (k ∷ l ∷ m ∷ []) found e = rw e refl
+  four_made (k ∷ l ∷ m ∷ n ∷ []) found e = rw e (map_test (λ it. make it.0 it.1 it.2 it.3) (leb k a && leb l b && leb m c && leb n d) (k, l, m, n))
+  four_made (k ∷ l ∷ m ∷ n ∷ o ∷ ns) found e = rw e refl
 
 -- ---- the row of this word, or what comes after it
 

@@ -48,7 +48,7 @@ fn both<A: Operand, B: Operand>(first: u32, second: u32) -> Option<(A, B)>
     ensures { result ≡ (if nat_le first A.maximum && nat_le second B.maximum
         then Some (A.of first, B.of second) else None) }
 {
-    Some((A::from_number(first)?, B::from_number(second)?))
+    A::from_number(first).zip(B::from_number(second))
 }
 
 /// The operand, where there is one number, and it is in its range.

@@ -1,8 +1,8 @@
-use Rattle.std.proofs.Common.{◌<◌, length, lit<, refl, sym, ◌∙◌, arith}
-use Rattle.std.proofs.lemmas.Bool.{false≢true, eqb-false}
+use Rattle.std.proofs.Common.{◌≡◌, ◌<◌, length, lit<, refl, sym, ◌∙◌, arith}
+use Rattle.std.proofs.lemmas.Bool.{false≢true, eqb-false, eqb-true}
 use Rattle.std.proofs.lemmas.Str.Pattern.{strip_prefix_char}
 use Rattle.number_text.proofs.Cuts.{length-from_space-le}
-use Rattle.number_text.proofs.Fields.{are_numbers_more, next_field, goes_on_more, spelled_more, ends_spelled}
+use Rattle.number_text.proofs.Fields.{are_numbers_more, next_field, full_has_no_next, goes_on_more, spelled_more, ends_spelled}
 use Rattle.number_text.proofs.number.numbers_of.Goals as goal
 
 pub returns-in_default-number_of-clause-none : goal.returns-in_default-number_of-clause-none
@@ -35,3 +35,18 @@ returns-else-is_empty-clause-none g c = λ ns are spelled.
     let ends = rw c.in_default.is at (strip_prefix_char 32 _ _ c.strip_prefix.ensures.cases (lit< tt)) in
     let empty = ends_spelled _ ns _ ends (c.loop-fields.invariant.only ns are spelled) in
     false≢true (c.if-is_empty.ensures ∙ rw empty refl)
+
+pub loop-fields-init : goal.loop-fields-init
+loop-fields-init g c = record {
+  is_text = c.utf8.text;
+  are = rw c.new-numbers.ensures (omega arith, tt);
+  found = rw c.new-numbers.ensures refl;
+  only = λ ns are spelled. rw c.new-numbers.ensures (ns, refl, spelled);
+}
+
+pub returns-then-is_full-clause-none : goal.returns-then-is_full-clause-none
+returns-then-is_full-clause-none g c = λ ns are spelled.
+    let begins = rw c.in-Some.is at (strip_prefix_char 32 _ _ c.strip_prefix.ensures.cases (lit< tt)) in
+    let next = next_field g.row.MOST _ ns _ _ are begins (c.loop-fields.invariant.only ns are spelled) in
+    let full : length c.loop-fields.numbers.items ≡ g.row.MOST = eqb-true _ _ (sym c.if-is_full.ensures.value) in
+    full_has_no_next g.row.MOST _ ns _ are full next
