@@ -1,6 +1,7 @@
 -- What comes next of an input, from what was read of it.
-use Rattle.std.proofs.Common.{◌≡◌, ℕ, ◌<◌, ◌==◌, false, List, [], ◌∷◌, ◌++◌, length, Option, Some, None, IfSome, sym, ap, ◌∙◌, arith, subst}
+use Rattle.std.proofs.Common.{◌≡◌, ℕ, ◌+◌, ◌<◌, ◌==◌, false, List, [], ◌∷◌, ◌++◌, length, take, drop, get_or, length-drop, length-take, drop-cons, add-one, Option, Some, None, IfSome, refl, sym, ap, ◌∙◌, arith, subst}
 use mathlib.Core.List.{append-nil}
+use Rattle.std.proofs.lemmas.List.{get_or-take}
 use Rattle.std.specs.Io.KnownBytes.{Consumes, IsAtEnd, prepend_known}
 use Rattle.told_device.specs.Lines.{lines_in, IsLine, HasLongLine}
 use Rattle.told_device.proofs.Parts.{HasNoFeed, lines_feed, lines_last, long_line}
@@ -55,3 +56,10 @@ consumes_same None b c front h k = tt
 consumes_same (Some xs) None c front h k = absurd h
 consumes_same (Some xs) (Some ys) None front h k = absurd k
 consumes_same (Some xs) (Some ys) (Some zs) front h k = h ∙ ap (λ t. front ++ t) k
+
+-- the first byte of a part of the buffer
+pub first_of_part : (buffer : List ℕ) (from to : ℕ) (part : List ℕ) → drop from (take to buffer) ≡ part → 0 < length part → part ≡ get_or buffer from 0 ∷ drop (from + 1) (take to buffer)
+first_of_part buffer from to part is some =
+    let within : from < length (take to buffer) = omega (arith, length-drop from (take to buffer), ap length is) in
+    let before : from < to = omega (arith, length-take to buffer) in
+    sym is ∙ drop-cons (take to buffer) from 0 within ∙ rw (get_or-take to buffer from 0 before, add-one) refl

@@ -9,7 +9,7 @@ use std::io::Read;
 use std::marker::Model;
 
 /// Why there is no next line.
-#[derive(Clone, Copy, Debug, PartialEq, Eq)]
+#[derive(Clone, Copy)]
 pub enum LineError {
     /// Allocation failed.
     Memory,
@@ -26,7 +26,7 @@ impl From<DeviceFailed> for LineError {
 }
 
 /// What comes next.
-#[derive(Clone, Copy, Debug, PartialEq, Eq)]
+#[derive(Clone, Copy)]
 pub enum Next {
     /// A line, which was read.
     Line,

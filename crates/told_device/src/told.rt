@@ -9,7 +9,7 @@ use std::io::{Read, Write};
 use std::marker::Model;
 
 /// A call of the device failed.
-#[derive(Clone, Copy, Debug, PartialEq, Eq)]
+#[derive(Clone, Copy)]
 pub struct DeviceFailed;
 
 /// A reader or a writer, and what is told of it.

@@ -1,5 +1,7 @@
 use Rattle.std.proofs.Common.{◌≡◌, ◌<◌, ◌==◌, length, false, arith}
 use Rattle.std.proofs.lemmas.Bool.{ne_eqb}
+use Rattle.told_device.proofs.Read.{consumes_more}
+use Rattle.told_device.proofs.Parts.{no_feed_more}
 use Rattle.told_device.proofs.Nexts.{line_with_feed, line_at_end, too_long, ahead_taken, consumes_same}
 use Rattle.told_device.proofs.lines.Lines.next_line.Goals as goal
 
@@ -26,3 +28,15 @@ returns-then-len-from-clause-next g c =
     too_long c.args.most _ _ _ c.loop.line.items c.take_byte-byte.result (consumes_same _ _ _ c.loop.line.items c.loop.invariant.taken c.in_ok-fill.ensures.keeps)
     (ahead_taken c.fill.new.self c.take_byte-byte.new.self c.take_byte-byte.result (g.R.Read.remaining c.fill.new.input.device) c.take_byte-byte.ensures)
     other c.loop.invariant.none full
+
+pub loop-preserved : goal.loop-preserved
+loop-preserved g c =
+    let ahead = consumes_same _ _ _ c.loop.line.items c.loop.invariant.taken c.in_ok-fill.ensures.keeps in
+    let byte = ahead_taken c.fill.new.self c.take_byte-byte.new.self c.take_byte-byte.result (g.R.Read.remaining c.fill.new.input.device) c.take_byte-byte.ensures in
+    record {
+      fine = c.in_ok-fill.ensures.told;
+      len = omega (arith, c.in-Ok.ensures.len);
+      few = omega (arith, c.in-Ok.ensures.len, c.if-len-from.false, c.len.ensures, c.from.ensures);
+      none = rw c.in-Ok.ensures.items (no_feed_more c.loop.line.items _ c.loop.invariant.none (ne_eqb c.take_byte-byte.result 10 c.if-byte-eq10.false));
+      taken = rw c.in-Ok.ensures.items (consumes_more _ _ _ c.loop.line.items _ ahead byte);
+    }
