@@ -9,18 +9,22 @@ fn granule_command(word: &str, numbers: &[u32]) -> Option<Command>
     ensures { result ≡ granule_command_at word.now numbers.now }
 {
     match word {
-        "granule_delegate" => {
-            one_operand(numbers).map(|granule| Command::GranuleDelegate { granule })
-        }
-        "granule_undelegate" => {
-            one_operand(numbers).map(|granule| Command::GranuleUndelegate { granule })
-        }
-        "host_fill" => {
-            two_operands(numbers).map(|(granule, value)| Command::HostFill { granule, value })
-        }
-        "host_peek" => {
-            two_operands(numbers).map(|(granule, offset)| Command::HostPeek { granule, offset })
-        }
+        "granule_delegate" => match one_operand(numbers) {
+            Some(granule) => Some(Command::GranuleDelegate { granule }),
+            None => None,
+        },
+        "granule_undelegate" => match one_operand(numbers) {
+            Some(granule) => Some(Command::GranuleUndelegate { granule }),
+            None => None,
+        },
+        "host_fill" => match two_operands(numbers) {
+            Some((granule, value)) => Some(Command::HostFill { granule, value }),
+            None => None,
+        },
+        "host_peek" => match two_operands(numbers) {
+            Some((granule, offset)) => Some(Command::HostPeek { granule, offset }),
+            None => None,
+        },
         _ => None,
     }
 }
@@ -29,16 +33,23 @@ fn realm_command(word: &str, numbers: &[u32]) -> Option<Command>
     ensures { result ≡ realm_command_at word.now numbers.now }
 {
     match word {
-        "realm_create" => {
-            four_operands(numbers).map(|(rd, root, vmid, width)| Command::RealmCreate {
+        "realm_create" => match four_operands(numbers) {
+            Some((rd, root, vmid, width)) => Some(Command::RealmCreate {
                 rd,
                 root,
                 vmid,
                 width,
-            })
-        }
-        "realm_activate" => one_operand(numbers).map(|rd| Command::RealmActivate { rd }),
-        "realm_destroy" => one_operand(numbers).map(|rd| Command::RealmDestroy { rd }),
+            }),
+            None => None,
+        },
+        "realm_activate" => match one_operand(numbers) {
+            Some(rd) => Some(Command::RealmActivate { rd }),
+            None => None,
+        },
+        "realm_destroy" => match one_operand(numbers) {
+            Some(rd) => Some(Command::RealmDestroy { rd }),
+            None => None,
+        },
         _ => None,
     }
 }
@@ -47,20 +58,23 @@ fn table_command(word: &str, numbers: &[u32]) -> Option<Command>
     ensures { result ≡ table_command_at word.now numbers.now }
 {
     match word {
-        "rtt_create" => {
-            four_operands(numbers).map(|(rd, granule, ipa, level)| Command::RttCreate {
+        "rtt_create" => match four_operands(numbers) {
+            Some((rd, granule, ipa, level)) => Some(Command::RttCreate {
                 rd,
                 granule,
                 ipa,
                 level,
-            })
-        }
-        "rtt_destroy" => {
-            three_operands(numbers).map(|(rd, ipa, level)| Command::RttDestroy { rd, ipa, level })
-        }
-        "rtt_init_ripas" => {
-            three_operands(numbers).map(|(rd, ipa, count)| Command::RttInitRipas { rd, ipa, count })
-        }
+            }),
+            None => None,
+        },
+        "rtt_destroy" => match three_operands(numbers) {
+            Some((rd, ipa, level)) => Some(Command::RttDestroy { rd, ipa, level }),
+            None => None,
+        },
+        "rtt_init_ripas" => match three_operands(numbers) {
+            Some((rd, ipa, count)) => Some(Command::RttInitRipas { rd, ipa, count }),
+            None => None,
+        },
         _ => None,
     }
 }
@@ -69,24 +83,23 @@ fn data_command(word: &str, numbers: &[u32]) -> Option<Command>
     ensures { result ≡ data_command_at word.now numbers.now }
 {
     match word {
-        "data_create" => {
-            four_operands(numbers).map(|(rd, granule, ipa, source)| Command::DataCreate {
+        "data_create" => match four_operands(numbers) {
+            Some((rd, granule, ipa, source)) => Some(Command::DataCreate {
                 rd,
                 granule,
                 ipa,
                 source,
-            })
-        }
-        "data_create_unknown" => {
-            three_operands(numbers).map(|(rd, granule, ipa)| Command::DataCreateUnknown {
-                rd,
-                granule,
-                ipa,
-            })
-        }
-        "data_destroy" => {
-            two_operands(numbers).map(|(rd, ipa)| Command::DataDestroy { rd, ipa })
-        }
+            }),
+            None => None,
+        },
+        "data_create_unknown" => match three_operands(numbers) {
+            Some((rd, granule, ipa)) => Some(Command::DataCreateUnknown { rd, granule, ipa }),
+            None => None,
+        },
+        "data_destroy" => match two_operands(numbers) {
+            Some((rd, ipa)) => Some(Command::DataDestroy { rd, ipa }),
+            None => None,
+        },
         _ => None,
     }
 }
@@ -109,17 +122,27 @@ fn rec_command(word: &str, numbers: &[u32]) -> Option<Command>
 {
     match word {
         "rec_create" => rec_create(numbers),
-        "rec_enter" => one_operand(numbers).map(|rec| Command::RecEnter { rec }),
-        "rec_exit" => one_operand(numbers).map(|rec| Command::RecExit { rec }),
-        "rec_destroy" => one_operand(numbers).map(|rec| Command::RecDestroy { rec }),
-        "guest_write" => {
-            four_operands(numbers).map(|(rec, ipa, offset, value)| Command::GuestWrite {
+        "rec_enter" => match one_operand(numbers) {
+            Some(rec) => Some(Command::RecEnter { rec }),
+            None => None,
+        },
+        "rec_exit" => match one_operand(numbers) {
+            Some(rec) => Some(Command::RecExit { rec }),
+            None => None,
+        },
+        "rec_destroy" => match one_operand(numbers) {
+            Some(rec) => Some(Command::RecDestroy { rec }),
+            None => None,
+        },
+        "guest_write" => match four_operands(numbers) {
+            Some((rec, ipa, offset, value)) => Some(Command::GuestWrite {
                 rec,
                 ipa,
                 offset,
                 value,
-            })
-        }
+            }),
+            None => None,
+        },
         _ => None,
     }
 }

@@ -23,12 +23,30 @@ fn reading(word: &str, numbers: &[u32]) -> Option<Reading>
     ensures { result ≡ reading_at word.now numbers.now }
 {
     match word {
-        "state" => one_operand(numbers).map(|granule| Reading::State { granule }),
-        "sum" => one_operand(numbers).map(|granule| Reading::Sum { granule }),
-        "word" => two_operands(numbers).map(|(granule, index)| Reading::Word { granule, index }),
-        "realm" => one_operand(numbers).map(|granule| Reading::Realm { granule }),
-        "measurement" => one_operand(numbers).map(|granule| Reading::Measurement { granule }),
-        "rec" => one_operand(numbers).map(|granule| Reading::Rec { granule }),
+        "state" => match one_operand(numbers) {
+            Some(granule) => Some(Reading::State { granule }),
+            None => None,
+        },
+        "sum" => match one_operand(numbers) {
+            Some(granule) => Some(Reading::Sum { granule }),
+            None => None,
+        },
+        "word" => match two_operands(numbers) {
+            Some((granule, index)) => Some(Reading::Word { granule, index }),
+            None => None,
+        },
+        "realm" => match one_operand(numbers) {
+            Some(granule) => Some(Reading::Realm { granule }),
+            None => None,
+        },
+        "measurement" => match one_operand(numbers) {
+            Some(granule) => Some(Reading::Measurement { granule }),
+            None => None,
+        },
+        "rec" => match one_operand(numbers) {
+            Some(granule) => Some(Reading::Rec { granule }),
+            None => None,
+        },
         _ => None,
     }
 }
