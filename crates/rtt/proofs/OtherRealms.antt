@@ -1,11 +1,13 @@
 -- What a call on one realm's tables leaves of the others.
-use Rattle.std.proofs.Common.{◌≡◌, ◌≢◌, ℕ, List, Option, Some, sym, ap, ◌∙◌}
+use Rattle.std.proofs.Common.{◌≡◌, ◌≢◌, ℕ, Bool, List, Option, Some, refl, sym, ap, ◌∙◌}
+use Rattle.granule_addr.specs.declared.root.Root.{Root}
 use Rattle.granule_table.specs.Granules.{granule_at, IsIn}
 use Rattle.granule_table.specs.declared.granule.Granule.{Granule}
 use Rattle.page_arena.specs.Page.{page_at}
 use Rattle.realm_model.specs.declared.states.GranuleState.{GranuleState}
 use Rattle.realm_model.specs.declared.states.GranuleState.TheVariants.{Rtt as InRtt}
-use Rattle.rtt.specs.Realm.{LeavesOthers}
+use Rattle.rtt.specs.Calls.{Keeps, KeepsRest}
+use Rattle.rtt.specs.Realm.{IsBacked, HasTables, LeavesOthers}
 use Rattle.rtt.proofs.Owned.{Moves, apart_realms}
 
 -- a granule of one realm is in no state of another
@@ -35,3 +37,11 @@ others_kept pages new_pages granules rd changed other apart = record {
   table = λ granule is. is;
   «data» = λ granule is. is;
 }
+
+-- nothing changes
+pub rest_kept : {pages : List (List ℕ)} {flags : List Bool} {granules : List Granule} {rd : ℕ} → IsBacked pages flags granules → KeepsRest rd pages flags granules pages flags granules
+rest_kept {pages = pages} {granules = granules} {rd = rd} backed = record { backed = backed; flags = refl; other_realms = others_kept pages pages granules rd (λ granule apart. refl) }
+
+pub all_kept : {pages : List (List ℕ)} {flags : List Bool} {granules : List Granule} {rd : ℕ} {root : Root}
+    → IsBacked pages flags granules → HasTables pages granules rd root → Keeps rd root pages flags granules pages flags granules
+all_kept backed tables = record { tables = tables; rest = rest_kept backed }

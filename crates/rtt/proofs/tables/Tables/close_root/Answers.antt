@@ -2,6 +2,7 @@ use Rattle.std.proofs.Common.{true, false, sym, ap, subst, arith}
 use Rattle.std.specs.Prelude.{List, Bool}
 use Rattle.granule_table.specs.declared.granule.Granule.{Granule}
 use Rattle.rtt.specs.Realm.{IsBacked}
+use Rattle.rtt.proofs.OtherRealms.{rest_kept}
 use Rattle.rtt.proofs.RootTables.{no_table_below, Closed, closed}
 use Rattle.rtt.proofs.Walks.{start_in, starts_inside}
 use Rattle.rtt.proofs.tables.Tables.close_root.Given.{Over}
@@ -15,6 +16,9 @@ has_no_table_below-requires g c =
 
 pub returns-then-not-has_no_table_below-clause-answer : goal.returns-then-not-has_no_table_below-clause-answer
 returns-then-not-has_no_table_below-clause-answer g c = no_table_below (g.S.PageStore.page_bytes c.args.store.now) c.args.self.now.root false c.if-not-has_no_table_below.ensures
+
+pub returns-then-not-has_no_table_below-clause-keeps : goal.returns-then-not-has_no_table_below-clause-keeps
+returns-then-not-has_no_table_below-clause-keeps g c = rest_kept c.requires.backed
 
 pub clear_starting_tables-requires-clause-inside : goal.clear_starting_tables-requires-clause-inside
 clear_starting_tables-requires-clause-inside g c = starts_inside (g.S.PageStore.page_bytes c.args.store.now) c.args.granules.now c.args.self.now.rd c.args.self.now.root c.requires.tables

@@ -6,6 +6,7 @@ use Rattle.realm_model.specs.Rows.{Row, is_table}
 use Rattle.rtt.proofs.NewTables.{Created, created}
 use Rattle.rtt.specs.Tables.{rows}
 use Rattle.rtt.proofs.FoundRows.{row_passed, row_refused}
+use Rattle.rtt.proofs.OtherRealms.{all_kept}
 use Rattle.rtt.proofs.tables.Tables.create_table.Given.{Over}
 use Rattle.rtt.proofs.tables.Tables.create_table.Goals as goal
 use Rattle.rtt.proofs.tables.Tables.create_table.Goals.{then-number-via-then-number, then-number-via-else-number+then-is_table}
@@ -45,3 +46,6 @@ returns-clause-answer g c = (
   row_passed (rows (g.S.PageStore.page_bytes c.args.store.now) c.args.self.now.root) c.args.ipa (c.args.level - 1) c.above-wanted.result c.find-upper.result.level c.find-upper.result.entry (omega arith) c.find-upper.ensures.walk (λ row. not (is_table row))
       (omega arith) (ap not (sym c.if-is_table.ensures)),
 )
+
+pub returns-then-number-clause-keeps : goal.returns-then-number-clause-keeps
+returns-then-number-clause-keeps g c = all_kept c.requires.backed c.requires.tables

@@ -8,6 +8,7 @@ use Rattle.rtt.proofs.OldTables.{is_unused, Gone, gone}
 use Rattle.granule_addr.specs.Ipa.{entry_index}
 use Rattle.rtt.specs.Word.{IsEntry}
 use Rattle.rtt.proofs.FoundRows.{table_missed, table_passed, table_refused}
+use Rattle.rtt.proofs.OtherRealms.{all_kept}
 use Rattle.rtt.proofs.Written.{IsEntry-entries_of}
 use Rattle.rtt.proofs.tables.Tables.destroy_table.Given.{Over}
 use Rattle.rtt.proofs.tables.Tables.destroy_table.Goals as goal
@@ -82,3 +83,12 @@ returns-in_default-clause-answer g c =
     table_missed (rows (g.S.PageStore.page_bytes c.args.store.now) c.args.self.now.root) c.args.ipa c.args.level c.above-wanted.result c.find-upper.result.level c.find-upper.result.entry (omega arith) c.find-upper.ensures.walk
     (inr (table_of-none c.find-upper.result.entry (subst IsEntry (sym c.find-upper.ensures.entry) (IsEntry-entries_of (g.S.PageStore.page_bytes c.args.store.now) c.find-upper.result.table (entry_index c.find-upper.result.level c.args.ipa)))
     (sym c.child.ensures ∙ c.in_default.is)))
+
+pub returns-then-number-clause-keeps : goal.returns-then-number-clause-keeps
+returns-then-number-clause-keeps g c = all_kept c.requires.backed c.requires.tables
+
+pub returns-in_default-clause-keeps : goal.returns-in_default-clause-keeps
+returns-in_default-clause-keeps g c = all_kept c.requires.backed c.requires.tables
+
+pub returns-then-not-all_unassigned-clause-keeps : goal.returns-then-not-all_unassigned-clause-keeps
+returns-then-not-all_unassigned-clause-keeps g c = all_kept c.requires.backed c.requires.tables

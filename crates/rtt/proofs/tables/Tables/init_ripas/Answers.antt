@@ -3,6 +3,7 @@ use Rattle.rtt.specs.Tables.{rows}
 use Rattle.rtt.proofs.RamPages.{fits_table, pages_unused, RamGiven, ram_given}
 use Rattle.realm_model.specs.Rows.{is_unassigned, all_rows}
 use Rattle.rtt.proofs.FoundRows.{row_passed, row_refused}
+use Rattle.rtt.proofs.OtherRealms.{all_kept}
 use Rattle.rtt.proofs.tables.Tables.init_ripas.Given.{Over}
 use Rattle.rtt.proofs.tables.Tables.init_ripas.Goals as goal
 
@@ -43,3 +44,9 @@ pub returns-then-number-ne3-clause-answer : goal.returns-then-number-ne3-clause-
 returns-then-number-ne3-clause-answer g c =
     row_refused (rows (g.S.PageStore.page_bytes c.args.store.now) c.args.self.now.root) c.args.ipa 3 c.last.result c.find-place.result.level c.find-place.result.entry c.last.ensures c.find-place.ensures.walk (λ _. all_rows is_unassigned (rows (g.S.PageStore.page_bytes c.args.store.now) c.args.self.now.root) 3 c.args.ipa c.args.count)
     (inl (omega arith))
+
+pub returns-then-number-ne3-clause-keeps : goal.returns-then-number-ne3-clause-keeps
+returns-then-number-ne3-clause-keeps g c = all_kept c.requires.backed c.requires.tables
+
+pub returns-then-not-all_unassigned-clause-keeps : goal.returns-then-not-all_unassigned-clause-keeps
+returns-then-not-all_unassigned-clause-keeps g c = all_kept c.requires.backed c.requires.tables

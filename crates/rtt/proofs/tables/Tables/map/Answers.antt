@@ -8,6 +8,7 @@ use Rattle.realm_model.specs.Rows.{Row, assigned, is_unassigned, put_row}
 use Rattle.rtt.proofs.DataPages.{Mapped, mapped}
 use Rattle.rtt.specs.Tables.{rows}
 use Rattle.rtt.proofs.FoundRows.{row_passed, row_refused}
+use Rattle.rtt.proofs.OtherRealms.{all_kept}
 use Rattle.rtt.proofs.tables.Tables.map.Given.{Over}
 use Rattle.rtt.proofs.tables.Tables.map.Goals as goal
 use Rattle.rtt.proofs.tables.Tables.map.Goals.{then-number-ne3-via-then-number-ne3, then-number-ne3-via-else-number-ne3+then-not-is_unassigned}
@@ -49,3 +50,6 @@ returns-clause-answer g c = (
   row_passed (rows (g.S.PageStore.page_bytes c.args.store.now) c.args.self.now.root) c.args.ipa 3 c.last.result c.find-table.result.level c.find-table.result.entry c.last.ensures c.find-table.ensures.walk is_unassigned
       (omega arith) (sym c.if-not-is_unassigned.ensures),
 )
+
+pub returns-then-number-ne3-clause-keeps : goal.returns-then-number-ne3-clause-keeps
+returns-then-number-ne3-clause-keeps g c = all_kept c.requires.backed c.requires.tables

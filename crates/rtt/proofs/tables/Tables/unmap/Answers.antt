@@ -9,6 +9,7 @@ use Rattle.rtt.specs.Word.{IsEntry}
 use Rattle.rtt.specs.Tables.{rows}
 use Rattle.rtt.proofs.EntryKinds.{data_of-none, data_of-leads}
 use Rattle.rtt.proofs.FoundRows.{row_passed, row_refused}
+use Rattle.rtt.proofs.OtherRealms.{all_kept}
 use Rattle.rtt.proofs.Written.{IsEntry-entries_of}
 use Rattle.rtt.proofs.tables.Tables.unmap.Given.{Over}
 use Rattle.rtt.proofs.tables.Tables.unmap.Goals as goal
@@ -70,3 +71,9 @@ returns-clause-answer g c = (
   row_passed (rows (g.S.PageStore.page_bytes c.args.store.now) c.args.self.now.root) c.args.ipa 3 c.last.result c.find-table.result.level c.find-table.result.entry c.last.ensures c.find-table.ensures.walk is_assigned
       (omega arith) (ap is_assigned (data_of-leads c.find-table.result.entry c.in-Some.page (sym c.in-Some.ensures))),
 )
+
+pub returns-then-number-ne3-clause-keeps : goal.returns-then-number-ne3-clause-keeps
+returns-then-number-ne3-clause-keeps g c = all_kept c.requires.backed c.requires.tables
+
+pub returns-in_default-clause-keeps : goal.returns-in_default-clause-keeps
+returns-in_default-clause-keeps g c = all_kept c.requires.backed c.requires.tables
