@@ -1,6 +1,6 @@
 -- The act of each command.
-use Rattle.std.proofs.Common.{◌≡◌, ℕ, true, false, Bool, cond, List, [], ◌∷◌, length, Option, Some, None, refl, sym, ap, ◌∙◌, subst, arith}
-use Rattle.std.specs.Prelude.{◌&&◌, option_map}
+use Rattle.std.proofs.Common.{◌≡◌, ℕ, ◌≤◌, true, false, Bool, cond, List, [], ◌∷◌, length, Option, Some, None, refl, sym, ap, ◌∙◌, subst, arith}
+use Rattle.std.specs.Prelude.{◌&&◌, option_map, slice_get}
 use Rattle.std.specs.Str.{bytes_eq}
 use Rattle.std.proofs.lemmas.Bool.{and_parts}
 use Rattle.std.proofs.lemmas.Option.{same_Some}
@@ -45,6 +45,18 @@ tables_are width (first ∷ rest) root e =
 pub some_root : (o : Option Root) (make : Root → Act) (act : Act) → option_map make o ≡ Some act → (root : Root) × (o ≡ Some root) × (make root ≡ act)
 some_root None make act e = cc
 some_root (Some root) make act e = (root, refl, same_Some (make root) act e)
+
+-- ---- none
+
+pub no_granule : (cmd : Cmd) (gs : List ℕ) (picked : Picked) → 1 ≤ length (operands cmd) → None ≡ slice_get gs 0 → None ≡ act_of cmd gs picked
+unfolding act_of operands
+no_granule cmd (g ∷ gs) picked some none = cc
+no_granule (Ripas ipa count) [] picked some none = absurd (omega arith)
+no_granule Activate [] picked some none = absurd (omega arith)
+no_granule (Enter number) [] picked some none = absurd (omega arith)
+no_granule (Exit number) [] picked some none = absurd (omega arith)
+no_granule (Poke number ipa offset value) [] picked some none = absurd (omega arith)
+no_granule _ [] picked some none = refl
 
 -- ---- of the command
 
