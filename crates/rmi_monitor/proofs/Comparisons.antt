@@ -1,6 +1,6 @@
 -- What follows from tests: of one place or another, of what a test lets through, and of what came of an option.
 use Rattle.std.proofs.Common.{◌≡◌, ℕ, Bool, true, false, cond, Option, Some, None, refl, sym, ◌∙◌, option_map}
-use Rattle.std.specs.Prelude.{◌||◌}
+use Rattle.std.specs.Prelude.{◌&&◌, ◌||◌}
 use Rattle.std.proofs.lemmas.Option.{same_Some}
 
 -- one of two tests holds
@@ -11,6 +11,10 @@ either false t h left right = right h
 pub or_rest : (a b : Bool) → a ≡ false → (a || b) ≡ true → b ≡ true
 or_rest true b e h = cc
 or_rest false b e h = h
+
+pub and_with : (a b : Bool) → b ≡ true → (a && b) ≡ a
+and_with true b h = h
+and_with false b h = refl
 
 -- the number that came was let through
 pub test_held : (test : Bool) (n m : ℕ) (place : Option ℕ) → place ≡ cond test (Some n) None → place ≡ Some m → (test ≡ true) × (m ≡ n)

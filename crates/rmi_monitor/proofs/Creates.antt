@@ -4,8 +4,8 @@ use Rattle.std.specs.Prelude.{◌==◌, ◌%◌, ◌&&◌, ◌↔◌, IsTrue, no
 use Rattle.std.specs.Bool.{OnTrue}
 use Rattle.std.specs.List.{list_any, list_all, All}
 use Rattle.std.specs.FinMap.{empty}
-use Rattle.std.proofs.lemmas.Bool.{eqb-false, and_parts, cases_lt}
-use Rattle.std.proofs.lemmas.List.{get_or_past}
+use Rattle.std.proofs.lemmas.Bool.{eqb-true, eqb-false, and_parts, cases_lt}
+use Rattle.std.proofs.lemmas.List.{get_or_past, length-set, get_or-set_other}
 use Rattle.granule_addr.specs.Ipa.{is_width}
 use Rattle.granule_addr.specs.Page.{zero_page}
 use Rattle.granule_addr.specs.Root.{start_count, starting_tables}
@@ -24,13 +24,15 @@ use Rattle.realm_model.proofs.Booleans.{not_true}
 use Rattle.realm_model.proofs.Lists.{all_in}
 use Rattle.realm_model.proofs.Outcomes.{check_false}
 use Rattle.realm_objects.specs.Attributes.{RealmAttributes, realm_row}
+use Rattle.page_arena.specs.Page.{is_free}
+use Rattle.rtt.specs.Realm.{IsBacked}
 use Rattle.rtt.specs.Tables.{rows}
 use Rattle.rtt.specs.Calls.{with_state, with_states, Keeps}
 use Rattle.rmi_monitor.specs.View.{MonitorView, IsTaken, seen_in, after_command, make_realm}
 use Rattle.rmi_monitor.specs.Inside.{Fields, machine_of, seen_as, IsWhole}
 use Rattle.rmi_monitor.specs.Places.{is_delegated_at, is_fit_to_start, are_fit_for_realm}
 use Rattle.granule_addr.specs.Vmids.{is_used, IsMarked}
-use Rattle.rmi_monitor.proofs.Granules.{machine_is, as_many_granules, cell_is, in_granules, after_done}
+use Rattle.rmi_monitor.proofs.Granules.{machine_is, as_many_granules, cell_is, in_granules, not_free, after_done}
 use Rattle.rmi_monitor.proofs.Checks.{delegated_state, delegated_test}
 use Rattle.rmi_monitor.proofs.Comparisons.{test_held, test_failed}
 use Rattle.rmi_monitor.proofs.UsedVmids.{any_used}
@@ -51,6 +53,19 @@ is_given width given place e is = let held = test_held (is_width width) width gi
 pub by_width : (monitor : MonitorView) (rd first vmid given width : ℕ) → given ≡ width
     → make_realm monitor rd (record { first = first; width = given }) vmid ≡ make_realm monitor rd (record { first = first; width = width }) vmid
 by_width monitor rd first vmid given width same = ap (λ w. make_realm monitor rd (record { first = first; width = w }) vmid) same
+
+-- a taken granule is put in another state
+backed_put : (pages : List (List ℕ)) (free : List Bool) (granules : List Granule) → IsBacked pages free granules → (g : ℕ) (to : Granule) → is_free free g ≡ false
+    → IsBacked pages free (set granules g to)
+backed_put pages free granules backed g to taken = record {
+  as_many = length-set granules g to ∙ backed.as_many;
+  taken = λ h inside used. elim (h == g) as (λ t. (h == g) ≡ t → is_free free h ≡ false) [
+    | true ↦ λ e. ap (is_free free) (eqb-true h g e) ∙ taken
+    | false ↦ λ e.
+        backed.taken h (subst (λ n. h < n) (length-set granules g to) inside)
+        (λ was. used (ap (λ (x : Granule). x.state) (get_or-set_other granules g h to undelegated (eqb-false h g e)) ∙ was))
+  ] refl;
+}
 
 module _ (monitor : MonitorView) (fields : Fields) (view_is : seen_as fields ≡ monitor) (whole : IsWhole fields)
     (rd : ℕ) (root : Root) (vmid : ℕ) (rd_taken : IsTaken monitor rd) where
@@ -161,6 +176,11 @@ module _ (monitor : MonitorView) (fields : Fields) (view_is : seen_as fields ≡
 
         -- after the RD is one
         module _ (shifted : List Granule) (shift : shifted ≡ with_state fields.granules rd InRd (Some rd)) where
+          pub create_backed : IsBacked fields.pages fields.free shifted
+          create_backed =
+              subst (IsBacked fields.pages fields.free) (sym shift)
+              (backed_put fields.pages fields.free fields.granules whole.backed rd (record { state = InRd; realm = Some rd }) (not_free monitor fields view_is whole rd rd_taken))
+
           pub create_delegated : All (λ table. IsIn shifted table Delegated None) tables
           create_delegated = subst (λ gs. All (λ table. IsIn gs table Delegated None) tables) (sym shift) (tables_delegated fields whole rd root rd_inside rd_was starts)
 

@@ -24,7 +24,7 @@ use Rattle.rmi_monitor.specs.View.{MonitorView, IsTaken, seen_in}
 use Rattle.rmi_monitor.specs.Inside.{Fields, realm_at, bytes_of, seen_as, IsWhole}
 use Rattle.rmi_monitor.specs.Places.{is_delegated_at, is_undelegated_at}
 use Rattle.rmi_monitor.proofs.Checks.{delegated_state, undelegated_state}
-use Rattle.rmi_monitor.proofs.Granules.{has_fields, in_granules, cell_is, seen_delegated, seen_undelegated}
+use Rattle.rmi_monitor.proofs.Granules.{has_fields, in_granules, cell_is, seen_delegated, seen_undelegated, states_apart}
 use Rattle.rmi_monitor.proofs.DataMaps.{MapCall, map_call_at, mapped_by, rows_kept, page_written, mapped_written}
 use Rattle.rmi_monitor.proofs.Located.{IsLocated}
 use Rattle.rmi_monitor.proofs.Refusals.{Passes, passed_row, row_passes}
@@ -117,7 +117,7 @@ module _ (monitor : MonitorView) (fields : Fields) (view_is : seen_as fields ≡
           source_was = undelegated_state (granule_at fields.granules source).state undelegated
 
           apart : source ≢ g
-          apart e = let differ : Undelegated ≡ Delegated = sym source_was ∙ ap (λ h. (granule_at fields.granules h).state) e ∙ was in cc
+          apart e = states_apart fields.granules g source delegated undelegated (sym e)
 
           inside : g < length fields.granules
           inside = in_granules monitor fields view_is whole g page_taken

@@ -1,5 +1,5 @@
 -- The commands on single granules, over the fields of a monitor.
-use Rattle.std.proofs.Common.{◌≡◌, ℕ, ◌<◌, Bool, true, false, List, [], ◌∷◌, length, set, Ok, None, refl, sym, ap, ◌∙◌, subst}
+use Rattle.std.proofs.Common.{◌≡◌, ◌≢◌, ℕ, ◌<◌, Bool, true, false, List, [], ◌∷◌, length, set, Ok, None, refl, sym, ap, ◌∙◌, subst}
 use Rattle.std.proofs.lemmas.List.{set-get_or}
 use Rattle.page_arena.specs.Page.{page_at, is_free}
 use Rattle.granule_table.specs.Granules.{granule_at, undelegated, IsIn}
@@ -18,7 +18,15 @@ use Rattle.rmi_monitor.specs.Inside.{Fields, cell_of, machine_of, seen_as, IsWho
 use Rattle.rmi_monitor.specs.Places.{is_delegated_at, is_undelegated_at}
 use Rattle.rmi_monitor.proofs.Machines.{length-machine_of, cell_at-machine_of}
 use Rattle.rmi_monitor.proofs.HostMoves.{moved, whole_moved, machine_of-moved, host_cell, cell_of-host}
-use Rattle.rmi_monitor.proofs.Checks.{undelegated_test, delegated_test, not_undelegated, not_delegated, delegated_state}
+use Rattle.rmi_monitor.proofs.Checks.{undelegated_test, delegated_test, not_undelegated, not_delegated, undelegated_state, delegated_state}
+
+-- a DELEGATED granule and an UNDELEGATED one are two
+pub states_apart : (granules : List Granule) (g h : ℕ) → is_delegated_at granules g ≡ true → is_undelegated_at granules h ≡ true → g ≢ h
+states_apart granules g h delegated undelegated same =
+    let differ : Undelegated ≡ Delegated =
+    sym (undelegated_state (granule_at granules h).state undelegated) ∙ ap (λ k. (granule_at granules k).state) (sym same)
+    ∙ delegated_state (granule_at granules g).state delegated in
+    cc
 
 -- the fields of a monitor
 pub record HasFields (monitor : MonitorView) (fields : Fields) : Type 0 where

@@ -9,7 +9,7 @@ use Rattle.rmi_monitor.specs.View.{MonitorView, rec_in}
 use Rattle.rmi_monitor.specs.Inside.{Fields, realm_at, rec_at, recs_of, seen_as, IsRecAt, IsWhole}
 use Rattle.rmi_monitor.proofs.Granules.{cell_is}
 use Rattle.rmi_monitor.proofs.RealmFound.{row_of, descriptor_there}
-use Rattle.rmi_monitor.proofs.RecEntries.{IsEntry, entry_at}
+use Rattle.rmi_monitor.proofs.RecEntries.{IsEntry, entry_at, rec_of-number}
 use Rattle.rmi_monitor.proofs.RecReads.{its_realm}
 use Rattle.rmi_monitor.proofs.Listed.{read_at}
 
@@ -36,19 +36,23 @@ module _ (monitor : MonitorView) (fields : Fields) (view_is : seen_as fields ≡
         ∙ is.found ∙ ap (λ r. Some r) row_same
 
     -- which is there as code reads it at its place
-    pub rec_there : (recs : List (Option RecAttributes)) (i : ℕ) (read : Option RecAttributes) → recs ≡ fields.recs
-        → IsRecAt fields.granules recs rd number granule → i ≡ granule → read ≡ get_or fields.recs i read → is_some read ≡ true
-    rec_there recs i read same is place reads =
-        let there : IsRecAt fields.granules fields.recs rd number granule = subst (λ rs. IsRecAt fields.granules rs rd number granule) same is in
-        let inside : granule < length fields.recs = subst (λ n. granule < n) (sym whole.rec_places) there.inside in
-        let entry : IsEntry fields.granules fields.recs rd granule number there.row = entry_at fields.granules rd granule fields.recs number there.row there.at in
-        ap is_some (sym (read_at fields.recs i granule None read read place inside reads refl) ∙ entry.at)
+    module _ (recs : List (Option RecAttributes)) (i : ℕ) (read : Option RecAttributes) (same : recs ≡ fields.recs)
+        (is : IsRecAt fields.granules recs rd number granule) (place : i ≡ granule) (reads : read ≡ get_or fields.recs i read) where
+      there : IsRecAt fields.granules fields.recs rd number granule
+      there = subst (λ rs. IsRecAt fields.granules rs rd number granule) same is
 
-    -- and what is read is what the machine has
-    pub rec_in-read : (recs : List (Option RecAttributes)) (i : ℕ) (read : Option RecAttributes) (rec : RecAttributes) → recs ≡ fields.recs
-        → IsRecAt fields.granules recs rd number granule → i ≡ granule → read ≡ get_or fields.recs i read → Some rec ≡ read
-        → Some (rec_row granule rec) ≡ rec_in monitor.machine rd number
-    rec_in-read recs i read rec same is place reads some =
-        let there : IsRecAt fields.granules fields.recs rd number granule = subst (λ rs. IsRecAt fields.granules rs rd number granule) same is in
-        let inside : granule < length fields.recs = subst (λ n. granule < n) (sym whole.rec_places) there.inside in
-        sym (rec_in-some rec there (read_at fields.recs i granule None read (Some rec) place inside reads (sym some)))
+      read_there : rec_at fields granule ≡ read
+      read_there = read_at fields.recs i granule None read read place (subst (λ n. granule < n) (sym whole.rec_places) there.inside) reads refl
+
+      pub rec_there : is_some read ≡ true
+      rec_there =
+          let entry : IsEntry fields.granules fields.recs rd granule number there.row = entry_at fields.granules rd granule fields.recs number there.row there.at in
+          ap is_some (sym read_there ∙ entry.at)
+
+      -- and what is read is what the machine has, and has the number
+      module _ (rec : RecAttributes) (some : Some rec ≡ read) where
+        pub rec_in-read : Some (rec_row granule rec) ≡ rec_in monitor.machine rd number
+        rec_in-read = sym (rec_in-some rec there (read_there ∙ sym some))
+
+        pub rec_numbered : rec.number ≡ number
+        rec_numbered = rec_of-number fields.granules fields.recs rd granule rec number there.row (read_there ∙ sym some) there.at

@@ -1,5 +1,5 @@
 -- Granules of a list, each moved in turn: what is left of the list.
-use Rattle.std.proofs.Common.{◌≡◌, ◌≢◌, ℕ, suc, ◌+◌, ◌<◌, ◌≤◌, Bool, true, List, ◌∷◌, length, set, get_or, drop, Some, All, IsTrue, sym, ap, ◌∙◌, subst, add-one, arith}
+use Rattle.std.proofs.Common.{◌≡◌, ◌≢◌, ℕ, suc, ◌+◌, ◌<◌, ◌≤◌, Bool, true, false, List, [], ◌∷◌, length, set, get_or, drop, Some, All, IsTrue, sym, ap, ◌∙◌, subst, add-one, arith}
 use Rattle.std.proofs.Math.Seq.{drop-cons}
 use Rattle.std.proofs.lemmas.Bool.{and_parts}
 use Rattle.std.proofs.lemmas.List.{drop_all, length-set, get_or-set_other}
@@ -22,6 +22,14 @@ module _ (all : List ℕ) (i x : ℕ) (within : i < length all) (is : x ≡ get_
   -- the granule stands first in what is left
   first : drop i all ≡ x ∷ drop (i + 1) all
   first = drop-cons all i x within ∙ (λ j. sym is j ∷ drop (sym (add-one i) j) all)
+
+  -- a test of all, by that of what is left
+  module _ (test : List ℕ → Bool) (was : test (drop i all) ≡ test all) where
+    pub test_rest : test (x ∷ drop (i + 1) all) ≡ test (drop (i + 1) all) → test (drop (i + 1) all) ≡ test all
+    test_rest passes = sym passes ∙ ap test (sym first) ∙ was
+
+    pub test_fails : test (x ∷ drop (i + 1) all) ≡ false → false ≡ test all
+    test_fails fails = sym fails ∙ ap test (sym first) ∙ was
 
   pub first_has : (P : ℕ → Type 0) → All P (drop i all) → P x
   first_has P each = subst (λ l. All P l) first each 0 x (omega arith)
@@ -59,6 +67,9 @@ module _ (all : List ℕ) (i x : ℕ) (within : i < length all) (is : x ≡ get_
       })
 
 -- nothing is left
+pub test_ends : (test : List ℕ → Bool) (all : List ℕ) (i : ℕ) → length all ≤ i → test (drop i all) ≡ test all → test [] ≡ test all
+test_ends test all i past was = sym (ap test (drop_all i all past)) ∙ was
+
 pub none_left : {X : Type 0} (y : X) (all : List ℕ) (i : ℕ) (now : List X) (end : List X) → length all ≤ i → set_each y (drop i all) now ≡ end → now ≡ end
 unfolding set_each
 none_left y all i now end past was = sym (ap (λ l. set_each y l now) (drop_all i all past)) ∙ was

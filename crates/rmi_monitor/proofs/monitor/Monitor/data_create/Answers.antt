@@ -1,11 +1,12 @@
-use Rattle.std.proofs.Common.{◌≡◌, ◌<◌, set, Some, None, Err, refl, sym, ap, ◌∙◌, subst}
+use Rattle.std.proofs.Common.{◌≡◌, ◌<◌, Bool, List, set, Some, None, Err, refl, sym, ap, ◌∙◌, subst}
+use Rattle.page_arena.specs.Page.{is_free}
 use Rattle.realm_model.specs.Command.Check.{error_input, error_realm, error_rtt}
 use Rattle.realm_model.specs.Command.Data.{data_create}
 use Rattle.rmi_monitor.specs.View.{seen_in}
 use Rattle.rmi_monitor.specs.Inside.{fields_of}
 use Rattle.rmi_monitor.proofs.DataCreates.{create_no_realm, create_unprotected, create_not_delegated, create_not_undelegated, create_not_new, create_refused, create_done}
 use Rattle.rmi_monitor.proofs.DataMaps.{still_inside, written_inside}
-use Rattle.rmi_monitor.proofs.Granules.{in_granules, in_delegated}
+use Rattle.rmi_monitor.proofs.Granules.{in_granules, not_free, in_delegated, states_apart}
 use Rattle.rmi_monitor.proofs.Located.{located, unprotected, located_tables, located_inside}
 use Rattle.rmi_monitor.proofs.Outcomes.{answers_err, answers_refused, after_err}
 use Rattle.rmi_monitor.proofs.RealmCommands.{Done, seen_unmoved, whole_unmoved}
@@ -171,6 +172,20 @@ returns-in_err-map g c = record {
 }
 
 -- ---- the page is written, and the realm is measured
+
+pub copy-requires-clause-inside : goal.copy-requires-clause-inside
+copy-requires-clause-inside g c =
+    still_inside _ _ c.args.page _ _ _ c.in_ok-map.ensures.moved c.in_ok-map.ensures.keeps.rest.backed c.args.page
+    (in_granules c.args.self.now _ c.self.view_is c.self.invariant c.args.page c.requires.page_taken)
+
+pub copy-requires-clause-taken : goal.copy-requires-clause-taken
+copy-requires-clause-taken g c =
+    ap (λ (flags : List Bool). is_free flags c.args.page) c.in_ok-map.ensures.keeps.rest.flags
+    ∙ not_free c.args.self.now _ c.self.view_is c.self.invariant c.args.page c.requires.page_taken
+
+pub copy-requires-clause-different : goal.copy-requires-clause-different
+copy-requires-clause-different g c =
+    states_apart _ c.args.page c.args.source (sym c.is_delegated.ensures ∙ c.if-not-is_delegated.false) (sym c.is_undelegated.ensures ∙ c.if-not-is_undelegated.false)
 
 pub copy-requires-clause-source_inside : goal.copy-requires-clause-source_inside
 copy-requires-clause-source_inside g c =

@@ -1,10 +1,11 @@
-use Rattle.std.proofs.Common.{sym, ap, ◌∙◌}
+use Rattle.std.proofs.Common.{◌<◌, sym, ap, ◌∙◌, subst}
 use Rattle.realm_objects.proofs.NewRealm.{new_vmid, new_root}
 use Rattle.realm_model.specs.Command.Check.{error_input}
 use Rattle.rmi_monitor.specs.View.{after_command}
 use Rattle.rmi_monitor.proofs.Granules.{in_granules}
-use Rattle.rmi_monitor.proofs.Creates.{create_no_width, is_given, by_width, create_used, create_unfit, create_done, create_shifted, create_delegated, whole_after_create, seen_after_create}
+use Rattle.rmi_monitor.proofs.Creates.{create_no_width, is_given, by_width, create_used, create_unfit, create_done, create_shifted, create_backed, create_delegated, whole_after_create, seen_after_create}
 use Rattle.rmi_monitor.proofs.Outcomes.{answers_err, answers_ok, after_err}
+use Rattle.rmi_monitor.proofs.RealmFound.{realm_place}
 use Rattle.rmi_monitor.proofs.monitor.Monitor.realm_create.Goals as goal
 
 pub returns-in_default-clause-answer : goal.returns-in_default-clause-answer
@@ -45,6 +46,14 @@ returns-then-not-can_be_realm-clause-machine g c =
     c.args.self.now _ c.self.view_is c.self.invariant c.args.rd (record { first = c.args.root; width = c.in-Some.width }) c.args.vmid c.requires
     (is_given c.args.width c.in-Some.width c.new.result c.new.ensures c.in-Some.is).0 (sym c.if-contains.ensures) (sym c.if-not-can_be_realm.ensures))
 
+pub open_root-requires-clause-backed : goal.open_root-requires-clause-backed
+open_root-requires-clause-backed g c =
+    create_backed c.args.self.now _ c.self.view_is c.self.invariant c.args.rd (record { first = c.args.root; width = c.in-Some.width }) c.args.vmid c.requires
+    (is_given c.args.width c.in-Some.width c.new.result c.new.ensures c.in-Some.is).0 (sym c.if-contains.ensures) (sym c.if-not-can_be_realm.ensures) _
+    (create_shifted c.args.self.now _ c.self.view_is c.self.invariant c.args.rd (record { first = c.args.root; width = c.in-Some.width }) c.args.vmid c.requires
+    (is_given c.args.width c.in-Some.width c.new.result c.new.ensures c.in-Some.is).0 (sym c.if-contains.ensures) (sym c.if-not-can_be_realm.ensures) c.shift.result _ c.shift.ensures.answer
+    c.shift.ensures.shifted)
+
 pub open_root-requires-clause-delegated : goal.open_root-requires-clause-delegated
 open_root-requires-clause-delegated g c =
     create_delegated c.args.self.now _ c.self.view_is c.self.invariant c.args.rd (record { first = c.args.root; width = c.in-Some.width }) c.args.vmid c.requires
@@ -52,6 +61,14 @@ open_root-requires-clause-delegated g c =
     (create_shifted c.args.self.now _ c.self.view_is c.self.invariant c.args.rd (record { first = c.args.root; width = c.in-Some.width }) c.args.vmid c.requires
     (is_given c.args.width c.in-Some.width c.new.result c.new.ensures c.in-Some.is).0 (sym c.if-contains.ensures) (sym c.if-not-can_be_realm.ensures) c.shift.result _ c.shift.ensures.answer
     c.shift.ensures.shifted)
+
+pub index_mut-requires : goal.index_mut-requires
+index_mut-requires g c =
+    subst (λ n. c.number.result < n) (sym c.self.inside.realms.ok.0)
+    (realm_place c.args.self.now _ c.self.view_is c.self.invariant c.args.rd c.requires.inside c.number.result c.number.ensures.value)
+
+pub shift-requires : goal.shift-requires
+shift-requires g c = in_granules c.args.self.now _ c.self.view_is c.self.invariant c.args.rd c.requires
 
 pub invariant_of-self : goal.invariant_of-self
 invariant_of-self g c =

@@ -1,11 +1,11 @@
-use Rattle.std.proofs.Common.{◌<◌, ℕ, length, Some, sym, ap, subst, ◌∙◌, arith, refl}
-use Rattle.realm_model.specs.Command.Check.{error_input, error_realm}
+use Rattle.std.proofs.Common.{◌<◌, ℕ, length, Some, IsTrue, sym, ap, subst, ◌∙◌, arith, refl}
+use Rattle.realm_model.specs.Command.Check.{error_input, error_realm, are_distinct}
 use Rattle.rmi_monitor.specs.Inside.{seen_as, IsWhole}
 use Rattle.rmi_monitor.proofs.Granules.{in_granules}
 use Rattle.rmi_monitor.proofs.RecMade.{new_rec}
-use Rattle.rmi_monitor.proofs.RecCreates.{inside_by, fit_by, new_by, shifted_by, refused_after, refuses_no_realm, refuses_unfit, refuses_active, creates, row_is, next_is, others_stand, whole_created, created, made_by, more_by}
+use Rattle.rmi_monitor.proofs.RecCreates.{inside_by, fit_by, new_by, shifted_by, refused_after, refuses_no_realm, refuses_unfit, refuses_active, creates, row_is, next_is, others_distinct, others_stand, whole_created, created, made_by, more_by}
 use Rattle.rmi_monitor.proofs.Outcomes.{answers_ok, answers_err}
-use Rattle.rmi_monitor.proofs.RecReads.{count_place, count_read, few_recs}
+use Rattle.rmi_monitor.proofs.RecReads.{rec_place, count_place, count_read, few_recs}
 use Rattle.rmi_monitor.proofs.RealmFound.{realm_place, realm_read}
 use Rattle.rmi_monitor.proofs.RealmCommands.{whole_unmoved}
 use Rattle.rmi_monitor.proofs.monitor.Monitor.rec_create.Goals as goal
@@ -106,6 +106,9 @@ returns-then-not-is_new-clause-machine g c =
     (refuses_active c.args.self.now _ c.self.view_is c.self.invariant c.args.rd c.args.rec c.args.auxiliaries.items c.requires.rd_taken c.requires.rec_taken c.requires.auxiliaries_taken
     c.in-Some.realm there fit new)
 
+pub shift-requires : goal.shift-requires
+shift-requires g c = in_granules c.args.self.now _ c.self.view_is c.self.invariant c.args.rec c.requires.rec_taken
+
 pub shift_all-requires-clause-stand : goal.shift_all-requires-clause-stand
 shift_all-requires-clause-stand g c =
     let there =
@@ -120,6 +123,18 @@ shift_all-requires-clause-stand g c =
     others_stand c.args.self.now _ c.self.view_is c.self.invariant c.args.rd c.args.rec c.args.auxiliaries.items c.requires.rd_taken c.requires.rec_taken c.requires.auxiliaries_taken c.in-Some.realm
     there fit _ c.shift.new.self c.as_slice-2.result.now c.as_slice-2.ensures.value shifted
 
+pub shift_all-requires-clause-distinct : goal.shift_all-requires-clause-distinct
+shift_all-requires-clause-distinct g c =
+    let there =
+    realm_read c.args.self.now _ c.self.view_is c.self.invariant c.args.rd c.requires.rd_taken.inside c.number.result c.index_mut.result.now _ c.number.ensures.value c.index_mut.ensures.value
+    c.in-Some.is in
+    let fit =
+    fit_by c.args.self.now _ c.self.view_is c.self.invariant c.args.rd c.args.rec c.args.auxiliaries.items c.requires.rd_taken c.requires.rec_taken c.requires.auxiliaries_taken c.as_slice.result.now
+    c.can_be_rec.result _ c.as_slice.ensures.value c.can_be_rec.ensures c.if-not-can_be_rec.false in
+    subst (λ l. IsTrue (are_distinct l)) (sym c.as_slice-2.ensures.value)
+    (others_distinct c.args.self.now _ c.self.view_is c.self.invariant c.args.rd c.args.rec c.args.auxiliaries.items c.requires.rd_taken c.requires.rec_taken c.requires.auxiliaries_taken
+    c.in-Some.realm there fit)
+
 pub next_rec-number-requires : goal.next_rec-number-requires
 next_rec-number-requires g c =
     let there =
@@ -127,6 +142,12 @@ next_rec-number-requires g c =
     c.in-Some.is in
     c.requires.numbers _ (row_is c.args.self.now _ c.self.view_is c.self.invariant c.args.rd c.args.rec c.args.auxiliaries.items c.requires.rd_taken c.requires.rec_taken c.requires.auxiliaries_taken
     c.in-Some.realm there)
+
+pub index_mut-requires-2 : goal.index_mut-requires-2
+index_mut-requires-2 g c =
+    let place : c.number-2.result < length c.self.inside.recs.items =
+    rec_place c.args.self.now _ c.self.view_is c.self.invariant c.args.rec c.requires.rec_taken c.number-2.result c.number-2.ensures.value in
+    omega (arith, place)
 
 pub index_mut-requires-3 : goal.index_mut-requires-3
 index_mut-requires-3 g c =
