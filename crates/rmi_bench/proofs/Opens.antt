@@ -1,14 +1,16 @@
 -- How every granule is taken, one after another.
 use Rattle.std.proofs.Common.{◌≡◌, ℕ, ◌+◌, ◌<◌, ◌≤◌, ◌⊎◌, inl, inr, ⊎_elim, Bool, true, false, List, length, replicate, refl, sym, ap, ◌∙◌, subst, arith}
-use Rattle.std.specs.Prelude.{IsTrue, ◌↔◌}
+use Rattle.std.specs.Prelude.{◌&&◌, IsTrue, ◌↔◌}
 use Rattle.std.specs.Bool.{OnTrue, OnFalse}
-use Rattle.std.proofs.lemmas.Bool.{cases_lt}
+use Rattle.std.proofs.lemmas.Bool.{and_parts, cases_lt, le-leb, leb-true}
 use Rattle.std.proofs.lemmas.List.{ext_get_or, length-replicate, get_or-replicate}
 use Rattle.page_arena.specs.Page.{is_free}
 use Rattle.page_arena.specs.Block.{IsFreeBlock}
 use Rattle.page_arena.specs.Runs.{length-with_run, get_or-with_run_inside, get_or-with_run_outside, inside_or_outside}
-use Rattle.rmi_monitor.specs.View.{MonitorView, with_block}
-use Rattle.rmi_bench.specs.Machine.{all_taken}
+use Rattle.realm_model.specs.Machine.{blank}
+use Rattle.realm_model.proofs.Booleans.{false_from}
+use Rattle.rmi_monitor.specs.View.{MonitorView, with_block, fresh}
+use Rattle.rmi_bench.specs.Machine.{is_machine, all_taken, opened, IsBench}
 
 -- so many granules are taken, and nothing else is other than it was
 pub record IsTakenBelow (count : ℕ) (old monitor : MonitorView) : Type 0 where
@@ -81,3 +83,41 @@ all_below old monitor count whole below =
     let inside : i < length old.machine = subst (λ n. i < n) below.flagged lt in
     below.taken i (subst (λ n. i < n) (sym whole) inside) ∙ sym (get_or-replicate (length old.machine) i false false inside)) in
     λ i. record { vmids = below.vmids i; aux = below.aux i; machine = below.machine i; free = flags i }
+
+-- ---- the numbers of a machine
+
+module _ (pages vmids aux : ℕ) where
+  pub machine_there : {P : Type 0} → 1 ≤ pages → pages ≤ 4096 → 1 ≤ vmids → vmids ≤ 255 → aux ≤ 16 → is_machine pages vmids aux ≡ false → P
+  machine_there some few some_vmid few_vmids few_aux none =
+      let there : is_machine pages vmids aux ≡ true =
+      λ i. le-leb 1 pages some i && le-leb pages 4096 few i && le-leb 1 vmids some_vmid i && le-leb vmids 255 few_vmids i && le-leb aux 16 few_aux i in
+      absurd (true-false (sym there ∙ none))
+
+  pub no_machine : (1 ≤ pages → pages ≤ 4096 → 1 ≤ vmids → aux ≤ 16 → ⊥) → is_machine pages vmids aux ≡ false
+  no_machine none = false_from (is_machine pages vmids aux) (λ e.
+      let last = and_parts _ _ e in
+      let before = and_parts _ _ (and_parts _ _ last.0).0 in
+      let first = and_parts _ _ before.0 in
+      none (leb-true 1 pages first.0) (leb-true pages 4096 first.1) (leb-true 1 vmids before.1) (leb-true aux 16 last.1))
+
+-- ---- a monitor that is built and then all taken
+
+pub fresh_flagged : (vmids aux n : ℕ) (monitor : MonitorView) → monitor ≡ fresh vmids aux n → length monitor.free ≡ length monitor.machine
+fresh_flagged vmids aux n monitor is =
+    ap (λ (m : MonitorView). length m.free) is ∙ length-replicate n true ∙ sym (length-replicate n blank) ∙ sym (ap (λ (m : MonitorView). length m.machine) is)
+
+pub fresh_opened : (pages vmids aux n : ℕ) (monitor new : MonitorView) → monitor ≡ fresh vmids aux n → new ≡ all_taken monitor → n ≡ pages → new ≡ opened pages vmids aux
+fresh_opened pages vmids aux n monitor new is taken same =
+    taken ∙ ap all_taken is
+    ∙ ap (λ k. record { vmids = vmids; aux = aux; machine = replicate n blank; free = replicate k false }) (length-replicate n blank)
+    ∙ ap (λ k. opened k vmids aux) same
+
+pub opened_bench : (pages vmids aux : ℕ) → pages ≤ 4096 → aux ≤ 16 → IsBench (opened pages vmids aux)
+opened_bench pages vmids aux few few_aux = record {
+  all = record {
+    size = refl;
+    each = λ granule inside. record { inside = inside; taken = get_or-replicate pages granule false false (subst (λ n. granule < n) (length-replicate pages blank) inside) };
+  };
+  few_pages = subst (λ n. n ≤ 4096) (sym (length-replicate pages blank)) few;
+  few_auxiliaries = few_aux;
+}

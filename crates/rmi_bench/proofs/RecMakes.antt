@@ -1,9 +1,9 @@
 -- What comes of making a REC by numbers, where it is refused.
-use Rattle.std.proofs.Common.{◌≡◌, ℕ, ◌<◌, ◌≤◌, Bool, true, false, List, ◌∷◌, length, map, Some, None, Result, Ok, Err, refl, sym, ap, ◌∙◌, subst, arith}
-use Rattle.std.specs.Prelude.{◌==◌, ◌&&◌}
+use Rattle.std.proofs.Common.{◌≡◌, ℕ, ◌<◌, ◌≤◌, Bool, true, false, List, ◌∷◌, length, map, Option, Some, None, Result, Ok, Err, refl, sym, ap, ◌∙◌, subst, arith}
+use Rattle.std.specs.Prelude.{◌==◌, ◌&&◌, nat_lt}
 use Rattle.std.specs.List.{list_all}
 use Rattle.std.proofs.lemmas.List.{length-map}
-use Rattle.std.proofs.lemmas.Bool.{ne_eqb}
+use Rattle.std.proofs.lemmas.Bool.{ltb-true, ne_eqb}
 use Rattle.realm_model.specs.declared.rmi.Rmi.{Rmi}
 use Rattle.realm_model.specs.Machine.{RealmRow, Seen}
 use Rattle.realm_model.specs.Update.{Outcome}
@@ -51,6 +51,12 @@ module _ (monitor : MonitorView) (rd rec : ℕ) (auxiliaries : List ℕ) where
   pub does_too_many : {A : Type 0} → monitor.aux ≤ 16 → 16 < length auxiliaries → (result : Result A Rmi) → result ≡ Err error_input → Does named monitor result monitor
   does_too_many few many result refused = does_refused monitor named (too_many few many) result refused
 
+  -- no number for another REC
+  pub does_no_number : {A : Type 0} → has_number (seen_in monitor rd) ≡ false → (result : Result A Rmi) → result ≡ Err error_input → Does named monitor result monitor
+  does_no_number none result refused =
+      does_refused monitor named
+      (check_refused (list_all (is_inside monitor) (rd ∷ rec ∷ auxiliaries)) _ (check_false (has_number (seen_in monitor rd)) error_input rec_created none)) result refused
+
   -- an auxiliary that is outside, and all inside
   pub out_rest : list_all (is_inside monitor) auxiliaries ≡ false → list_all (is_inside monitor) (rd ∷ rec ∷ auxiliaries) ≡ false
   out_rest h = ap (λ t. is_inside monitor rd && (is_inside monitor rec && t)) h ∙ ap (λ t. is_inside monitor rd && t) (and_false (is_inside monitor rec)) ∙ and_false (is_inside monitor rd)
@@ -70,3 +76,9 @@ alike_ok {A} result other x y outcome e f h =
 
 pub alike_err : {A : Type 0} (result other : Result A Rmi) (rmi : Rmi) (outcome : Outcome) → result ≡ Err rmi → other ≡ Err rmi → Answers result outcome → Answers other outcome
 alike_err {A} result other rmi outcome e f h = subst (λ (r : Result A Rmi). Answers r outcome) (e ∙ sym f) h
+
+-- ---- the number of the next REC
+
+pub next_below : (rd : Seen) (realm : RealmRow) → has_number rd ≡ true → rd.cell.descriptor ≡ Some realm → realm.next < 65535
+next_below rd realm has there =
+    ltb-true realm.next 65535 (ap (λ (o : Option RealmRow). elim o [ Some r ↦ nat_lt r.next 65535 | None ↦ true ]) (sym there) ∙ has)

@@ -55,10 +55,10 @@ impl Bench {
         if auxiliaries.len() > MOST_AUXILIARIES {
             return Err(Rmi::INPUT);
         }
-        let auxiliaries = self.granules(auxiliaries)?;
         if !self.has_number(rd) {
             return Err(Rmi::INPUT);
         }
+        let auxiliaries = self.granules(auxiliaries)?;
         match self.monitor.rec_create(rd, rec, auxiliaries) {
             Ok(number) => Ok(number.number()),
             Err(refusal) => Err(refusal),

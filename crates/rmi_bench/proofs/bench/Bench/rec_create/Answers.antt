@@ -1,11 +1,12 @@
-use Rattle.std.proofs.Common.{◌≡◌, ◌≤◌, true, false, ℕ, ◌∷◌, map, Err, refl, sym, ap, subst, ◌∙◌, arith}
+use Rattle.std.proofs.Common.{◌≡◌, ◌≤◌, true, ℕ, ◌∷◌, map, Err, refl, sym, ap, subst, ◌∙◌, arith}
 use Rattle.std.proofs.lemmas.Result.{err_from_is_err_and}
+use Rattle.realm_model.specs.Machine.{cell_at}
 use Rattle.realm_model.specs.Command.Rec.{rec_create}
 use Rattle.rmi_monitor.specs.View.{MonitorView, Answers, seen_in}
 use Rattle.rmi_bench.specs.Calls.{has_number, numbered, Does}
-use Rattle.rmi_bench.proofs.Calls.{out_first, out_second, does_unchecked, does_checked, does_outside, does_named, does_inside}
-use Rattle.rmi_bench.proofs.RecMakes.{rec_created, does_too_many, out_rest, in_rest, alike_ok, alike_err}
-use Rattle.rmi_bench.proofs.Taken.{bench_after}
+use Rattle.rmi_bench.proofs.Calls.{out_first, out_second, does_checked, does_outside, does_named, does_inside}
+use Rattle.rmi_bench.proofs.RecMakes.{next_below, rec_created, does_too_many, does_no_number, out_rest, in_rest, alike_ok, alike_err}
+use Rattle.rmi_bench.proofs.Taken.{bench_after, found_inside, found_taken, each_taken}
 use Rattle.rmi_bench.proofs.bench.Bench.rec_create.Goals as goal
 use Rattle.rmi_bench.proofs.bench.Bench.rec_create.Goals.{in-Ok, in-Err}
 
@@ -40,11 +41,25 @@ returns-in_err-auxiliaries-clause-done c =
 
 pub returns-then-not-has_number-clause-done : goal.returns-then-not-has_number-clause-done
 returns-then-not-has_number-clause-done c =
-    let created = rec_created c.args.self.now c.args.rd c.args.rec c.args.auxiliaries.now in
-    let none : has_number (seen_in c.args.self.now c.args.rd) ≡ false = ap (λ (g : ℕ). has_number (seen_in c.args.self.now g)) (sym c.in_ok-rd.ensures.inside.0) ∙ sym c.if-not-has_number.ensures in
-    does_named c.args.self.now (numbered (seen_in c.args.self.now c.args.rd) created) (c.args.rd ∷ c.args.rec ∷ c.args.auxiliaries.now)
-    (in_rest c.args.self.now c.args.rd c.args.rec c.args.auxiliaries.now c.in_ok-rd.ensures.inside.1 c.in_ok-rec.ensures.inside.1 c.in_ok-auxiliaries.ensures.inside.1) _ _
-    (does_unchecked c.args.self.now created (has_number (seen_in c.args.self.now c.args.rd)) none _ refl)
+    does_no_number c.args.self.now c.args.rd c.args.rec c.args.auxiliaries.now
+    (ap (λ (g : ℕ). has_number (seen_in c.args.self.now g)) (sym c.in_ok-rd.ensures.inside.0) ∙ sym c.if-not-has_number.ensures) _ refl
+
+pub has_number-requires : goal.has_number-requires
+has_number-requires c = found_inside c.self.view_is c.self.invariant _ _ c.in_ok-rd.ensures.inside
+
+pub rec_create-requires-clause-rd_taken : goal.rec_create-requires-clause-rd_taken
+rec_create-requires-clause-rd_taken c = found_taken c.self.view_is c.self.invariant _ _ c.in_ok-rd.ensures.inside
+
+pub rec_create-requires-clause-rec_taken : goal.rec_create-requires-clause-rec_taken
+rec_create-requires-clause-rec_taken c = found_taken c.self.view_is c.self.invariant _ _ c.in_ok-rec.ensures.inside
+
+pub rec_create-requires-clause-auxiliaries_taken : goal.rec_create-requires-clause-auxiliaries_taken
+rec_create-requires-clause-auxiliaries_taken c = each_taken c.self.view_is c.self.invariant _ _ c.in_ok-auxiliaries.ensures.inside
+
+pub rec_create-requires-clause-numbers : goal.rec_create-requires-clause-numbers
+rec_create-requires-clause-numbers c realm there =
+    next_below (seen_in c.args.self.now c.in_ok-rd.rd) realm (sym c.if-not-has_number.ensures)
+    (ap (λ (m : MonitorView). (cell_at m.machine c.in_ok-rd.rd).descriptor) (sym c.self.view_is) ∙ there)
 
 pub invariant_of-self : goal.invariant_of-self
 invariant_of-self c = bench_after _ _ _ c.rec_create.ensures.machine c.self.invariant
