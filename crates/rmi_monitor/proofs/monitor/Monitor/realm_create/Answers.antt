@@ -3,7 +3,8 @@ use Rattle.realm_objects.proofs.NewRealm.{new_vmid, new_root}
 use Rattle.realm_model.specs.Command.Check.{error_input}
 use Rattle.rmi_monitor.specs.View.{after_command}
 use Rattle.rmi_monitor.proofs.Granules.{in_granules}
-use Rattle.rmi_monitor.proofs.Creates.{create_no_width, is_given, by_width, create_used, create_unfit, create_done, create_shifted, create_backed, create_delegated, whole_after_create, seen_after_create}
+use Rattle.rmi_monitor.proofs.Creates.{create_no_width, is_given, by_width, create_used, create_unfit, create_done, create_shifted, create_backed, create_delegated}
+use Rattle.rmi_monitor.proofs.Creates.{whole_after_create, seen_after_create}
 use Rattle.rmi_monitor.proofs.Outcomes.{answers_err, answers_ok, after_err}
 use Rattle.rmi_monitor.proofs.RealmFound.{realm_place}
 use Rattle.rmi_monitor.proofs.monitor.Monitor.realm_create.Goals as goal
@@ -77,7 +78,8 @@ invariant_of-self g c =
     (create_shifted c.args.self.now _ c.self.view_is c.self.invariant c.args.rd (record { first = c.args.root; width = c.in-Some.width }) c.args.vmid c.requires
     (is_given c.args.width c.in-Some.width c.new.result c.new.ensures c.in-Some.is).0 (sym c.if-contains.ensures) (sym c.if-not-can_be_realm.ensures) c.shift.result _ c.shift.ensures.answer
     c.shift.ensures.shifted) c.new-realm.result (new_vmid c.new-realm.result _ _ c.new-realm.ensures.row) (new_root c.new-realm.result _ _
-    c.new-realm.ensures.row) c.new-realm.ensures.row _ _ _ c.open_root.ensures.moved c.open_root.ensures.cleared c.open_root.ensures.rows c.open_root.ensures.keeps c.insert.new.self c.insert.ensures c.number.result c.number.ensures.value
+    c.new-realm.ensures.row) c.new-realm.ensures.row _ _ _ c.open_root.ensures.moved c.open_root.ensures.cleared c.open_root.ensures.rows c.open_root.ensures.keeps
+    c.insert.new.self c.insert.ensures c.number.result c.number.ensures.value
 
 pub returns-clause-answer : goal.returns-clause-answer
 returns-clause-answer g c =
@@ -93,6 +95,7 @@ returns-clause-machine g c =
     (create_shifted c.args.self.now _ c.self.view_is c.self.invariant c.args.rd (record { first = c.args.root; width = c.in-Some.width }) c.args.vmid c.requires
     (is_given c.args.width c.in-Some.width c.new.result c.new.ensures c.in-Some.is).0 (sym c.if-contains.ensures) (sym c.if-not-can_be_realm.ensures) c.shift.result _ c.shift.ensures.answer
     c.shift.ensures.shifted) c.new-realm.result (new_vmid c.new-realm.result _ _ c.new-realm.ensures.row) (new_root c.new-realm.result _ _
-    c.new-realm.ensures.row) c.new-realm.ensures.row _ _ _ c.open_root.ensures.moved c.open_root.ensures.cleared c.open_root.ensures.rows c.open_root.ensures.keeps c.insert.new.self c.insert.ensures c.number.result c.number.ensures.value
+    c.new-realm.ensures.row) c.new-realm.ensures.row _ _ _ c.open_root.ensures.moved c.open_root.ensures.cleared c.open_root.ensures.rows c.open_root.ensures.keeps
+    c.insert.new.self c.insert.ensures c.number.result c.number.ensures.value
     ∙ ap (λ outcome. after_command outcome c.args.self.now)
     (by_width c.args.self.now c.args.rd c.args.root c.args.vmid c.in-Some.width c.args.width (is_given c.args.width c.in-Some.width c.new.result c.new.ensures c.in-Some.is).1)

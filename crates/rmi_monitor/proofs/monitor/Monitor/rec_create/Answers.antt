@@ -3,7 +3,8 @@ use Rattle.realm_model.specs.Command.Check.{error_input, error_realm, are_distin
 use Rattle.rmi_monitor.specs.Inside.{seen_as, IsWhole}
 use Rattle.rmi_monitor.proofs.Granules.{in_granules}
 use Rattle.rmi_monitor.proofs.RecMade.{new_rec}
-use Rattle.rmi_monitor.proofs.RecCreates.{inside_by, fit_by, new_by, shifted_by, refused_after, refuses_no_realm, refuses_unfit, refuses_active, creates, row_is, next_is, others_distinct, others_stand, whole_created, created, made_by, more_by}
+use Rattle.rmi_monitor.proofs.RecCreates.{inside_by, fit_by, new_by, shifted_by, refused_after, refuses_no_realm, refuses_unfit, refuses_active, creates, row_is, next_is}
+use Rattle.rmi_monitor.proofs.RecCreates.{others_distinct, others_stand, whole_created, created, made_by, more_by}
 use Rattle.rmi_monitor.proofs.Outcomes.{answers_ok, answers_err}
 use Rattle.rmi_monitor.proofs.RecReads.{rec_place, count_place, count_read, few_recs}
 use Rattle.rmi_monitor.proofs.RealmFound.{realm_place, realm_read}
