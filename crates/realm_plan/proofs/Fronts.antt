@@ -24,6 +24,15 @@ with_front front rest = option_map (λ more. front ++ more) rest
 abbrev pub or_fault_with_front : {A : Type 0} → List A → Result (List A) PlanFault → Result (List A) PlanFault
 or_fault_with_front front rest = rest >>= (λ more. Ok (front ++ more))
 
+-- nothing is in front of all
+pub starts : {A : Type 0} (front : List A) (rest whole : Option (List A)) → front ≡ [] → rest ≡ whole → with_front front rest ≡ whole
+starts front None whole none same = same
+starts front (Some more) whole none same = ap (λ before. Some (before ++ more)) none ∙ same
+
+pub or_fault_starts : {A : Type 0} (front : List A) (rest : Result (List A) PlanFault) → front ≡ [] → or_fault_with_front front rest ≡ rest
+or_fault_starts front (Err fault) none = refl
+or_fault_starts front (Ok more) none = ap (λ before. Ok (before ++ more)) none
+
 -- ---- items of a document
 
 -- each of the items, in their order

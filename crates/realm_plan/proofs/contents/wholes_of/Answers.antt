@@ -1,12 +1,19 @@
-use Rattle.std.proofs.Common.{[], ◌∷◌, ◌++◌, FitsSigned, w64, refl, sym, ap, ◌∙◌, rules}
+use Rattle.std.proofs.Common.{List, [], ◌∷◌, ◌++◌, FitsSigned, w64, refl, sym, ap, ◌∙◌, rules}
 use Rattle.std.proofs.lemmas.Int.{to_z-of_z}
 use Rattle.toml.specs.Data.{as_integer}
 use Rattle.realm_plan.specs.Contents.{wholes_of}
-use Rattle.realm_plan.proofs.Fronts.{ReadsEach, item_read, item_missing, items_read}
+use Rattle.realm_plan.proofs.Fronts.{starts, ReadsEach, item_read, item_missing, items_read}
+use Rattle.toml.specs.View.{items_view}
+use Rattle.toml.specs.declared.value.Value.{Value}
 use Rattle.realm_plan.proofs.contents.wholes_of.Goals as goal
 
 reads : ReadsEach as_integer wholes_of
 reads = record { none_left = refl; one_more = λ _ _. refl }
+
+pub loop-value-init : goal.loop-value-init
+loop-value-init c =
+    starts c.new-found.result.items (wholes_of (items_view c.deref-value-items.result.now)) (wholes_of (items_view c.args.array.now.items))
+    c.new-found.ensures.items (ap (λ (vs : List Value). wholes_of (items_view vs)) c.deref-value-items.ensures.value)
 
 pub loop-value-preserved : goal.loop-value-preserved
 loop-value-preserved c =

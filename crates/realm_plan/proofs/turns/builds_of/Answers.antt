@@ -5,7 +5,7 @@ use Rattle.plan_steps.specs.declared.step.PlanStep.{PlanStep}
 use Rattle.realm_plan.specs.Outcome.{Fails}
 use Rattle.realm_plan.specs.Plan.{steps_of, builds_of}
 use Rattle.realm_plan.specs.declared.fault.PlanFault.{PlanFault}
-use Rattle.realm_plan.proofs.Fronts.{ReadsOrFault, entry_read, entry_fails, entries_read}
+use Rattle.realm_plan.proofs.Fronts.{or_fault_starts, ReadsOrFault, entry_read, entry_fails, entries_read}
 use Rattle.realm_plan.proofs.turns.builds_of.Goals as goal
 
 abbrev texts : Vec (Bor (List ℕ)) Global → List (List ℕ)
@@ -27,6 +27,10 @@ reads = record { none_left = λ _. refl; one_more = λ _ _ _. refl }
 steps_at : (k : ℕ) (builds : List (Vec (Bor (List ℕ)) Global)) (build : Vec (Bor (List ℕ)) Global) (read : List (Bor (List ℕ))) → build ≡ get_or builds k build → read ≡ build.items
     → one k (get_or builds k build) ≡ steps_of k 0 (map (λ t. t.now) read)
 steps_at k builds build read at same = rw (same, ← at) refl
+
+pub loop-k-init : goal.loop-k-init
+loop-k-init c =
+    or_fault_starts (steps c.new-found.result.items) (all 0 c.args.texts.now) (ap steps c.new-found.ensures.items)
 
 pub loop-k-preserved : goal.loop-k-preserved
 loop-k-preserved c =

@@ -1,11 +1,12 @@
-use Rattle.std.proofs.Common.{ℕ, ◌<◌, ℤ, pos, List, get_or, Result, FitsSigned, w64, refl, sym, ap, ◌∙◌, rules}
+use Rattle.std.proofs.Common.{ℕ, ◌<◌, ℤ, pos, get_or, Result, FitsSigned, w64, refl, sym, ap, ◌∙◌, subst, rules, arith}
+use Rattle.std.specs.List.{All}
 use Rattle.std.proofs.lemmas.Int.{to_z-of_z}
 use Rattle.std.proofs.lemmas.List.Elements.{All-push}
 use Rattle.realm_plan.specs.Outcome.{or_fault}
 use Rattle.realm_plan.specs.Plan.{build_named, order_of}
 use Rattle.realm_plan.specs.declared.fault.PlanFault.{PlanFault}
 use Rattle.realm_plan.specs.declared.fault.PlanFault.TheVariants as fault
-use Rattle.realm_plan.proofs.Fronts.{ReadsOrFault, entry_read, entry_wrong, entries_read}
+use Rattle.realm_plan.proofs.Fronts.{or_fault_starts, ReadsOrFault, entry_read, entry_wrong, entries_read}
 use Rattle.realm_plan.proofs.turns.order_of.Goals as goal
 
 abbrev one : ℕ → ℕ → ℤ → Result ℕ PlanFault
@@ -13,6 +14,13 @@ one count k entry = or_fault (fault.Order k) (build_named count entry)
 
 reads : (count : ℕ) → ReadsOrFault (one count) (order_of count)
 reads count = record { none_left = λ _. refl; one_more = λ _ _ _. refl }
+
+pub loop-place-init : goal.loop-place-init
+loop-place-init c =
+    record {
+      read = or_fault_starts c.new-found.result.items (order_of c.args.count 0 c.args.entries.now) c.new-found.ensures.items;
+      below = subst (All (λ build. build < c.args.count)) (sym c.new-found.ensures.items) (λ k d inside. absurd (omega arith));
+    }
 
 pub loop-place-preserved : goal.loop-place-preserved
 loop-place-preserved c =

@@ -5,7 +5,7 @@ use Rattle.realm_plan.specs.Outcome.{or_fault}
 use Rattle.realm_plan.specs.Plan.{steps_of}
 use Rattle.realm_plan.specs.declared.fault.PlanFault.{PlanFault}
 use Rattle.realm_plan.specs.declared.fault.PlanFault.TheVariants as fault
-use Rattle.realm_plan.proofs.Fronts.{ReadsOrFault, entry_read, entry_wrong, entries_read}
+use Rattle.realm_plan.proofs.Fronts.{or_fault_starts, ReadsOrFault, entry_read, entry_wrong, entries_read}
 use Rattle.realm_plan.proofs.turns.steps_of.Goals as goal
 
 abbrev one : ℕ → ℕ → Bor (List ℕ) → Result PlanStep PlanFault
@@ -16,6 +16,10 @@ all build k texts = steps_of build k (map (λ t. t.now) texts)
 
 reads : (build : ℕ) → ReadsOrFault (one build) (all build)
 reads build = record { none_left = λ _. refl; one_more = λ _ _ _. refl }
+
+pub loop-k-init : goal.loop-k-init
+loop-k-init c =
+    or_fault_starts c.new-found.result.items (all c.args.build 0 c.args.texts.now) c.new-found.ensures.items
 
 pub loop-k-preserved : goal.loop-k-preserved
 loop-k-preserved c =
