@@ -1,5 +1,5 @@
 -- What is read of books.
-use Rattle.std.proofs.Common.{◌≡◌, ℕ, ◌<◌, ◌≤◌, Bool, true, false, List, [], length, take, get_or, Option, Some, None, refl, sym, ap, ◌∙◌, subst, arith}
+use Rattle.std.proofs.Common.{◌≡◌, ℕ, ◌+◌, ◌<◌, ◌≤◌, Bool, true, false, List, [], length, take, get_or, Option, Some, None, refl, sym, ap, ◌∙◌, subst, arith}
 use Rattle.std.specs.Prelude.{nat_lt, slice_get, option_map, IfSome, IsSome}
 use Rattle.std.specs.List.{sum_by}
 use Rattle.std.proofs.lemmas.Bool.{ltb-false, ltb-true}
@@ -19,7 +19,7 @@ use Rattle.realm_model.proofs.Reached.{sized_reached}
 use Rattle.realm_model.proofs.Room.{room_is_sum}
 use Rattle.realm_acts.specs.Mirror.{rd_of}
 use Rattle.build_books.specs.declared.build.Build.{Build}
-use Rattle.build_books.specs.View.{HostView, world_of, granule_of_page, is_aborting, mark_of}
+use Rattle.build_books.specs.View.{HostView, world_of, open_of, used, granule_of_page, is_aborting, mark_of}
 use Rattle.realm_acts.specs.Performing.{rec_granule}
 use Rattle.realm_acts.specs.RecsOpen.{granule_in}
 use Rattle.realm_acts.proofs.RecsOpen.{recs_are_open}
@@ -139,6 +139,16 @@ module _ (host : HostView) (builds : List Build) (leases : Stacks) (holders : Li
       stands =
           kept.builds_are build old
           (slice_get-get_or builds build old (subst (λ n. build < n) (sym long) there) ∙ ap Some (ap (λ n. get_or builds n old) (sym number_is) ∙ sym read))
+
+      pub journal_told : old.journal ≡ open_of now build
+      journal_told = stands.journal ∙ ap (λ (h : HostView). open_of h build) view_is
+
+      pub used_told : old.events + length old.journal + old.running ≡ used now build
+      used_told = (λ i. stands.events i + length (stands.journal i) + stands.running i) ∙ ap (λ (h : HostView). used h build) view_is
+
+      pub used_fits : old.events + length old.journal + old.running ≤ now.capacity
+      used_fits =
+          subst (λ n. n ≤ now.capacity) (sym used_told) (subst (λ (h : HostView). used h build ≤ h.capacity) view_is (kept.room build there).used)
 
       pub rd_told : IfSome old.realm (λ rd. rd < now.limits.pages)
       rd_told =

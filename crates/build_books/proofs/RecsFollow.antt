@@ -1,6 +1,7 @@
 -- The RECs of a build's realm after one more act of the build.
-use Rattle.std.proofs.Common.{◌≡◌, ℕ, ◌+◌, ◌-◌, ◌≤◌, List, [], ◌∷◌, ◌++◌, length, take, refl, sym, ap, ◌∙◌, arith}
+use Rattle.std.proofs.Common.{◌≡◌, ℕ, ◌+◌, ◌-◌, ◌<◌, ◌≤◌, ⊎_elim, List, [], ◌∷◌, ◌++◌, length, take, refl, sym, ap, ◌∙◌, subst, arith}
 use Rattle.std.specs.List.{flat_map}
+use Rattle.std.proofs.lemmas.Bool.{cases_lt}
 use Rattle.std.proofs.lemmas.List.{length-append, get_or_append_left, get_or-append-add}
 use Rattle.std.proofs.Math.Seq.{take-append_seam}
 use Rattle.realm_model.specs.declared.act.Act.{Act}
@@ -36,13 +37,39 @@ few_recs [] = omega arith
 few_recs (Rec granule auxiliaries number ∷ acts) = let rest = few_recs acts in omega arith
 few_recs (_ ∷ acts) = let rest = few_recs acts in omega arith
 
--- the number of a REC that comes last is above the others
-pub above_others : (recs : List (ℕ × ℕ)) (number granule : ℕ) → IsRising (recs ++ (number, granule) ∷ []) → IsAbove recs number
-above_others recs number granule rising i inside =
-    let long : length (recs ++ (number, granule) ∷ []) ≡ length recs + 1 = length-append recs ((number, granule) ∷ []) in
-    let less = rising i (length recs) inside (omega arith) in
-    let before : number_at (recs ++ (number, granule) ∷ []) i ≡ number_at recs i = ap (λ (r : ℕ × ℕ). r.0) (get_or_append_left recs ((number, granule) ∷ []) (0, 0) i inside) in
-    let place : length recs ≡ length recs + 0 = omega arith in
-    let last : number_at (recs ++ (number, granule) ∷ []) (length recs) ≡ number =
-    ap (number_at (recs ++ (number, granule) ∷ [])) place ∙ ap (λ (r : ℕ × ℕ). r.0) (get_or-append-add recs ((number, granule) ∷ []) 0 (0, 0)) in
-    omega (arith, less, before, last)
+-- ---- numbers that rise
+
+-- one more REC comes last
+module _ (recs : List (ℕ × ℕ)) (number granule : ℕ) where
+  abbrev more : List (ℕ × ℕ)
+  more = recs ++ (number, granule) ∷ []
+
+  long : length more ≡ length recs + 1
+  long = length-append recs ((number, granule) ∷ [])
+
+  before : (i : ℕ) → i < length recs → number_at more i ≡ number_at recs i
+  before i inside = ap (λ (r : ℕ × ℕ). r.0) (get_or_append_left recs ((number, granule) ∷ []) (0, 0) i inside)
+
+  last : (i : ℕ) → i ≡ length recs + 0 → number_at more i ≡ number
+  last i place = ap (number_at more) place ∙ ap (λ (r : ℕ × ℕ). r.0) (get_or-append-add recs ((number, granule) ∷ []) 0 (0, 0))
+
+  -- its number is above the others
+  pub above_others : IsRising more → IsAbove recs number
+  above_others rising i inside =
+      let less = rising i (length recs) inside (let more = long in omega (arith, more)) in
+      omega (arith, less, before i inside, last (length recs) (omega arith))
+
+  -- and where it is, the numbers rise still
+  pub rising_with : IsRising recs → IsAbove recs number → IsRising more
+  rising_with rising above i j less inside =
+      ⊎_elim
+      (λ within. let lower = rising i j less within in omega (arith, lower, before i (omega arith), before j within))
+      (λ past.
+      let end = long in
+      let here : i < length recs = omega (arith, end) in
+      let lower = above i here in
+      omega (arith, lower, before i here, last j (omega (arith, end))))
+      (cases_lt j (length recs))
+
+pub none_rise : (recs : List (ℕ × ℕ)) → recs ≡ [] → IsRising recs
+none_rise recs none = subst IsRising (sym none) (λ i j less inside. absurd (omega arith))
