@@ -67,7 +67,7 @@ fn count_of_builds(
     if count <= MOST_BUILDS {
         return Ok(());
     }
-    let words = format!(in alloc; "a plan has 1 to 8 builds, and here are {count}")?;
+    let words = format!(in alloc; "a plan has 1 to 8 builds, and here are {count}");
     tell(found, PlanFault::Limit, places.build_at(MOST_BUILDS), words)
 }
 
@@ -87,7 +87,7 @@ fn build(
     match table.get("steps") {
         Some(value) => steps(alloc, text, value, place, places, found),
         None => {
-            let words = format!(in alloc; "the `steps` of build {place} are missing")?;
+            let words = format!(in alloc; "the `steps` of build {place} are missing");
             tell(found, PlanFault::Key, places.build_at(place), words)
         }
     }
@@ -136,10 +136,13 @@ fn one_step(
 ) -> Result<(), AllocError> {
     match item.as_str() {
         Some(written) if step_from_text(written).is_some() => Ok(()),
-        Some(written) => {
-            let Reason { at: inside, words } = why_no_step(alloc, written)?;
-            tell(found, fault, place_inside(text, at, written, inside), words)
-        }
+        Some(written) => match why_no_step(alloc, written) {
+            Ok(Reason { at: inside, words }) => {
+                let at = place_inside(text, at, written, inside);
+                tell(found, fault, at, Ok(words))
+            }
+            Err(error) => Err(error),
+        },
         None => tell_kind(alloc, found, at, "a step is a text in quotes", item),
     }
 }
@@ -156,7 +159,7 @@ fn count_of_steps(
         return Ok(());
     }
     let at = places.step_at(build, MOST_STEPS);
-    let words = format!(in alloc; "a build has at most {MOST_STEPS} steps, and here are {count}")?;
+    let words = format!(in alloc; "a build has at most {MOST_STEPS} steps, and here are {count}");
     tell(found, PlanFault::Limit, at, words)
 }
 

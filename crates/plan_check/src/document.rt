@@ -2,6 +2,7 @@
 use crate::builds::builds;
 use crate::keys::{numbers, unknown_keys};
 use crate::order::order;
+use crate::places::Places;
 use crate::walk::places_of;
 use crate::wrong::{Wrong, tell};
 use realm_plan::PlanFault;
@@ -15,21 +16,46 @@ const MOST_BYTES: usize = 1_048_576;
 /// All that is found wrong with the bytes, kind by kind.
 pub fn wrongs_in(alloc: Global, bytes: &[u8]) -> Result<Vec<Wrong>, AllocError> {
     let mut found = Vec::new(alloc);
-    if bytes.len() <= MOST_BYTES {
-        in_bytes(alloc, bytes, &mut found)?;
-    } else {
-        let words = format!(in alloc; "a plan has at most {MOST_BYTES} bytes, and here are more")?;
-        tell(&mut found, PlanFault::Limit, 0, words)?;
+    match in_bytes(alloc, bytes, &mut found) {
+        Ok(()) => Ok(found),
+        Err(error) => Err(error),
     }
-    Ok(found)
 }
 
 fn in_bytes(alloc: Global, bytes: &[u8], found: &mut Vec<Wrong>) -> Result<(), AllocError> {
-    let Some(table) = table_of(alloc, bytes, found)? else {
-        return Ok(());
-    };
+    if bytes.len() > MOST_BYTES {
+        let words = format!(in alloc; "a plan has at most {MOST_BYTES} bytes, and here are more");
+        return tell(found, PlanFault::Limit, 0, words);
+    }
+    match toml::table_from_slice(alloc, bytes) {
+        Ok(table) => in_document(alloc, bytes, &table, found),
+        Err(error) => of_syntax(alloc, &error, found),
+    }
+}
+
+// The fault that the reader of documents tells.
+fn of_syntax(
+    alloc: Global,
+    error: &toml::de::Error,
+    found: &mut Vec<Wrong>,
+) -> Result<(), AllocError> {
+    match error.span() {
+        Some(span) => {
+            let words = String::from_str(alloc, error.message());
+            tell(found, PlanFault::Syntax, span.start, words)
+        }
+        None => Err(AllocError),
+    }
+}
+
+fn in_document(
+    alloc: Global,
+    bytes: &[u8],
+    table: &Table,
+    found: &mut Vec<Wrong>,
+) -> Result<(), AllocError> {
     match from_utf8(bytes) {
-        Ok(text) => in_table(alloc, text, &table, found),
+        Ok(text) => in_table(alloc, text, table, found),
         Err(_) => Ok(()),
     }
 }
@@ -41,27 +67,22 @@ fn in_table(
     table: &Table,
     found: &mut Vec<Wrong>,
 ) -> Result<(), AllocError> {
-    let places = places_of(alloc, text)?;
-    unknown_keys(alloc, &places, found)?;
-    numbers(alloc, table, &places, found)?;
-    order(alloc, table, &places, found)?;
-    builds(alloc, text, table, &places, found)
+    match places_of(alloc, text) {
+        Ok(places) => in_parts(alloc, text, table, &places, found),
+        Err(error) => Err(error),
+    }
 }
 
-// The document that the bytes are, or the fault that its reader tells.
-fn table_of(
+// The same, where it is known where its parts stand.
+fn in_parts(
     alloc: Global,
-    bytes: &[u8],
+    text: &str,
+    table: &Table,
+    places: &Places,
     found: &mut Vec<Wrong>,
-) -> Result<Option<Table>, AllocError> {
-    let error = match toml::table_from_slice(alloc, bytes) {
-        Ok(table) => return Ok(Some(table)),
-        Err(error) => error,
-    };
-    let Some(span) = error.span() else {
-        return Err(AllocError);
-    };
-    let words = String::from_str(alloc, error.message())?;
-    tell(found, PlanFault::Syntax, span.start, words)?;
-    Ok(None)
+) -> Result<(), AllocError> {
+    unknown_keys(alloc, places, found)?;
+    numbers(alloc, table, places, found)?;
+    order(alloc, table, places, found)?;
+    builds(alloc, text, table, places, found)
 }

@@ -44,12 +44,12 @@ impl Kind {
 /// How a step is written.
 #[derive(Clone, Copy)]
 pub struct Form {
+    pub word: &'static str,
     /// The step with letters in place of its numbers.
     pub usage: &'static str,
     /// What its numbers are. Where there may be more, they are as the last.
     pub kinds: &'static [Kind],
-    /// The fewest numbers that it may have, and the most.
-    pub fewest: usize,
+    /// The most numbers that it may have.
     pub most: usize,
 }
 
@@ -59,67 +59,123 @@ pub const WORDS: [&str; 18] = [
     "rec", "enter", "exit", "poke", "undo", "abort", "mark", "back",
 ];
 
-fn exactly(usage: &'static str, kinds: &'static [Kind]) -> Form {
+const FORMS: [Form; 18] = [
     Form {
-        usage,
-        kinds,
-        fewest: kinds.len(),
-        most: kinds.len(),
-    }
-}
+        word: "take",
+        usage: "take K",
+        kinds: &[Kind::Order],
+        most: 1,
+    },
+    Form {
+        word: "fill",
+        usage: "fill P V",
+        kinds: &[Kind::Page, Kind::Value],
+        most: 2,
+    },
+    Form {
+        word: "peek",
+        usage: "peek P O",
+        kinds: &[Kind::Page, Kind::Offset],
+        most: 2,
+    },
+    Form {
+        word: "delegate",
+        usage: "delegate P",
+        kinds: &[Kind::Page],
+        most: 1,
+    },
+    Form {
+        word: "realm",
+        usage: "realm P Q or realm P Q W",
+        kinds: &[Kind::Page, Kind::Page, Kind::Width],
+        most: 3,
+    },
+    Form {
+        word: "activate",
+        usage: "activate",
+        kinds: &[],
+        most: 0,
+    },
+    Form {
+        word: "rtt",
+        usage: "rtt P I L",
+        kinds: &[Kind::Page, Kind::Ipa, Kind::Level],
+        most: 3,
+    },
+    Form {
+        word: "ripas",
+        usage: "ripas I N",
+        kinds: &[Kind::Ipa, Kind::Count],
+        most: 2,
+    },
+    Form {
+        word: "data",
+        usage: "data P I S",
+        kinds: &[Kind::Page, Kind::Ipa, Kind::Page],
+        most: 3,
+    },
+    Form {
+        word: "unknown",
+        usage: "unknown P I",
+        kinds: &[Kind::Page, Kind::Ipa],
+        most: 2,
+    },
+    Form {
+        word: "rec",
+        usage: "rec P A ..",
+        kinds: &[Kind::Page],
+        most: 17,
+    },
+    Form {
+        word: "enter",
+        usage: "enter R",
+        kinds: &[Kind::Rec],
+        most: 1,
+    },
+    Form {
+        word: "exit",
+        usage: "exit R",
+        kinds: &[Kind::Rec],
+        most: 1,
+    },
+    Form {
+        word: "poke",
+        usage: "poke R I O V",
+        kinds: &[Kind::Rec, Kind::Ipa, Kind::Offset, Kind::Value],
+        most: 4,
+    },
+    Form {
+        word: "undo",
+        usage: "undo",
+        kinds: &[],
+        most: 0,
+    },
+    Form {
+        word: "abort",
+        usage: "abort",
+        kinds: &[],
+        most: 0,
+    },
+    Form {
+        word: "mark",
+        usage: "mark",
+        kinds: &[],
+        most: 0,
+    },
+    Form {
+        word: "back",
+        usage: "back",
+        kinds: &[],
+        most: 0,
+    },
+];
 
 /// How the step of a word is written, if it is the word of one.
 pub fn form_of(word: &str) -> Option<Form> {
-    match word {
-        "take" => Some(exactly("take K", &[Kind::Order])),
-        "fill" => Some(exactly("fill P V", &[Kind::Page, Kind::Value])),
-        "peek" => Some(exactly("peek P O", &[Kind::Page, Kind::Offset])),
-        "delegate" => Some(exactly("delegate P", &[Kind::Page])),
-        _ => form_of_realm(word),
+    for form in &FORMS {
+        if form.word == word {
+            return Some(*form);
+        }
     }
-}
-
-fn form_of_realm(word: &str) -> Option<Form> {
-    match word {
-        "realm" => Some(Form {
-            usage: "realm P Q or realm P Q W",
-            kinds: &[Kind::Page, Kind::Page, Kind::Width],
-            fewest: 2,
-            most: 3,
-        }),
-        "rtt" => Some(exactly("rtt P I L", &[Kind::Page, Kind::Ipa, Kind::Level])),
-        "ripas" => Some(exactly("ripas I N", &[Kind::Ipa, Kind::Count])),
-        "data" => Some(exactly("data P I S", &[Kind::Page, Kind::Ipa, Kind::Page])),
-        "unknown" => Some(exactly("unknown P I", &[Kind::Page, Kind::Ipa])),
-        _ => form_of_rec(word),
-    }
-}
-
-fn form_of_rec(word: &str) -> Option<Form> {
-    match word {
-        "rec" => Some(Form {
-            usage: "rec P A ..",
-            kinds: &[Kind::Page],
-            fewest: 1,
-            most: 17,
-        }),
-        "enter" => Some(exactly("enter R", &[Kind::Rec])),
-        "exit" => Some(exactly("exit R", &[Kind::Rec])),
-        "poke" => Some(exactly(
-            "poke R I O V",
-            &[Kind::Rec, Kind::Ipa, Kind::Offset, Kind::Value],
-        )),
-        "activate" => Some(exactly("activate", &[])),
-        _ => form_of_word_alone(word),
-    }
-}
-
-fn form_of_word_alone(word: &str) -> Option<Form> {
-    match word {
-        "undo" => Some(exactly("undo", &[])),
-        "abort" => Some(exactly("abort", &[])),
-        "mark" => Some(exactly("mark", &[])),
-        "back" => Some(exactly("back", &[])),
-        _ => None,
-    }
+    None
 }

@@ -1,7 +1,7 @@
 //! Keys that a plan has not got, and numbers outside their limits.
-use crate::nearest::nearest;
+use crate::nearest::{nearest, said_with};
 use crate::places::{KeyPlace, Places};
-use crate::wrong::{Wrong, tell, tell_kind, tell_words};
+use crate::wrong::{Wrong, kind_of, tell, tell_words};
 use realm_plan::PlanFault;
 use std::alloc::{AllocError, Global};
 use toml::Table;
@@ -51,7 +51,7 @@ pub fn unknown_keys(
 ) -> Result<(), AllocError> {
     for (place, key) in places.keys.iter().enumerate() {
         if !is_known(key) && !is_as_before(&places.keys, place, key) {
-            let words = of_unknown(alloc, key)?;
+            let words = of_unknown(alloc, key);
             tell(found, PlanFault::Key, key.at, words)?;
         }
     }
@@ -85,13 +85,17 @@ fn is_known(key: &KeyPlace) -> bool {
 
 fn of_unknown(alloc: Global, key: &KeyPlace) -> Result<String, AllocError> {
     let name = key.name.as_str();
-    let whose = match key.build {
-        Some(_) => "a build",
-        None => "a plan",
-    };
-    match nearest(alloc, names_beside(key), name)? {
-        Some(near) => format!(in alloc; "`{name}` is no key of {whose}; the nearest is `{near}`"),
-        None => of_far(alloc, key.build.is_some(), name),
+    match nearest(alloc, names_beside(key), name) {
+        Ok(Some(near)) => said_with(alloc, name, is_none_near(key), near),
+        Ok(None) => of_far(alloc, key.build.is_some(), name),
+        Err(error) => Err(error),
+    }
+}
+
+fn is_none_near(key: &KeyPlace) -> &'static str {
+    match key.build {
+        Some(_) => "is no key of a build; the nearest is",
+        None => "is no key of a plan; the nearest is",
     }
 }
 
@@ -141,8 +145,9 @@ fn number(
     match value.as_integer() {
         Some(whole) => in_limits(alloc, limits, whole, at, found),
         None => {
-            let wanted = format!(in alloc; "`{name}` is a whole number")?;
-            tell_kind(alloc, found, at, wanted.as_str(), value)
+            let kind = kind_of(value);
+            let words = format!(in alloc; "`{name}` is a whole number, and this is {kind}");
+            tell(found, PlanFault::Key, at, words)
         }
     }
 }
@@ -158,6 +163,6 @@ fn in_limits(
     if low <= whole && whole <= high {
         return Ok(());
     }
-    let words = format!(in alloc; "`{name}` is {low} to {high}, and this is {whole}")?;
+    let words = format!(in alloc; "`{name}` is {low} to {high}, and this is {whole}");
     tell(found, PlanFault::Limit, at, words)
 }

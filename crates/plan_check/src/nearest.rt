@@ -29,3 +29,8 @@ pub fn nearest(
 fn is_near(edits: usize, name: &str, word: &str) -> bool {
     edits.saturating_mul(3) <= name.len().max(word.len())
 }
+
+/// A word, what is said of it, and the name that was meant.
+pub fn said_with(alloc: Global, word: &str, said: &str, name: &str) -> Result<String, AllocError> {
+    format!(in alloc; "`{word}` {said} `{name}`")
+}

@@ -66,7 +66,7 @@ fn turn(
     };
     match builds {
         Some(count) if !is_build(number, count) => {
-            let words = of_no_build(alloc, number, count)?;
+            let words = of_no_build(alloc, number, count);
             tell(found, PlanFault::Order { place }, at, words)
         }
         _ => Ok(()),
@@ -103,6 +103,6 @@ fn count_of_turns(
     if count <= MOST_TURNS {
         return Ok(());
     }
-    let words = format!(in alloc; "a plan has at most {MOST_TURNS} turns, and here are {count}")?;
+    let words = format!(in alloc; "a plan has at most {MOST_TURNS} turns, and here are {count}");
     tell(found, PlanFault::Limit, places.entry_at(MOST_TURNS), words)
 }

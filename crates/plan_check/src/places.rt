@@ -90,8 +90,20 @@ impl Places {
     }
 
     /// Adds a key.
-    pub fn add_key(&mut self, key: KeyPlace) -> Result<(), AllocError> {
-        self.keys.push(key)?;
+    pub fn add_key(
+        &mut self,
+        build: Option<usize>,
+        name: &String,
+        at: usize,
+        value: usize,
+    ) -> Result<(), AllocError> {
+        let name = name.clone()?;
+        self.keys.push(KeyPlace {
+            build,
+            name,
+            at,
+            value,
+        })?;
         Ok(())
     }
 
@@ -109,18 +121,12 @@ impl Places {
 
     /// Says where the steps of the last build stand.
     pub fn add_steps(&mut self, steps_at: usize, steps: &[usize]) -> Result<(), AllocError> {
-        let first = self.steps.len();
-        self.steps.extend_from_slice(steps)?;
-        let count = steps.len();
-        if let Some(last) = self.builds.pop() {
-            self.builds.push(BuildPlace {
-                at: last.at,
-                steps_at,
-                first,
-                count,
-            })?;
+        if let Some(last) = self.builds.last_mut() {
+            last.steps_at = steps_at;
+            last.first = self.steps.len();
+            last.count = steps.len();
         }
-        Ok(())
+        self.steps.extend_from_slice(steps)
     }
 
     /// The number of the last build.

@@ -1,7 +1,7 @@
 //! Why a text is no step.
 use crate::forms::{Form, Kind, WORDS, form_of};
 use crate::gaps::gap_in;
-use crate::nearest::nearest;
+use crate::nearest::{nearest, said_with};
 use crate::number::wrong_in;
 use number_text::cut_at_space;
 use std::alloc::{AllocError, Global};
@@ -28,8 +28,15 @@ pub fn why_no_step(alloc: Global, text: &str) -> Result<Reason, AllocError> {
 }
 
 fn told(alloc: Global, at: usize, words: &str) -> Result<Reason, AllocError> {
-    let words = String::from_str(alloc, words)?;
-    Ok(Reason { at, words })
+    reason_at(at, String::from_str(alloc, words))
+}
+
+// What is said of a place, where there was memory for its words.
+fn reason_at(at: usize, words: Result<String, AllocError>) -> Result<Reason, AllocError> {
+    match words {
+        Ok(words) => Ok(Reason { at, words }),
+        Err(error) => Err(error),
+    }
 }
 
 // What is said of a text whose spaces are where they have to be.
@@ -37,21 +44,19 @@ fn of_fields(alloc: Global, text: &str) -> Result<Reason, AllocError> {
     let (word, rest) = cut_at_space(text);
     match form_of(word) {
         Some(form) => of_numbers(alloc, &form, word.len(), rest),
-        None => {
-            let words = of_word(alloc, word)?;
-            Ok(Reason { at: 0, words })
-        }
+        None => reason_at(0, of_word(alloc, word)),
     }
 }
 
 // What is said of a word that is that of no step.
 fn of_word(alloc: Global, word: &str) -> Result<String, AllocError> {
     if let Some(name) = in_other_case(word) {
-        return format!(in alloc; "`{word}` is written `{name}`");
+        return said_with(alloc, word, "is written", name);
     }
-    match nearest(alloc, &WORDS, word)? {
-        Some(name) => format!(in alloc; "`{word}` is no step; the nearest is `{name}`"),
-        None => of_far(alloc, word),
+    match nearest(alloc, &WORDS, word) {
+        Ok(Some(name)) => said_with(alloc, word, "is no step; the nearest is", name),
+        Ok(None) => of_far(alloc, word),
+        Err(error) => Err(error),
     }
 }
 
@@ -67,7 +72,13 @@ fn in_other_case(word: &str) -> Option<&'static str> {
 
 // What is said of a word that is near to none.
 fn of_far(alloc: Global, word: &str) -> Result<String, AllocError> {
-    let names = names(alloc)?;
+    match names(alloc) {
+        Ok(names) => of_far_from(alloc, word, names.as_str()),
+        Err(error) => Err(error),
+    }
+}
+
+fn of_far_from(alloc: Global, word: &str, names: &str) -> Result<String, AllocError> {
     if word.len() > LONGEST {
         return format!(in alloc; "this is no step: the steps are {names}");
     }
@@ -77,13 +88,20 @@ fn of_far(alloc: Global, word: &str) -> Result<String, AllocError> {
 // The words of all steps.
 fn names(alloc: Global) -> Result<String, AllocError> {
     let mut text = String::new(alloc);
+    match push_names(&mut text) {
+        Ok(()) => Ok(text),
+        Err(error) => Err(error),
+    }
+}
+
+fn push_names(text: &mut String) -> Result<(), AllocError> {
     for name in &WORDS {
         if !text.is_empty() {
             text.push_str(", ")?;
         }
         text.push_str(name)?;
     }
-    Ok(text)
+    Ok(())
 }
 
 // What is said of the numbers behind a word, which stand from so many bytes on.
@@ -91,13 +109,13 @@ fn of_numbers(alloc: Global, form: &Form, from: usize, rest: &str) -> Result<Rea
     let mut at = from;
     for (count, field) in rest.split(' ').skip(1).enumerate() {
         let place = at.saturating_add(1);
-        if let Some(words) = of_number(alloc, form, count, field)? {
-            return Ok(Reason { at: place, words });
+        match of_number(alloc, form, count, field) {
+            Ok(None) => at = place.saturating_add(field.len()),
+            Ok(Some(words)) => return Ok(Reason { at: place, words }),
+            Err(error) => return Err(error),
         }
-        at = place.saturating_add(field.len());
     }
-    let words = of_count(alloc, form, "fewer")?;
-    Ok(Reason { at, words })
+    reason_at(at, of_count(alloc, form, "fewer"))
 }
 
 // What is wrong with the number that has so many before it, if anything is.

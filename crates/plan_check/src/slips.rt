@@ -16,26 +16,60 @@ pub struct Slip {
 
 /// The likely slips of a plan, which is what the bytes are.
 pub fn slips_in(alloc: Global, bytes: &[u8], plan: &Plan) -> Result<Vec<Slip>, AllocError> {
-    let places = places_of(alloc, from_utf8(bytes).unwrap_or(""))?;
     let mut found = Vec::new(alloc);
-    if plan.order.is_empty() {
-        found.push(of_no_turns(alloc, places.value_at("order"))?)?;
-        return Ok(found);
+    match tell_slips(alloc, bytes, plan, &mut found) {
+        Ok(()) => Ok(found),
+        Err(error) => Err(error),
     }
-    for (build, steps) in plan.builds.iter().enumerate() {
-        if let Some(slip) = of_turns(alloc, build, steps, &plan.order, &places)? {
-            found.push(slip)?;
-        }
-    }
-    Ok(found)
 }
 
-fn of_no_turns(alloc: Global, at: usize) -> Result<Slip, AllocError> {
-    let words = String::from_str(
-        alloc,
-        "there are no turns in `order`, so no step is performed",
-    )?;
-    Ok(Slip { at, words })
+fn tell_slips(
+    alloc: Global,
+    bytes: &[u8],
+    plan: &Plan,
+    found: &mut Vec<Slip>,
+) -> Result<(), AllocError> {
+    match places_of(alloc, from_utf8(bytes).unwrap_or("")) {
+        Ok(places) => of_plan(alloc, plan, &places, found),
+        Err(error) => Err(error),
+    }
+}
+
+fn of_plan(
+    alloc: Global,
+    plan: &Plan,
+    places: &Places,
+    found: &mut Vec<Slip>,
+) -> Result<(), AllocError> {
+    if plan.order.is_empty() {
+        let words = "there are no turns in `order`, so no step is performed";
+        return tell(
+            found,
+            places.value_at("order"),
+            String::from_str(alloc, words),
+        );
+    }
+    for (build, steps) in plan.builds.iter().enumerate() {
+        of_turns(alloc, build, steps, &plan.order, places, found)?;
+    }
+    Ok(())
+}
+
+// Adds a slip, where there was memory for its words.
+fn tell(
+    found: &mut Vec<Slip>,
+    at: usize,
+    words: Result<String, AllocError>,
+) -> Result<(), AllocError> {
+    match words {
+        Ok(words) => add(found, Slip { at, words }),
+        Err(error) => Err(error),
+    }
+}
+
+fn add(found: &mut Vec<Slip>, slip: Slip) -> Result<(), AllocError> {
+    found.push(slip)?;
+    Ok(())
 }
 
 // Too few turns for the steps of a build, or too many.
@@ -45,45 +79,32 @@ fn of_turns(
     steps: &[PlanStep],
     order: &[usize],
     places: &Places,
-) -> Result<Option<Slip>, AllocError> {
+    found: &mut Vec<Slip>,
+) -> Result<(), AllocError> {
     let turns = order.iter().filter(|turn| **turn == build).count();
     let count = steps.len();
     let most = most_turns(steps);
     if turns < count {
-        let at = places.step_at(build, turns);
-        return Ok(Some(of_few(alloc, build, count, turns, at)?));
+        let words = of_few(alloc, build, count, turns);
+        return tell(found, places.step_at(build, turns), words);
     }
     if turns > most {
         let at = places.entry_at(turn_behind(build, most, order));
-        return Ok(Some(of_many(alloc, build, count, turns, at)?));
+        return tell(found, at, of_many(alloc, build, count, turns));
     }
-    Ok(None)
+    Ok(())
 }
 
-fn of_few(
-    alloc: Global,
-    build: usize,
-    count: usize,
-    turns: usize,
-    at: usize,
-) -> Result<Slip, AllocError> {
-    let words = format!(in alloc;
+fn of_few(alloc: Global, build: usize, count: usize, turns: usize) -> Result<String, AllocError> {
+    format!(in alloc;
         "no turn reaches this step: build {build} has {count} steps and {turns} turns"
-    )?;
-    Ok(Slip { at, words })
+    )
 }
 
-fn of_many(
-    alloc: Global,
-    build: usize,
-    count: usize,
-    turns: usize,
-    at: usize,
-) -> Result<Slip, AllocError> {
-    let words = format!(in alloc;
+fn of_many(alloc: Global, build: usize, count: usize, turns: usize) -> Result<String, AllocError> {
+    format!(in alloc;
         "build {build} has no step left at this turn: it has {count} steps and {turns} turns"
-    )?;
-    Ok(Slip { at, words })
+    )
 }
 
 // The most turns that the steps of a build can take. A way back takes one for each act that it reverses.

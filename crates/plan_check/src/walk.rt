@@ -2,7 +2,7 @@
 //!
 //! The text is one that the reader of TOML has taken, so the walk asks only what comes next. Where it meets what it does not
 //! expect it ends, and the parts behind that place have none.
-use crate::places::{KeyPlace, Places};
+use crate::places::Places;
 use std::alloc::{AllocError, AllocFailed, Global};
 use toml_parser::text::{first, skip, skip_blank, skip_ws};
 use toml_parser::{Key, ParseError, dotted_key, quoted, starts_string, unquoted};
@@ -89,8 +89,10 @@ fn line<'a>(
     if first(s) == b'[' {
         return header(alloc, whole, s, places);
     }
-    let after = statement(alloc, whole, s, section, places)?;
-    Ok((section, after))
+    match statement(alloc, whole, s, section, places) {
+        Ok(after) => Ok((section, after)),
+        Err(lost) => Err(lost),
+    }
 }
 
 // A line `[KEY]` or `[[KEY]]`: what the keys below it belong to, and the text behind it.
@@ -101,100 +103,87 @@ fn header<'a>(
     places: &mut Places,
 ) -> Result<(Section, &'a str), Lost> {
     let is_array = s.starts_with("[[");
-    let name = behind_brackets(s, is_array)?;
-    let (key, end) = dotted_key(alloc, skip_ws(name))?;
-    let below = opened(&key, is_array, before(whole, s), places)?;
-    let after = behind_brackets(end, is_array)?;
-    Ok((below, after))
+    match header_key(alloc, s, is_array) {
+        Ok((key, end)) => behind_header(&key, end, is_array, before(whole, s), places),
+        Err(lost) => Err(lost),
+    }
+}
+
+// What the keys below a header belong to, and the text behind it, where its key ends.
+fn behind_header<'a>(
+    key: &Key,
+    end: &'a str,
+    is_array: bool,
+    at: usize,
+    places: &mut Places,
+) -> Result<(Section, &'a str), Lost> {
+    let below = below(key, is_array);
+    if add_header(key, below, at, places).is_err() {
+        return Err(Lost::Memory);
+    }
+    match behind_brackets(end, is_array) {
+        Ok(after) => Ok((below, after)),
+        Err(lost) => Err(lost),
+    }
+}
+
+// The key of a header, and the text behind it.
+fn header_key(alloc: Global, s: &str, is_array: bool) -> Result<(Key, &str), Lost> {
+    match behind_brackets(s, is_array) {
+        Ok(name) => key_at(alloc, skip_ws(name)),
+        Err(lost) => Err(lost),
+    }
+}
+
+fn key_at(alloc: Global, s: &str) -> Result<(Key, &str), Lost> {
+    match dotted_key(alloc, s) {
+        Ok(read) => Ok(read),
+        Err(error) => Err(Lost::from(error)),
+    }
 }
 
 // The text behind the one or the two brackets that begin or end a header.
 fn behind_brackets(s: &str, is_array: bool) -> Result<&str, Lost> {
-    let after = after_byte(s)?;
-    if is_array {
-        after_byte(after)
-    } else {
-        Ok(after)
+    match after_byte(s) {
+        Ok(after) if is_array => after_byte(after),
+        read => read,
     }
 }
 
 // What the keys below a header belong to.
-fn opened(key: &Key, is_array: bool, at: usize, places: &mut Places) -> Result<Section, Lost> {
-    let name = first_part(key)?;
-    let is_alone = key.path.is_empty();
-    if name.as_str() == "build" && !is_alone {
-        return below_build(key, at, places);
-    }
-    let is_build = name.as_str() == "build" && is_array;
-    if is_build {
-        places.add_build(at)?;
-    }
-    places.add_key(key_of_plan(name, at))?;
-    Ok(if is_build {
+fn below(key: &Key, is_array: bool) -> Section {
+    if is_array && key.path.is_empty() && key.last.as_str() == "build" {
         Section::Build
     } else {
         Section::Neither
-    })
-}
-
-// What the keys below a header of a build's key belong to.
-fn below_build(key: &Key, at: usize, places: &mut Places) -> Result<Section, Lost> {
-    let build = Some(places.last_build());
-    let name = second_part(key)?;
-    places.add_key(KeyPlace {
-        build,
-        name,
-        at,
-        value: at,
-    })?;
-    Ok(Section::Neither)
-}
-
-fn key_of_plan(name: String, at: usize) -> KeyPlace {
-    KeyPlace {
-        build: None,
-        name,
-        at,
-        value: at,
     }
 }
 
-fn first_part(key: &Key) -> Result<String, AllocError> {
+// Adds the part of a plan that a header is.
+fn add_header(key: &Key, below: Section, at: usize, places: &mut Places) -> Result<(), AllocError> {
+    if matches!(below, Section::Build) {
+        places.add_build(at)?;
+    }
+    let name = first_part(key);
+    if name.as_str() == "build" && !key.path.is_empty() {
+        let build = Some(places.last_build());
+        return places.add_key(build, second_part(key), at, at);
+    }
+    places.add_key(None, name, at, at)
+}
+
+fn first_part(key: &Key) -> &String {
     match key.path.first() {
-        Some(part) => part.clone(),
-        None => key.last.clone(),
+        Some(part) => part,
+        None => &key.last,
     }
 }
 
-fn second_part(key: &Key) -> Result<String, AllocError> {
+fn second_part(key: &Key) -> &String {
     match key.path.get(1) {
-        Some(part) => part.clone(),
-        None => key.last.clone(),
+        Some(part) => part,
+        None => &key.last,
     }
-}
-
-// A key before its value, which comes next. What a key with dots names lies deeper than any part of a plan.
-#[derive(Drop)]
-struct Pair<'a> {
-    place: KeyPlace,
-    has_dots: bool,
-    value: &'a str,
-}
-
-fn pair_at(alloc: Global, whole: usize, s: &str, build: Option<usize>) -> Result<Pair<'_>, Lost> {
-    let (key, equals) = dotted_key(alloc, s)?;
-    let value = skip_ws(after_byte(equals)?);
-    let place = KeyPlace {
-        build,
-        name: first_part(&key)?,
-        at: before(whole, s),
-        value: before(whole, value),
-    };
-    Ok(Pair {
-        place,
-        has_dots: !key.path.is_empty(),
-        value,
-    })
 }
 
 // A line `KEY = VALUE`: the text behind it.
@@ -208,10 +197,14 @@ fn statement<'a>(
     match section {
         Section::Plan => pair_of_plan(alloc, whole, s, places),
         Section::Build => pair_of_build(alloc, whole, s, places),
-        Section::Neither => {
-            let it = pair_at(alloc, whole, s, None)?;
-            after_value(alloc, it.value)
-        }
+        Section::Neither => behind_pair(alloc, s),
+    }
+}
+
+fn behind_pair(alloc: Global, s: &str) -> Result<&str, Lost> {
+    match pair_at(alloc, s) {
+        Ok((_key, value)) => after_value(alloc, value),
+        Err(lost) => Err(lost),
     }
 }
 
@@ -222,16 +215,51 @@ fn pair_of_plan<'a>(
     s: &'a str,
     places: &mut Places,
 ) -> Result<&'a str, Lost> {
-    let Pair {
-        place,
-        has_dots,
-        value,
-    } = pair_at(alloc, whole, s, None)?;
-    if !has_dots {
-        parts_of_plan(alloc, whole, place.name.as_str(), value, places)?;
+    match pair_at(alloc, s) {
+        Ok((key, value)) => add_to_plan(alloc, whole, &key, before(whole, s), value, places),
+        Err(lost) => Err(lost),
     }
-    places.add_key(place)?;
-    after_value(alloc, value)
+}
+
+// A key of the last build and its value: the text behind them.
+fn pair_of_build<'a>(
+    alloc: Global,
+    whole: usize,
+    s: &'a str,
+    places: &mut Places,
+) -> Result<&'a str, Lost> {
+    match pair_at(alloc, s) {
+        Ok((key, value)) => add_to_build(alloc, whole, &key, before(whole, s), value, places),
+        Err(lost) => Err(lost),
+    }
+}
+
+// A key before its value, which comes next.
+fn pair_at(alloc: Global, s: &str) -> Result<(Key, &str), Lost> {
+    let (key, equals) = key_at(alloc, s)?;
+    match after_byte(equals) {
+        Ok(value) => Ok((key, skip_ws(value))),
+        Err(lost) => Err(lost),
+    }
+}
+
+// Adds a key of the plan with the parts that its value has: the text behind the value. What a key with dots names lies deeper
+// than any part of a plan.
+fn add_to_plan<'a>(
+    alloc: Global,
+    whole: usize,
+    key: &Key,
+    at: usize,
+    value: &'a str,
+    places: &mut Places,
+) -> Result<&'a str, Lost> {
+    if key.path.is_empty() {
+        parts_of_plan(alloc, whole, key.last.as_str(), value, places)?;
+    }
+    match places.add_key(None, first_part(key), at, before(whole, value)) {
+        Ok(()) => after_value(alloc, value),
+        Err(error) => Err(Lost::from(error)),
+    }
 }
 
 // The parts that the value of a key of the plan has.
@@ -243,35 +271,45 @@ fn parts_of_plan(
     places: &mut Places,
 ) -> Result<(), Lost> {
     match name {
-        "order" => {
-            let entries = items_of(alloc, whole, value)?;
-            places.entries.extend_from_slice(&entries)?;
-            Ok(())
-        }
+        "order" => entries_in(alloc, whole, value, places),
         "build" => builds_in(alloc, whole, value, places),
         _ => Ok(()),
     }
 }
 
-// A key of the last build and its value: the text behind them.
-fn pair_of_build<'a>(
+fn entries_in(alloc: Global, whole: usize, s: &str, places: &mut Places) -> Result<(), Lost> {
+    let entries = items_of(alloc, whole, s)?;
+    match places.entries.extend_from_slice(&entries) {
+        Ok(()) => Ok(()),
+        Err(error) => Err(Lost::from(error)),
+    }
+}
+
+// Adds a key of the last build with the parts that its value has: the text behind the value.
+fn add_to_build<'a>(
     alloc: Global,
     whole: usize,
-    s: &'a str,
+    key: &Key,
+    at: usize,
+    value: &'a str,
     places: &mut Places,
 ) -> Result<&'a str, Lost> {
-    let build = Some(places.last_build());
-    let Pair {
-        place,
-        has_dots,
-        value,
-    } = pair_at(alloc, whole, s, build)?;
-    if !has_dots && place.name.as_str() == "steps" {
-        let steps = items_of(alloc, whole, value)?;
-        places.add_steps(place.value, &steps)?;
+    if key.path.is_empty() && key.last.as_str() == "steps" {
+        steps_in(alloc, whole, value, places)?;
     }
-    places.add_key(place)?;
-    after_value(alloc, value)
+    let build = Some(places.last_build());
+    match places.add_key(build, first_part(key), at, before(whole, value)) {
+        Ok(()) => after_value(alloc, value),
+        Err(error) => Err(Lost::from(error)),
+    }
+}
+
+fn steps_in(alloc: Global, whole: usize, s: &str, places: &mut Places) -> Result<(), Lost> {
+    let steps = items_of(alloc, whole, s)?;
+    match places.add_steps(before(whole, s), &steps) {
+        Ok(()) => Ok(()),
+        Err(error) => Err(Lost::from(error)),
+    }
 }
 
 // The builds of an array of inline tables.
@@ -284,11 +322,23 @@ fn builds_in(alloc: Global, whole: usize, s: &str, places: &mut Places) -> Resul
         if first(rest) == b']' {
             return Ok(());
         }
-        places.add_build(before(whole, rest))?;
-        keys_in(alloc, whole, rest, places)?;
-        rest = behind_item(alloc, rest)?;
+        rest = build_in(alloc, whole, rest, places)?;
     }
     Err(Lost::Unread)
+}
+
+// A build of such an array: the text behind it.
+fn build_in<'a>(
+    alloc: Global,
+    whole: usize,
+    s: &'a str,
+    places: &mut Places,
+) -> Result<&'a str, Lost> {
+    places.add_build(before(whole, s))?;
+    match keys_in(alloc, whole, s, places) {
+        Ok(()) => behind_item(alloc, s),
+        Err(lost) => Err(lost),
+    }
 }
 
 // The keys of a build that is an inline table.
@@ -310,13 +360,20 @@ fn keys_in(alloc: Global, whole: usize, s: &str, places: &mut Places) -> Result<
 // Where the items of an array stand. What is no array has none.
 fn items_of(alloc: Global, whole: usize, s: &str) -> Result<Vec<usize>, Lost> {
     let mut found = Vec::new(alloc);
+    match add_items(alloc, whole, s, &mut found) {
+        Ok(()) => Ok(found),
+        Err(lost) => Err(lost),
+    }
+}
+
+fn add_items(alloc: Global, whole: usize, s: &str, found: &mut Vec<usize>) -> Result<(), Lost> {
     if first(s) != b'[' {
-        return Ok(found);
+        return Ok(());
     }
     let mut rest = skip_blank(skip(s, 1), true);
     for _ in 0..s.len() {
         if first(rest) == b']' {
-            return Ok(found);
+            return Ok(());
         }
         found.push(before(whole, rest))?;
         rest = behind_item(alloc, rest)?;
@@ -326,8 +383,10 @@ fn items_of(alloc: Global, whole: usize, s: &str) -> Result<Vec<usize>, Lost> {
 
 // The text at the next item of an array, or at its end.
 fn behind_item(alloc: Global, s: &str) -> Result<&str, Lost> {
-    let after = after_value(alloc, s)?;
-    Ok(behind_comma(skip_blank(after, true)))
+    match after_value(alloc, s) {
+        Ok(after) => Ok(behind_comma(skip_blank(after, true))),
+        Err(lost) => Err(lost),
+    }
 }
 
 fn behind_comma(s: &str) -> &str {
@@ -343,29 +402,34 @@ fn after_value(alloc: Global, s: &str) -> Result<&str, Lost> {
     let mut rest = s;
     let mut depth: usize = 0;
     for _ in 0..s.len() {
-        let (after, open) = after_part(alloc, rest, depth)?;
-        if open == 0 {
+        let after = after_part(alloc, rest, depth)?;
+        depth = depth_after(depth, first(rest));
+        if depth == 0 {
             return Ok(after);
         }
-        depth = open;
         rest = skip_blank(after, true);
     }
     Err(Lost::Unread)
 }
 
-// The text behind a string, a scalar that is a whole value, or a byte; and how many arrays and tables are open there.
-fn after_part(alloc: Global, s: &str, depth: usize) -> Result<(&str, usize), Lost> {
+// The text behind a string, a scalar that is a whole value, or a byte, where so many arrays and tables are open.
+fn after_part(alloc: Global, s: &str, depth: usize) -> Result<&str, Lost> {
     let next = first(s);
     if starts_string(s) {
-        let (_text, after) = quoted(alloc, s)?;
-        return Ok((after, depth));
+        behind(quoted(alloc, s))
+    } else if depth == 0 && next != b'[' && next != b'{' {
+        behind(unquoted(alloc, s))
+    } else {
+        after_byte(s)
     }
-    if depth == 0 && next != b'[' && next != b'{' {
-        let (_scalar, after) = unquoted(alloc, s)?;
-        return Ok((after, 0));
+}
+
+// The text behind what was read.
+fn behind<T: Drop>(read: Result<(T, &str), ParseError>) -> Result<&str, Lost> {
+    match read {
+        Ok((_, after)) => Ok(after),
+        Err(error) => Err(Lost::from(error)),
     }
-    let after = after_byte(s)?;
-    Ok((after, depth_after(depth, next)))
 }
 
 // How many arrays and tables are open behind a byte.

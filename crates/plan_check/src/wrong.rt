@@ -11,14 +11,21 @@ pub struct Wrong {
     pub words: String,
 }
 
-/// Adds a mistake.
+/// Adds a mistake, where there was memory for its words.
 pub fn tell(
     found: &mut Vec<Wrong>,
     fault: PlanFault,
     at: usize,
-    words: String,
+    words: Result<String, AllocError>,
 ) -> Result<(), AllocError> {
-    found.push(Wrong { fault, at, words })?;
+    match words {
+        Ok(words) => add(found, Wrong { fault, at, words }),
+        Err(error) => Err(error),
+    }
+}
+
+fn add(found: &mut Vec<Wrong>, wrong: Wrong) -> Result<(), AllocError> {
+    found.push(wrong)?;
     Ok(())
 }
 
@@ -30,12 +37,11 @@ pub fn tell_words(
     at: usize,
     words: &str,
 ) -> Result<(), AllocError> {
-    let words = String::from_str(alloc, words)?;
-    tell(found, fault, at, words)
+    tell(found, fault, at, String::from_str(alloc, words))
 }
 
-// What a value is, in words.
-fn kind_of(value: &Value) -> &'static str {
+/// What a value is, in words.
+pub fn kind_of(value: &Value) -> &'static str {
     match value {
         Value::String(_) => "a string",
         Value::Integer(_) => "a whole number",
@@ -56,6 +62,6 @@ pub fn tell_kind(
     value: &Value,
 ) -> Result<(), AllocError> {
     let kind = kind_of(value);
-    let words = format!(in alloc; "{wanted}, and this is {kind}")?;
+    let words = format!(in alloc; "{wanted}, and this is {kind}");
     tell(found, PlanFault::Key, at, words)
 }
