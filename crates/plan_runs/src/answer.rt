@@ -5,7 +5,7 @@ use realm_host::Kind;
 use std::fmt;
 
 /// What a turn tells of its step.
-#[derive(Clone, Copy, Debug, PartialEq, Eq)]
+#[derive(Clone, Copy)]
 pub enum TurnAnswer {
     /// The command was accepted.
     Replied(Reply),

@@ -6,7 +6,7 @@ use realm_host::Mark;
 
 /// Where a build is in its plan: how many steps it has done, how many undos are left of the one under way, and its last
 /// mark.
-#[derive(Clone, Copy, Debug, PartialEq, Eq)]
+#[derive(Clone, Copy)]
 pub struct Place {
     pub done: usize,
     pub left: u16,

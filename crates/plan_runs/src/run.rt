@@ -19,7 +19,10 @@ pub fn step_after(plan: &Plan, build: usize, done: usize) -> Option<&PlanStep>
     ensures value { option_map (λ step. step.now) result ≡ nth_step (plan_view plan.now) build done }
     ensures few { IfSome result (λ _. done < 1024) }
 {
-    plan.builds.get(build)?.get(done)
+    match plan.builds.get(build) {
+        Some(steps) => steps.get(done),
+        None => None,
+    }
 }
 
 /// One turn of a build: its next step, if one is left, with what the host answered.

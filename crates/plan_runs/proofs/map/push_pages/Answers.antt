@@ -1,8 +1,15 @@
-use Rattle.std.proofs.Common.{string_bytes, ◌<◌, ◌∙◌, subst, sym}
+use Rattle.std.proofs.Common.{string_bytes, ◌<◌, ◌∙◌, arith, subst, sym}
+use Rattle.build_books.specs.View.{pages_of_build}
 use Rattle.plan_runs.specs.Run.{page_text}
 use Rattle.plan_steps.specs.Lines.{page_line}
-use Rattle.plan_runs.proofs.MapLines.{lines_more, page_line_is}
+use Rattle.plan_runs.proofs.MapLines.{lines_more, page_is_told, page_line_is}
 use Rattle.plan_runs.proofs.map.push_pages.Goals as goal
+
+pub unwrap-state-requires : goal.unwrap-state-requires
+unwrap-state-requires g c = page_is_told _ (pages_of_build c.args.host.now c.args.build) c.loop-page.page _ (omega arith) c.page_state.ensures
+
+pub unwrap-sum-requires : goal.unwrap-sum-requires
+unwrap-sum-requires g c = page_is_told _ (pages_of_build c.args.host.now c.args.build) c.loop-page.page _ (omega arith) c.page_sum.ensures
 
 pub loop-page-preserved : goal.loop-page-preserved
 loop-page-preserved g c =
