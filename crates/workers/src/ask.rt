@@ -11,7 +11,7 @@ use crate::teller::{Gate, Teller};
 use build_commands::Cmd;
 
 /// A question whose answer has a line.
-#[derive(Debug, PartialEq, Eq, Drop)]
+#[derive(Drop)]
 pub enum Question {
     Do(Cmd),
     Undo,
@@ -19,7 +19,7 @@ pub enum Question {
 }
 
 /// How a list of questions ended.
-#[derive(Clone, Copy, Debug, PartialEq, Eq)]
+#[derive(Clone, Copy)]
 pub enum Ending {
     /// All were accepted.
     Done,

@@ -42,5 +42,5 @@ pub struct Report {
 }
 
 /// A worker waited for its turn in vain.
-#[derive(Clone, Copy, Debug, PartialEq, Eq)]
+#[derive(Clone, Copy)]
 pub struct Stuck;
