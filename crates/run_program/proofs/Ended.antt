@@ -1,9 +1,11 @@
 -- How a run of all workers ends.
-use Rattle.std.proofs.Common.{◌≡◌, inl, inr, ℕ, ◌++◌, List, length, sym, subst, ◌∙◌, ap}
+use Rattle.std.proofs.Common.{◌≡◌, inl, inr, ℕ, ◌∷◌, [], ◌++◌, List, length, sym, subst, ◌∙◌, ap, ap₂}
 use Rattle.std.specs.Global.{Vec}
-use Rattle.std.specs.List.{flat_map}
+use Rattle.std.specs.List.{AllZip, flat_map}
 use Rattle.std.specs.Prelude.{All, ◌⊎◌, Result, Ok, Err, IfOk, IfErr}
+use Rattle.std.proofs.lemmas.List.{map-append}
 use Rattle.std.proofs.lemmas.List.Elements.{length_all_zip}
+use Rattle.std.proofs.lemmas.Slice.Zip.{all_zipped_more}
 use Rattle.build_books.specs.View.{HostView}
 use Rattle.build_commands.specs.declared.cmd.Step.{Step}
 use Rattle.builders.specs.Close.{IsClosed, IsHostGivenBack}
@@ -17,10 +19,24 @@ use Rattle.realm_plan.specs.Plan.{Plan}
 use Rattle.run_program.specs.Fitting.{ReportFits}
 use Rattle.workers.specs.declared.report.Report.{Report}
 use Rattle.run_program.specs.Text.{report_lines, audit_line}
-use Rattle.run_program.specs.Workers.{new_workers, AreLeft, IsEndedRun, IsWorkersText, IsStuck, IsMismatch, IsWithoutWorkersText}
+use Rattle.run_program.specs.Workers.{new_workers, worker_seats, IsReportOf, AreLeft, IsEndedRun, IsWorkersText, IsStuck, IsMismatch, IsWithoutWorkersText}
 use Rattle.run_program.specs.declared.fault.RunFault.{RunFault}
 use Rattle.run_program.specs.declared.fault.RunFault.TheVariants.{Memory, Mismatch}
 use Rattle.run_program.proofs.Reports.{workers_fit, reports_fit, text_of_workers}
+
+-- ---- what workers leave, with one worker more
+
+pub seats_more : (workers : List WorkerView) (seats after : List SeatView) (worker : WorkerView) (seat : SeatView) → seats ≡ worker_seats workers → seat ≡ worker.seat
+    → after ≡ seats ++ seat ∷ [] → after ≡ worker_seats (workers ++ worker ∷ [])
+seats_more workers seats after worker seat are is grows =
+    grows ∙ ap₂ (λ (l : List SeatView) (s : SeatView). l ++ s ∷ []) are is ∙ sym (map-append (λ (w : WorkerView). w.seat) workers (worker ∷ []))
+
+pub reports_more : (workers : List WorkerView) (reports after : List (Report × Vec Step)) (worker : WorkerView) (report : Report × Vec Step) → AllZip IsReportOf workers reports
+    → IsReportOf worker report → after ≡ reports ++ report ∷ [] → AllZip IsReportOf (workers ++ worker ∷ []) after
+reports_more workers reports after worker report are is grows =
+    subst (λ (l : List (Report × Vec Step)). AllZip IsReportOf (workers ++ worker ∷ []) l) (sym grows) (all_zipped_more IsReportOf workers reports worker report are is)
+
+-- ---- a run
 
 -- there are as many after it as before
 pub same_length : (opened : HostView) (passes stops : ℕ → ℕ → Type 0) (old new : List WorkerView) → AreRun opened passes stops old new → length new ≡ length old

@@ -4,6 +4,7 @@ pub mod Done
 pub mod Reading
 pub mod Answered
 pub mod Reports
+pub mod Taken
 pub mod Seating
 pub mod Ended
 pub mod Orders

@@ -1,7 +1,8 @@
 -- What holds of reports holds of the workers that left them.
-use Rattle.std.proofs.Common.{◌≡◌, ℕ, zero, suc, ◌++◌, List, [], ◌∷◌, refl, sym, subst, ap₂, arith}
+use Rattle.std.proofs.Common.{◌≡◌, ℕ, ◌++◌, List, [], ◌∷◌, refl, sym, subst, ap₂}
 use Rattle.std.specs.Global.{Vec}
 use Rattle.std.specs.List.{AllZip, flat_map}
+use Rattle.std.proofs.lemmas.List.Elements.{All-nil, All-cons, All-head, All-tail}
 use Rattle.std.specs.Prelude.{All}
 use Rattle.build_commands.specs.declared.cmd.Step.{Step}
 use Rattle.builders.specs.Workers.{WorkerView}
@@ -33,27 +34,20 @@ text_one plan worker (report, asks) is = ap₂ (λ (b : ℕ) (ls : List Line). r
 
 -- ---- all
 
-all_cons : {X : Type 0} (P : X → Type 0) (x : X) (xs : List X) → P x → All P xs → All P (x ∷ xs)
-all_cons P x xs p ps zero d lt = p
-all_cons P x xs p ps (suc k) d lt = ps k d (omega arith)
-
-all_tail : {X : Type 0} (P : X → Type 0) (x : X) (xs : List X) → All P (x ∷ xs) → All P xs
-all_tail P x xs all k d lt = all (suc k) d (omega arith)
-
 pub workers_fit : (history : List Event) (workers : List WorkerView) (reports : List (Report × Vec Step)) → AllZip IsReportOf workers reports
     → All (ReportFits history) reports → All (WorkerFits history) workers
-workers_fit history [] reports zip fit = λ k d lt. absurd (omega arith)
+workers_fit history [] reports zip fit = All-nil (WorkerFits history)
 workers_fit history (w ∷ ws) [] zip fit = absurd zip
 workers_fit history (w ∷ ws) (r ∷ rs) zip fit =
-    all_cons (WorkerFits history) w ws (fits_one history w r zip.0 (fit 0 r (omega arith))) (workers_fit history ws rs zip.1 (all_tail (ReportFits history) r rs fit))
+    All-cons (WorkerFits history) w ws (fits_one history w r zip.0 (All-head (ReportFits history) r rs fit)) (workers_fit history ws rs zip.1 (All-tail (ReportFits history) r rs fit))
 
 pub reports_fit : (history : List Event) (workers : List WorkerView) (reports : List (Report × Vec Step)) → AllZip IsReportOf workers reports
     → All (WorkerFits history) workers → All (ReportFits history) reports
-reports_fit history [] [] zip fit = λ k d lt. absurd (omega arith)
+reports_fit history [] [] zip fit = All-nil (ReportFits history)
 reports_fit history [] (r ∷ rs) zip fit = absurd zip
 reports_fit history (w ∷ ws) [] zip fit = absurd zip
 reports_fit history (w ∷ ws) (r ∷ rs) zip fit =
-    all_cons (ReportFits history) r rs (fits_back history w r zip.0 (fit 0 w (omega arith))) (reports_fit history ws rs zip.1 (all_tail (WorkerFits history) w ws fit))
+    All-cons (ReportFits history) r rs (fits_back history w r zip.0 (All-head (WorkerFits history) w ws fit)) (reports_fit history ws rs zip.1 (All-tail (WorkerFits history) w ws fit))
 
 pub text_of_workers : (plan : Plan) (workers : List WorkerView) (reports : List (Report × Vec Step)) → AllZip IsReportOf workers reports
     → flat_map (report_lines plan) reports ≡ flat_map (worker_text plan) workers

@@ -1,14 +1,8 @@
-use Rattle.std.proofs.Common.{◌≡◌, ◌∷◌, [], ◌++◌, List, length, sym, ap, ap₂, subst, ◌∙◌, append_assoc, arith}
-use Rattle.std.specs.Global.{Vec}
+use Rattle.std.proofs.Common.{◌∙◌, ap, subst}
 use Rattle.std.specs.List.{AllZip}
-use Rattle.std.specs.Vec.Iter.{into_iter_items}
-use Rattle.std.proofs.lemmas.List.{map-append}
-use Rattle.std.proofs.lemmas.Slice.Zip.{all_zipped_more}
-use Rattle.build_commands.specs.declared.cmd.Step.{Step}
-use Rattle.builders.specs.Seats.{SeatView}
-use Rattle.builders.specs.Workers.{WorkerView}
-use Rattle.workers.specs.declared.report.Report.{Report}
-use Rattle.run_program.specs.Workers.{IsReportOf}
+use Rattle.run_program.specs.Workers.{worker_seats, IsReportOf}
+use Rattle.run_program.proofs.Ended.{seats_more, reports_more}
+use Rattle.run_program.proofs.Taken.{taken_more, left_less, taken_all}
 use Rattle.run_program.proofs.ends.ends_of.Goals as goal
 
 pub loop-worker-preserved : goal.loop-worker-preserved
@@ -16,13 +10,21 @@ loop-worker-preserved g c =
     let at = c.loop-worker in
     let x = c.in-Some.worker in
     let parts = c.end-seat.ensures.parts in
-    let steps : into_iter_items at.worker-iterator ≡ x ∷ into_iter_items c.next.new.self = c.in-Some.ensures.steps.0 in (
-      append_assoc at.yielded (x ∷ []) _ ∙ rw (← steps) at.invariant.0,
-      let was = at.invariant.1 in
-          let gone = c.in-Some.ensures.steps.1 in
-          let short = ap length steps in
-          omega arith,
-      c.in_ok-push.ensures.items ∙ ap₂ (λ (l : List SeatView) (s : SeatView). l ++ s ∷ []) at.invariant.2 parts.0 ∙ sym (map-append (λ (w : WorkerView). w.seat) at.yielded (x ∷ [])),
-      subst (λ (l : List (Report × Vec Step)). AllZip IsReportOf (at.yielded ++ x ∷ []) l) (sym c.in_ok-push-2.ensures.items)
-          (all_zipped_more IsReportOf at.yielded at.reports.items x (c.end-seat.result.2, c.end-seat.result.1) at.invariant.3 (c.end-seat.ensures.build, parts.2, parts.1)),
+    let steps = c.in-Some.ensures.steps in (
+      taken_more at.yielded _ _ _ at.invariant.0 at.invariant.1 x _ steps.0,
+      left_less at.yielded _ _ _ at.invariant.0 at.invariant.1 x _ _ steps.0 steps.1,
+      seats_more at.yielded at.seats.items _ x c.end-seat.result.0 at.invariant.2 parts.0 c.in_ok-push.ensures.items,
+      reports_more at.yielded at.reports.items _ x (c.end-seat.result.2, c.end-seat.result.1) at.invariant.3 (c.end-seat.ensures.build, parts.2, parts.1) c.in_ok-push-2.ensures.items,
     )
+
+pub returns-clause-seats : goal.returns-clause-seats
+returns-clause-seats g c =
+    let at = c.loop-worker in
+    let all = taken_all at.yielded _ _ _ at.invariant.0 at.invariant.1 c.in-None.ensures.steps.0 ∙ c.into_iter-worker-iterator.ensures.into_iter_gives.0 in
+    at.invariant.2 ∙ ap worker_seats all
+
+pub returns-clause-reports : goal.returns-clause-reports
+returns-clause-reports g c =
+    let at = c.loop-worker in
+    let all = taken_all at.yielded _ _ _ at.invariant.0 at.invariant.1 c.in-None.ensures.steps.0 ∙ c.into_iter-worker-iterator.ensures.into_iter_gives.0 in
+    subst (λ ws. AllZip IsReportOf ws at.reports.items) all at.invariant.3
