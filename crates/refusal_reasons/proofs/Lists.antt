@@ -1,8 +1,8 @@
 -- Lists that get one more, and what holds of the numbers of a range.
-use Rattle.std.proofs.Common.{◌≡◌, ℕ, zero, suc, ◌+◌, ◌<◌, ◌≤◌, Bool, true, false, ◌&&◌, ◌||◌, List, [], ◌∷◌, ◌++◌, length, take, get_or, Option, Some, None, refl, sym, ap, ◌∙◌, subst, append_assoc, arith}
+use Rattle.std.proofs.Common.{◌≡◌, ℕ, zero, suc, ◌+◌, ◌<◌, ◌≤◌, Bool, true, false, ◌&&◌, ◌||◌, List, [], ◌∷◌, ◌++◌, length, map, take, get_or, Option, Some, None, refl, sym, ap, ◌∙◌, subst, append_assoc, arith}
 use Rattle.std.specs.List.{filter_map, cons_option, list_all, list_any, range_with_len}
 use Rattle.std.proofs.lemmas.Bool.{and_from}
-use Rattle.std.proofs.lemmas.List.{take_more, length-append}
+use Rattle.std.proofs.lemmas.List.{take_more, map_more, length-append}
 use Rattle.std.proofs.lemmas.List.Elements.{filter_map-append}
 
 -- ---- one more
@@ -20,6 +20,13 @@ few_more old (Some g) new n is few = let long = ap (λ xs. length xs) is in let 
 -- a list that got some, and then what comes behind
 pub before : {X : Type 0} (old some rest mid new : List X) → mid ≡ old ++ some → new ≡ mid ++ rest → new ≡ old ++ (some ++ rest)
 before old some rest mid new one two = two ∙ ap (λ xs. xs ++ rest) one ∙ append_assoc old some rest
+
+-- what is made of some, and of one more
+pub mapped_more : {Y : Type 0} (f : ℕ → Y) (xs : List ℕ) (i d : ℕ) (old mid new : List Y) → i < length xs
+    → mid ≡ old ++ map f (take i xs) → (y : Y) → y ≡ f (get_or xs i d) → new ≡ mid ++ y ∷ [] → new ≡ old ++ map f (take (i + 1) xs)
+mapped_more f xs i d old mid new inside so_far y is more =
+    before old (map f (take i xs)) (f (get_or xs i d) ∷ []) mid new so_far (more ∙ ap (λ x. mid ++ x ∷ []) is)
+    ∙ ap (λ ys. old ++ ys) (sym (map_more f xs i d inside))
 
 -- ---- ranges
 
