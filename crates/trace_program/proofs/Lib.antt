@@ -9,3 +9,4 @@ pub mod Found
 pub mod Agreed
 pub mod Judged
 pub mod Words
+pub mod Stated

@@ -2,6 +2,7 @@
 use Rattle.std.proofs.Common.{◌≡◌, ℕ, Bool, true, false, List, [], ◌∷◌, map, Option, Some, None, Ok, Err, refl, sym, ap, ◌∙◌, subst}
 use Rattle.arrayvec.specs.ArrayVec.{ArrayVec}
 use Rattle.realm_model.specs.declared.rmi.Rmi.{Rmi}
+use Rattle.realm_model.specs.Rmi.{result_word}
 use Rattle.realm_model.specs.Machine.{RealmRow, Seen, Machine, cell_at}
 use Rattle.realm_model.specs.Update.{Update, Outcome, machine_after_all, machine_after_command}
 use Rattle.realm_model.specs.Command.Check.{check}
@@ -12,6 +13,16 @@ use Rattle.rmi_bench.specs.Calls.{naming, numbered, Does}
 use Rattle.rmi_trace.specs.declared.answer.Answer.TheVariants as answer
 use Rattle.rmi_trace.specs.declared.request.Command.TheVariants.{HostPeek, RecCreate}
 use Rattle.trace_program.specs.Commands.{command_outcome, answer_with, answer_to, next_rec_number}
+
+-- ---- no value
+
+pub told_done : (outcome : Outcome) (done : Unit {0}) → Answers {A = Unit {0}} (Ok done) outcome → answer.ResultWord 0 ≡ answer_with None outcome
+told_done (Ok updates) done a = refl
+told_done (Err rmi) done a = absurd a
+
+pub told_refused : (outcome : Outcome) (refusal : Rmi) → Answers {A = Unit {0}} (Err refusal) outcome → answer.ResultWord (result_word refusal) ≡ answer_with None outcome
+told_refused (Ok updates) refusal a = absurd a
+told_refused (Err rmi) refusal a = ap (λ (r : Rmi). answer.ResultWord (result_word r)) a
 
 -- ---- a byte that is read
 
