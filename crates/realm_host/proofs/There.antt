@@ -1,9 +1,10 @@
 -- Whether what an event says is there, and what it names is leased.
-use Rattle.std.proofs.Common.{◌≡◌, ℕ, ◌≤◌, Bool, true, false, List, [], length, Option, Some, None, Ok, Err, refl, sym, ap, ◌∙◌, subst, arith}
+use Rattle.std.proofs.Common.{◌≡◌, ℕ, ◌<◌, ◌≤◌, Bool, true, false, List, [], length, Option, Some, None, Ok, Err, refl, sym, ap, ◌∙◌, subst, arith}
 use Rattle.std.specs.Prelude.{◌&&◌, nat_eq, nat_lt, if◌then◌else◌, slice_index, option_map, option_and_then, is_none, is_some, not}
 use Rattle.std.specs.Bool.{OnFalse}
 use Rattle.std.specs.List.{list_all}
 use Rattle.std.specs.Option.{option_eq}
+use Rattle.std.proofs.lemmas.Bool.{ltb-true}
 use Rattle.std.proofs.lemmas.Option.{slice_get_past}
 use Rattle.std.proofs.lemmas.List.Elements.{All-head}
 use Rattle.arrayvec.specs.declared.array_vec.ArrayVec.{ArrayVec}
@@ -31,6 +32,11 @@ use Rattle.build_books.specs.View.{HostView, world_of}
 use Rattle.realm_host.specs.Acting.{IsNoStep}
 use Rattle.realm_host.specs.Host.{IsWhole}
 use Rattle.realm_host.specs.Readings.{row_of}
+
+-- ---- builds
+
+pub build_there : (inside host : HostView) (build : ℕ) → inside ≡ host → true ≡ nat_lt build inside.limits.builds → build < host.limits.builds
+build_there inside host build same there = ltb-true build host.limits.builds (subst (λ (h : HostView). nat_lt build h.limits.builds ≡ true) same (sym there))
 
 -- ---- leases
 

@@ -2,6 +2,13 @@ use Rattle.std.proofs.Common.{length, arith, rules}
 use Rattle.realm_host.proofs.Booted.{whole_booted}
 use Rattle.realm_host.proofs.host.Host.boot.Goals as goal
 
+pub build-requires : goal.build-requires
+build-requires g c = record {
+  few_builds = c.args.settings.few_builds;
+  few_pages = rw c.pages.ensures (g.met.S.PageStore.sized c.args.store).few_pages;
+  few_events = c.args.settings.short_history;
+}
+
 pub invariant_of-result : goal.invariant_of-result
 invariant_of-result g c =
     whole_booted c.in-Ok.books c.in-Ok-build.monitor c.pages.result (length (g.S.PageStore.page_bytes c.args.store)) c.args.settings.vmids c.args.settings.aux c.args.settings.builds c.args.settings.history
