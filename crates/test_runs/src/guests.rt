@@ -5,8 +5,8 @@ use build_commands::Step;
 use builders::{Ledgers, Seat, SeatTeller, Shared};
 use page_arena::PageStore;
 use std::alloc::Global;
+use std::process::Abort;
 use std::sync::Wait;
-use std::test::Fail;
 use workers::{Gate, Report, work};
 
 /// A build's seat and its steps, which of them is refused, and what came of them.
@@ -49,21 +49,23 @@ impl<L: Ledgers> Guest<L> {
 
 /// A guest at each seat. Build 1 is refused that step.
 pub(crate) fn guests_of<L: Ledgers>(
+    rt: &impl Abort,
     alloc: Global,
     seats: Vec<Seat<L>>,
     refused: usize,
-) -> Result<Vec<Guest<L>>, Fail> {
+) -> Vec<Guest<L>> {
     let mut guests = Vec::new(alloc);
     for seat in seats {
         let number = seat.build().number();
         let refused = if number == 1 { Some(refused) } else { None };
-        guests.push(Guest {
+        let guest = Guest {
             seat,
             steps: steps_of(number.saturating_add(7)),
             refused,
             report: None,
             has_ended: false,
-        })?;
+        };
+        guests.push(guest).expect(rt, "memory");
     }
-    Ok(guests)
+    guests
 }

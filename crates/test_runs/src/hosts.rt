@@ -1,53 +1,58 @@
-//! Hosts of which no build has done anything.
-ghost use Rattle.std.specs.Prelude.{◌≡◌, [], IfOk};
+//! Hosts of which no build has done anything. Where one is not made, the test is aborted, so nothing is dropped there.
+ghost use Rattle.std.specs.Prelude.{◌≡◌, []};
 ghost use Rattle.builders.specs.Names.{AreNamed};
 
 use builders::{Blanks, Ledgers, Seat, Shared};
 use page_arena::{PageStore, PlainStore};
 use realm_host::{Host, Settings};
 use std::alloc::Global;
-use std::test::Fail;
+use std::process::Abort;
 
 /// A host of that many pages, auxiliaries of each REC, and builds.
 pub(crate) fn booted(
+    rt: &impl Abort,
     alloc: Global,
     pages: u16,
     auxiliaries: u8,
     builds: u8,
-) -> Result<Host<PlainStore>, Fail>
-    ensures { IfOk result (λ host. host.history ≡ []) }
+) -> Host<PlainStore>
+    ensures { result.history ≡ [] }
 {
-    let settings = Settings::new(8, auxiliaries, 1024, builds).ok_or("settings")?;
-    let store = PlainStore::build(alloc, pages)?;
-    match Host::boot(alloc, settings, store) {
-        Ok(host) => Ok(host),
-        Err((error, _)) => Err(error.into()),
+    let settings = Settings::new(8, auxiliaries, 1024, builds).expect(rt, "settings");
+    match PlainStore::build(alloc, pages) {
+        Ok(store) => match Host::boot(alloc, settings, store) {
+            Ok(host) => host,
+            Err(_) => panic!(rt; "there is no memory for a host"),
+        },
+        Err(_) => panic!(rt; "there is no store"),
     }
 }
 
 /// The host is shared, with a seat for each of its builds.
 pub(crate) fn started<S: PageStore + Drop, L: Ledgers>(
+    rt: &impl Abort,
     alloc: Global,
     blanks: Blanks,
     host: Host<S>,
-) -> Result<(Shared<S, L>, Vec<Seat<L>>), Fail>
+) -> (Shared<S, L>, Vec<Seat<L>>)
     requires empty { host.history ≡ [] }
     requires opened { host ≡ L.opened }
     requires named { AreNamed L.names blanks }
 {
     match Shared::start(alloc, blanks, host) {
-        Ok(started) => Ok(started),
-        Err((error, _, _)) => Err(error.into()),
+        Ok(started) => started,
+        Err(_) => panic!(rt; "there is no memory to share a host"),
     }
 }
 
 /// The host, closed with all of its seats.
 pub(crate) fn closed<S: PageStore + Drop, L: Ledgers>(
+    rt: &impl Abort,
     shared: Shared<S, L>,
     seats: Vec<Seat<L>>,
-) -> Result<Host<S>, Fail> {
+) -> Host<S> {
     match shared.close(seats) {
-        Ok(host) => Ok(host),
-        Err((_fault, _host)) => Err("each trail is the history's".into()),
+        Ok(host) => host,
+        Err(_) => panic!(rt; "a trail is not the history's"),
     }
 }

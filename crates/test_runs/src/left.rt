@@ -1,21 +1,21 @@
 //! What is left of a host of three guests.
+use crate::wanted::{holds, same_text};
 use granule_addr::BuildId;
 use page_arena::PageStore;
 use plan_runs::map_text;
 use realm_host::Host;
 use std::alloc::Global;
 use std::process::Abort;
-use std::test::Fail;
 
 // The VMID of a build's realm.
-fn vmid_of<S: PageStore>(host: &Host<S>, number: u8) -> Result<u8, Fail> {
-    let build = BuildId::new(number).ok_or("a build")?;
-    let (_, vmid) = host.realm_view(build).ok_or("a realm")?;
-    Ok(vmid.number())
+fn vmid_of<S: PageStore>(rt: &impl Abort, host: &Host<S>, number: u8) -> u8 {
+    let build = BuildId::new(number).expect(rt, "a build");
+    let (_, vmid) = host.realm_view(build).expect(rt, "a realm");
+    vmid.number()
 }
 
 // The map of two guests, each with all that it has built.
-fn wanted_map(alloc: Global, vmid0: u8, vmid2: u8) -> Result<String, Fail> {
+fn wanted_map(rt: &impl Abort, alloc: Global, vmid0: u8, vmid2: u8) -> String {
     let text = format!(in alloc;
         "0 page 0 RD
 0 page 1 RTT
@@ -37,23 +37,20 @@ fn wanted_map(alloc: Global, vmid0: u8, vmid2: u8) -> Result<String, Fail> {
 2 realm ACTIVE vmid {vmid2}
 free 8
 "
-    )?;
-    Ok(text)
+    );
+    text.expect(rt, "memory")
 }
 
 /// Builds 0 and 2 have all that they have built, under VMIDs of their own, and build 1 has nothing.
-pub(crate) fn has_two_guests<S: PageStore>(
-    rt: &impl Abort,
-    alloc: Global,
-    host: &Host<S>,
-) -> Result<(), Fail> {
-    let vmid0 = vmid_of(host, 0)?;
-    let vmid2 = vmid_of(host, 2)?;
-    assert!(rt; vmid0 != vmid2 && (1..=3).contains(&vmid0) && (1..=3).contains(&vmid2));
-    let want = wanted_map(alloc, vmid0, vmid2)?;
-    let seen = map_text(alloc, host)?;
-    assert_eq!(rt; seen.as_str(), want.as_str());
-    Ok(())
+pub(crate) fn has_two_guests<S: PageStore>(rt: &impl Abort, alloc: Global, host: &Host<S>) {
+    let vmid0 = vmid_of(rt, host, 0);
+    let vmid2 = vmid_of(rt, host, 2);
+    holds(rt, "each has its own", vmid0 != vmid2);
+    holds(rt, "the VMID of build 0", (1..=3).contains(&vmid0));
+    holds(rt, "the VMID of build 2", (1..=3).contains(&vmid2));
+    let want = wanted_map(rt, alloc, vmid0, vmid2);
+    let seen = map_text(alloc, host).expect(rt, "memory");
+    same_text(rt, seen.as_str(), want.as_str());
 }
 
 /// A host is left as a fresh one is by the same history without the events of build 1.
@@ -62,14 +59,13 @@ pub(crate) fn is_without_build_1<S: PageStore>(
     alloc: Global,
     host: &Host<S>,
     fresh: &mut Host<S>,
-) -> Result<(), Fail> {
+) {
     for event in host.history() {
         if event.build.number() != 1 {
-            assert!(rt; fresh.apply_recorded(event));
+            holds(rt, "an event is applied", fresh.apply_recorded(event));
         }
     }
-    let want = map_text(alloc, fresh)?;
-    let seen = map_text(alloc, host)?;
-    assert_eq!(rt; seen.as_str(), want.as_str());
-    Ok(())
+    let want = map_text(alloc, fresh).expect(rt, "memory");
+    let seen = map_text(alloc, host).expect(rt, "memory");
+    same_text(rt, seen.as_str(), want.as_str());
 }

@@ -8,6 +8,7 @@ use crate::left::{has_two_guests, is_without_build_1};
 use crate::reports::{is_accepted, is_refused};
 use crate::steps::STEPS;
 use crate::turns::{Turns, Waiting};
+use crate::wanted::holds;
 use builders::{Blanks, Ledgers, Seat, Shared};
 use page_arena::{PageStore, PlainStore};
 use realm_host::Host;
@@ -15,33 +16,22 @@ use std::alloc::Global;
 use std::marker::{Brand, Send, Sync};
 use std::process::Abort;
 use std::sync::Wait;
-use std::test::Fail;
 use std::thread;
 use std::thread::Threads;
 use std::time::Clock;
 use workers::{Gate, Report};
 
 // The report of a guest, refused that step or none, is as it has to be.
-fn is_reported(
-    rt: &impl Abort,
-    alloc: Global,
-    report: &Option<Report>,
-    refused: Option<usize>,
-) -> Result<(), Fail> {
-    let Some(report) = report else {
-        return Err("a report".into());
-    };
+fn is_reported(rt: &impl Abort, alloc: Global, report: &Option<Report>, refused: Option<usize>) {
+    let report = report.as_ref().expect(rt, "a report");
     match refused {
         Some(step) => is_refused(rt, alloc, report, step),
-        None => {
-            is_accepted(rt, report);
-            Ok(())
-        }
+        None => is_accepted(rt, report),
     }
 }
 
 // A guest has ended, and its report is as it has to be. Its seat comes back.
-fn ended<L: Ledgers>(rt: &impl Abort, alloc: Global, guest: Guest<L>) -> Result<Seat<L>, Fail> {
+fn ended<L: Ledgers>(rt: &impl Abort, alloc: Global, guest: Guest<L>) -> Seat<L> {
     let Guest {
         seat,
         steps: _,
@@ -49,22 +39,18 @@ fn ended<L: Ledgers>(rt: &impl Abort, alloc: Global, guest: Guest<L>) -> Result<
         report,
         has_ended,
     } = guest;
-    assert!(rt; has_ended, "build {} got no turn", seat.build().number());
-    is_reported(rt, alloc, &report, refused)?;
-    Ok(seat)
+    holds(rt, "it got its turns", has_ended);
+    is_reported(rt, alloc, &report, refused);
+    seat
 }
 
 // Guests have ended, and their seats come back.
-fn all_ended<L: Ledgers>(
-    rt: &impl Abort,
-    alloc: Global,
-    guests: Vec<Guest<L>>,
-) -> Result<Vec<Seat<L>>, Fail> {
+fn all_ended<L: Ledgers>(rt: &impl Abort, alloc: Global, guests: Vec<Guest<L>>) -> Vec<Seat<L>> {
     let mut seats = Vec::new(alloc);
     for guest in guests {
-        seats.push(ended(rt, alloc, guest)?)?;
+        seats.push(ended(rt, alloc, guest)).expect(rt, "memory");
     }
-    Ok(seats)
+    seats
 }
 
 // Guests work side by side, and build 1 is refused that step. Their reports are as they have to be.
@@ -80,8 +66,8 @@ fn run_guests<
     seats: Vec<Seat<L>>,
     gate: &G,
     refused: usize,
-) -> Result<Vec<Seat<L>>, Fail> {
-    let mut guests = guests_of(alloc, seats, refused)?;
+) -> Vec<Seat<L>> {
+    let mut guests = guests_of(rt, alloc, seats, refused);
     thread::for_each_mut(
         rt,
         guests.as_mut_slice(),
@@ -97,21 +83,14 @@ fn work_together<
     S: PageStore + Drop + Send,
     G: Gate + Sync,
     L: Ledgers + Send + Sync,
->(
-    rt: &R,
-    alloc: Global,
-    blanks: Blanks,
-    host: Host<S>,
-    gate: &G,
-    refused: usize,
-) -> Result<Host<S>, Fail>
+>(rt: &R, alloc: Global, blanks: Blanks, host: Host<S>, gate: &G, refused: usize) -> Host<S>
     requires empty { host.history ≡ [] }
     requires opened { host ≡ L.opened }
     requires named { AreNamed L.names blanks }
 {
-    let (shared, seats) = started::<S, L>(alloc, blanks, host)?;
-    let seats = run_guests(rt, alloc, &shared, seats, gate, refused)?;
-    closed(shared, seats)
+    let (shared, seats) = started::<S, L>(rt, alloc, blanks, host);
+    let seats = run_guests(rt, alloc, &shared, seats, gate, refused);
+    closed(rt, shared, seats)
 }
 
 // What is left of a host on which build 1 is refused that step, at a gate where they wait so.
@@ -120,17 +99,17 @@ fn host_after<R: Threads + Wait + Abort + Clock + Sync>(
     alloc: Global,
     waiting: Waiting,
     refused: usize,
-) -> Result<Host<PlainStore>, Fail> {
-    let host = booted(alloc, 24, 1, 3)?;
+) -> Host<PlainStore> {
+    let host = booted(rt, alloc, 24, 1, 3);
     let gate = Turns::new(rt, waiting, refused);
     work_together::<R, PlainStore, Turns<R>, Brand>(rt, alloc, Blanks::new(), host, &gate, refused)
 }
 
 // Nothing is left of build 1, and the others have all that they have built.
-fn is_left_by_two(rt: &impl Abort, alloc: Global, host: &Host<PlainStore>) -> Result<(), Fail> {
-    has_two_guests(rt, alloc, host)?;
-    let mut fresh = booted(alloc, 24, 1, 3)?;
-    is_without_build_1(rt, alloc, host, &mut fresh)
+fn is_left_by_two(rt: &impl Abort, alloc: Global, host: &Host<PlainStore>) {
+    has_two_guests(rt, alloc, host);
+    let mut fresh = booted(rt, alloc, 24, 1, 3);
+    is_without_build_1(rt, alloc, host, &mut fresh);
 }
 
 // Of build 1, refused that step, nothing is left, and the others have all that they have built.
@@ -139,23 +118,21 @@ fn refused_at<R: Threads + Wait + Abort + Clock + Sync>(
     alloc: Global,
     waiting: Waiting,
     refused: usize,
-) -> Result<(), Fail> {
-    let host = host_after(rt, alloc, waiting, refused)?;
-    is_left_by_two(rt, alloc, &host)
+) {
+    let host = host_after(rt, alloc, waiting, refused);
+    is_left_by_two(rt, alloc, &host);
 }
 
 #[test]
-fn build_1_is_refused_behind_build_2(rt: HostRuntime) -> Result<(), Fail> {
+fn build_1_is_refused_behind_build_2(rt: HostRuntime) {
     for refused in 0..STEPS {
-        refused_at(&rt, rt.alloc(), Waiting::ForBuild2, refused)?;
+        refused_at(&rt, rt.alloc(), Waiting::ForBuild2, refused);
     }
-    Ok(())
 }
 
 #[test]
-fn build_1_is_refused_before_the_others(rt: HostRuntime) -> Result<(), Fail> {
+fn build_1_is_refused_before_the_others(rt: HostRuntime) {
     for refused in 0..STEPS {
-        refused_at(&rt, rt.alloc(), Waiting::ForBuild1, refused)?;
+        refused_at(&rt, rt.alloc(), Waiting::ForBuild1, refused);
     }
-    Ok(())
 }

@@ -4,7 +4,6 @@ use crate::wanted::{equal, holds};
 use granule_addr::BuildId;
 use realm_plan::PlanFault;
 use realm_program::{Fault, replay};
-use std::test::Fail;
 
 const PLAN: &[u8] = br#"pages = 1
 order = [0, 0, 0, 0]
@@ -57,15 +56,14 @@ fn a_build_that_the_plan_has_not_is_not_left_out(rt: HostRuntime) {
 }
 
 #[test]
-fn a_plan_that_is_too_long_is_not_read_to_its_end(rt: HostRuntime) -> Result<(), Fail> {
-    let spaces = vec![in rt.alloc(); b' '; 1_048_600]?;
+fn a_plan_that_is_too_long_is_not_read_to_its_end(rt: HostRuntime) {
+    let spaces = vec![in rt.alloc(); b' '; 1_048_600].expect(&rt, "memory");
     let mut input = told_source(&spaces, 1000, None);
     let mut output = told_sink(rt.alloc(), 1, None, false);
     let outcome = replay(rt.alloc(), &mut input, &mut output, None);
     let is_limit = matches!(outcome, Err(Fault::Plan(PlanFault::Limit)));
     holds(&rt, "it is too long", is_limit);
     equal(&rt, "bytes left", input.device().rest.len() as u64, 23);
-    Ok(())
 }
 
 #[test]

@@ -1,39 +1,32 @@
 //! What the reports of guests have to be.
 use crate::steps::{ENTER, STEPS};
+use crate::wanted::{equal, holds, same_lines};
 use granule_addr::RecNo;
 use realm_host::{Kind, Refusal, Reply, Undone};
 use realm_model::Rmi;
 use std::alloc::Global;
 use std::process::Abort;
-use std::test::Fail;
 use workers::{Answer, Asked, Line, Report};
 
 // A place of a report has that question and that answer.
 fn line(rt: &impl Abort, report: &Report, place: usize, asked: Asked, answer: Answer) {
-    let seen = report.lines.as_slice().get(place).copied();
-    assert_eq!(rt; seen, Some(Line { asked, answer }));
+    let seen = report.lines.get(place).expect(rt, "a line");
+    holds(rt, "the line", *seen == Line { asked, answer });
 }
 
 // The first steps of a report are accepted, each at its own place.
 fn accepted(rt: &impl Abort, report: &Report, steps: usize) {
     for step in 0..steps {
-        let is_accepted = match report.lines.as_slice().get(step) {
-            Some(
-                Line {
-                    asked: Asked::Step(place),
-                    answer: Answer::Replied(_),
-                },
-            ) => *place == step,
-            _ => false,
-        };
-        assert!(rt; is_accepted, "step {step}");
+        let line = report.lines.get(step).expect(rt, "a line");
+        holds(rt, "its own place", line.asked == Asked::Step(step));
+        holds(rt, "accepted", matches!(line.answer, Answer::Replied(_)));
     }
 }
 
 /// Each step is accepted, and nothing else was asked.
 pub(crate) fn is_accepted(rt: &impl Abort, report: &Report) {
     accepted(rt, report, STEPS);
-    assert_eq!(rt; report.lines.len(), STEPS);
+    equal(rt, "lines", report.lines.len() as u64, STEPS as u64);
 }
 
 // What a step opens.
@@ -50,30 +43,26 @@ fn opened(step: usize) -> Option<Kind> {
 }
 
 // The undos of the first steps, the newest first, until nothing is open.
-fn undos_of(alloc: Global, steps: usize) -> Result<Vec<Line>, Fail> {
+fn undos_of(rt: &impl Abort, alloc: Global, steps: usize) -> Vec<Line> {
     let mut undos = Vec::new(alloc);
     let mut left = 0u16;
     for step in 0..steps {
         if let Some(kind) = opened(step) {
             let answer = Answer::Undone(Undone { kind, left });
-            undos.push(Line {
+            let undo = Line {
                 asked: Asked::Undo,
                 answer,
-            })?;
+            };
+            undos.push(undo).expect(rt, "memory");
             left = left.saturating_add(1);
         }
     }
     undos.reverse();
-    Ok(undos)
+    undos
 }
 
 /// The steps before one are accepted, and that one is refused. Then a REC that runs exits, and all is undone.
-pub(crate) fn is_refused(
-    rt: &impl Abort,
-    alloc: Global,
-    report: &Report,
-    refused: usize,
-) -> Result<(), Fail> {
+pub(crate) fn is_refused(rt: &impl Abort, alloc: Global, report: &Report, refused: usize) {
     accepted(rt, report, refused);
     let refusal = Answer::Refused(Refusal::Rmi(Rmi::INPUT));
     line(rt, report, refused, Asked::Step(refused), refusal);
@@ -83,8 +72,7 @@ pub(crate) fn is_refused(
         line(rt, report, place, exit, Answer::Replied(Reply::Done));
         place = place.saturating_add(1);
     }
-    let undos = undos_of(alloc, refused)?;
-    let rest = report.lines.as_slice().get(place..);
-    assert_eq!(rt; rest, Some(undos.as_slice()));
-    Ok(())
+    let undos = undos_of(rt, alloc, refused);
+    let rest = report.lines.as_slice().get(place..).expect(rt, "the undos");
+    same_lines(rt, rest, undos.as_slice());
 }

@@ -8,7 +8,6 @@ use granule_addr::BuildId;
 use realm_plan::PlanFault;
 use realm_program::Fault;
 use run_program::run;
-use std::test::Fail;
 
 const PLAN: &[u8] = br#"pages = 2
 [[build]]
@@ -40,16 +39,15 @@ fn each_build_reads_after_both_have_filled(rt: HostRuntime) {
 }
 
 #[test]
-fn the_lowest_build_that_waits_in_vain_is_told(rt: HostRuntime) -> Result<(), Fail> {
-    let second = BuildId::new(1).ok_or("build 1")?;
+fn the_lowest_build_that_waits_in_vain_is_told(rt: HostRuntime) {
+    let second = BuildId::new(1).unwrap();
     let mut input = told_source(PLAN, 1000, None);
     let mut output = told_sink(rt.alloc(), 1000, None, false);
     let outcome = run(&rt, rt.alloc(), &mut input, &mut output, &ForBuild0);
-    let fault = outcome.err().ok_or("a fault")?;
+    let fault = outcome.expect_err(&rt, "a fault");
     holds(&rt, "build 1 waits", fault == Fault::Stuck(second));
     equal(&rt, "the status", fault.status() as u64, 3);
     equal(&rt, "writes", output.device().writes, 0);
-    Ok(())
 }
 
 #[test]

@@ -3,7 +3,7 @@ ghost use Rattle.std.specs.Prelude.{◌≡◌, []};
 ghost use Rattle.builders.specs.Names.{AreNamed};
 
 use crate::hosts::{booted, started};
-use crate::wanted::equal;
+use crate::wanted::{equal, holds};
 use builders::{Blanks, CloseFault, Ledgers, Seat, Shared};
 use granule_addr::{BuildId, PageOff};
 use page_arena::PlainStore;
@@ -12,7 +12,6 @@ use std::alloc::Global;
 use std::marker::Brand;
 use std::process::Abort;
 use std::sync::Wait;
-use std::test::Fail;
 
 // A seat asks for a command, and is answered so.
 fn asks<R: Wait + Abort, L: Ledgers>(
@@ -32,14 +31,13 @@ fn fills<R: Wait + Abort, L: Ledgers>(
     shared: &Shared<PlainStore, L>,
     seat: &mut Seat<L>,
     value: u8,
-) -> Result<(), Fail> {
-    let offset = PageOff::new(7).ok_or("an offset")?;
+) {
+    let offset = PageOff::new(7).unwrap();
     let (take, fill) = (Cmd::Take { order: 0 }, Cmd::Fill { page: 0, value });
     asks(rt, shared, seat, take, Ok(Reply::FirstPage(0)));
     asks(rt, shared, seat, fill, Ok(Reply::Done));
     let peek = Cmd::Peek { page: 0, offset };
     asks(rt, shared, seat, peek, Ok(Reply::Byte(value)));
-    Ok(())
 }
 
 // A seat keeps a mark, delegates its page, and goes back.
@@ -47,16 +45,17 @@ fn goes_back<R: Wait + Abort, L: Ledgers>(
     rt: &R,
     shared: &Shared<PlainStore, L>,
     seat: &mut Seat<L>,
-) -> Result<(), Fail> {
-    let mark = shared.mark(rt, seat).ok().ok_or("a mark")?;
+) {
+    let mark = shared.mark(rt, seat).expect(rt, "a mark");
     asks(rt, shared, seat, Cmd::Delegate { page: 0 }, Ok(Reply::Done));
-    assert_eq!(rt; shared.check_back(rt, seat, mark), Ok(1));
+    let above = shared.check_back(rt, seat, mark);
+    holds(rt, "one act is above the mark", above == Ok(1));
     let undone = Undone {
         kind: Kind::Delegate,
         left: 1,
     };
-    assert_eq!(rt; shared.undo(rt, seat), Ok(undone));
-    Ok(())
+    let answer = shared.undo(rt, seat);
+    holds(rt, "it is undone", answer == Ok(undone));
 }
 
 // A seat works on its page, and is refused another's.
@@ -65,13 +64,12 @@ fn works<R: Wait + Abort, L: Ledgers>(
     shared: &Shared<PlainStore, L>,
     seat: &mut Seat<L>,
     value: u8,
-) -> Result<(), Fail> {
-    fills(rt, shared, seat, value)?;
-    goes_back(rt, shared, seat)?;
+) {
+    fills(rt, shared, seat, value);
+    goes_back(rt, shared, seat);
     let fill = Cmd::Fill { page: 1, value };
     asks(rt, shared, seat, fill, Err(Refusal::NotLeased(1)));
     equal(rt, "events", seat.count() as u64, 5);
-    Ok(())
 }
 
 // The seats of two builds work, one after the other.
@@ -79,13 +77,12 @@ fn all_work<R: Wait + Abort, L: Ledgers>(
     rt: &R,
     shared: &Shared<PlainStore, L>,
     seats: &mut [Seat<L>],
-) -> Result<(), Fail> {
+) {
     equal(rt, "seats", seats.len() as u64, 2);
     for seat in seats {
         let value = 10 + seat.build().number();
-        works(rt, shared, seat, value)?;
+        works(rt, shared, seat, value);
     }
-    Ok(())
 }
 
 // Closes a host that has ten events. At `Some` is what was wrong.
@@ -110,17 +107,17 @@ fn closed<R: Wait + Abort, L: Ledgers>(
     blanks: Blanks,
     host: Host<PlainStore>,
     with_both: bool,
-) -> Result<Option<CloseFault>, Fail>
+) -> Option<CloseFault>
     requires empty { host.history ≡ [] }
     requires opened { host ≡ L.opened }
     requires named { AreNamed L.names blanks }
 {
-    let (shared, mut seats) = started::<PlainStore, L>(alloc, blanks, host)?;
-    all_work(rt, &shared, seats.as_mut_slice())?;
+    let (shared, mut seats) = started::<PlainStore, L>(rt, alloc, blanks, host);
+    all_work(rt, &shared, seats.as_mut_slice());
     if !with_both {
         seats.pop();
     }
-    Ok(fault_of_close(rt, shared, seats))
+    fault_of_close(rt, shared, seats)
 }
 
 // As `closed`, on a host of four pages and two builds.
@@ -128,21 +125,24 @@ fn booted_and_closed<R: Wait + Abort>(
     rt: &R,
     alloc: Global,
     with_both: bool,
-) -> Result<Option<CloseFault>, Fail> {
-    let host = booted(alloc, 4, 0, 2)?;
+) -> Option<CloseFault> {
+    let host = booted(rt, alloc, 4, 0, 2);
     closed::<R, Brand>(rt, alloc, Blanks::new(), host, with_both)
 }
 
 #[test]
-fn closes_with_each_seat(rt: HostRuntime) -> Result<(), Fail> {
-    assert_eq!(rt; booted_and_closed(&rt, rt.alloc(), true)?, None);
-    Ok(())
+fn closes_with_each_seat(rt: HostRuntime) {
+    let fault = booted_and_closed(&rt, rt.alloc(), true);
+    holds(&rt, "it is closed", fault.is_none());
 }
 
 #[test]
-fn misses_a_seat(rt: HostRuntime) -> Result<(), Fail> {
+fn misses_a_seat(rt: HostRuntime) {
     let second = BuildId::new(1).unwrap();
-    let want = Some(CloseFault::SeatMissing(second));
-    assert_eq!(rt; booted_and_closed(&rt, rt.alloc(), false)?, want);
-    Ok(())
+    let fault = booted_and_closed(&rt, rt.alloc(), false);
+    holds(
+        &rt,
+        "a seat is missing",
+        fault == Some(CloseFault::SeatMissing(second)),
+    );
 }

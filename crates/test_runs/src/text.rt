@@ -1,28 +1,27 @@
 //! The lines of refusals that no plan meets.
 use crate::lines::build;
+use crate::wanted::same_text;
 use build_commands::{Refusal, Step};
 use plan_runs::{TurnAnswer, push_turn};
 use plan_steps::PlanStep;
 use std::alloc::Global;
 use std::process::Abort;
-use std::test::Fail;
 
 // The turn of an undo of build 7 that is refused has that line.
-fn has_line(rt: &impl Abort, alloc: Global, refusal: Refusal, line: &str) -> Result<(), Fail> {
+fn has_line(rt: &impl Abort, alloc: Global, refusal: Refusal, line: &str) {
     let undo = PlanStep::Whole(Step::Undo);
     let mut text = String::new(alloc);
-    push_turn(&mut text, build(7), &undo, TurnAnswer::Refused(refusal))?;
-    assert_eq!(rt; text.as_str(), line);
-    Ok(())
+    push_turn(&mut text, build(7), &undo, TurnAnswer::Refused(refusal)).expect(rt, "memory");
+    same_text(rt, text.as_str(), line);
 }
 
 #[test]
-fn lines_of_refusals_that_no_plan_meets(rt: HostRuntime) -> Result<(), Fail> {
-    has_line(&rt, rt.alloc(), Refusal::NoBuild, "7 undo = no 1 NoBuild\n")?;
+fn lines_of_refusals_that_no_plan_meets(rt: HostRuntime) {
+    has_line(&rt, rt.alloc(), Refusal::NoBuild, "7 undo = no 1 NoBuild\n");
     has_line(
         &rt,
         rt.alloc(),
         Refusal::Aborting,
         "7 undo = no 2 Aborting\n",
-    )
+    );
 }

@@ -1,9 +1,10 @@
 //! Workers of a shared host in threads of their own: what they are answered, and which build is told that has not ended.
-ghost use Rattle.std.specs.Prelude.{◌≡◌, [], All, IfOk};
+ghost use Rattle.std.specs.Prelude.{◌≡◌, [], All};
 ghost use Rattle.builders.specs.Names.{AreNamed};
 
 use crate::gates::{ForBuild0, Together};
 use crate::hosts::{booted, closed, started};
+use crate::wanted::{equal, holds, same_lines, same_text};
 use build_commands::Step;
 use builders::{Blanks, Ledgers, OpenGate, Seat, Shared, Worker, run_builds};
 use granule_addr::{BuildId, PageOff};
@@ -11,11 +12,10 @@ use page_arena::PlainStore;
 use plan_runs::map_text;
 use realm_host::{Cmd, Host, Kind, Refusal, Reply, Undone};
 use realm_model::Rmi;
-use std::alloc::{AllocError, Global};
+use std::alloc::Global;
 use std::marker::{Brand, Send, Sync};
 use std::process::Abort;
 use std::sync::Wait;
-use std::test::Fail;
 use std::thread::Threads;
 use workers::{Answer, Asked, Gate, Line, Report};
 
@@ -45,19 +45,24 @@ fn peek(offset: u16) -> Step {
     Step::Ask(Cmd::Peek { page: 0, offset })
 }
 
+// The steps of a plan.
+fn plan<const N: usize>(rt: &impl Abort, alloc: Global, steps: [Step; N]) -> Vec<Step> {
+    Vec::from_array(alloc, steps).expect(rt, "memory")
+}
+
 // Build 0 fills a page, build 1 is refused at its third step, and build 2 reads what it filled.
-fn three_plans(alloc: Global) -> Result<Vec<Vec<Step>>, Fail> {
-    let fills = Vec::from_array(alloc, [take(1), fill(0, 1)])?;
-    let is_refused = Vec::from_array(alloc, [take(1), delegate(), delegate(), fill(1, 5)])?;
-    let reads = Vec::from_array(alloc, [take(0), fill(0, 2), peek(4095)])?;
-    Ok(Vec::from_array(alloc, [fills, is_refused, reads])?)
+fn three_plans(rt: &impl Abort, alloc: Global) -> Vec<Vec<Step>> {
+    let fills = plan(rt, alloc, [take(1), fill(0, 1)]);
+    let is_refused = plan(rt, alloc, [take(1), delegate(), delegate(), fill(1, 5)]);
+    let reads = plan(rt, alloc, [take(0), fill(0, 2), peek(4095)]);
+    Vec::from_array(alloc, [fills, is_refused, reads]).expect(rt, "memory")
 }
 
 // Both builds fill a page and read from it.
-fn two_plans(alloc: Global) -> Result<Vec<Vec<Step>>, Fail> {
-    let first = Vec::from_array(alloc, [take(0), fill(0, 9), peek(0)])?;
-    let second = Vec::from_array(alloc, [take(0), fill(0, 3), peek(0)])?;
-    Ok(Vec::from_array(alloc, [first, second])?)
+fn two_plans(rt: &impl Abort, alloc: Global) -> Vec<Vec<Step>> {
+    let first = plan(rt, alloc, [take(0), fill(0, 9), peek(0)]);
+    let second = plan(rt, alloc, [take(0), fill(0, 3), peek(0)]);
+    Vec::from_array(alloc, [first, second]).expect(rt, "memory")
 }
 
 fn answered(place: usize, answer: Answer) -> Line {
@@ -84,62 +89,65 @@ fn undone(kind: Kind, left: u16) -> Line {
 }
 
 // The report of a build has these lines.
-fn has_lines(rt: &impl Abort, outcome: &Outcome, number: u8, want: &[Line]) -> Result<(), Fail> {
-    let report = outcome.reports.get(number as usize).ok_or("a report")?;
-    assert_eq!(rt; report.build.number(), number);
-    assert_eq!(rt; report.lines.as_slice(), want);
-    Ok(())
+fn has_lines(rt: &impl Abort, outcome: &Outcome, number: u8, want: &[Line]) {
+    let report = outcome.reports.get(number as usize).expect(rt, "a report");
+    equal(rt, "the build", report.build.number() as u64, number as u64);
+    same_lines(rt, report.lines.as_slice(), want);
 }
 
 // The worker of a seat that has asked nothing.
-fn worker_of<L: Ledgers>(alloc: Global, seat: Seat<L>, steps: Vec<Step>) -> Result<Worker<L>, Fail>
-    ensures { IfOk result (λ worker. worker.lines ≡ []) }
+fn worker_of<L: Ledgers>(
+    rt: &impl Abort,
+    alloc: Global,
+    seat: Seat<L>,
+    steps: Vec<Step>,
+) -> Worker<L>
+    ensures { result.lines ≡ [] }
 {
-    if seat.count() > 0 || steps.len() > 1024 {
-        return Err("a new seat and few steps".into());
-    }
+    assert!(rt; seat.count() == 0);
+    assert!(rt; steps.len() <= 1024);
     match Worker::build(alloc, seat, steps) {
-        Ok(worker) => Ok(worker),
-        Err((error, _, _)) => Err(error.into()),
+        Ok(worker) => worker,
+        Err(_) => panic!(rt; "there is no memory for a report"),
     }
 }
 
 // The workers of all seats, the last one first.
 fn workers_of<L: Ledgers>(
+    rt: &impl Abort,
     alloc: Global,
     mut seats: Vec<Seat<L>>,
     mut plans: Vec<Vec<Step>>,
-) -> Result<Vec<Worker<L>>, Fail>
-    ensures { IfOk result (λ workers. All (λ worker. worker.lines ≡ []) workers.items) }
+) -> Vec<Worker<L>>
+    ensures { All (λ worker. worker.lines ≡ []) result.items }
 {
     let mut workers = Vec::new(alloc);
     for _ in 0..seats.len() {
-        let seat = seats.pop().ok_or("a seat")?;
-        let steps = plans.pop().ok_or("steps")?;
-        workers.push(worker_of(alloc, seat, steps)?)?;
+        let seat = seats.pop().expect(rt, "a seat");
+        let steps = plans.pop().expect(rt, "steps");
+        match workers.push(worker_of(rt, alloc, seat, steps)) {
+            Ok(()) => {}
+            Err(_) => panic!(rt; "there is no memory for a worker"),
+        }
     }
-    Ok(workers)
+    workers
 }
 
 // The seats and the reports of workers, by build.
 fn ended<L: Ledgers>(
+    rt: &impl Abort,
     alloc: Global,
     mut workers: Vec<Worker<L>>,
-) -> Result<(Vec<Seat<L>>, Vec<Report>), Fail> {
+) -> (Vec<Seat<L>>, Vec<Report>) {
     let mut seats = Vec::new(alloc);
     let mut reports = Vec::new(alloc);
     for _ in 0..workers.len() {
-        let worker = workers.pop().ok_or("a worker")?;
+        let worker = workers.pop().expect(rt, "a worker");
         let (seat, _steps, report) = worker.end();
-        seats.push(seat)?;
-        reports.push(report)?;
+        seats.push(seat).expect(rt, "memory");
+        reports.push(report).expect(rt, "memory");
     }
-    Ok((seats, reports))
-}
-
-// The map of a host, which is let go.
-fn map_of(alloc: Global, host: Host<PlainStore>) -> Result<String, AllocError> {
-    map_text(alloc, &host)
+    (seats, reports)
 }
 
 // Builds of a shared host work side by side, each by its plan. Their seats and reports come back.
@@ -150,11 +158,11 @@ fn run_plans<R: Threads + Wait + Abort + Sync, G: Gate + Sync, L: Ledgers + Send
     seats: Vec<Seat<L>>,
     gate: &G,
     plans: Vec<Vec<Step>>,
-) -> Result<(Result<(), BuildId>, Vec<Seat<L>>, Vec<Report>), Fail> {
-    let mut workers = workers_of(alloc, seats, plans)?;
+) -> (Result<(), BuildId>, Vec<Seat<L>>, Vec<Report>) {
+    let mut workers = workers_of(rt, alloc, seats, plans);
     let ends = run_builds(rt, shared, workers.as_mut_slice(), gate);
-    let (seats, reports) = ended(alloc, workers)?;
-    Ok((ends, seats, reports))
+    let (seats, reports) = ended(rt, alloc, workers);
+    (ends, seats, reports)
 }
 
 // Builds of a host work side by side, each by its plan.
@@ -165,15 +173,15 @@ fn work_together<R: Threads + Wait + Abort + Sync, G: Gate + Sync, L: Ledgers + 
     host: Host<PlainStore>,
     gate: &G,
     plans: Vec<Vec<Step>>,
-) -> Result<Outcome, Fail>
+) -> Outcome
     requires empty { host.history ≡ [] }
     requires opened { host ≡ L.opened }
     requires named { AreNamed L.names blanks }
 {
-    let (shared, seats) = started::<PlainStore, L>(alloc, blanks, host)?;
-    let (ends, seats, reports) = run_plans(rt, alloc, &shared, seats, gate, plans)?;
-    let map = map_of(alloc, closed(shared, seats)?)?;
-    Ok(Outcome { ends, reports, map })
+    let (shared, seats) = started::<PlainStore, L>(rt, alloc, blanks, host);
+    let (ends, seats, reports) = run_plans(rt, alloc, &shared, seats, gate, plans);
+    let map = map_text(alloc, &closed(rt, shared, seats)).expect(rt, "memory");
+    Outcome { ends, reports, map }
 }
 
 // As `work_together`, on a host of so many pages, with a build for each plan.
@@ -183,9 +191,9 @@ fn boot_and_work<R: Threads + Wait + Abort + Sync, G: Gate + Sync>(
     pages: u16,
     gate: &G,
     plans: Vec<Vec<Step>>,
-) -> Result<Outcome, Fail> {
-    let builds = u8::try_from(plans.len()).ok().ok_or("few builds")?;
-    let host = booted(alloc, pages, 0, builds)?;
+) -> Outcome {
+    let builds = u8::try_from(plans.len()).expect(rt, "few builds");
+    let host = booted(rt, alloc, pages, 0, builds);
     work_together::<R, G, Brand>(rt, alloc, Blanks::new(), host, gate, plans)
 }
 
@@ -196,20 +204,19 @@ fn is_outcome(
     ends: Result<(), BuildId>,
     lines: &[&[Line]],
     map: &str,
-) -> Result<(), Fail> {
-    assert_eq!(rt; outcome.ends, ends);
+) {
+    holds(rt, "the ends", outcome.ends == ends);
     let mut number = 0;
     for want in lines {
-        has_lines(rt, outcome, number, want)?;
+        has_lines(rt, outcome, number, want);
         number = number.saturating_add(1);
     }
-    assert_eq!(rt; outcome.map.as_str(), map);
-    Ok(())
+    same_text(rt, outcome.map.as_str(), map);
 }
 
 #[test]
-fn one_of_three_is_refused(rt: HostRuntime) -> Result<(), Fail> {
-    let outcome = boot_and_work(&rt, rt.alloc(), 16, &OpenGate, three_plans(rt.alloc())?)?;
+fn one_of_three_is_refused(rt: HostRuntime) {
+    let outcome = boot_and_work(&rt, rt.alloc(), 16, &OpenGate, three_plans(&rt, rt.alloc()));
     let is_refused = [
         taken(),
         replied(1, Reply::Done),
@@ -224,13 +231,19 @@ fn one_of_three_is_refused(rt: HostRuntime) -> Result<(), Fail> {
 2 page 0 UNDELEGATED 8192
 free 13
 ";
-    is_outcome(&rt, &outcome, Ok(()), &[&fills, &is_refused, &reads], map)
+    is_outcome(&rt, &outcome, Ok(()), &[&fills, &is_refused, &reads], map);
 }
 
 #[test]
-fn two_of_three_are_stopped(rt: HostRuntime) -> Result<(), Fail> {
+fn two_of_three_are_stopped(rt: HostRuntime) {
     let second = BuildId::new(1).unwrap();
-    let outcome = boot_and_work(&rt, rt.alloc(), 16, &ForBuild0, three_plans(rt.alloc())?)?;
+    let outcome = boot_and_work(
+        &rt,
+        rt.alloc(),
+        16,
+        &ForBuild0,
+        three_plans(&rt, rt.alloc()),
+    );
     let fills = [taken(), replied(1, Reply::Done)];
     let is_stopped = [taken()];
     let map = "0 page 0 UNDELEGATED 4096
@@ -246,18 +259,18 @@ free 11
         Err(second),
         &[&fills, &is_stopped, &is_stopped],
         map,
-    )
+    );
 }
 
 #[test]
-fn each_reads_after_both_have_filled(rt: HostRuntime) -> Result<(), Fail> {
+fn each_reads_after_both_have_filled(rt: HostRuntime) {
     let gate = Together::from(&rt);
-    let outcome = boot_and_work(&rt, rt.alloc(), 2, &gate, two_plans(rt.alloc())?)?;
+    let outcome = boot_and_work(&rt, rt.alloc(), 2, &gate, two_plans(&rt, rt.alloc()));
     let first = [taken(), replied(1, Reply::Done), replied(2, Reply::Byte(9))];
     let second = [taken(), replied(1, Reply::Done), replied(2, Reply::Byte(3))];
     let map = "0 page 0 UNDELEGATED 36864
 1 page 0 UNDELEGATED 12288
 free 0
 ";
-    is_outcome(&rt, &outcome, Ok(()), &[&first, &second], map)
+    is_outcome(&rt, &outcome, Ok(()), &[&first, &second], map);
 }

@@ -3,7 +3,6 @@ use crate::devices::{Sink, Source, told_sink, told_source};
 use crate::wanted::{equal, holds};
 use realm_program::{ReadError, read_whole};
 use std::process::Abort;
-use std::test::Fail;
 use told_device::Told;
 
 // A reader was asked so often, and that is told.
@@ -21,14 +20,13 @@ fn was_written(rt: &impl Abort, output: &Told<Sink>, has_failed: bool, writes: u
 }
 
 #[test]
-fn reads_an_input(rt: HostRuntime) -> Result<(), Fail> {
+fn reads_an_input(rt: HostRuntime) {
     for (bytes, reads) in [(b"pages = 1\n".as_slice(), 5), (b"", 1)] {
         let mut input = told_source(bytes, 3, None);
-        let got = read_whole(rt.alloc(), &mut input).ok().ok_or("refused")?;
+        let got = read_whole(rt.alloc(), &mut input).expect(&rt, "an input");
         holds(&rt, "the bytes", got.as_slice() == bytes);
         was_read(&rt, &input, false, reads);
     }
-    Ok(())
 }
 
 #[test]
@@ -43,19 +41,18 @@ fn asks_no_reader_again_that_has_failed(rt: HostRuntime) {
 }
 
 #[test]
-fn keeps_no_more_than_it_must(rt: HostRuntime) -> Result<(), Fail> {
+fn keeps_no_more_than_it_must(rt: HostRuntime) {
     for (size, most, kept, reads) in [
         (1_048_576, 4096, 1_048_576, 257),
         (1_048_577, 1, 1_048_577, 1_048_577),
         (1_100_000, 4096, 1_048_577, 257),
     ] {
-        let spaces = vec![in rt.alloc(); b' '; size]?;
+        let spaces = vec![in rt.alloc(); b' '; size].expect(&rt, "memory");
         let mut input = told_source(&spaces, most, None);
-        let bytes = read_whole(rt.alloc(), &mut input).ok().ok_or("refused")?;
+        let bytes = read_whole(rt.alloc(), &mut input).expect(&rt, "an input");
         equal(&rt, "bytes", bytes.len() as u64, kept);
         was_read(&rt, &input, false, reads);
     }
-    Ok(())
 }
 
 #[test]

@@ -3,10 +3,21 @@
 //! A test is proved before it runs, and each comparison in its body branches: written out there, a row of them costs far
 //! more than a row of these calls.
 use std::process::Abort;
+use workers::Line;
 
 /// What is seen is what is wanted.
 pub(crate) fn equal(rt: &impl Abort, what: &str, seen: u64, want: u64) {
     assert_eq!(rt; seen, want, "{what}");
+}
+
+/// A text is what is wanted.
+pub(crate) fn same_text(rt: &impl Abort, seen: &str, want: &str) {
+    assert_eq!(rt; seen, want);
+}
+
+/// The lines of a report are those that are wanted.
+pub(crate) fn same_lines(rt: &impl Abort, seen: &[Line], want: &[Line]) {
+    assert_eq!(rt; seen, want);
 }
 
 /// It holds: 1, and not 0.

@@ -3,14 +3,14 @@ ghost use Rattle.std.specs.Prelude.{◌≡◌, ◌+◌, ◌*◌, ◌≤◌, [], 
 
 use crate::lines;
 use crate::lines::{replied, step};
+use crate::wanted::{holds, same_lines};
 use build_books::{Books, Mark};
 use build_commands::{Cmd, Refusal, Reply, Step};
 use granule_addr::{BuildId, RecNo};
 use realm_host::{Kind, Undone};
-use std::alloc::{AllocError, Global};
+use std::alloc::Global;
 use std::process::Abort;
 use std::sync::atomic::{AtomicU64, Ordering};
-use std::test::Fail;
 use workers::{Answer, Asked, Gate, Line, Report, Stuck, Teller, work};
 
 // Accepts all questions but those two, counted from 0. An undo always leaves 1.
@@ -152,9 +152,11 @@ fn enter(number: u16) -> Step {
 }
 
 // The mark of a build that has done nothing.
-fn first_mark(alloc: Global) -> Result<Mark, AllocError> {
-    let books = Books::build(alloc, 1, 1, 0, 1, 16)?;
-    Ok(books.mark_now(BuildId::new(0).unwrap()))
+fn first_mark(rt: &impl Abort, alloc: Global) -> Mark {
+    match Books::build(alloc, 1, 1, 0, 1, 16) {
+        Ok(books) => books.mark_now(BuildId::new(0).unwrap()),
+        Err(_) => panic!(rt; "there is no memory for books"),
+    }
 }
 
 // Whether a worker takes the steps to their end.
@@ -180,28 +182,20 @@ fn takes_all(report: &mut Report, case: &Case, mark: Mark, steps: &[Step]) -> bo
 }
 
 // A worker takes the steps, and has these lines then, and has ended or not.
-fn works(
-    rt: &impl Abort,
-    alloc: Global,
-    case: &Case,
-    steps: &[Step],
-    want: &[Line],
-    ended: bool,
-) -> Result<(), Fail> {
+fn works(rt: &impl Abort, alloc: Global, case: &Case, steps: &[Step], want: &[Line], ended: bool) {
     assert!(rt; steps.len() <= 16);
-    let mark = first_mark(alloc)?;
+    let mark = first_mark(rt, alloc);
     let mut report = Report {
         build: BuildId::new(0).unwrap(),
-        lines: Vec::with_capacity(alloc, 2 * steps.len() + 1)?,
+        lines: Vec::with_capacity(alloc, 2 * steps.len() + 1).expect(rt, "memory"),
     };
     let has_ended = takes_all(&mut report, case, mark, steps);
-    assert_eq!(rt; has_ended, ended);
-    assert_eq!(rt; report.lines.as_slice(), want);
-    Ok(())
+    holds(rt, "it ends as is wanted", has_ended == ended);
+    same_lines(rt, report.lines.as_slice(), want);
 }
 
 #[test]
-fn refused_step_is_followed_by_undos(rt: HostRuntime) -> Result<(), Fail> {
+fn refused_step_is_followed_by_undos(rt: HostRuntime) {
     let steps = [delegate(), delegate(), delegate(), Step::Undo];
     let case = Case { refused: 2, ..ALL };
     let want = [
@@ -211,11 +205,11 @@ fn refused_step_is_followed_by_undos(rt: HostRuntime) -> Result<(), Fail> {
         undone(Asked::Undo),
         undone(Asked::Undo),
     ];
-    works(&rt, rt.alloc(), &case, &steps, &want, true)
+    works(&rt, rt.alloc(), &case, &steps, &want, true);
 }
 
 #[test]
-fn refused_undo_ends_it(rt: HostRuntime) -> Result<(), Fail> {
+fn refused_undo_ends_it(rt: HostRuntime) {
     let steps = [delegate(), delegate(), delegate()];
     let case = Case {
         refused: 2,
@@ -223,11 +217,11 @@ fn refused_undo_ends_it(rt: HostRuntime) -> Result<(), Fail> {
         ..ALL
     };
     let want = [done(0), done(1), refused(2), undo_refused()];
-    works(&rt, rt.alloc(), &case, &steps, &want, true)
+    works(&rt, rt.alloc(), &case, &steps, &want, true);
 }
 
 #[test]
-fn nothing_is_told_of_a_turn_that_does_not_come(rt: HostRuntime) -> Result<(), Fail> {
+fn nothing_is_told_of_a_turn_that_does_not_come(rt: HostRuntime) {
     let steps = [delegate(), delegate(), delegate()];
     let case = Case {
         refused: 2,
@@ -235,11 +229,11 @@ fn nothing_is_told_of_a_turn_that_does_not_come(rt: HostRuntime) -> Result<(), F
         ..ALL
     };
     let want = [done(0), done(1), refused(2), undone(Asked::Undo)];
-    works(&rt, rt.alloc(), &case, &steps, &want, false)
+    works(&rt, rt.alloc(), &case, &steps, &want, false);
 }
 
 #[test]
-fn abort_undoes_what_its_own_replies_count(rt: HostRuntime) -> Result<(), Fail> {
+fn abort_undoes_what_its_own_replies_count(rt: HostRuntime) {
     let steps = [delegate(), delegate(), Step::Abort, Step::Abort, Step::Back];
     let want = [
         done(0),
@@ -249,11 +243,11 @@ fn abort_undoes_what_its_own_replies_count(rt: HostRuntime) -> Result<(), Fail> 
         step(3, Answer::Nothing),
         step(4, Answer::Refused(Refusal::NothingToUndo)),
     ];
-    works(&rt, rt.alloc(), &ALL, &steps, &want, true)
+    works(&rt, rt.alloc(), &ALL, &steps, &want, true);
 }
 
 #[test]
-fn running_recs_exit_in_rising_number(rt: HostRuntime) -> Result<(), Fail> {
+fn running_recs_exit_in_rising_number(rt: HostRuntime) {
     let steps = [enter(5), enter(3), delegate(), enter(5), Step::Abort];
     let want = [
         done(0),
@@ -265,11 +259,11 @@ fn running_recs_exit_in_rising_number(rt: HostRuntime) -> Result<(), Fail> {
         exited(5),
         undone(Asked::Undo),
     ];
-    works(&rt, rt.alloc(), &ALL, &steps, &want, true)
+    works(&rt, rt.alloc(), &ALL, &steps, &want, true);
 }
 
 #[test]
-fn way_back_is_no_longer_than_the_journal(rt: HostRuntime) -> Result<(), Fail> {
+fn way_back_is_no_longer_than_the_journal(rt: HostRuntime) {
     let steps = [delegate(), Step::Mark, delegate(), Step::Back, Step::Back];
     let case = Case { above: 7, ..ALL };
     let want = [
@@ -280,11 +274,11 @@ fn way_back_is_no_longer_than_the_journal(rt: HostRuntime) -> Result<(), Fail> {
         undone(Asked::Step(3)),
         step(4, Answer::Nothing),
     ];
-    works(&rt, rt.alloc(), &case, &steps, &want, true)
+    works(&rt, rt.alloc(), &case, &steps, &want, true);
 }
 
 #[test]
-fn looking_back_takes_a_turn(rt: HostRuntime) -> Result<(), Fail> {
+fn looking_back_takes_a_turn(rt: HostRuntime) {
     let steps = [delegate(), Step::Mark, delegate(), Step::Back];
     let case = Case {
         above: 2,
@@ -297,5 +291,5 @@ fn looking_back_takes_a_turn(rt: HostRuntime) -> Result<(), Fail> {
         done(2),
         undone(Asked::Step(3)),
     ];
-    works(&rt, rt.alloc(), &case, &steps, &want, false)
+    works(&rt, rt.alloc(), &case, &steps, &want, false);
 }
