@@ -1,5 +1,6 @@
 //! Reports beside histories, the lines as a run of plans prints them.
 use crate::lines::{build, replied, step, undone};
+use crate::wanted::holds;
 use build_commands::{Cmd, Refusal, Reply, Step};
 use granule_addr::{Gran, Order, PageOff};
 use realm_host::Kind;
@@ -89,12 +90,10 @@ fn fit(
     lines: &[Line],
     want: bool,
 ) {
-    let Ok(lines) = lines.to_vec(alloc) else {
-        panic!(rt; "there is no memory for the lines");
-    };
+    let lines = lines.to_vec(alloc).expect(rt, "memory");
     let build = build(number);
-    let answer = fits(alloc, history, &Report { build, lines }, steps);
-    assert_eq!(rt; answer.ok(), Some(want));
+    let answer = fits(alloc, history, &Report { build, lines }, steps).expect(rt, "memory");
+    holds(rt, "they fit as is wanted", answer == want);
 }
 
 #[test]

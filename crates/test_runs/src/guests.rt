@@ -20,17 +20,15 @@ pub struct Guest<L: Ledgers> {
 }
 
 impl<L: Ledgers> Guest<L> {
-    /// Takes its steps. Where there is no memory for a report, it has none and has not ended.
-    pub(crate) fn run<R: Wait, S: PageStore, G: Gate>(
+    /// Takes its steps.
+    pub(crate) fn run<R: Wait + Abort, S: PageStore, G: Gate>(
         &mut self,
         rt: &R,
         alloc: Global,
         shared: &Shared<S, L>,
         gate: &G,
     ) {
-        let Ok(lines) = Vec::with_capacity(alloc, 2 * STEPS + 1) else {
-            return;
-        };
+        let lines = Vec::with_capacity(alloc, 2 * STEPS + 1).expect(rt, "memory");
         let mut report = Report {
             build: self.seat.build(),
             lines,

@@ -85,28 +85,36 @@ fn all_work<R: Wait + Abort, L: Ledgers>(
     }
 }
 
+fn has_ten_events(rt: &impl Abort, host: &Host<PlainStore>) {
+    equal(rt, "events", host.history().len() as u64, 10);
+}
+
 // Closes a host that has ten events. At `Some` is what was wrong.
 fn fault_of_close<L: Ledgers>(
     rt: &impl Abort,
     shared: Shared<PlainStore, L>,
     seats: Vec<Seat<L>>,
 ) -> Option<CloseFault> {
-    let (fault, host) = match shared.close(seats) {
-        Ok(host) => (None, host),
-        Err((fault, host)) => (Some(fault), host),
-    };
-    equal(rt, "events", host.history().len() as u64, 10);
-    fault
+    match shared.close(seats) {
+        Ok(host) => {
+            has_ten_events(rt, &host);
+            None
+        }
+        Err((fault, host)) => {
+            has_ten_events(rt, &host);
+            Some(fault)
+        }
+    }
 }
 
-// Two builds work on a shared host. It is closed with the seats of both, or with that of build 0 alone; at `Some` is what
-// was wrong then.
+// Two builds work on a shared host. It is closed with so many of their seats, the first ones; at `Some` is what was wrong
+// then.
 fn closed<R: Wait + Abort, L: Ledgers>(
     rt: &R,
     alloc: Global,
     blanks: Blanks,
     host: Host<PlainStore>,
-    with_both: bool,
+    kept: usize,
 ) -> Option<CloseFault>
     requires empty { host.history ≡ [] }
     requires opened { host ≡ L.opened }
@@ -114,32 +122,26 @@ fn closed<R: Wait + Abort, L: Ledgers>(
 {
     let (shared, mut seats) = started::<PlainStore, L>(rt, alloc, blanks, host);
     all_work(rt, &shared, seats.as_mut_slice());
-    if !with_both {
-        seats.pop();
-    }
+    seats.truncate(kept);
     fault_of_close(rt, shared, seats)
 }
 
 // As `closed`, on a host of four pages and two builds.
-fn booted_and_closed<R: Wait + Abort>(
-    rt: &R,
-    alloc: Global,
-    with_both: bool,
-) -> Option<CloseFault> {
+fn booted_and_closed<R: Wait + Abort>(rt: &R, alloc: Global, kept: usize) -> Option<CloseFault> {
     let host = booted(rt, alloc, 4, 0, 2);
-    closed::<R, Brand>(rt, alloc, Blanks::new(), host, with_both)
+    closed::<R, Brand>(rt, alloc, Blanks::new(), host, kept)
 }
 
 #[test]
 fn closes_with_each_seat(rt: HostRuntime) {
-    let fault = booted_and_closed(&rt, rt.alloc(), true);
+    let fault = booted_and_closed(&rt, rt.alloc(), 2);
     holds(&rt, "it is closed", fault.is_none());
 }
 
 #[test]
 fn misses_a_seat(rt: HostRuntime) {
     let second = BuildId::new(1).unwrap();
-    let fault = booted_and_closed(&rt, rt.alloc(), false);
+    let fault = booted_and_closed(&rt, rt.alloc(), 1);
     holds(
         &rt,
         "a seat is missing",

@@ -16,15 +16,13 @@ pub struct Refusing<'a, R: Wait, S: PageStore, L: Ledgers> {
     pub refused: Option<usize>,
 }
 
-// Counts a question, and refuses it if it is that one.
-fn check(asked: &mut usize, refused: Option<usize>) -> Result<(), Refusal> {
+const REFUSAL: Refusal = Refusal::Rmi(Rmi::INPUT);
+
+// Counts a question. Whether it is that one.
+fn is_refused(asked: &mut usize, refused: Option<usize>) -> bool {
     let question = *asked;
     *asked = question.saturating_add(1);
-    if refused == Some(question) {
-        Err(Refusal::Rmi(Rmi::INPUT))
-    } else {
-        Ok(())
-    }
+    refused == Some(question)
 }
 
 impl<'a, R: Wait, S: PageStore, L: Ledgers> Teller for Refusing<'a, R, S, L> {
@@ -34,22 +32,30 @@ impl<'a, R: Wait, S: PageStore, L: Ledgers> Teller for Refusing<'a, R, S, L> {
     ghost loan = { λ refusing. 8 * refusing.teller.seat.ghost_name + refusing.teller.seat.now.build };
 
     fn ask(&mut self, cmd: Cmd) -> Result<Reply, Refusal> {
-        check(&mut self.asked, self.refused)?;
+        if is_refused(&mut self.asked, self.refused) {
+            return Err(REFUSAL);
+        }
         self.teller.ask(cmd)
     }
 
     fn undo(&mut self) -> Result<Undone, Refusal> {
-        check(&mut self.asked, self.refused)?;
+        if is_refused(&mut self.asked, self.refused) {
+            return Err(REFUSAL);
+        }
         self.teller.undo()
     }
 
     fn mark(&mut self) -> Result<Mark, Refusal> {
-        check(&mut self.asked, self.refused)?;
+        if is_refused(&mut self.asked, self.refused) {
+            return Err(REFUSAL);
+        }
         self.teller.mark()
     }
 
     fn check_back(&mut self, mark: Mark) -> Result<u16, Refusal> {
-        check(&mut self.asked, self.refused)?;
+        if is_refused(&mut self.asked, self.refused) {
+            return Err(REFUSAL);
+        }
         self.teller.check_back(mark)
     }
 }
