@@ -85,26 +85,17 @@ fn all_work<R: Wait + Abort, L: Ledgers>(
     }
 }
 
-fn has_ten_events(rt: &impl Abort, host: &Host<PlainStore>) {
-    equal(rt, "events", host.history().len() as u64, 10);
-}
-
-// Closes a host that has ten events. At `Some` is what was wrong.
-fn fault_of_close<L: Ledgers>(
+// A host is closed, or not, and has ten events. At `Some` is what was wrong.
+fn fault_of_close(
     rt: &impl Abort,
-    shared: Shared<PlainStore, L>,
-    seats: Vec<Seat<L>>,
+    closed: &Result<Host<PlainStore>, (CloseFault, Host<PlainStore>)>,
 ) -> Option<CloseFault> {
-    match shared.close(seats) {
-        Ok(host) => {
-            has_ten_events(rt, &host);
-            None
-        }
-        Err((fault, host)) => {
-            has_ten_events(rt, &host);
-            Some(fault)
-        }
-    }
+    let (fault, host) = match closed {
+        Ok(host) => (None, host),
+        Err((fault, host)) => (Some(*fault), host),
+    };
+    equal(rt, "events", host.history().len() as u64, 10);
+    fault
 }
 
 // Two builds work on a shared host. It is closed with so many of their seats, the first ones; at `Some` is what was wrong
@@ -123,7 +114,7 @@ fn closed<R: Wait + Abort, L: Ledgers>(
     let (shared, mut seats) = started::<PlainStore, L>(rt, alloc, blanks, host);
     all_work(rt, &shared, seats.as_mut_slice());
     seats.truncate(kept);
-    fault_of_close(rt, shared, seats)
+    fault_of_close(rt, &shared.close(seats))
 }
 
 // As `closed`, on a host of four pages and two builds.
