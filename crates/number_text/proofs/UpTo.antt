@@ -1,7 +1,10 @@
 -- Numbers that are all at most one maximum, and how many numbers there are.
-use Rattle.std.proofs.Common.{◌≡◌, ℕ, zero, suc, ◌≤◌, ◌<◌, ◌^◌, List, [], ◌∷◌, length, replicate, true, leb, ltb, ◌&&◌, Some, refl, arith}
+use Rattle.std.proofs.Common.{◌≡◌, ℕ, zero, suc, ◌≤◌, ◌<◌, ◌^◌, List, [], ◌∷◌, length, replicate, take, get_or, ◌+◌, true, leb, ltb, ◌&&◌, Some, None, refl, ap, ◌∙◌, arith}
 use Rattle.std.specs.List.{list_all, AllByRecursion}
-use Rattle.std.proofs.lemmas.Bool.{le-leb, leb-true, ltb-true, and_parts}
+use Rattle.std.proofs.lemmas.Bool.{le-leb, lt-leb, leb-true, ltb-true, and_parts}
+use Rattle.std.proofs.lemmas.List.{take_all}
+use Rattle.std.proofs.lemmas.List.Folds.{list_all_at, list_all_more}
+use Rattle.std.proofs.Math.Bool.{and-false}
 use Rattle.arrayvec.specs.ArrayVec.{ArrayVec}
 use Rattle.number_text.specs.Numbers.{AreNumbers}
 use Rattle.number_text.specs.Ranges.{AreAtMost}
@@ -34,6 +37,30 @@ up_to-some most m ns it e =
     let (test, same) = test_from_some (leb (length ns) most && list_all (λ n. leb n m) ns) (record { items = ns }) it e in
     let parts = and_parts (leb (length ns) most) (list_all (λ n. leb n m) ns) test in
     record { few = leb-true (length ns) most parts.0; small = at_most-from_test ns m parts.1; same = same }
+
+-- ---- what a loop over the numbers finds
+
+-- there are more than so many
+pub up_to-long : (most m : ℕ) (ns : List ℕ) → most < length ns → None ≡ up_to most m ns
+up_to-long most m ns long = rw (lt-leb (length ns) most long) refl
+
+-- one is above the maximum
+pub up_to-above : (most m : ℕ) (ns : List ℕ) (i d : ℕ) → i < length ns → m < get_or ns i d → None ≡ up_to most m ns
+up_to-above most m ns i d within above =
+    rw (list_all_at (λ n. leb n m) ns i d within (lt-leb (get_or ns i d) m above), and-false (leb (length ns) most)) refl
+
+-- one more is at most the maximum
+pub small_more : (m : ℕ) (ns : List ℕ) (i d : ℕ) → i < length ns → list_all (λ n. leb n m) (take i ns) ≡ true → get_or ns i d ≤ m
+    → list_all (λ n. leb n m) (take (i + 1) ns) ≡ true
+small_more m ns i d within small low = rw (list_all_more (λ n. leb n m) ns i d within, small, le-leb (get_or ns i d) m low) refl
+
+-- all are
+pub up_to-found : (most m : ℕ) (ns : List ℕ) (it : ArrayVec ℕ) (i : ℕ) → length ns ≤ most → length ns ≤ i → it.items ≡ take i ns
+    → list_all (λ n. leb n m) (take i ns) ≡ true → Some it ≡ up_to most m ns
+up_to-found most m ns it i few past same small =
+    let whole = take_all i ns past in
+    let every : list_all (λ n. leb n m) ns ≡ true = rw whole at small in
+    rw (le-leb (length ns) most few, every) (ap (λ (xs : List ℕ). Some (record { items = xs })) (same ∙ whole))
 
 -- ---- no more numbers than are read
 
