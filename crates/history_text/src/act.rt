@@ -81,22 +81,24 @@ fn page_act(word: &str, numbers: &[u32]) -> Option<Act>
     ensures { result ≡ page_act_at word.now numbers.now }
 {
     match word {
-        "take" => {
-            let (order, first) = block(numbers)?;
-            Some(Act::Take { order, first })
-        }
-        "untake" => {
-            let (order, first) = block(numbers)?;
-            Some(Act::UnTake { order, first })
-        }
+        "take" => match block(numbers) {
+            Some((order, first)) => Some(Act::Take { order, first }),
+            None => None,
+        },
+        "untake" => match block(numbers) {
+            Some((order, first)) => Some(Act::UnTake { order, first }),
+            None => None,
+        },
         "fill" => fill(numbers),
         "peek" => peek(numbers),
-        "delegate" => Some(Act::Delegate {
-            granule: one_granule(numbers)?,
-        }),
-        "undelegate" => Some(Act::Undelegate {
-            granule: one_granule(numbers)?,
-        }),
+        "delegate" => match one_granule(numbers) {
+            Some(granule) => Some(Act::Delegate { granule }),
+            None => None,
+        },
+        "undelegate" => match one_granule(numbers) {
+            Some(granule) => Some(Act::Undelegate { granule }),
+            None => None,
+        },
         _ => None,
     }
 }
@@ -148,22 +150,22 @@ fn table_act(word: &str, numbers: &[u32]) -> Option<Act>
     ensures { result ≡ table_act_at word.now numbers.now }
 {
     match word {
-        "rtt" => {
-            let (granule, ipa, level) = table(numbers)?;
-            Some(Act::Rtt {
+        "rtt" => match table(numbers) {
+            Some((granule, ipa, level)) => Some(Act::Rtt {
                 granule,
                 ipa,
                 level,
-            })
-        }
-        "unrtt" => {
-            let (granule, ipa, level) = table(numbers)?;
-            Some(Act::UnRtt {
+            }),
+            None => None,
+        },
+        "unrtt" => match table(numbers) {
+            Some((granule, ipa, level)) => Some(Act::UnRtt {
                 granule,
                 ipa,
                 level,
-            })
-        }
+            }),
+            None => None,
+        },
         "ripas" => {
             let [ipa, count] = at_most(numbers, [IPA, U16])?;
             Some(Act::Ripas {
@@ -195,14 +197,14 @@ fn data_act(word: &str, numbers: &[u32]) -> Option<Act>
                 source: granule_of(source),
             })
         }
-        "unknown" => {
-            let (granule, ipa) = mapped(numbers)?;
-            Some(Act::Unknown { granule, ipa })
-        }
-        "undata" => {
-            let (granule, ipa) = mapped(numbers)?;
-            Some(Act::UnData { granule, ipa })
-        }
+        "unknown" => match mapped(numbers) {
+            Some((granule, ipa)) => Some(Act::Unknown { granule, ipa }),
+            None => None,
+        },
+        "undata" => match mapped(numbers) {
+            Some((granule, ipa)) => Some(Act::UnData { granule, ipa }),
+            None => None,
+        },
         _ => None,
     }
 }
@@ -242,28 +244,30 @@ fn rec_act(word: &str, numbers: &[u32]) -> Option<Act>
     ensures { result ≡ rec_act_at word.now numbers.now }
 {
     match word {
-        "rec" => {
-            let (granule, auxiliaries, number) = rec(numbers)?;
-            Some(Act::Rec {
+        "rec" => match rec(numbers) {
+            Some((granule, auxiliaries, number)) => Some(Act::Rec {
                 granule,
                 auxiliaries,
                 number,
-            })
-        }
-        "unrec" => {
-            let (granule, auxiliaries, number) = rec(numbers)?;
-            Some(Act::UnRec {
+            }),
+            None => None,
+        },
+        "unrec" => match rec(numbers) {
+            Some((granule, auxiliaries, number)) => Some(Act::UnRec {
                 granule,
                 auxiliaries,
                 number,
-            })
-        }
-        "enter" => Some(Act::Enter {
-            number: rec_number(numbers)?,
-        }),
-        "exit" => Some(Act::Exit {
-            number: rec_number(numbers)?,
-        }),
+            }),
+            None => None,
+        },
+        "enter" => match rec_number(numbers) {
+            Some(number) => Some(Act::Enter { number }),
+            None => None,
+        },
+        "exit" => match rec_number(numbers) {
+            Some(number) => Some(Act::Exit { number }),
+            None => None,
+        },
         "poke" => poke(numbers),
         _ => None,
     }
