@@ -8,7 +8,9 @@ ghost use Rattle.order_runs.specs.Lines.{orders_text, drawn_text};
 ghost use Rattle.view_program.specs.Orders.{IsFirstText, IsDrawnText, IsOrdersText, IsWithoutOrders};
 
 use crate::orders::Orders;
-use order_runs::{Explored, Progress, Totals, explore as run_first, push_drawn, push_orders, sample};
+use order_runs::{
+    Explored, Progress, Totals, explore as run_first, push_drawn, push_orders, sample,
+};
 use rand_core::SeedableRng;
 use rand_xoshiro::Xoshiro256PlusPlus;
 use realm_plan::Plan;
