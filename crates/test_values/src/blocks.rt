@@ -23,7 +23,7 @@ fn has_blocks(rt: &impl Abort, arena: &BuddyArena, wanted: &[(u8, u16)]) {
 // A block of that order is taken, the one that begins there.
 fn takes<S: PageStore>(rt: &impl Abort, store: &mut S, size: u8, first: u16) {
     let taken = store.take(order(size));
-    assert_eq!(rt; taken, Some(granule(first)));
+    holds(rt, "it begins there", taken == Some(granule(first)));
 }
 
 // No block of that order is free.

@@ -13,7 +13,7 @@ use std::process::Abort;
 pub(crate) fn plain(rt: &impl Abort, alloc: Global, pages: u16, builds: u8) -> Host<PlainStore> {
     match PlainStore::build(alloc, pages) {
         Ok(store) => boot(rt, alloc, store, builds),
-        Err(_) => panic!(rt; "there is no store of {pages} pages"),
+        Err(_) => panic!(rt; "there is no store"),
     }
 }
 
@@ -21,7 +21,7 @@ pub(crate) fn plain(rt: &impl Abort, alloc: Global, pages: u16, builds: u8) -> H
 pub(crate) fn arena(rt: &impl Abort, alloc: Global, pages: u16, builds: u8) -> Host<BuddyArena> {
     match BuddyArena::build(alloc, pages) {
         Ok(store) => boot(rt, alloc, store, builds),
-        Err(_) => panic!(rt; "there is no arena of {pages} pages"),
+        Err(_) => panic!(rt; "there is no arena"),
     }
 }
 
@@ -29,9 +29,7 @@ fn boot<S: PageStore + Drop>(rt: &impl Abort, alloc: Global, store: S, builds: u
     requires zero { S.page_bytes store ≡ replicate (length (S.page_bytes store)) zero_page }
     requires free { S.free_flags store ≡ replicate (length (S.page_bytes store)) true }
 {
-    let Some(settings) = Settings::new(8, 0, 1024, builds) else {
-        panic!(rt; "there are no {builds} builds");
-    };
+    let settings = Settings::new(8, 0, 1024, builds).expect(rt, "settings");
     match Host::boot(alloc, settings, store) {
         Ok(host) => host,
         Err(_) => panic!(rt; "there is no memory for a host"),

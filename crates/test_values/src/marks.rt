@@ -19,9 +19,7 @@ fn delegates<S: PageStore>(rt: &impl Abort, host: &mut Host<S>, page: u16) {
 
 // The mark of build 0, which has so many acts open.
 fn marks<S: PageStore>(rt: &impl Abort, host: &mut Host<S>, length: u16) -> Mark {
-    let Ok(mark) = host.mark(build(0)) else {
-        panic!(rt; "no mark");
-    };
+    let mark = host.mark(build(0)).expect(rt, "a mark");
     calls::counted(rt, Ok(mark.length()), Ok(length));
     mark
 }

@@ -1,4 +1,5 @@
 //! The bytes by which an event is measured.
+use crate::wanted::holds;
 use granule_addr::{IpaGran, RecNo};
 use realm_objects::{data_event, rec_event, ripas_event};
 
@@ -11,12 +12,12 @@ const DATA_EVENT: [u8; 37] = [
 
 #[test]
 fn events_are_big_endian(rt: HostRuntime) {
-    let (Some(last), Some(first)) = (IpaGran::new(67_108_863, 39), IpaGran::new(67_108_352, 39))
-    else {
-        assert!(rt; false);
-        return;
-    };
-    assert_eq!(rt; data_event(last, &[0x5a; 4096]), DATA_EVENT);
-    assert_eq!(rt; ripas_event(first, 512), [2, 3, 0xff, 0xfe, 0, 0, 0, 2, 0]);
-    assert_eq!(rt; rec_event(RecNo::new(258)), [3, 0, 0, 1, 2]);
+    let first = IpaGran::new(67_108_352, 39).expect(&rt, "an IPA granule");
+    let last = IpaGran::new(67_108_863, 39).expect(&rt, "an IPA granule");
+    let data = data_event(last, &[0x5a; 4096]);
+    holds(&rt, "of data", data == DATA_EVENT);
+    let ripas = ripas_event(first, 512);
+    holds(&rt, "of RIPAS", ripas == [2, 3, 0xff, 0xfe, 0, 0, 0, 2, 0]);
+    let rec = rec_event(RecNo::new(258));
+    holds(&rt, "of a REC", rec == [3, 0, 0, 1, 2]);
 }

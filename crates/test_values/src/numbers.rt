@@ -14,17 +14,11 @@ fn granule(number: u16) -> Gran {
 }
 
 fn ipa(rt: &impl Abort, number: u32, width: u8) -> IpaGran {
-    match IpaGran::new(number, width) {
-        Some(ipa) => ipa,
-        None => panic!(rt; "there is no IPA granule {number}"),
-    }
+    IpaGran::new(number, width).expect(rt, "an IPA granule")
 }
 
 fn level(rt: &impl Abort, number: u8) -> Level {
-    match Level::new(number) {
-        Some(level) => level,
-        None => panic!(rt; "there is no level {number}"),
-    }
+    Level::new(number).expect(rt, "a level")
 }
 
 // The last number of each kind, and the first that is none.
@@ -89,9 +83,7 @@ fn entries(rt: HostRuntime) {
 
 // A width has so many starting tables, and this is its first IPA granule that is not protected.
 fn is_width(rt: &impl Abort, number: u8, tables: u64, unprotected: u32) {
-    let Some(width) = IpaWidth::new(number) else {
-        panic!(rt; "there is no width {number}");
-    };
+    let width = IpaWidth::new(number).expect(rt, "a width");
     equal(rt, "tables", width.start_count() as u64, tables);
     let first = ipa(rt, unprotected, number);
     let last = ipa(rt, unprotected.saturating_sub(1), number);
@@ -142,7 +134,7 @@ fn result_words(rt: HostRuntime) {
 // An entry and its word name one another.
 fn is_word_of(rt: &impl Abort, entry: Entry, word: u64) {
     equal(rt, "an entry", entry.to_word(), word);
-    assert_eq!(rt; Entry::from_word(word), entry);
+    holds(rt, "its entry", Entry::from_word(word) == entry);
 }
 
 // Bits 0 and 1 are the state of the entry, bits 2 and 3 the RIPAS, and from bit 12 on lies the granule.

@@ -69,9 +69,7 @@ fn rec_is_read<S: PageStore>(rt: &impl Abort, host: &Host<S>, number: u16) {
 }
 
 fn realm_is_read<S: PageStore>(rt: &impl Abort, host: &Host<S>) {
-    let Some(realm) = host.realm(build(0)) else {
-        panic!(rt; "no realm");
-    };
+    let realm = host.realm(build(0)).expect(rt, "a realm");
     equal(rt, "its width", realm.root().width.number() as u64, 39);
     equal(rt, "its first table", realm.root().first.number() as u64, 1);
     equal(rt, "its tables", realm.root().width.start_count() as u64, 1);

@@ -8,22 +8,29 @@ use realm_host::Host;
 use realm_model::{Act, Event};
 use std::process::Abort;
 
-// An event is applied, or it is not.
-fn applied<S: PageStore>(rt: &impl Abort, host: &mut Host<S>, number: u8, act: Act, want: bool) {
-    let event = Event {
+fn event(number: u8, act: Act) -> Event {
+    Event {
         build: build(number),
         act,
-    };
-    holds(rt, "applied", host.apply_recorded(&event) == want);
+    }
+}
+
+// An event is applied, or it is not.
+fn applied<S: PageStore>(rt: &impl Abort, host: &mut Host<S>, number: u8, act: Act, want: bool) {
+    let is_applied = host.apply_recorded(&event(number, act));
+    holds(rt, "applied", is_applied == want);
 }
 
 // Two pages are leased, the first of them is delegated, and both acts are reversed.
-fn are_accepted(events: &[Event], first: Gran) -> bool {
-    events.len() == 4
-        && matches!(&events[0].act, Act::Take { first: at, .. } if *at == first)
-        && matches!(&events[1].act, Act::Delegate { granule } if *granule == first)
-        && matches!(&events[2].act, Act::Undelegate { granule } if *granule == first)
-        && matches!(&events[3].act, Act::UnTake { first: at, .. } if *at == first)
+fn are_accepted(events: &[Event], order: Order, first: Gran) -> bool {
+    let granule = first;
+    let wanted = [
+        event(0, Act::Take { order, first }),
+        event(0, Act::Delegate { granule }),
+        event(0, Act::Undelegate { granule }),
+        event(0, Act::UnTake { order, first }),
+    ];
+    events == wanted.as_slice()
 }
 
 fn only_legal_events_are_applied<S: PageStore + Drop>(rt: &impl Abort, mut host: Host<S>) {
@@ -40,7 +47,11 @@ fn only_legal_events_are_applied<S: PageStore + Drop>(rt: &impl Abort, mut host:
     applied(rt, &mut host, 0, Act::UnTake { order, first }, false);
     applied(rt, &mut host, 0, Act::Undelegate { granule }, true);
     applied(rt, &mut host, 0, Act::UnTake { order, first }, true);
-    holds(rt, "the history", are_accepted(host.history(), first));
+    holds(
+        rt,
+        "the history",
+        are_accepted(host.history(), order, first),
+    );
     calls::free(rt, &host, 4);
 }
 

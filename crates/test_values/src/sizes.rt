@@ -15,9 +15,7 @@ fn has_bad_size<S: Drop>(rt: &impl Abort, built: Result<S, BuildError>) {
 
 // There is a store of so many pages, and all are free.
 fn has_pages<S: PageStore + Drop>(rt: &impl Abort, built: Result<S, BuildError>, pages: u16) {
-    let Ok(store) = built else {
-        panic!(rt; "there is no store of {pages} pages");
-    };
+    let store = built.expect(rt, "a store");
     equal(rt, "pages", store.pages() as u64, pages as u64);
     equal(rt, "free pages", store.free_count() as u64, pages as u64);
 }
