@@ -1,5 +1,6 @@
 -- words and their numbers
 pub mod Auxiliaries
+pub mod RowsMapped
 pub mod StepMeans
 pub mod StepSpells
 pub mod StepTexts
