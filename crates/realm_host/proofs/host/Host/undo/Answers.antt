@@ -24,7 +24,8 @@ returns-in_default-clause-answer g c = (
 
 pub returns-then-is_running-clause-answer : goal.returns-then-is_running-clause-answer
 returns-then-is_running-clause-answer g c = (
-  rec_runs c.args.self.now c.args.build (build_there _ c.args.self.now c.args.build c.self.view_is c.if-not-has_build.ensures.there) c.in-Some.newest.now (sym (c.in-Some.ensures.value ∙ ap (λ (h : HostView). last_or None (open_of h c.args.build)) c.self.view_is)) (sym c.if-is_running.ensures),
+  rec_runs c.args.self.now c.args.build (build_there _ c.args.self.now c.args.build c.self.view_is c.if-not-has_build.ensures.there) c.in-Some.newest.now
+      (sym (c.in-Some.ensures.value ∙ ap (λ (h : HostView). last_or None (open_of h c.args.build)) c.self.view_is)) (sym c.if-is_running.ensures),
   refl,
 )
 
@@ -45,14 +46,18 @@ reverse-requires g c = record {
 
 pub returns-clause-answer : goal.returns-clause-answer
 returns-clause-answer g c =
-    undone_is c.args.self.now c.args.build (build_there _ c.args.self.now c.args.build c.self.view_is c.if-not-has_build.ensures.there) c.in-Some.newest.now (sym (c.in-Some.ensures.value ∙ ap (λ (h : HostView). last_or None (open_of h c.args.build)) c.self.view_is)) c.unwrap-back.result (sym c.reverse_of.ensures ∙ c.unwrap-back.ensures) (sym c.if-is_running.ensures)
+    undone_is c.args.self.now c.args.build (build_there _ c.args.self.now c.args.build c.self.view_is c.if-not-has_build.ensures.there) c.in-Some.newest.now
+    (sym (c.in-Some.ensures.value ∙ ap (λ (h : HostView). last_or None (open_of h c.args.build)) c.self.view_is))
+    c.unwrap-back.result (sym c.reverse_of.ensures ∙ c.unwrap-back.ensures) (sym c.if-is_running.ensures)
     c.unwrap-kind.result (sym c.kind_of.ensures ∙ c.unwrap-kind.ensures) (c.open_count-left.result - 1)
     (ap (λ (n : ℕ). n - 1) (c.open_count-left.ensures.value ∙ ap (λ (h : HostView). length (open_of h c.args.build)) c.self.view_is)) c.reverse.new.self c.reverse.ensures
 
 pub returns-clause-pair : goal.returns-clause-pair
 returns-clause-pair g c =
     leads_back c.args.self.now (subst (λ (h : HostView). IsLegal h.limits h.history) c.self.view_is c.self.invariant.mirror.legal) c.args.build c.unwrap-back.result
-    (is_back c.args.self.now c.args.build (build_there _ c.args.self.now c.args.build c.self.view_is c.if-not-has_build.ensures.there) c.in-Some.newest.now (sym (c.in-Some.ensures.value ∙ ap (λ (h : HostView). last_or None (open_of h c.args.build)) c.self.view_is)) c.unwrap-back.result (sym c.reverse_of.ensures ∙ c.unwrap-back.ensures) (sym c.if-is_running.ensures)) c.reverse.new.self c.reverse.ensures
+    (is_back c.args.self.now c.args.build (build_there _ c.args.self.now c.args.build c.self.view_is c.if-not-has_build.ensures.there) c.in-Some.newest.now
+    (sym (c.in-Some.ensures.value ∙ ap (λ (h : HostView). last_or None (open_of h c.args.build)) c.self.view_is))
+    c.unwrap-back.result (sym c.reverse_of.ensures ∙ c.unwrap-back.ensures) (sym c.if-is_running.ensures)) c.reverse.new.self c.reverse.ensures
 
 pub returns-clause-last : goal.returns-clause-last
 returns-clause-last g c = λ none.
