@@ -50,6 +50,15 @@ def is_stamped(crate, made):
         return it.read() == crate.stamp()
 
 
+def keep(libraries, stamps):
+    """Keeps the statements of libraries that `rt ci` has just proved and left in out/rlib/, where the crates are still those of
+    the stamps that were taken before."""
+    # (each library's stamp has those below it: after an edit meanwhile, its own and those of the crates above it differ)
+    for crate in [it for it in libraries if os.path.isdir(it.rlib)]:
+        make(crate, f"{crate.folder}/{FOLDER}/{crate.name}.rlib", lambda it: it.stamp() == stamps[it.name] and
+             bool(shutil.copytree(crate.rlib, f"{crate.folder}/{FOLDER}/{crate.name}.rlib")))
+
+
 def make(crate, made, work):
     """Does the work that makes a file or a folder of a crate, and stamps it. Returns whether that went well, and what was said."""
     crate, stamp = copy.copy(crate), crate.stamp()
