@@ -1,7 +1,8 @@
 //! What is wrong with the builds of a plan and their steps.
+use crate::filled::Piece;
 use crate::places::Places;
 use crate::reason::{Reason, why_no_step};
-use crate::wrong::{Wrong, tell, tell_kind, tell_words};
+use crate::wrong::{Wrong, tell, tell_kind, tell_too_many, tell_words};
 use plan_steps::step_from_text;
 use realm_plan::PlanFault;
 use std::alloc::{AllocError, Global};
@@ -24,7 +25,7 @@ pub fn builds(
 ) -> Result<(), AllocError> {
     let Some(value) = table.get("build") else {
         let words = "there is no build: a plan has 1 to 8, each a table [[build]]";
-        return tell_words(alloc, found, PlanFault::Key, 0, words);
+        return tell_words(alloc, found, PlanFault::Key, 0, words, &[]);
     };
     let Some(items) = value.as_array() else {
         let wanted = "`build` is an array of tables, each under [[build]]";
@@ -56,19 +57,12 @@ fn count_of_builds(
 ) -> Result<(), AllocError> {
     if count == 0 {
         let words = "a plan has 1 to 8 builds, and here is none";
-        return tell_words(
-            alloc,
-            found,
-            PlanFault::Limit,
-            places.value_at("build"),
-            words,
-        );
+        let at = places.value_at("build");
+        return tell_words(alloc, found, PlanFault::Limit, at, words, &[]);
     }
-    if count <= MOST_BUILDS {
-        return Ok(());
-    }
-    let words = format!(in alloc; "a plan has 1 to 8 builds, and here are {count}");
-    tell(found, PlanFault::Limit, places.build_at(MOST_BUILDS), words)
+    let words = "a plan has 1 to {} builds, and here are {}";
+    let at = places.build_at(MOST_BUILDS);
+    tell_too_many(alloc, found, at, words, MOST_BUILDS, count)
 }
 
 // A build, which is to be a table with the one key `steps`.
@@ -87,8 +81,10 @@ fn build(
     match table.get("steps") {
         Some(value) => steps(alloc, text, value, place, places, found),
         None => {
-            let words = format!(in alloc; "the `steps` of build {place} are missing");
-            tell(found, PlanFault::Key, places.build_at(place), words)
+            let at = places.build_at(place);
+            let words = "the `steps` of build {} are missing";
+            let pieces = [Piece::Count(place)];
+            tell_words(alloc, found, PlanFault::Key, at, words, &pieces)
         }
     }
 }
@@ -107,7 +103,9 @@ fn steps(
         return tell_kind(alloc, found, places.steps_at(build), wanted, value);
     };
     each_step(alloc, text, items, build, places, found)?;
-    count_of_steps(alloc, items.len(), build, places, found)
+    let words = "a build has at most {} steps, and here are {}";
+    let at = places.step_at(build, MOST_STEPS);
+    tell_too_many(alloc, found, at, words, MOST_STEPS, items.len())
 }
 
 fn each_step(
@@ -145,22 +143,6 @@ fn one_step(
         },
         None => tell_kind(alloc, found, at, "a step is a text in quotes", item),
     }
-}
-
-// How many steps there are.
-fn count_of_steps(
-    alloc: Global,
-    count: usize,
-    build: usize,
-    places: &Places,
-    found: &mut Vec<Wrong>,
-) -> Result<(), AllocError> {
-    if count <= MOST_STEPS {
-        return Ok(());
-    }
-    let at = places.step_at(build, MOST_STEPS);
-    let words = format!(in alloc; "a build has at most {MOST_STEPS} steps, and here are {count}");
-    tell(found, PlanFault::Limit, at, words)
 }
 
 // The place inside of a string, where its text stands behind the quote as it is, and else the string.

@@ -1,10 +1,11 @@
 //! All that is wrong with bytes that are no plan, as far as it is found.
 use crate::builds::builds;
+use crate::filled::Piece;
 use crate::keys::{numbers, unknown_keys};
 use crate::order::order;
 use crate::places::Places;
 use crate::walk::places_of;
-use crate::wrong::{Wrong, tell};
+use crate::wrong::{Wrong, tell, tell_words};
 use realm_plan::PlanFault;
 use std::alloc::{AllocError, Global};
 use std::str::from_utf8;
@@ -24,8 +25,9 @@ pub fn wrongs_in(alloc: Global, bytes: &[u8]) -> Result<Vec<Wrong>, AllocError> 
 
 fn in_bytes(alloc: Global, bytes: &[u8], found: &mut Vec<Wrong>) -> Result<(), AllocError> {
     if bytes.len() > MOST_BYTES {
-        let words = format!(in alloc; "a plan has at most {MOST_BYTES} bytes, and here are more");
-        return tell(found, PlanFault::Limit, 0, words);
+        let words = "a plan has at most {} bytes, and here are more";
+        let pieces = [Piece::Count(MOST_BYTES)];
+        return tell_words(alloc, found, PlanFault::Limit, 0, words, &pieces);
     }
     match toml::table_from_slice(alloc, bytes) {
         Ok(table) => in_document(alloc, bytes, &table, found),

@@ -47,7 +47,7 @@ pub struct Form {
     pub word: &'static str,
     /// The step with letters in place of its numbers.
     pub usage: &'static str,
-    /// What its numbers are. Where there may be more, they are as the last.
+    /// What its numbers are. Where there may be more, they are pages.
     pub kinds: &'static [Kind],
     /// The most numbers that it may have.
     pub most: usize,

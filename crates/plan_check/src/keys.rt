@@ -1,4 +1,5 @@
 //! Keys that a plan has not got, and numbers outside their limits.
+use crate::filled::{Piece, filled};
 use crate::nearest::{nearest, said_with};
 use crate::places::{KeyPlace, Places};
 use crate::wrong::{Wrong, kind_of, tell, tell_words};
@@ -78,9 +79,12 @@ fn names_beside(key: &KeyPlace) -> &'static [&'static str] {
 }
 
 fn is_known(key: &KeyPlace) -> bool {
-    names_beside(key)
-        .iter()
-        .any(|name| *name == key.name.as_str())
+    for name in names_beside(key) {
+        if *name == key.name.as_str() {
+            return true;
+        }
+    }
+    false
 }
 
 fn of_unknown(alloc: Global, key: &KeyPlace) -> Result<String, AllocError> {
@@ -107,9 +111,10 @@ fn of_far(alloc: Global, is_of_build: bool, name: &str) -> Result<String, AllocE
         "a plan: its keys are pages, vmids, aux, history, order and build"
     };
     if name.len() > LONGEST {
-        format!(in alloc; "this is no key of {all}")
+        filled(alloc, "this is no key of {}", &[Piece::Words(all)])
     } else {
-        format!(in alloc; "`{name}` is no key of {all}")
+        let pieces = [Piece::Words(name), Piece::Words(all)];
+        filled(alloc, "`{}` is no key of {}", &pieces)
     }
 }
 
@@ -126,7 +131,7 @@ pub fn numbers(
     if table.get("pages").is_some() {
         return Ok(());
     }
-    tell_words(alloc, found, PlanFault::Key, 0, "`pages` is missing")
+    tell_words(alloc, found, PlanFault::Key, 0, "`pages` is missing", &[])
 }
 
 // One of the whole numbers, where the plan has it.
@@ -145,9 +150,9 @@ fn number(
     match value.as_integer() {
         Some(whole) => in_limits(alloc, limits, whole, at, found),
         None => {
-            let kind = kind_of(value);
-            let words = format!(in alloc; "`{name}` is a whole number, and this is {kind}");
-            tell(found, PlanFault::Key, at, words)
+            let words = "`{}` is a whole number, and this is {}";
+            let pieces = [Piece::Words(name), Piece::Words(kind_of(value))];
+            tell_words(alloc, found, PlanFault::Key, at, words, &pieces)
         }
     }
 }
@@ -159,10 +164,15 @@ fn in_limits(
     at: usize,
     found: &mut Vec<Wrong>,
 ) -> Result<(), AllocError> {
-    let (name, low, high) = (limits.name, limits.low, limits.high);
-    if low <= whole && whole <= high {
+    if limits.low <= whole && whole <= limits.high {
         return Ok(());
     }
-    let words = format!(in alloc; "`{name}` is {low} to {high}, and this is {whole}");
-    tell(found, PlanFault::Limit, at, words)
+    let words = "`{}` is {} to {}, and this is {}";
+    let pieces = [
+        Piece::Words(limits.name),
+        Piece::Whole(limits.low),
+        Piece::Whole(limits.high),
+        Piece::Whole(whole),
+    ];
+    tell_words(alloc, found, PlanFault::Limit, at, words, &pieces)
 }

@@ -9,6 +9,7 @@ mod builds;
 mod cursor;
 mod document;
 mod excerpt;
+mod filled;
 mod finding;
 mod forms;
 mod gaps;

@@ -1,4 +1,5 @@
 //! The name that was probably meant.
+use crate::filled::{Piece, filled};
 use std::alloc::{AllocError, Global};
 use strsim::osa_distance;
 
@@ -32,5 +33,6 @@ fn is_near(edits: usize, name: &str, word: &str) -> bool {
 
 /// A word, what is said of it, and the name that was meant.
 pub fn said_with(alloc: Global, word: &str, said: &str, name: &str) -> Result<String, AllocError> {
-    format!(in alloc; "`{word}` {said} `{name}`")
+    let pieces = [Piece::Words(word), Piece::Words(said), Piece::Words(name)];
+    filled(alloc, "`{}` {} `{}`", &pieces)
 }

@@ -1,4 +1,5 @@
 //! What is wrong with a number of a step.
+use crate::filled::{Piece, filled};
 use crate::forms::Kind;
 use std::alloc::{AllocError, Global};
 
@@ -24,7 +25,12 @@ fn is_right(kind: Kind, field: &str) -> bool {
 }
 
 fn is_of_digits(field: &str) -> bool {
-    !field.is_empty() && field.bytes().all(|b| b.is_ascii_digit())
+    for byte in field.as_bytes() {
+        if !byte.is_ascii_digit() {
+            return false;
+        }
+    }
+    !field.is_empty()
 }
 
 fn has_leading_zero(field: &str) -> bool {
@@ -59,7 +65,12 @@ fn of_hexadecimal(
     number: u64,
 ) -> Result<String, AllocError> {
     let hint = as_granule(alloc, kind, number)?;
-    format!(in alloc; "numbers are decimal: {field} is {number}{hint}")
+    let pieces = [
+        Piece::Words(field),
+        Piece::Number(number),
+        Piece::Words(hint.as_str()),
+    ];
+    filled(alloc, "numbers are decimal: {} is {}{}", &pieces)
 }
 
 fn of_no_number(alloc: Global, field: &str) -> Result<String, AllocError> {
@@ -72,7 +83,8 @@ fn of_no_number(alloc: Global, field: &str) -> Result<String, AllocError> {
             "this is no number: it has nothing but the digits 0 to 9",
         );
     }
-    format!(in alloc; "`{field}` is no number: it has nothing but the digits 0 to 9")
+    let words = "`{}` is no number: it has nothing but the digits 0 to 9";
+    filled(alloc, words, &[Piece::Words(field)])
 }
 
 // The number of a hexadecimal.
@@ -86,20 +98,29 @@ fn hexadecimal(field: &str) -> Option<u64> {
 
 fn of_leading_zero(alloc: Global, field: &str) -> Result<String, AllocError> {
     match field.parse::<u64>() {
-        Ok(number) => format!(in alloc; "a number has no leading zero: {number}"),
+        Ok(number) => filled(
+            alloc,
+            "a number has no leading zero: {}",
+            &[Piece::Number(number)],
+        ),
         Err(_) => String::from_str(alloc, "a number has no leading zero"),
     }
 }
 
 fn of_range(alloc: Global, kind: Kind, number: u64) -> Result<String, AllocError> {
-    let (name, most) = (kind.name(), kind.most());
     let hint = as_granule(alloc, kind, number)?;
-    format!(in alloc; "{name} is 0 to {most}, and this is {number}{hint}")
+    let pieces = [
+        Piece::Words(kind.name()),
+        Piece::Number(kind.most()),
+        Piece::Number(number),
+        Piece::Words(hint.as_str()),
+    ];
+    filled(alloc, "{} is 0 to {}, and this is {}{}", &pieces)
 }
 
 fn of_long(alloc: Global, kind: Kind) -> Result<String, AllocError> {
-    let (name, most) = (kind.name(), kind.most());
-    format!(in alloc; "{name} is 0 to {most}, and this is more")
+    let pieces = [Piece::Words(kind.name()), Piece::Number(kind.most())];
+    filled(alloc, "{} is 0 to {}, and this is more", &pieces)
 }
 
 // What is added where a number may be the address of a byte.
@@ -107,6 +128,6 @@ fn as_granule(alloc: Global, kind: Kind, number: u64) -> Result<String, AllocErr
     if !matches!(kind, Kind::Ipa) || number == 0 || number % PAGE != 0 {
         return Ok(String::new(alloc));
     }
-    let granule = number / PAGE;
-    format!(in alloc; "; an IPA granule is an IPA divided by 4096, which would be {granule}")
+    let words = "; an IPA granule is an IPA divided by 4096, which would be {}";
+    filled(alloc, words, &[Piece::Number(number / PAGE)])
 }

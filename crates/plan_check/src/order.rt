@@ -1,6 +1,7 @@
 //! What is wrong with the turns of a plan.
+use crate::filled::{Piece, filled};
 use crate::places::Places;
-use crate::wrong::{Wrong, tell, tell_kind};
+use crate::wrong::{Wrong, tell, tell_kind, tell_too_many};
 use realm_plan::PlanFault;
 use std::alloc::{AllocError, Global};
 use toml::value::Array;
@@ -24,7 +25,9 @@ pub fn order(
         return tell_kind(alloc, found, places.value_at("order"), wanted, value);
     };
     each_turn(alloc, entries, builds_in(table), places, found)?;
-    count_of_turns(alloc, entries.len(), places, found)
+    let words = "a plan has at most {} turns, and here are {}";
+    let at = places.entry_at(MOST_TURNS);
+    tell_too_many(alloc, found, at, words, MOST_TURNS, entries.len())
 }
 
 // How many builds the plan has, if it says.
@@ -56,13 +59,8 @@ fn turn(
 ) -> Result<(), AllocError> {
     let at = places.entry_at(place);
     let Some(number) = entry.as_integer() else {
-        return tell_kind(
-            alloc,
-            found,
-            at,
-            "an entry of `order` is a whole number",
-            entry,
-        );
+        let wanted = "an entry of `order` is a whole number";
+        return tell_kind(alloc, found, at, wanted, entry);
     };
     match builds {
         Some(count) if !is_build(number, count) => {
@@ -82,27 +80,11 @@ fn is_build(number: i64, count: usize) -> bool {
 }
 
 fn of_no_build(alloc: Global, number: i64, count: usize) -> Result<String, AllocError> {
-    match count.checked_sub(1) {
-        None => format!(in alloc; "there is no build {number}: the plan has none"),
-        Some(0) => format!(in alloc;
-            "there is no build {number}: builds count from 0, and 0 is the only one"
-        ),
-        Some(last) => format!(in alloc;
-            "there is no build {number}: builds count from 0, and the last is {last}"
-        ),
-    }
-}
-
-// How many turns there are.
-fn count_of_turns(
-    alloc: Global,
-    count: usize,
-    places: &Places,
-    found: &mut Vec<Wrong>,
-) -> Result<(), AllocError> {
-    if count <= MOST_TURNS {
-        return Ok(());
-    }
-    let words = format!(in alloc; "a plan has at most {MOST_TURNS} turns, and here are {count}");
-    tell(found, PlanFault::Limit, places.entry_at(MOST_TURNS), words)
+    let words = match count {
+        0 => "there is no build {}: the plan has none",
+        1 => "there is no build {}: builds count from 0, and 0 is the only one",
+        _ => "there is no build {}: builds count from 0, and the last is {}",
+    };
+    let pieces = [Piece::Whole(number), Piece::Count(count.saturating_sub(1))];
+    filled(alloc, words, &pieces)
 }

@@ -119,14 +119,14 @@ impl Places {
         Ok(())
     }
 
-    /// Says where the steps of the last build stand.
-    pub fn add_steps(&mut self, steps_at: usize, steps: &[usize]) -> Result<(), AllocError> {
+    /// Says where the value of `steps` of the last build stands. Its steps are those that were found from one on.
+    pub fn keep_steps(&mut self, steps_at: usize, first: usize) {
+        let count = self.steps.len().saturating_sub(first);
         if let Some(last) = self.builds.last_mut() {
             last.steps_at = steps_at;
-            last.first = self.steps.len();
-            last.count = steps.len();
+            last.first = first;
+            last.count = count;
         }
-        self.steps.extend_from_slice(steps)
     }
 
     /// The number of the last build.

@@ -1,4 +1,5 @@
 //! Why a text is no step.
+use crate::filled::{Piece, filled};
 use crate::forms::{Form, Kind, WORDS, form_of};
 use crate::gaps::gap_in;
 use crate::nearest::{nearest, said_with};
@@ -80,9 +81,11 @@ fn of_far(alloc: Global, word: &str) -> Result<String, AllocError> {
 
 fn of_far_from(alloc: Global, word: &str, names: &str) -> Result<String, AllocError> {
     if word.len() > LONGEST {
-        return format!(in alloc; "this is no step: the steps are {names}");
+        let pieces = [Piece::Words(names)];
+        return filled(alloc, "this is no step: the steps are {}", &pieces);
     }
-    format!(in alloc; "`{word}` is no step: the steps are {names}")
+    let pieces = [Piece::Words(word), Piece::Words(names)];
+    filled(alloc, "`{}` is no step: the steps are {}", &pieces)
 }
 
 // The words of all steps.
@@ -135,11 +138,12 @@ fn of_number(
 fn kind_at(form: &Form, place: usize) -> Kind {
     match form.kinds.get(place) {
         Some(kind) => *kind,
-        None => form.kinds.last().copied().unwrap_or(Kind::Page),
+        None => Kind::Page,
     }
 }
 
 fn of_count(alloc: Global, form: &Form, how_many: &str) -> Result<String, AllocError> {
-    let usage = form.usage;
-    format!(in alloc; "this step is written {usage}, and here are {how_many} numbers")
+    let pieces = [Piece::Words(form.usage), Piece::Words(how_many)];
+    let words = "this step is written {}, and here are {} numbers";
+    filled(alloc, words, &pieces)
 }

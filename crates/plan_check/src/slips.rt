@@ -1,4 +1,5 @@
 //! What is legal in a plan, and likely a slip.
+use crate::filled::{Piece, filled};
 use crate::places::Places;
 use crate::walk::places_of;
 use build_commands::{Cmd, Step};
@@ -81,44 +82,64 @@ fn of_turns(
     places: &Places,
     found: &mut Vec<Slip>,
 ) -> Result<(), AllocError> {
-    let turns = order.iter().filter(|turn| **turn == build).count();
-    let count = steps.len();
+    let turns = turns_of(build, order);
     let most = most_turns(steps);
-    if turns < count {
-        let words = of_few(alloc, build, count, turns);
-        return tell(found, places.step_at(build, turns), words);
+    let pieces = [
+        Piece::Count(build),
+        Piece::Count(steps.len()),
+        Piece::Count(turns),
+    ];
+    if turns < steps.len() {
+        let words = "no turn reaches this step: build {} has {} steps and {} turns";
+        let at = places.step_at(build, turns);
+        return tell(found, at, filled(alloc, words, &pieces));
     }
     if turns > most {
+        let words = "build {} has no step left at this turn: it has {} steps and {} turns";
         let at = places.entry_at(turn_behind(build, most, order));
-        return tell(found, at, of_many(alloc, build, count, turns));
+        return tell(found, at, filled(alloc, words, &pieces));
     }
     Ok(())
 }
 
-fn of_few(alloc: Global, build: usize, count: usize, turns: usize) -> Result<String, AllocError> {
-    format!(in alloc;
-        "no turn reaches this step: build {build} has {count} steps and {turns} turns"
-    )
-}
-
-fn of_many(alloc: Global, build: usize, count: usize, turns: usize) -> Result<String, AllocError> {
-    format!(in alloc;
-        "build {build} has no step left at this turn: it has {count} steps and {turns} turns"
-    )
+// How many turns of the order are a build's.
+fn turns_of(build: usize, order: &[usize]) -> usize {
+    let mut count: usize = 0;
+    for turn in order {
+        if *turn == build {
+            count = count.saturating_add(1);
+        }
+    }
+    count
 }
 
 // The most turns that the steps of a build can take. A way back takes one for each act that it reverses.
 fn most_turns(steps: &[PlanStep]) -> usize {
-    let opening = if steps.iter().any(is_way_back) {
-        steps.iter().filter(|step| can_open(step)).count()
+    if has_way_back(steps) {
+        steps.len().saturating_add(count_of_opening(steps))
     } else {
-        0
-    };
-    steps.len().saturating_add(opening)
+        steps.len()
+    }
 }
 
-fn is_way_back(step: &PlanStep) -> bool {
-    matches!(step, PlanStep::Whole(Step::Abort | Step::Back))
+fn has_way_back(steps: &[PlanStep]) -> bool {
+    for step in steps {
+        if matches!(step, PlanStep::Whole(Step::Abort | Step::Back)) {
+            return true;
+        }
+    }
+    false
+}
+
+// How many steps can leave an act open.
+fn count_of_opening(steps: &[PlanStep]) -> usize {
+    let mut count: usize = 0;
+    for step in steps {
+        if can_open(step) {
+            count = count.saturating_add(1);
+        }
+    }
+    count
 }
 
 // Whether the step leaves an act open where it is accepted.

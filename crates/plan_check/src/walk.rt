@@ -48,30 +48,39 @@ enum Section {
 /// Where the parts of a plan stand.
 pub fn places_of(alloc: Global, text: &str) -> Result<Places, AllocError> {
     let mut places = Places::new(alloc);
-    match walk(alloc, text, &mut places) {
+    let whole = text.len();
+    match walk(Source { alloc, whole }, text, &mut places) {
         Ok(()) | Err(Lost::Unread) => Ok(places),
         Err(Lost::Memory) => Err(AllocError),
     }
 }
 
-// How many bytes of the whole text stand before the rest of it.
-fn before(whole: usize, rest: &str) -> usize {
-    whole.saturating_sub(rest.len())
+/// The text that is walked over: how long it is, and where memory comes from for what is read of it.
+#[derive(Clone, Copy)]
+struct Source {
+    alloc: Global,
+    whole: usize,
+}
+
+impl Source {
+    // How many bytes of the text stand before the rest of it.
+    fn before(self, rest: &str) -> usize {
+        self.whole.saturating_sub(rest.len())
+    }
 }
 
 fn without_mark(text: &str) -> &str {
     text.strip_prefix('\u{feff}').unwrap_or(text)
 }
 
-fn walk(alloc: Global, text: &str, places: &mut Places) -> Result<(), Lost> {
-    let whole = text.len();
+fn walk(source: Source, text: &str, places: &mut Places) -> Result<(), Lost> {
     let mut section = Section::Plan;
     let mut rest = skip_blank(without_mark(text), true);
-    for _ in 0..whole {
+    for _ in 0..source.whole {
         if rest.is_empty() {
             return Ok(());
         }
-        let (below, after) = line(alloc, whole, rest, section, places)?;
+        let (below, after) = line(source, rest, section, places)?;
         section = below;
         rest = skip_blank(after, true);
     }
@@ -80,31 +89,25 @@ fn walk(alloc: Global, text: &str, places: &mut Places) -> Result<(), Lost> {
 
 // A header or a key with its value: what the keys below belong to, and the text behind it.
 fn line<'a>(
-    alloc: Global,
-    whole: usize,
+    source: Source,
     s: &'a str,
     section: Section,
     places: &mut Places,
 ) -> Result<(Section, &'a str), Lost> {
     if first(s) == b'[' {
-        return header(alloc, whole, s, places);
+        return header(source, s, places);
     }
-    match statement(alloc, whole, s, section, places) {
+    match statement(source, s, section, places) {
         Ok(after) => Ok((section, after)),
         Err(lost) => Err(lost),
     }
 }
 
 // A line `[KEY]` or `[[KEY]]`: what the keys below it belong to, and the text behind it.
-fn header<'a>(
-    alloc: Global,
-    whole: usize,
-    s: &'a str,
-    places: &mut Places,
-) -> Result<(Section, &'a str), Lost> {
+fn header<'a>(source: Source, s: &'a str, places: &mut Places) -> Result<(Section, &'a str), Lost> {
     let is_array = s.starts_with("[[");
-    match header_key(alloc, s, is_array) {
-        Ok((key, end)) => behind_header(&key, end, is_array, before(whole, s), places),
+    match header_key(source.alloc, s, is_array) {
+        Ok((key, end)) => behind_header(&key, end, is_array, source.before(s), places),
         Err(lost) => Err(lost),
     }
 }
@@ -152,7 +155,7 @@ fn behind_brackets(s: &str, is_array: bool) -> Result<&str, Lost> {
 
 // What the keys below a header belong to.
 fn below(key: &Key, is_array: bool) -> Section {
-    if is_array && key.path.is_empty() && key.last.as_str() == "build" {
+    if is_array && name_of(key) == "build" {
         Section::Build
     } else {
         Section::Neither
@@ -188,49 +191,30 @@ fn second_part(key: &Key) -> &String {
 
 // A line `KEY = VALUE`: the text behind it.
 fn statement<'a>(
-    alloc: Global,
-    whole: usize,
+    source: Source,
     s: &'a str,
     section: Section,
     places: &mut Places,
 ) -> Result<&'a str, Lost> {
+    match pair_at(source.alloc, s) {
+        Ok((key, value)) => add_statement(source, section, &key, source.before(s), value, places),
+        Err(lost) => Err(lost),
+    }
+}
+
+// Adds a key with the parts that its value has, where it is one of the plan or of the last build: the text behind the value.
+fn add_statement<'a>(
+    source: Source,
+    section: Section,
+    key: &Key,
+    at: usize,
+    value: &'a str,
+    places: &mut Places,
+) -> Result<&'a str, Lost> {
     match section {
-        Section::Plan => pair_of_plan(alloc, whole, s, places),
-        Section::Build => pair_of_build(alloc, whole, s, places),
-        Section::Neither => behind_pair(alloc, s),
-    }
-}
-
-fn behind_pair(alloc: Global, s: &str) -> Result<&str, Lost> {
-    match pair_at(alloc, s) {
-        Ok((_key, value)) => after_value(alloc, value),
-        Err(lost) => Err(lost),
-    }
-}
-
-// A key of the plan and its value: the text behind them.
-fn pair_of_plan<'a>(
-    alloc: Global,
-    whole: usize,
-    s: &'a str,
-    places: &mut Places,
-) -> Result<&'a str, Lost> {
-    match pair_at(alloc, s) {
-        Ok((key, value)) => add_to_plan(alloc, whole, &key, before(whole, s), value, places),
-        Err(lost) => Err(lost),
-    }
-}
-
-// A key of the last build and its value: the text behind them.
-fn pair_of_build<'a>(
-    alloc: Global,
-    whole: usize,
-    s: &'a str,
-    places: &mut Places,
-) -> Result<&'a str, Lost> {
-    match pair_at(alloc, s) {
-        Ok((key, value)) => add_to_build(alloc, whole, &key, before(whole, s), value, places),
-        Err(lost) => Err(lost),
+        Section::Plan => add_to_plan(source, key, at, value, places),
+        Section::Build => add_to_build(source, key, at, value, places),
+        Section::Neither => after_value(source.alloc, value),
     }
 }
 
@@ -243,77 +227,53 @@ fn pair_at(alloc: Global, s: &str) -> Result<(Key, &str), Lost> {
     }
 }
 
-// Adds a key of the plan with the parts that its value has: the text behind the value. What a key with dots names lies deeper
-// than any part of a plan.
+// Adds a key of the plan with the parts that its value has: the text behind the value.
 fn add_to_plan<'a>(
-    alloc: Global,
-    whole: usize,
+    source: Source,
     key: &Key,
     at: usize,
     value: &'a str,
     places: &mut Places,
 ) -> Result<&'a str, Lost> {
-    if key.path.is_empty() {
-        parts_of_plan(alloc, whole, key.last.as_str(), value, places)?;
+    match name_of(key) {
+        "order" => add_items(source, value, &mut places.entries)?,
+        "build" => builds_in(source, value, places)?,
+        _ => {}
     }
-    match places.add_key(None, first_part(key), at, before(whole, value)) {
-        Ok(()) => after_value(alloc, value),
-        Err(error) => Err(Lost::from(error)),
-    }
-}
-
-// The parts that the value of a key of the plan has.
-fn parts_of_plan(
-    alloc: Global,
-    whole: usize,
-    name: &str,
-    value: &str,
-    places: &mut Places,
-) -> Result<(), Lost> {
-    match name {
-        "order" => entries_in(alloc, whole, value, places),
-        "build" => builds_in(alloc, whole, value, places),
-        _ => Ok(()),
-    }
-}
-
-fn entries_in(alloc: Global, whole: usize, s: &str, places: &mut Places) -> Result<(), Lost> {
-    let entries = items_of(alloc, whole, s)?;
-    match places.entries.extend_from_slice(&entries) {
-        Ok(()) => Ok(()),
-        Err(error) => Err(Lost::from(error)),
-    }
+    places.add_key(None, first_part(key), at, source.before(value))?;
+    after_value(source.alloc, value)
 }
 
 // Adds a key of the last build with the parts that its value has: the text behind the value.
 fn add_to_build<'a>(
-    alloc: Global,
-    whole: usize,
+    source: Source,
     key: &Key,
     at: usize,
     value: &'a str,
     places: &mut Places,
 ) -> Result<&'a str, Lost> {
-    if key.path.is_empty() && key.last.as_str() == "steps" {
-        steps_in(alloc, whole, value, places)?;
+    let value_at = source.before(value);
+    if name_of(key) == "steps" {
+        let first = places.steps.len();
+        add_items(source, value, &mut places.steps)?;
+        places.keep_steps(value_at, first);
     }
     let build = Some(places.last_build());
-    match places.add_key(build, first_part(key), at, before(whole, value)) {
-        Ok(()) => after_value(alloc, value),
-        Err(error) => Err(Lost::from(error)),
-    }
+    places.add_key(build, first_part(key), at, value_at)?;
+    after_value(source.alloc, value)
 }
 
-fn steps_in(alloc: Global, whole: usize, s: &str, places: &mut Places) -> Result<(), Lost> {
-    let steps = items_of(alloc, whole, s)?;
-    match places.add_steps(before(whole, s), &steps) {
-        Ok(()) => Ok(()),
-        Err(error) => Err(Lost::from(error)),
+// The name that a key is. One with dots is none: what it names lies deeper than any part of a plan.
+fn name_of(key: &Key) -> &str {
+    if key.path.is_empty() {
+        key.last.as_str()
+    } else {
+        ""
     }
 }
 
 // The builds of an array of inline tables.
-fn builds_in(alloc: Global, whole: usize, s: &str, places: &mut Places) -> Result<(), Lost> {
+fn builds_in(source: Source, s: &str, places: &mut Places) -> Result<(), Lost> {
     if first(s) != b'[' {
         return Ok(());
     }
@@ -322,27 +282,22 @@ fn builds_in(alloc: Global, whole: usize, s: &str, places: &mut Places) -> Resul
         if first(rest) == b']' {
             return Ok(());
         }
-        rest = build_in(alloc, whole, rest, places)?;
+        rest = build_in(source, rest, places)?;
     }
     Err(Lost::Unread)
 }
 
 // A build of such an array: the text behind it.
-fn build_in<'a>(
-    alloc: Global,
-    whole: usize,
-    s: &'a str,
-    places: &mut Places,
-) -> Result<&'a str, Lost> {
-    places.add_build(before(whole, s))?;
-    match keys_in(alloc, whole, s, places) {
-        Ok(()) => behind_item(alloc, s),
+fn build_in<'a>(source: Source, s: &'a str, places: &mut Places) -> Result<&'a str, Lost> {
+    places.add_build(source.before(s))?;
+    match keys_in(source, s, places) {
+        Ok(()) => behind_item(source.alloc, s),
         Err(lost) => Err(lost),
     }
 }
 
 // The keys of a build that is an inline table.
-fn keys_in(alloc: Global, whole: usize, s: &str, places: &mut Places) -> Result<(), Lost> {
+fn keys_in(source: Source, s: &str, places: &mut Places) -> Result<(), Lost> {
     if first(s) != b'{' {
         return Ok(());
     }
@@ -351,22 +306,22 @@ fn keys_in(alloc: Global, whole: usize, s: &str, places: &mut Places) -> Result<
         if first(rest) == b'}' {
             return Ok(());
         }
-        let after = pair_of_build(alloc, whole, rest, places)?;
+        let after = pair_of_build(source, rest, places)?;
         rest = behind_comma(skip_blank(after, true));
     }
     Err(Lost::Unread)
 }
 
-// Where the items of an array stand. What is no array has none.
-fn items_of(alloc: Global, whole: usize, s: &str) -> Result<Vec<usize>, Lost> {
-    let mut found = Vec::new(alloc);
-    match add_items(alloc, whole, s, &mut found) {
-        Ok(()) => Ok(found),
+// A key of the last build and its value: the text behind them.
+fn pair_of_build<'a>(source: Source, s: &'a str, places: &mut Places) -> Result<&'a str, Lost> {
+    match pair_at(source.alloc, s) {
+        Ok((key, value)) => add_to_build(source, &key, source.before(s), value, places),
         Err(lost) => Err(lost),
     }
 }
 
-fn add_items(alloc: Global, whole: usize, s: &str, found: &mut Vec<usize>) -> Result<(), Lost> {
+// Adds where the items of an array stand. What is no array has none.
+fn add_items(source: Source, s: &str, found: &mut Vec<usize>) -> Result<(), Lost> {
     if first(s) != b'[' {
         return Ok(());
     }
@@ -375,8 +330,8 @@ fn add_items(alloc: Global, whole: usize, s: &str, found: &mut Vec<usize>) -> Re
         if first(rest) == b']' {
             return Ok(());
         }
-        found.push(before(whole, rest))?;
-        rest = behind_item(alloc, rest)?;
+        found.push(source.before(rest))?;
+        rest = behind_item(source.alloc, rest)?;
     }
     Err(Lost::Unread)
 }

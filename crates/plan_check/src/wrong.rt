@@ -1,4 +1,5 @@
 //! A mistake, before it is known whether its place lies inside the text.
+use crate::filled::{Piece, filled};
 use realm_plan::PlanFault;
 use std::alloc::{AllocError, Global};
 use toml::Value;
@@ -29,15 +30,33 @@ fn add(found: &mut Vec<Wrong>, wrong: Wrong) -> Result<(), AllocError> {
     Ok(())
 }
 
-/// Adds a mistake of which the same is told whatever the text is.
+/// Adds a mistake that is told by these words, with a piece in each of their gaps.
 pub fn tell_words(
     alloc: Global,
     found: &mut Vec<Wrong>,
     fault: PlanFault,
     at: usize,
     words: &str,
+    pieces: &[Piece<'_>],
 ) -> Result<(), AllocError> {
-    tell(found, fault, at, String::from_str(alloc, words))
+    tell(found, fault, at, filled(alloc, words, pieces))
+}
+
+/// Adds that there are more of something than there may be, where so many are more than the most. The words have a gap for each
+/// of the two numbers.
+pub fn tell_too_many(
+    alloc: Global,
+    found: &mut Vec<Wrong>,
+    at: usize,
+    words: &str,
+    most: usize,
+    count: usize,
+) -> Result<(), AllocError> {
+    if count <= most {
+        return Ok(());
+    }
+    let pieces = [Piece::Count(most), Piece::Count(count)];
+    tell_words(alloc, found, PlanFault::Limit, at, words, &pieces)
 }
 
 /// What a value is, in words.
@@ -61,7 +80,13 @@ pub fn tell_kind(
     wanted: &str,
     value: &Value,
 ) -> Result<(), AllocError> {
-    let kind = kind_of(value);
-    let words = format!(in alloc; "{wanted}, and this is {kind}");
-    tell(found, PlanFault::Key, at, words)
+    let pieces = [Piece::Words(wanted), Piece::Words(kind_of(value))];
+    tell_words(
+        alloc,
+        found,
+        PlanFault::Key,
+        at,
+        "{}, and this is {}",
+        &pieces,
+    )
 }
