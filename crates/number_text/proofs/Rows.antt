@@ -58,45 +58,60 @@ module _ {A : Type 0} (P : List ℕ → A → Type 0) where
 
 -- ---- what a row makes of the operands that were found
 
-module _ {A B : Type 0} (f : A → B) where
-  map_test : (t : Bool) (x : A) → option_map f (cond t (Some x) None) ≡ cond t (Some (f x)) None
-  map_test true x = refl
-  map_test false x = refl
-
 pub zip_tests : {A B : Type 0} (s t : Bool) (x : A) (y : B) → option_zip (cond s (Some x) None) (cond t (Some y) None) ≡ cond (s && t) (Some (x, y)) None
 zip_tests true true x y = refl
 zip_tests true false x y = refl
 zip_tests false t x y = refl
 
-module _ {B : Type 0} (a : ℕ) (make : ℕ → B) where
-  pub one_made : (ns : List ℕ) (found : Option ℕ) → found ≡ one a (λ k. k) ns → option_map make found ≡ one a make ns
-  one_made [] found e = rw e refl
-  one_made (k ∷ []) found e = rw e (map_test make (leb k a) k)
-  one_made (k ∷ l ∷ ns) found e = rw e refl
+module _ {A B : Type 0} (f : A → B) where
+  map_test : (t : Bool) (x : A) → option_map f (cond t (Some x) None) ≡ cond t (Some (f x)) None
+  map_test true x = refl
+  map_test false x = refl
 
-module _ {B : Type 0} (a b : ℕ) (make : ℕ → ℕ → B) where
-  pub two_made : (ns : List ℕ) (found : Option (ℕ × ℕ)) → found ≡ two a b (λ k l. (k, l)) ns → option_map (λ it. make it.0 it.1) found ≡ two a b make ns
-  two_made [] found e = rw e refl
-  two_made (k ∷ []) found e = rw e refl
-  two_made (k ∷ l ∷ []) found e = rw e (map_test (λ it. make it.0 it.1) (leb k a && leb l b) (k, l))
-  two_made (k ∷ l ∷ m ∷ ns) found e = rw e refl
+  pub one_mapped : (a : ℕ) (make : ℕ → A) (ns : List ℕ) (found : Option A) → found ≡ one a make ns → option_map f found ≡ one a (λ k. f (make k)) ns
+  one_mapped a make [] found e = rw e refl
+  one_mapped a make (k ∷ []) found e = rw e (map_test (leb k a) (make k))
+  one_mapped a make (k ∷ l ∷ ns) found e = rw e refl
 
-module _ {B : Type 0} (a b c : ℕ) (make : ℕ → ℕ → ℕ → B) where
-  pub three_made : (ns : List ℕ) (found : Option (ℕ × ℕ × ℕ)) → found ≡ three a b c (λ k l m. (k, l, m)) ns → option_map (λ it. make it.0 it.1 it.2) found ≡ three a b c make ns
-  three_made [] found e = rw e refl
-  three_made (k ∷ []) found e = rw e refl
-  three_made (k ∷ l ∷ []) found e = rw e refl
-  three_made (k ∷ l ∷ m ∷ []) found e = rw e (map_test (λ it. make it.0 it.1 it.2) (leb k a && leb l b && leb m c) (k, l, m))
-  three_made (k ∷ l ∷ m ∷ n ∷ ns) found e = rw e refl
+  pub two_mapped : (a b : ℕ) (make : ℕ → ℕ → A) (ns : List ℕ) (found : Option A) → found ≡ two a b make ns → option_map f found ≡ two a b (λ k l. f (make k l)) ns
+  two_mapped a b make [] found e = rw e refl
+  two_mapped a b make (k ∷ []) found e = rw e refl
+  two_mapped a b make (k ∷ l ∷ []) found e = rw e (map_test (leb k a && leb l b) (make k l))
+  two_mapped a b make (k ∷ l ∷ m ∷ ns) found e = rw e refl
 
-module _ {B : Type 0} (a b c d : ℕ) (make : ℕ → ℕ → ℕ → ℕ → B) where
-  pub four_made : (ns : List ℕ) (found : Option (ℕ × ℕ × ℕ × ℕ)) → found ≡ four a b c d (λ k l m n. (k, l, m, n)) ns → option_map (λ it. make it.0 it.1 it.2 it.3) found ≡ four a b c d make ns
-  four_made [] found e = rw e refl
-  four_made (k ∷ []) found e = rw e refl
-  four_made (k ∷ l ∷ []) found e = rw e refl
-  four_made (k ∷ l ∷ m ∷ []) found e = rw e refl
-  four_made (k ∷ l ∷ m ∷ n ∷ []) found e = rw e (map_test (λ it. make it.0 it.1 it.2 it.3) (leb k a && leb l b && leb m c && leb n d) (k, l, m, n))
-  four_made (k ∷ l ∷ m ∷ n ∷ o ∷ ns) found e = rw e refl
+  pub three_mapped : (a b c : ℕ) (make : ℕ → ℕ → ℕ → A) (ns : List ℕ) (found : Option A) → found ≡ three a b c make ns
+      → option_map f found ≡ three a b c (λ k l m. f (make k l m)) ns
+  three_mapped a b c make [] found e = rw e refl
+  three_mapped a b c make (k ∷ []) found e = rw e refl
+  three_mapped a b c make (k ∷ l ∷ []) found e = rw e refl
+  three_mapped a b c make (k ∷ l ∷ m ∷ []) found e = rw e (map_test (leb k a && leb l b && leb m c) (make k l m))
+  three_mapped a b c make (k ∷ l ∷ m ∷ n ∷ ns) found e = rw e refl
+
+  pub four_mapped : (a b c d : ℕ) (make : ℕ → ℕ → ℕ → ℕ → A) (ns : List ℕ) (found : Option A) → found ≡ four a b c d make ns
+      → option_map f found ≡ four a b c d (λ k l m n. f (make k l m n)) ns
+  four_mapped a b c d make [] found e = rw e refl
+  four_mapped a b c d make (k ∷ []) found e = rw e refl
+  four_mapped a b c d make (k ∷ l ∷ []) found e = rw e refl
+  four_mapped a b c d make (k ∷ l ∷ m ∷ []) found e = rw e refl
+  four_mapped a b c d make (k ∷ l ∷ m ∷ n ∷ []) found e = rw e (map_test (leb k a && leb l b && leb m c && leb n d) (make k l m n))
+  four_mapped a b c d make (k ∷ l ∷ m ∷ n ∷ o ∷ ns) found e = rw e refl
+
+-- where the operands themselves were found
+module _ {B : Type 0} where
+  pub one_made : (a : ℕ) (make : ℕ → B) (ns : List ℕ) (found : Option ℕ) → found ≡ one a (λ k. k) ns → option_map make found ≡ one a make ns
+  one_made a make ns found e = one_mapped make a (λ k. k) ns found e
+
+  pub two_made : (a b : ℕ) (make : ℕ → ℕ → B) (ns : List ℕ) (found : Option (ℕ × ℕ)) → found ≡ two a b (λ k l. (k, l)) ns
+      → option_map (λ it. make it.0 it.1) found ≡ two a b make ns
+  two_made a b make ns found e = two_mapped (λ it. make it.0 it.1) a b (λ k l. (k, l)) ns found e
+
+  pub three_made : (a b c : ℕ) (make : ℕ → ℕ → ℕ → B) (ns : List ℕ) (found : Option (ℕ × ℕ × ℕ)) → found ≡ three a b c (λ k l m. (k, l, m)) ns
+      → option_map (λ it. make it.0 it.1 it.2) found ≡ three a b c make ns
+  three_made a b c make ns found e = three_mapped (λ it. make it.0 it.1 it.2) a b c (λ k l m. (k, l, m)) ns found e
+
+  pub four_made : (a b c d : ℕ) (make : ℕ → ℕ → ℕ → ℕ → B) (ns : List ℕ) (found : Option (ℕ × ℕ × ℕ × ℕ)) → found ≡ four a b c d (λ k l m n. (k, l, m, n)) ns
+      → option_map (λ it. make it.0 it.1 it.2 it.3) found ≡ four a b c d make ns
+  four_made a b c d make ns found e = four_mapped (λ it. make it.0 it.1 it.2 it.3) a b c d (λ k l m n. (k, l, m, n)) ns found e
 
 -- ---- the row of this word, or what comes after it
 
@@ -115,3 +130,9 @@ module _ {A : Type 0} (P : List ℕ → List ℕ → A → Type 0) (word ns : Li
   pub either : (first other : Option A) → (first ≡ Some value → P word ns value) → (other ≡ Some value → P word ns value) → option_or first other ≡ Some value → P word ns value
   either None other here go_on e = go_on e
   either (Some made) other here go_on e = here e
+
+  -- one of five groups of words
+  pub among_five : (a b c d e : Option A) → (a ≡ Some value → P word ns value) → (b ≡ Some value → P word ns value) → (c ≡ Some value → P word ns value)
+      → (d ≡ Some value → P word ns value) → (e ≡ Some value → P word ns value) → option_or a (option_or b (option_or c (option_or d e))) ≡ Some value → P word ns value
+  among_five a b c d e in_a in_b in_c in_d in_e =
+      either a (option_or b (option_or c (option_or d e))) in_a (either b (option_or c (option_or d e)) in_b (either c (option_or d e) in_c (either d e in_d in_e)))

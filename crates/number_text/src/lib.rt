@@ -12,4 +12,4 @@ mod spelling;
 pub use number::{cut_at_space, numbers_of};
 pub use operands::{Operand, four_operands, one_operand, three_operands, two_operands};
 pub use range::{at_most, up_to};
-pub use spelling::NumbersText;
+pub use spelling::{NumbersText, SpelledText};

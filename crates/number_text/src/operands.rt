@@ -97,3 +97,21 @@ pub fn four_operands<A: Operand, B: Operand, C: Operand, D: Operand>(
     let (third, fourth) = both(*third, *fourth)?;
     Some((first, second, third, fourth))
 }
+
+/// What is made of operands, where they are found: the value of the kind whose fields they are, in their order, or any
+/// other value. It is the `match` that it stands for, since a closure for each would be one more function to prove.
+#[macro_export]
+macro_rules! made_of {
+    ($found:expr => $type:ident::$kind:ident { $($field:ident),+ }) => {
+        match $found {
+            Some(($($field),+)) => Some($type::$kind { $($field),+ }),
+            None => None,
+        }
+    };
+    ($found:expr, $operands:pat => $made:expr) => {
+        match $found {
+            Some($operands) => Some($made),
+            None => None,
+        }
+    };
+}

@@ -18,3 +18,18 @@ impl fmt::Display for NumbersText<'_> {
         Ok(())
     }
 }
+
+/// A word, and each of its numbers in decimal behind one space.
+#[derive(Clone, Copy)]
+pub struct SpelledText<'a>(pub &'a str, pub &'a [u32]);
+
+impl fmt::Display for SpelledText<'_> {
+    ghost use Rattle.std.specs.Prelude.{Some};
+    ghost use Rattle.number_text.specs.Grammar.{spelled};
+
+    ghost output = { λ s. Some (spelled s.0.now s.1.now) };
+
+    fn fmt<W: fmt::Write>(&self, f: &mut fmt::Formatter<W>) -> fmt::Result {
+        write!(f, "{}{}", self.0, NumbersText(self.1))
+    }
+}
