@@ -1,10 +1,10 @@
 -- Runs that get one more turn.
-use Rattle.std.proofs.Common.{◌≡◌, ℕ, List, [], ◌∷◌, ◌++◌, length, refl, ap, ◌∙◌, subst, ◌≤◌, take}
+use Rattle.std.proofs.Common.{◌≡◌, ℕ, ◌+◌, ◌<◌, ◌≤◌, List, [], ◌∷◌, ◌++◌, length, take, slice_index, refl, sym, ap, ◌∙◌, subst}
 use Rattle.std.specs.List.{flat_map}
-use Rattle.std.proofs.lemmas.List.{flat_map_more, take_all}
+use Rattle.std.proofs.lemmas.List.{flat_map_more, take_all, take_more}
 use Rattle.build_books.specs.View.{HostView}
 use Rattle.realm_plan.specs.Plan.{Plan}
-use Rattle.plan_runs.specs.Run.{Position, Turn, start, IsTurn, AreTurns, IsToldTurn, IsToldRun, turn_text}
+use Rattle.plan_runs.specs.Run.{Position, Turn, start, IsTurn, AreTurns}
 
 -- a run and one more turn
 pub AreTurns-more :
@@ -20,34 +20,38 @@ AreTurns-more plan (b ∷ order) from [] at build turn to run of_build is_turn =
 AreTurns-more plan (b ∷ order) from (t ∷ turns) at build turn to run of_build is_turn =
     (run.0, run.1, run.2, AreTurns-more plan order run.1 turns at build turn to run.3 of_build is_turn)
 
--- A prefix of the turns leads here, and its lines were appended.
-pub record IsToldFront (plan : Plan) (order : List ℕ) (from : HostView) (to : Position) (old new : List ℕ) : Type 0 where
-  pub turns : List Turn
-  pub is_run : AreTurns plan order (start from) turns to
-  pub appended : new ≡ old ++ flat_map turn_text turns
+-- ---- the front of an order: of a run that tells one thing or another of its turns
 
--- one more turn
-pub IsToldFront-more :
-    (plan : Plan) (order : List ℕ) (from : HostView) (at : Position) (build : ℕ) (to : Position) (old between new : List ℕ)
-    → IsToldFront plan order from at old between
-    → IsToldTurn plan at build to between new
-    → IsToldFront plan (order ++ build ∷ []) from to old new
-IsToldFront-more plan order from at build to old between new front told = record {
-  turns = front.turns ++ told.turn ∷ [];
-  is_run = AreTurns-more plan order (start from) front.turns at build told.turn to front.is_run told.of_build told.is_turn;
-  appended = told.appended ∙ ap (λ t. t ++ turn_text told.turn) front.appended ∙ flat_map_more turn_text old front.turns told.turn;
-}
+-- The turns of these builds lead here, and the text of each was appended.
+pub record IsFront {T : Type 0} (Lead : List ℕ → List T → Position → Type 0) (text_of : T → List ℕ) (order : List ℕ) (to : Position) (old new : List ℕ) : Type 0 where
+  pub turns : List T
+  pub is_run : Lead order turns to
+  pub appended : new ≡ old ++ flat_map text_of turns
 
--- all turns
-pub IsToldRun-whole :
-    (plan : Plan) (i : ℕ) (from : HostView) (at : Position) (old new : List ℕ)
-    → length plan.order ≤ i
-    → IsToldFront plan (take i plan.order) from at old new
-    → IsToldRun plan from at.host old new
-IsToldRun-whole plan i from at old new done front = record {
-  turns = front.turns;
-  end = at;
-  is_run = subst (λ order. AreTurns plan order (start from) front.turns at) (take_all i plan.order done) front.is_run;
-  host = refl;
-  appended = front.appended;
-}
+module _ {T : Type 0} (Lead : List ℕ → List T → Position → Type 0) (text_of : T → List ℕ) (order : List ℕ) (i : ℕ) (old : List ℕ) where
+  -- one more turn, of the build that is next
+  pub front_more :
+      (items : List ℕ) (at to : Position) (turn : T) (between new : List ℕ)
+      → items ≡ order
+      → i < length items
+      → IsFront Lead text_of (take i order) at old between
+      → ((turns : List T) → Lead (take i order) turns at → Lead (take i order ++ slice_index items i ∷ []) (turns ++ turn ∷ []) to)
+      → new ≡ between ++ text_of turn
+      → IsFront Lead text_of (take (i + 1) order) to old new
+  front_more items at to turn between new same inside front leads appended =
+      let taken : take i order ++ slice_index items i ∷ [] ≡ take (i + 1) order = ap (λ xs. take i order ++ slice_index xs i ∷ []) same
+      ∙ sym (take_more order i 0 (subst (λ xs. i < length xs) same inside)) in
+      record {
+        turns = front.turns ++ turn ∷ [];
+        is_run = subst (λ o. Lead o (front.turns ++ turn ∷ []) to) taken (leads front.turns front.is_run);
+        appended = appended ∙ ap (λ t. t ++ text_of turn) front.appended ∙ flat_map_more text_of old front.turns turn;
+      }
+
+  -- all turns
+  pub front_whole : (items : List ℕ) (to : Position) (new : List ℕ) → items ≡ order → length items ≤ i
+      → IsFront Lead text_of (take i order) to old new → IsFront Lead text_of order to old new
+  front_whole items to new same done =
+      subst (λ o. IsFront Lead text_of o to old new) (take_all i order (subst (λ xs. length xs ≤ i) same done))
+
+abbrev pub LeadsTold : Plan → HostView → List ℕ → List Turn → Position → Type 0
+LeadsTold plan from order turns to = AreTurns plan order (start from) turns to

@@ -72,7 +72,8 @@ to_abort_same host build place count new is =
 same_then : (a b c : HostView) → SameSettings a b → SameSettings b c → SameSettings a c
 same_then a b c first next = (next.0 ∙ first.0, next.1 ∙ first.1)
 
-step_same : (host : HostView) (build : ℕ) (place : Place) (step : Step) (answer : TurnAnswer) (new : HostView) (after : Place) → IsStepTurn host build place step answer new after → SameSettings host new
+step_same : (host : HostView) (build : ℕ) (place : Place) (step : Step) (answer : TurnAnswer) (new : HostView) (after : Place)
+    → IsStepTurn host build place step answer new after → SameSettings host new
 step_same host build place (Ask cmd) answer new after is = command_same host build cmd is.0.result new is.0.is_answer
 step_same host build place Undo answer new after is = undo_same host build is.0.result new is.0.is_answer
 step_same host build place Abort answer new after is =

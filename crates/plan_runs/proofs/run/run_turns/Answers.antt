@@ -1,28 +1,18 @@
-use Rattle.std.proofs.Common.{string_bytes, ◌++◌, ◌<◌, ◌≤◌, length, ◌∷◌, [], ◌∙◌, ap, take, slice_index, subst, sym}
-use Rattle.std.proofs.lemmas.List.{take_more}
+use Rattle.std.proofs.Common.{string_bytes, refl}
 use Rattle.realm_plan.specs.PlanView.{plan_view}
-use Rattle.plan_runs.specs.Run.{Position}
-use Rattle.plan_runs.proofs.Runs.{IsToldFront, IsToldFront-more, IsToldRun-whole}
+use Rattle.plan_runs.specs.Run.{turn_text}
+use Rattle.plan_runs.proofs.Runs.{AreTurns-more, front_more, front_whole, LeadsTold}
 use Rattle.plan_runs.proofs.run.run_turns.Goals as goal
 
 pub loop-build-preserved : goal.loop-build-preserved
 loop-build-preserved g c =
-    let plan = plan_view c.args.plan.now in
-    let order = c.args.plan.now.order.items in
-    let i = c.loop-build.build-index in
-    let from : Position = record { host = c.loop-build.host; places = c.loop-build.places } in
-    let to : Position = record { host = c.turn.new.host; places = c.turn.new.places } in
-    let old = string_bytes c.args.text.now in
-    let between = string_bytes c.loop-build.text in
-    let new = string_bytes c.turn.new.text in
-    let build = slice_index c.deref-build-items.result.now i in
-    let taken = ap (λ items. take i order ++ slice_index items i ∷ []) c.deref-build-items.ensures.value ∙ sym (take_more order i 0 (subst (λ items. i < length items) c.deref-build-items.ensures.value c.loop-build-test.true)) in
-    subst (λ o. IsToldFront plan o c.args.host.now to old new) taken
-    (IsToldFront-more plan (take i order) c.args.host.now from build to old between new c.loop-build.invariant c.in_ok-turn.ensures)
+    let told = c.in_ok-turn.ensures in
+    front_more (LeadsTold (plan_view c.args.plan.now) c.args.host.now) turn_text c.args.plan.now.order.items c.loop-build.build-index (string_bytes c.args.text.now)
+    c.deref-build-items.result.now _ _ told.turn _ _ c.deref-build-items.ensures.value c.loop-build-test.true c.loop-build.invariant
+    (λ turns run. AreTurns-more (plan_view c.args.plan.now) _ _ turns _ _ _ _ run told.of_build told.is_turn) told.appended
 
 pub returns : goal.returns
 returns g c =
-    let at : Position = record { host = c.loop-build.host; places = c.loop-build.places } in
-    IsToldRun-whole (plan_view c.args.plan.now) c.loop-build.build-index c.args.host.now at (string_bytes c.args.text.now) (string_bytes c.loop-build.text)
-    (subst (λ items. length items ≤ c.loop-build.build-index) c.deref-build-items.ensures.value c.loop-build-test.false)
-    c.loop-build.invariant
+    let whole = front_whole (LeadsTold (plan_view c.args.plan.now) c.args.host.now) turn_text c.args.plan.now.order.items c.loop-build.build-index (string_bytes c.args.text.now)
+    c.deref-build-items.result.now _ _ c.deref-build-items.ensures.value c.loop-build-test.false c.loop-build.invariant in
+    record { turns = whole.turns; end = record { host = c.loop-build.host; places = c.loop-build.places }; is_run = whole.is_run; host = refl; appended = whole.appended }

@@ -1,8 +1,10 @@
 use Rattle.std.proofs.Common.{string_bytes, take}
 use Rattle.realm_plan.specs.PlanView.{plan_view}
-use Rattle.plan_runs.proofs.Runs.{IsToldFront}
+use Rattle.plan_runs.specs.Run.{turn_text}
+use Rattle.plan_runs.proofs.Runs.{IsFront, LeadsTold}
 use Rattle.plan_runs.proofs.run.run_turns.Given as goal
 
 abbrev pub invariant-loop-build : goal.invariant-loop-build
 invariant-loop-build g l =
-    IsToldFront (plan_view l.plan) (take l.build-index l.plan.order.items) l.fn.host (record { host = l.host; places = l.places }) (string_bytes l.fn.text) (string_bytes l.text)
+    IsFront (LeadsTold (plan_view l.plan) l.fn.host) turn_text (take l.build-index l.plan.order.items) (record { host = l.host; places = l.places })
+    (string_bytes l.fn.text) (string_bytes l.text)
