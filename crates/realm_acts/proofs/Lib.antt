@@ -11,6 +11,7 @@ pub mod Backward
 pub mod RecsNamed
 pub mod Blocks
 -- what a build has open, and its realm
+pub mod Made
 pub mod RecLists
 pub mod RecsAfter
 pub mod RecsOpen

@@ -12,10 +12,11 @@ or_last None number granule m = cond (number == m) (Some granule) None
 
 pub granule_in-push : (recs : List (ℕ × ℕ)) (number granule m : ℕ) → granule_in (recs ++ (number, granule) ∷ []) m ≡ or_last (granule_in recs m) number granule m
 granule_in-push [] number granule m = refl
-granule_in-push (rec ∷ recs) number granule m = elim (rec.0 == m) as (λ t. cond t (Some rec.1) (granule_in (recs ++ (number, granule) ∷ []) m) ≡ or_last (cond t (Some rec.1) (granule_in recs m)) number granule m) [
-  | true ↦ refl
-  | false ↦ granule_in-push recs number granule m
-]
+granule_in-push (rec ∷ recs) number granule m =
+    elim (rec.0 == m) as (λ t. cond t (Some rec.1) (granule_in (recs ++ (number, granule) ∷ []) m) ≡ or_last (cond t (Some rec.1) (granule_in recs m)) number granule m) [
+      | true ↦ refl
+      | false ↦ granule_in-push recs number granule m
+    ]
 
 or_last_other : (o : Option ℕ) (number granule m : ℕ) → (number == m) ≡ false → or_last o number granule m ≡ o
 or_last_other (Some g) number granule m other = refl

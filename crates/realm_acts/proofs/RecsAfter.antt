@@ -103,54 +103,51 @@ module _ (limits : Limits) (b : ℕ) (w v : World) (kept : IsKept b w) (kept_v :
   abbrev W : World
   W = part_of w b
 
-  abbrev V : World
-  V = part_of v b
-
   square : IsSquare W
   square = IsSquare-part_of w b kept.sound.square
 
   no_rows : realm_of b W ≡ None → (k : ℕ) → (cell_at W.machine k).descriptor ≡ None
   no_rows none = none_there b w kept (sym (realm_of-part_of b w) ∙ none)
 
-  own : (act : Act) → step limits w (by b act) ≡ Some v → step limits W (by b act) ≡ Some V
-  own act s = step-part_of limits b w v (by b act) refl s
-
   abbrev StaysAll : Type 0
   StaysAll = (m : ℕ) → rec_granule (realm_of b v) m ≡ rec_granule (realm_of b w) m
 
   plain_stays : (act : Act) → makes_realm act ≡ false → is_of_recs act ≡ false → is_realm_destroy act ≡ false → step limits w (by b act) ≡ Some v → StaysAll
-  plain_stays act plain recs stay s m = elim (part_realm b w kept) [
-    | inl none ↦
-        no_granule b v kept_v m (still_none limits W V b act square plain (own act s) (none_there b w kept none)) ∙ sym (no_granule b w kept m (none_there b w kept none))
-    | inr there ↦
-        let then = turned_by limits b W V act SameRecs square kept.sound.part no_rows (keeps limits W kept.sound.part act recs stay) (own act s) there.0 there.1 there.2 in
-        granule_at b v kept_v m there.0 then.0 then.1 ∙ then.2 m ∙ sym (granule_at b w kept m there.0 there.1 there.2)
-  ]
+  plain_stays act plain recs stay s m =
+      let to = step-part_of limits b w v (by b act) refl s in
+      elim (part_realm b w kept) [
+        | inl none ↦
+            let none_after = still_none limits W (part_of v b) b act square plain to (none_there b w kept none) in
+            no_granule b v kept_v m none_after ∙ sym (no_granule b w kept m (none_there b w kept none))
+        | inr there ↦
+            let then = turned_by limits b W (part_of v b) act SameRecs square kept.sound.part no_rows (keeps limits W kept.sound.part act recs stay) to there.0 there.1 there.2 in
+            granule_at b v kept_v m there.0 then.0 then.1 ∙ then.2 m ∙ sym (granule_at b w kept m there.0 there.1 there.2)
+      ]
 
   made_stays : (rd : ℕ) (root : Root) (vmid : ℕ) → step limits w (by b (Realm rd root vmid)) ≡ Some v → StaysAll
   unfolding fits new_realm
   made_stays rd root vmid s m =
       let act : Act = Realm rd root vmid in
-      let to = own act s in
-      let none = no_rows (none_is _ (asked limits b W V act to).fit) in
+      let to = step-part_of limits b w v (by b act) refl s in
+      let none = no_rows (none_is _ (asked limits b W (part_of v b) act to).fit) in
       after none to ∙ sym (no_granule b w kept m none)
     where
-      after : ((k : ℕ) → (cell_at W.machine k).descriptor ≡ None) → step limits W (by b (Realm rd root vmid)) ≡ Some V → rec_granule (realm_of b v) m ≡ None
+      after : ((k : ℕ) → (cell_at W.machine k).descriptor ≡ None) → step limits W (by b (Realm rd root vmid)) ≡ Some (part_of v b) → rec_granule (realm_of b v) m ≡ None
       after none to = elim (part_realm b v kept_v) [
         | inl gone ↦ no_granule b v kept_v m (none_there b v kept_v gone)
         | inr there ↦
             granule_at b v kept_v m there.0 there.1 there.2
-            ∙ ap (λ (y : RealmRow). granule_of y m) (realm_made_step limits b W V rd root vmid square none to there.0 there.1 there.2)
+            ∙ ap (λ (y : RealmRow). granule_of y m) (realm_made_step limits b W (part_of v b) rd root vmid square none to there.0 there.1 there.2)
             ∙ ap (option_map (λ (rec : RecRow). rec.granule)) (get-empty nat_cmp m)
       ]
 
   gone_stays : (rd : ℕ) (root : Root) (vmid : ℕ) → step limits w (by b (UnRealm rd root vmid)) ≡ Some v → StaysAll
   gone_stays rd root vmid s m =
       let act : Act = UnRealm rd root vmid in
-      let to = own act s in
-      let did = done limits b W V act (λ us. (k : ℕ) (d : RealmRow) → (cell_at W.machine k).descriptor ≡ Some d → (m : ℕ) → granule_of d m ≡ None)
+      let to = step-part_of limits b w v (by b act) refl s in
+      let did = done limits b W (part_of v b) act (λ us. (k : ℕ) (d : RealmRow) → (cell_at W.machine k).descriptor ≡ Some d → (m : ℕ) → granule_of d m ≡ None)
       (destroyed limits W kept.sound.part rd root vmid (realm_of b W) (IsAt-realm_of b W)) to in
-      no_granule b v kept_v m (realm_gone_step limits b W V rd root vmid square kept.sound.part to).0 ∙ sym (before did.1)
+      no_granule b v kept_v m (realm_gone_step limits b W (part_of v b) rd root vmid square kept.sound.part to).0 ∙ sym (before did.1)
     where
       before : ((k : ℕ) (d : RealmRow) → (cell_at W.machine k).descriptor ≡ Some d → (m : ℕ) → granule_of d m ≡ None) → rec_granule (realm_of b w) m ≡ None
       before empty = elim (part_realm b w kept) [
@@ -248,7 +245,7 @@ module _ (limits : Limits) (b : ℕ) (w v : World) (kept : IsKept b w) (kept_v :
   unfolding fits
   rec_is_made granule aux n s =
       let act : Act = Rec granule aux n in
-      let to = own limits b w v kept kept_v act s in
+      let to = step-part_of limits b w v (by b act) refl s in
       let did = done limits b (part_of w b) (part_of v b) act (GainsBy (part_of w b) granule)
       (created limits (part_of w b) kept.sound.part granule aux n (realm_of b (part_of w b)) (IsAt-realm_of b (part_of w b))) to in
       let fit = (asked limits b (part_of w b) (part_of v b) act to).fit in
@@ -279,7 +276,7 @@ module _ (limits : Limits) (b : ℕ) (w v : World) (kept : IsKept b w) (kept_v :
       → (m : ℕ) → rec_granule (realm_of b v) m ≡ cond (eq_by_cmp nat_cmp m n) None (rec_granule (realm_of b w) m)
   rec_is_gone granule aux n s m =
       let act : Act = UnRec granule aux n in
-      let to = own limits b w v kept kept_v act s in
+      let to = step-part_of limits b w v (by b act) refl s in
       elim (part_realm b w kept) [
         | inl none ↦
             no_granule b v kept_v m (still_none limits (part_of w b) (part_of v b) b act (square limits b w v kept kept_v) refl to (none_there b w kept none))

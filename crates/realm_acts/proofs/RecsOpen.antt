@@ -5,12 +5,9 @@ use Rattle.std.specs.List.{flat_map}
 use Rattle.std.specs.Ordering.{eq_by_cmp, nat_cmp}
 use Rattle.std.proofs.lemmas.Bool.{cases_eq}
 use Rattle.std.proofs.lemmas.Cmp.{nat_cmp_total, eq_by_cmp_equiv}
-use Rattle.std.proofs.lemmas.List.{append-nil}
-use Rattle.std.proofs.lemmas.List.Concat.{flat_map-append}
-use Rattle.std.proofs.lemmas.Option.{same_Some}
 use Rattle.arrayvec.specs.declared.array_vec.ArrayVec.{ArrayVec}
 use Rattle.realm_model.specs.declared.act.Act.{Act}
-use Rattle.realm_model.specs.declared.act.Act.TheVariants.{Take, Delegate, Realm, Rtt, Data, Unknown, Rec, UnRec}
+use Rattle.realm_model.specs.declared.act.Act.TheVariants.{Rec, UnRec}
 use Rattle.realm_model.specs.declared.act.Event.{Event}
 use Rattle.realm_model.specs.Machine.{Limits}
 use Rattle.realm_model.specs.Act.{is_paired, is_reverse, reverse_of}
@@ -19,15 +16,15 @@ use Rattle.realm_model.specs.Step.{step}
 use Rattle.realm_model.specs.History.{open_entries, after, replay, IsLegal, IsInTurn}
 use Rattle.realm_model.specs.Undoing.{by}
 use Rattle.realm_model.proofs.Booleans.{false_from}
-use Rattle.realm_model.proofs.Growth.{open_entries-own, open_entries-other, takes_away, grows}
+use Rattle.realm_model.proofs.Growth.{open_entries-other, grows}
 use Rattle.realm_model.proofs.Maps.{nat_place}
 use Rattle.realm_model.proofs.PartRealm.{none_at_first}
 use Rattle.realm_model.proofs.Reached.{of_legal}
 use Rattle.realm_model.proofs.RealmOf.{realm_of-other_step}
-use Rattle.realm_model.proofs.Stack.{pushed_paired, pushed_other, kind, paired, back, other}
 use Rattle.realm_model.proofs.ZeroPages.{IsKept, kept_reached}
 use Rattle.realm_acts.specs.Performing.{rec_granule}
 use Rattle.realm_acts.specs.RecsOpen.{rec_made, recs_open, granule_in, number_at, IsRising, RecsAreOpen}
+use Rattle.realm_acts.proofs.Made.{taken_back, removed_as_made as removed_as_made_by, opens, closes, stays}
 use Rattle.realm_acts.proofs.RecLists.{push_same, push_other, found_at, rising_push, rising_pop, last_is_new}
 use Rattle.realm_acts.proofs.RecsAfter.{is_of_recs, no_granule, recs_stay, rec_is_made, rec_is_gone}
 
@@ -43,22 +40,10 @@ other_key m n apart = false_from (eq_by_cmp nat_cmp m n) (λ same. apart (nat_pl
 
 -- the number and the granule of the REC that a reverse removes
 abbrev pub rec_removed : Act → List (ℕ × ℕ)
-rec_removed (UnRec granule auxiliaries number) = (number, granule) ∷ []
-rec_removed _ = []
+rec_removed act = rec_made (taken_back act)
 
 pub removed_as_made : (newest act : Act) → reverse_of newest ≡ Some act → rec_made newest ≡ rec_removed act
-unfolding reverse_of
-removed_as_made (Take order first) act is = ap rec_removed (same_Some _ _ is)
-removed_as_made (Delegate granule) act is = ap rec_removed (same_Some _ _ is)
-removed_as_made (Realm rd root vmid) act is = ap rec_removed (same_Some _ _ is)
-removed_as_made (Rtt granule ipa level) act is = ap rec_removed (same_Some _ _ is)
-removed_as_made (Data granule ipa source) act is = ap rec_removed (same_Some _ _ is)
-removed_as_made (Unknown granule ipa) act is = ap rec_removed (same_Some _ _ is)
-removed_as_made (Rec granule auxiliaries number) act is = ap rec_removed (same_Some _ _ is)
-removed_as_made _ act is = cc
-
-recs_push : (acts : List Act) (act : Act) → flat_map rec_made (acts ++ act ∷ []) ≡ flat_map rec_made acts ++ rec_made act
-recs_push acts act = flat_map-append rec_made acts (act ∷ []) ∙ ap (λ xs. flat_map rec_made acts ++ xs) (append-nil (rec_made act))
+removed_as_made = removed_as_made_by rec_made (λ granule ipa source. refl)
 
 none_made : (act : Act) → is_of_recs act ≡ false → rec_made act ≡ []
 none_made (Rec granule auxiliaries number) plain = cc
@@ -79,20 +64,14 @@ module _ (limits : Limits) (before : List Event) (w v : World) (legal : IsLegal 
     kept_v : IsKept b v
     kept_v = kept_reached limits b grown v (grows limits before (by b act) w v legal at_w s turn).world_is
 
-    opens : is_paired act ≡ true → recs_open b grown ≡ recs_open b before ++ rec_made act
-    opens p = ap (flat_map rec_made) (open_entries-own before (by b act) ∙ pushed_paired (open_entries b before) act p) ∙ recs_push (open_entries b before) act
+    opened : is_paired act ≡ true → recs_open b grown ≡ recs_open b before ++ rec_made act
+    opened = opens rec_made (λ granule ipa source. refl) b before act turn
 
-    closes : is_paired act ≡ false → is_reverse act ≡ true → recs_open b before ≡ recs_open b grown ++ rec_removed act
-    closes p r =
-        let away = takes_away b before act p r turn in
-        ap (flat_map rec_made) away.open_is ∙ recs_push (open_entries b grown) away.newest ∙ ap (λ xs. recs_open b grown ++ xs) (removed_as_made away.newest act away.pairs)
+    closed : is_paired act ≡ false → is_reverse act ≡ true → recs_open b before ≡ recs_open b grown ++ rec_removed act
+    closed = closes rec_made (λ granule ipa source. refl) b before act turn
 
     same_open : is_of_recs act ≡ false → recs_open b grown ≡ recs_open b before
-    same_open plain = elim (kind act) [
-      | paired p r ↦ opens p ∙ ap (λ xs. recs_open b before ++ xs) (none_made act plain) ∙ append-nil (recs_open b before)
-      | back p r ↦ sym (closes p r ∙ ap (λ xs. recs_open b grown ++ xs) (none_removed act plain) ∙ append-nil (recs_open b grown))
-      | other p r ↦ ap (flat_map rec_made) (open_entries-own before (by b act) ∙ pushed_other (open_entries b before) act p r)
-    ]
+    same_open plain = stays rec_made (λ granule ipa source. refl) b before act turn (none_made act plain) (none_removed act plain)
 
     plain_step : is_of_recs act ≡ false → RecsAreOpen grown v b
     plain_step plain = record {
@@ -107,7 +86,7 @@ module _ (limits : Limits) (before : List Event) (w v : World) (legal : IsLegal 
   made_step granule aux n turn s =
       let act : Act = Rec granule aux n in
       let made = rec_is_made limits b w v kept (kept_v act turn s) granule aux n s in
-      let open_is = opens act turn s refl in
+      let open_is = opened act turn s refl in
       let recs : List (ℕ × ℕ) = recs_open b before in
       let new_number : granule_in recs n ≡ None = none_of (granule_in recs n) (λ there.
       let less = made.below n (ap is_some (was.granules n) ∙ there) in absurd (omega (arith, less))) in
@@ -135,7 +114,7 @@ module _ (limits : Limits) (before : List Event) (w v : World) (legal : IsLegal 
       let act : Act = UnRec granule aux n in
       let recs : List (ℕ × ℕ) = recs_open b (before ++ by b act ∷ []) in
       let gone = rec_is_gone limits b w v kept (kept_v act turn s) granule aux n s in
-      let open_was : recs_open b before ≡ recs ++ (n, granule) ∷ [] = closes act turn s refl refl in
+      let open_was : recs_open b before ≡ recs ++ (n, granule) ∷ [] = closed act turn s refl refl in
       let rising : IsRising (recs ++ (n, granule) ∷ []) = subst IsRising open_was was.rising in
       record {
         granules = λ m. gone m ∙ ⊎_elim

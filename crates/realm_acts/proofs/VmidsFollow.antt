@@ -1,23 +1,22 @@
 -- The VMIDs in use after an act.
-use Rattle.std.proofs.Common.{◌≡◌, ℕ, Bool, true, false, ◌||◌, List, [], ◌∷◌, ◌++◌, Option, Some, None, refl, sym, ap, ◌∙◌, subst, ⊎_elim}
+use Rattle.std.proofs.Common.{◌≡◌, ℕ, ◌≤◌, Bool, true, false, ◌||◌, List, [], ◌∷◌, ◌++◌, length, Option, Some, None, refl, sym, ap, ◌∙◌, subst, arith, ⊎_elim}
 use Rattle.std.specs.Prelude.{◌==◌, slice_get, filter}
 use Rattle.std.specs.List.{flat_map}
 use Rattle.std.proofs.lemmas.Bool.{cases_eq, eqb-true, ne_eqb}
-use Rattle.std.proofs.lemmas.List.{append-nil}
-use Rattle.std.proofs.lemmas.List.Concat.{flat_map-append}
+use Rattle.std.proofs.lemmas.List.{length-append}
 use Rattle.std.proofs.lemmas.Option.{same_Some}
 use Rattle.realm_model.specs.declared.act.Act.{Act}
-use Rattle.realm_model.specs.declared.act.Act.TheVariants.{Take, Delegate, Realm, UnRealm, Rtt, Data, Unknown, Rec}
+use Rattle.realm_model.specs.declared.act.Act.TheVariants.{Realm, UnRealm}
 use Rattle.realm_model.specs.declared.act.Event.{Event}
 use Rattle.realm_model.specs.Machine.{Limits, RealmRow, Cell, Seen}
-use Rattle.realm_model.specs.Act.{is_paired, is_reverse, reverse_of}
+use Rattle.realm_model.specs.Act.{is_reverse, reverse_of}
 use Rattle.realm_model.specs.OpenRealm.{makes_realm, maker, makers}
 use Rattle.realm_model.specs.World.{World, realm_of}
 use Rattle.realm_model.specs.Step.{step, used_vmids}
 use Rattle.realm_model.specs.History.{open_entries, replay, IsLegal, IsInTurn}
 use Rattle.realm_model.specs.Undoing.{by}
 use Rattle.realm_model.proofs.Booleans.{or_none, or_true, false_from}
-use Rattle.realm_model.proofs.Growth.{Grows, grows, open_entries-own, open_entries-other, takes_away}
+use Rattle.realm_model.proofs.Growth.{Grows, grows, open_entries-other}
 use Rattle.realm_model.proofs.Leases.{leased}
 use Rattle.realm_model.specs.Command.Check.{is_in}
 use Rattle.realm_model.proofs.Lists.{is_in_head, is_in-append}
@@ -25,9 +24,9 @@ use Rattle.realm_model.proofs.OpenRealm.{maker_at, realm_is_open}
 use Rattle.realm_model.proofs.Reachable.{realm_of_build, reachable_worlds}
 use Rattle.realm_model.proofs.RealmAfter.{is_realm_destroy}
 use Rattle.realm_model.proofs.RealmOf.{IsAt, IsAt-realm_of, IsHeld, IsHeld-realm_of}
-use Rattle.realm_model.proofs.Stack.{pushed_paired, pushed_other, kind, paired, back, other}
 use Rattle.realm_model.proofs.UsedVmids.{used_at, used_by}
 use Rattle.realm_model.proofs.ZeroPages.{kept_reached}
+use Rattle.realm_acts.proofs.Made.{taken_back, opens, closes, stays}
 use Rattle.realm_acts.specs.VmidsUsed.{VmidsFollowSteps}
 
 -- ---- the VMIDs of open acts
@@ -38,25 +37,10 @@ vmid_made (Realm rd root vmid) = vmid ∷ []
 vmid_made _ = []
 
 abbrev vmid_removed : Act → List ℕ
-vmid_removed (UnRealm rd root vmid) = vmid ∷ []
-vmid_removed _ = []
+vmid_removed act = vmid_made (taken_back act)
 
 abbrev vmids_open : ℕ → List Event → List ℕ
 vmids_open build history = flat_map vmid_made (open_entries build history)
-
-removed_as_made : (newest act : Act) → reverse_of newest ≡ Some act → vmid_made newest ≡ vmid_removed act
-unfolding reverse_of
-removed_as_made (Take order first) act is = ap vmid_removed (same_Some _ _ is)
-removed_as_made (Delegate granule) act is = ap vmid_removed (same_Some _ _ is)
-removed_as_made (Realm rd root vmid) act is = ap vmid_removed (same_Some _ _ is)
-removed_as_made (Rtt granule ipa level) act is = ap vmid_removed (same_Some _ _ is)
-removed_as_made (Data granule ipa source) act is = ap vmid_removed (same_Some _ _ is)
-removed_as_made (Unknown granule ipa) act is = ap vmid_removed (same_Some _ _ is)
-removed_as_made (Rec granule auxiliaries number) act is = ap vmid_removed (same_Some _ _ is)
-removed_as_made _ act is = cc
-
-vmids_push : (acts : List Act) (act : Act) → flat_map vmid_made (acts ++ act ∷ []) ≡ flat_map vmid_made acts ++ vmid_made act
-vmids_push acts act = flat_map-append vmid_made acts (act ∷ []) ∙ ap (λ xs. flat_map vmid_made acts ++ xs) (append-nil (vmid_made act))
 
 none_made : (act : Act) → makes_realm act ≡ false → vmid_made act ≡ []
 none_made (Realm rd root vmid) plain = cc
@@ -93,18 +77,20 @@ has_vmid b v w (Some rd) is h = by_row rd.cell.descriptor refl h
     by_row (Some realm) row h = record { rd = rd; realm = realm; is = is; row = row; same = alone_in v realm.vmid h }
 
 -- a build has one realm at most
+one_at_most : (o : Option Seen) → length (flat_map vmid_made (makers o)) ≤ 1
+one_at_most None = omega arith
+one_at_most (Some rd) = by_row rd.cell.descriptor
+  where
+    by_row : (d : Option RealmRow) → length (flat_map vmid_made (elim d [ Some realm ↦ maker rd.number realm ∷ [] | None ↦ [] ])) ≤ 1
+    by_row None = omega arith
+    by_row (Some realm) = omega arith
+
 only_one : (o : Option Seen) (xs : List ℕ) (v : ℕ) → flat_map vmid_made (makers o) ≡ xs ++ v ∷ [] → xs ≡ []
 only_one o [] v e = refl
-only_one None (x ∷ xs) v e = cc
-only_one (Some rd) (x ∷ xs) v e = by_row rd.cell.descriptor e
-  where
-    by_row : (o : Option RealmRow) → flat_map vmid_made (elim o [ Some realm ↦ maker rd.number realm ∷ [] | None ↦ [] ]) ≡ x ∷ xs ++ v ∷ [] → x ∷ xs ≡ []
-    by_row None e = cc
-    by_row (Some realm) e = two xs e
-      where
-        two : (xs : List ℕ) → realm.vmid ∷ [] ≡ x ∷ xs ++ v ∷ [] → x ∷ xs ≡ []
-        two [] e = cc
-        two (y ∷ ys) e = cc
+only_one o (x ∷ xs) v e =
+    let few = one_at_most o in
+    let many = ap length e ∙ length-append (x ∷ xs) (v ∷ []) in
+    absurd (omega arith)
 
 module _ (limits : Limits) (history : List Event) (w : World) (legal : IsLegal limits history) (at_w : replay limits history ≡ Some w) where
   vmids_are : (b : ℕ) → vmids_open b history ≡ flat_map vmid_made (makers (realm_of b w))
@@ -164,20 +150,8 @@ module _ (limits : Limits) (before : List Event) (w v : World) (legal : IsLegal 
   grown : Grows limits before (by b act) v
   grown = grows limits before (by b act) w v legal at_w s turn
 
-  opens : is_paired act ≡ true → vmids_open b later ≡ vmids_open b before ++ vmid_made act
-  opens p = ap (flat_map vmid_made) (open_entries-own before (by b act) ∙ pushed_paired (open_entries b before) act p) ∙ vmids_push (open_entries b before) act
-
-  closes : is_paired act ≡ false → is_reverse act ≡ true → vmids_open b before ≡ vmids_open b later ++ vmid_removed act
-  closes p r =
-      let away = takes_away b before act p r turn in
-      ap (flat_map vmid_made) away.open_is ∙ vmids_push (open_entries b later) away.newest ∙ ap (λ xs. vmids_open b later ++ xs) (removed_as_made away.newest act away.pairs)
-
   same_open : makes_realm act ≡ false → is_realm_destroy act ≡ false → vmids_open b later ≡ vmids_open b before
-  same_open plain stay = elim (kind act) [
-    | paired p r ↦ opens p ∙ ap (λ xs. vmids_open b before ++ xs) (none_made act plain) ∙ append-nil (vmids_open b before)
-    | back p r ↦ sym (closes p r ∙ ap (λ xs. vmids_open b later ++ xs) (none_removed act stay) ∙ append-nil (vmids_open b later))
-    | other p r ↦ ap (flat_map vmid_made) (open_entries-own before (by b act) ∙ pushed_other (open_entries b before) act p r)
-  ]
+  same_open plain stay = stays vmid_made (λ granule ipa source. refl) b before act turn (none_made act plain) (none_removed act stay)
 
   others_open : (c : ℕ) → (c ≡ b → ⊥) → vmids_open c later ≡ vmids_open c before
   others_open c apart = ap (flat_map vmid_made) (open_entries-other c before (by b act) (λ e. apart (sym e)))
@@ -228,10 +202,10 @@ pub vmids_follow : (limits : Limits) (history : List Event) (world : World) (bui
 unfolding reverse_of is_reverse
 vmids_follow limits history world build (Realm rd root vmid) next legal at turn s =
     let act : Act = Realm rd root vmid in
-    let done = made_follows limits history world next legal at build act turn s vmid (opens limits history world next legal at build act turn s refl) in
+    let done = made_follows limits history world next legal at build act turn s vmid (opens vmid_made (λ granule ipa source. refl) build history act turn refl) in
     record { one = done.0; others = done.1 }
 vmids_follow limits history world build (UnRealm rd root vmid) next legal at turn s =
     let act : Act = UnRealm rd root vmid in
-    let done = gone_follows limits history world next legal at build act turn s vmid (closes limits history world next legal at build act turn s refl refl) in
+    let done = gone_follows limits history world next legal at build act turn s vmid (closes vmid_made (λ granule ipa source. refl) build history act turn refl refl) in
     record { one = done.0; others = done.1 }
 vmids_follow limits history world build act next legal at turn s = plain_follows limits history world next legal at build act turn s refl refl
