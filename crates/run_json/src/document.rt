@@ -4,6 +4,7 @@ ghost use Rattle.realm_plan.specs.PlanView.{plan_view};
 ghost use Rattle.run_json.specs.Document.{machine_text, room_text, settings_text, separator, whose_member, IsTurnItem, HasTurnItems, IsDocument};
 
 use crate::build_id::id_of;
+use crate::pushed::Pushed;
 use crate::turn::{push_answered, push_behind, push_idle};
 use crate::world::push_world;
 use page_arena::PageStore;
@@ -12,7 +13,7 @@ use realm_host::Host;
 use realm_plan::Plan;
 use std::alloc::{AllocError, Global};
 
-fn push_machine(text: &mut String, plan: &Plan) -> Result<(), AllocError>
+fn push_machine(text: &mut String, plan: &Plan) -> Pushed
     ensures { OnOk result (string_bytes text.new ≡ string_bytes text.old ++ machine_text (plan_view plan.now)) }
 {
     let (pages, vmids, aux) = (plan.pages, plan.vmids, plan.aux);
@@ -22,7 +23,7 @@ fn push_machine(text: &mut String, plan: &Plan) -> Result<(), AllocError>
     )
 }
 
-fn push_room(text: &mut String, plan: &Plan) -> Result<(), AllocError>
+fn push_room(text: &mut String, plan: &Plan) -> Pushed
     ensures { OnOk result (string_bytes text.new ≡ string_bytes text.old ++ room_text (plan_view plan.now)) }
 {
     let (history, builds) = (plan.history, plan.builds.len());
@@ -30,7 +31,7 @@ fn push_room(text: &mut String, plan: &Plan) -> Result<(), AllocError>
 }
 
 // Appends the member of the machine's size.
-fn push_settings(text: &mut String, plan: &Plan) -> Result<(), AllocError>
+fn push_settings(text: &mut String, plan: &Plan) -> Pushed
     ensures { OnOk result (string_bytes text.new ≡ string_bytes text.old ++ settings_text (plan_view plan.now)) }
 {
     push_machine(text, plan)?;
@@ -38,7 +39,7 @@ fn push_settings(text: &mut String, plan: &Plan) -> Result<(), AllocError>
 }
 
 // Appends a comma and a line feed, but to an empty text.
-fn push_separator(text: &mut String) -> Result<(), AllocError>
+fn push_separator(text: &mut String) -> Pushed
     ensures { OnOk result (string_bytes text.new ≡ string_bytes text.old ++ separator (string_bytes text.old)) }
 {
     if text.is_empty() {
@@ -48,7 +49,7 @@ fn push_separator(text: &mut String) -> Result<(), AllocError>
     }
 }
 
-fn push_whose(text: &mut String, build: usize) -> Result<(), AllocError>
+fn push_whose(text: &mut String, build: usize) -> Pushed
     ensures { OnOk result (string_bytes text.new ≡ string_bytes text.old ++ whose_member build) }
 {
     write!(text, "{{\"build\":{build},")
@@ -62,7 +63,7 @@ fn push_turn<S: PageStore>(
     plan: &Plan,
     places: &mut [Place; 8],
     build: usize,
-) -> Result<(), AllocError>
+) -> Pushed
     requires { build < vec_len plan.now.builds }
     ensures { OnOk result (IsTurnItem (plan_view plan.now) (record { host = host.old; places = places.old }) build (record { host = host.new; places = places.new }) (string_bytes text.old) (string_bytes text.new)) }
 {
@@ -82,7 +83,7 @@ fn push_turns<S: PageStore>(
     text: &mut String,
     host: &mut Host<S>,
     plan: &Plan,
-) -> Result<(), AllocError>
+) -> Pushed
     ensures { OnOk result (HasTurnItems (plan_view plan.now) host.old host.new (string_bytes text.old) (string_bytes text.new)) }
 {
     let mut places = [Place::first(); 8];

@@ -1,5 +1,5 @@
 //! A granule, a row of a translation and a REC, each as an object.
-use crate::numbers::{BuildOrNull, GranuleOrNull, Granules};
+use crate::numbers::{Numbers, build_number, granule_number, granule_numbers};
 use crate::words::{entry_state_word, granule_word, rec_state_word, ripas_word};
 use granule_addr::{Gran, IpaGran, Level, RecNo};
 use realm_host::{Entry, GranuleView, RowView};
@@ -21,7 +21,7 @@ impl fmt::Display for GranuleItem {
             return f.write_str("null");
         };
         let (granule, state) = (self.0.number(), granule_word(view.state));
-        let (build, realm) = (BuildOrNull(view.build), GranuleOrNull(view.realm));
+        let (build, realm) = (build_number(view.build), granule_number(view.realm));
         write!(
             f,
             "{{\"granule\":{granule},\"state\":\"{state}\",\"build\":{build},\"realm\":{realm}}}"
@@ -61,7 +61,7 @@ impl fmt::Display for RowSays {
 
     fn fmt<W: fmt::Write>(&self, f: &mut fmt::Formatter<W>) -> fmt::Result {
         let (state, ripas) = (entry_state_word(self.0.state), ripas_word(self.0.ripas));
-        let granule = GranuleOrNull(self.0.granule);
+        let granule = granule_number(self.0.granule);
         write!(
             f,
             "\"state\":\"{state}\",\"ripas\":\"{ripas}\",\"granule\":{granule}"
@@ -104,7 +104,8 @@ impl fmt::Display for RecItem<'_> {
             return write!(f, "{{\"number\":{number},\"state\":null}}");
         };
         let (granule, state) = (granule.number(), rec_state_word(rec.state()));
-        let auxiliaries = Granules(rec.auxiliaries());
+        let numbers = granule_numbers(rec.auxiliaries());
+        let auxiliaries = Numbers(numbers.as_slice());
         write!(
             f,
             "{{\"number\":{number},\"state\":\"{state}\",\"granule\":{granule},\"auxiliaries\":{auxiliaries}}}"

@@ -1,44 +1,10 @@
 //! Numbers that may be none, and arrays of numbers.
-ghost use Rattle.std.specs.Prelude.{◌≡◌};
+ghost use Rattle.std.specs.Prelude.{◌≡◌, ◌≤◌, length};
+ghost use Rattle.run_json.specs.Items.{comma};
 
+use arrayvec::ArrayVec;
 use granule_addr::{BuildId, Gran};
 use std::fmt;
-
-/// A build, or null.
-#[derive(Clone, Copy)]
-pub struct BuildOrNull(pub Option<BuildId>);
-
-impl fmt::Display for BuildOrNull {
-    ghost use Rattle.std.specs.Prelude.{Some};
-    ghost use Rattle.run_json.specs.Items.{or_null};
-
-    ghost output = { λ n. Some (or_null n.0) };
-
-    fn fmt<W: fmt::Write>(&self, f: &mut fmt::Formatter<W>) -> fmt::Result {
-        match self.0 {
-            Some(build) => write!(f, "{}", build.number()),
-            None => f.write_str("null"),
-        }
-    }
-}
-
-/// A granule, or null.
-#[derive(Clone, Copy)]
-pub struct GranuleOrNull(pub Option<Gran>);
-
-impl fmt::Display for GranuleOrNull {
-    ghost use Rattle.std.specs.Prelude.{Some};
-    ghost use Rattle.run_json.specs.Items.{or_null};
-
-    ghost output = { λ n. Some (or_null n.0) };
-
-    fn fmt<W: fmt::Write>(&self, f: &mut fmt::Formatter<W>) -> fmt::Result {
-        match self.0 {
-            Some(granule) => write!(f, "{}", granule.number()),
-            None => f.write_str("null"),
-        }
-    }
-}
 
 /// A number, or null.
 #[derive(Clone, Copy)]
@@ -55,6 +21,26 @@ impl fmt::Display for NumberOrNull {
             Some(number) => write!(f, "{number}"),
             None => f.write_str("null"),
         }
+    }
+}
+
+/// The number of a build, where there is one.
+pub fn build_number(build: Option<BuildId>) -> NumberOrNull
+    ensures { result.0 ≡ build }
+{
+    match build {
+        Some(build) => NumberOrNull(Some(build.number() as u16)),
+        None => NumberOrNull(None),
+    }
+}
+
+/// The number of a granule, where there is one.
+pub fn granule_number(granule: Option<Gran>) -> NumberOrNull
+    ensures { result.0 ≡ granule }
+{
+    match granule {
+        Some(granule) => NumberOrNull(Some(granule.number())),
+        None => NumberOrNull(None),
     }
 }
 
@@ -94,40 +80,16 @@ impl fmt::Display for Numbers<'_> {
     }
 }
 
-/// Granules, each behind a comma.
-#[derive(Clone, Copy)]
-struct MoreGranules<'a>(&'a [Gran]);
-
-impl fmt::Display for MoreGranules<'_> {
-    ghost use Rattle.std.specs.Prelude.{Some};
-    ghost use Rattle.run_json.specs.Items.{more_numbers};
-
-    ghost output = { λ n. Some (more_numbers n.0.now) };
-
-    fn fmt<W: fmt::Write>(&self, f: &mut fmt::Formatter<W>) -> fmt::Result {
-        for granule in self.0 {
-            write!(f, ",{}", granule.number())?;
-        }
-        Ok(())
+/// The numbers of a REC's granules.
+pub fn granule_numbers(granules: &[Gran]) -> ArrayVec<u32, 16>
+    requires { length granules.now ≤ 16 }
+    ensures { result.items ≡ granules.now }
+{
+    let mut numbers = ArrayVec::new();
+    for granule in granules {
+        numbers.push(granule.number() as u32);
     }
-}
-
-/// An array of granules.
-#[derive(Clone, Copy)]
-pub struct Granules<'a>(pub &'a [Gran]);
-
-impl fmt::Display for Granules<'_> {
-    ghost use Rattle.std.specs.Prelude.{Some};
-    ghost use Rattle.run_json.specs.Items.{array_text};
-
-    ghost output = { λ n. Some (array_text n.0.now) };
-
-    fn fmt<W: fmt::Write>(&self, f: &mut fmt::Formatter<W>) -> fmt::Result {
-        match self.0.split_first() {
-            Some((first, more)) => write!(f, "[{}{}]", first.number(), MoreGranules(more)),
-            None => f.write_str("[]"),
-        }
-    }
+    numbers
 }
 
 /// What stands before the item of that place in an array: a comma, but for the first.
@@ -136,15 +98,16 @@ pub struct Comma(pub usize);
 
 impl fmt::Display for Comma {
     ghost use Rattle.std.specs.Prelude.{Some};
-    ghost use Rattle.run_json.specs.Items.{comma};
 
     ghost output = { λ n. Some (comma n.0) };
 
     fn fmt<W: fmt::Write>(&self, f: &mut fmt::Formatter<W>) -> fmt::Result {
-        if self.0 == 0 {
-            Ok(())
-        } else {
-            f.write_str(",")
-        }
+        f.write_str(comma_before(self.0))
     }
+}
+
+fn comma_before(place: usize) -> &'static str
+    ensures { result.now ≡ comma place }
+{
+    if place == 0 { "" } else { "," }
 }

@@ -4,6 +4,7 @@ ghost use Rattle.hex.specs.Hex.{encode_lower};
 ghost use Rattle.run_json.specs.Items.{realm_front, realm_tables, realm_back, realm_fields};
 ghost use Rattle.run_json.specs.Turns.{realm_value};
 
+use crate::pushed::Pushed;
 use crate::words::realm_word;
 use granule_addr::{BuildId, Gran};
 use page_arena::PageStore;
@@ -11,7 +12,7 @@ use realm_host::Host;
 use realm_objects::RealmDesc;
 use std::alloc::{AllocError, Global};
 
-fn push_front(text: &mut String, rd: Gran, realm: &RealmDesc) -> Result<(), AllocError>
+fn push_front(text: &mut String, rd: Gran, realm: &RealmDesc) -> Pushed
     ensures { OnOk result (string_bytes text.new ≡ string_bytes text.old ++ realm_front rd realm.now) }
 {
     let (rd, state, vmid) = (
@@ -22,7 +23,7 @@ fn push_front(text: &mut String, rd: Gran, realm: &RealmDesc) -> Result<(), Allo
     write!(text, "\"rd\":{rd},\"state\":\"{state}\",\"vmid\":{vmid},")
 }
 
-fn push_tables(text: &mut String, realm: &RealmDesc) -> Result<(), AllocError>
+fn push_tables(text: &mut String, realm: &RealmDesc) -> Pushed
     ensures { OnOk result (string_bytes text.new ≡ string_bytes text.old ++ realm_tables realm.now) }
 {
     let (first, width) = (realm.root().first.number(), realm.root().width);
@@ -40,7 +41,7 @@ fn digits_of(alloc: Global, bytes: &[u8; 32]) -> Result<String, AllocError>
     hex::encode(alloc, bytes.as_slice())
 }
 
-fn push_back(alloc: Global, text: &mut String, realm: &RealmDesc) -> Result<(), AllocError>
+fn push_back(alloc: Global, text: &mut String, realm: &RealmDesc) -> Pushed
     ensures { OnOk result (string_bytes text.new ≡ string_bytes text.old ++ realm_back realm.now) }
 {
     let next = realm.next_number().number();
@@ -53,12 +54,7 @@ fn push_back(alloc: Global, text: &mut String, realm: &RealmDesc) -> Result<(), 
 
 /// Appends the members of a realm's own attributes: its RD, state, VMID, address space, starting tables, the number of its
 /// next REC, and its measurement.
-pub fn push_realm_fields(
-    alloc: Global,
-    text: &mut String,
-    rd: Gran,
-    realm: &RealmDesc,
-) -> Result<(), AllocError>
+pub fn push_realm_fields(alloc: Global, text: &mut String, rd: Gran, realm: &RealmDesc) -> Pushed
     ensures { OnOk result (string_bytes text.new ≡ string_bytes text.old ++ realm_fields rd realm.now) }
 {
     push_front(text, rd, realm)?;
@@ -72,7 +68,7 @@ pub fn push_realm_value<S: PageStore>(
     text: &mut String,
     host: &Host<S>,
     build: BuildId,
-) -> Result<(), AllocError>
+) -> Pushed
     ensures { OnOk result (string_bytes text.new ≡ string_bytes text.old ++ realm_value host.now build) }
 {
     let (Some(rd), Some(realm)) = (host.rd(build), host.realm(build)) else {

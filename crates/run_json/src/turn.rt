@@ -7,7 +7,9 @@ ghost use Rattle.run_json.specs.Turns.{another_granule, more_granules_after, eac
 use crate::answer::{is_accepted_answer, numbers_of};
 use crate::changed::{changes_realm, granules_of, level_above, rec_named_by};
 use crate::items::{GranuleItem, RecItem, RowItem};
-use crate::numbers::{NumberOrNull, Numbers};
+use crate::kept::mark_of;
+use crate::numbers::Numbers;
+use crate::pushed::Pushed;
 use crate::realm::push_realm_value;
 use granule_addr::{BuildId, Gran, Level};
 use history_text::EventText;
@@ -16,14 +18,10 @@ use plan_runs::TurnAnswer;
 use plan_steps::{PlanStep, StepText};
 use realm_host::Host;
 use realm_model::{Act, Event};
-use std::alloc::{AllocError, Global};
+use std::alloc::Global;
 
 // Appends the granule of that number behind a comma, where there can be one.
-fn push_another_granule<S: PageStore>(
-    text: &mut String,
-    host: &Host<S>,
-    number: u16,
-) -> Result<(), AllocError>
+fn push_another_granule<S: PageStore>(text: &mut String, host: &Host<S>, number: u16) -> Pushed
     ensures { OnOk result (string_bytes text.new ≡ string_bytes text.old ++ another_granule host.now number) }
 {
     match Gran::new(number, 4096) {
@@ -42,7 +40,7 @@ fn push_more_granules<S: PageStore>(
     host: &Host<S>,
     from: u16,
     count: u16,
-) -> Result<(), AllocError>
+) -> Pushed
     requires { from + count ≤ 65535 }
     ensures { OnOk result (string_bytes text.new ≡ string_bytes text.old ++ more_granules_after host.now from count) }
 {
@@ -53,11 +51,7 @@ fn push_more_granules<S: PageStore>(
 }
 
 // Appends granules, each behind a comma.
-fn push_each_granule<S: PageStore>(
-    text: &mut String,
-    host: &Host<S>,
-    granules: &[Gran],
-) -> Result<(), AllocError>
+fn push_each_granule<S: PageStore>(text: &mut String, host: &Host<S>, granules: &[Gran]) -> Pushed
     ensures { OnOk result (string_bytes text.new ≡ string_bytes text.old ++ each_granule_after host.now granules.now) }
 {
     for granule in granules {
@@ -71,11 +65,7 @@ fn push_each_granule<S: PageStore>(
 }
 
 // Appends the member of the granules that an act changed, where there are any.
-fn push_granules<S: PageStore>(
-    text: &mut String,
-    host: &Host<S>,
-    act: &Act,
-) -> Result<(), AllocError>
+fn push_granules<S: PageStore>(text: &mut String, host: &Host<S>, act: &Act) -> Pushed
     ensures { OnOk result (string_bytes text.new ≡ string_bytes text.old ++ granules_after host.now act.now) }
 {
     let Some(changed) = granules_of(act) else {
@@ -102,12 +92,7 @@ fn row_item<S: PageStore>(
 }
 
 // Appends the member of the rows that an act changed, where there are any.
-fn push_rows<S: PageStore>(
-    text: &mut String,
-    host: &Host<S>,
-    build: BuildId,
-    act: &Act,
-) -> Result<(), AllocError>
+fn push_rows<S: PageStore>(text: &mut String, host: &Host<S>, build: BuildId, act: &Act) -> Pushed
     ensures { OnOk result (string_bytes text.new ≡ string_bytes text.old ++ rows_after host.now build act.now) }
 {
     match act {
@@ -138,12 +123,7 @@ fn push_rows<S: PageStore>(
 }
 
 // Appends the member of the REC that an act changed, where there is one.
-fn push_recs<S: PageStore>(
-    text: &mut String,
-    host: &Host<S>,
-    build: BuildId,
-    act: &Act,
-) -> Result<(), AllocError>
+fn push_recs<S: PageStore>(text: &mut String, host: &Host<S>, build: BuildId, act: &Act) -> Pushed
     ensures { OnOk result (string_bytes text.new ≡ string_bytes text.old ++ changed_recs host.now build act.now) }
 {
     match rec_named_by(act) {
@@ -163,7 +143,7 @@ fn push_realm<S: PageStore>(
     host: &Host<S>,
     build: BuildId,
     act: &Act,
-) -> Result<(), AllocError>
+) -> Pushed
     ensures { OnOk result (string_bytes text.new ≡ string_bytes text.old ++ realm_after host.now build act.now) }
 {
     if !changes_realm(act) {
@@ -180,7 +160,7 @@ fn push_event<S: PageStore>(
     host: &Host<S>,
     build: BuildId,
     event: &Event,
-) -> Result<(), AllocError>
+) -> Pushed
     ensures { OnOk result (string_bytes text.new ≡ string_bytes text.old ++ event_members host.now build (Some event.now)) }
 {
     write!(text, "\"event\":\"{}\"", EventText(event))?;
@@ -191,23 +171,14 @@ fn push_event<S: PageStore>(
 }
 
 // Appends that there is no event.
-fn push_no_event<S: PageStore>(
-    text: &mut String,
-    host: &Host<S>,
-    build: BuildId,
-) -> Result<(), AllocError>
+fn push_no_event<S: PageStore>(text: &mut String, host: &Host<S>, build: BuildId) -> Pushed
     ensures { OnOk result (string_bytes text.new ≡ string_bytes text.old ++ event_members host.now build None) }
 {
     text.push_str("\"event\":null")
 }
 
 // Appends the members of a step and of its answer in words.
-fn push_step(
-    text: &mut String,
-    place: usize,
-    step: &PlanStep,
-    answer: &TurnAnswer,
-) -> Result<(), AllocError>
+fn push_step(text: &mut String, place: usize, step: &PlanStep, answer: &TurnAnswer) -> Pushed
     ensures { OnOk result (string_bytes text.new ≡ string_bytes text.old ++ step_members place step.now answer.now) }
 {
     let step = StepText(step);
@@ -218,7 +189,7 @@ fn push_step(
 }
 
 // Appends the members of an answer in numbers.
-fn push_answer(text: &mut String, answer: &TurnAnswer) -> Result<(), AllocError>
+fn push_answer(text: &mut String, answer: &TurnAnswer) -> Pushed
     ensures { OnOk result (string_bytes text.new ≡ string_bytes text.old ++ answer_members answer.now) }
 {
     let accepted = is_accepted_answer(answer);
@@ -233,7 +204,7 @@ pub fn push_answered(
     place: usize,
     step: &PlanStep,
     answer: &TurnAnswer,
-) -> Result<(), AllocError>
+) -> Pushed
     ensures { OnOk result (string_bytes text.new ≡ string_bytes text.old ++ told_members place (Some (step.now, answer.now))) }
 {
     push_step(text, place, step, answer)?;
@@ -241,7 +212,7 @@ pub fn push_answered(
 }
 
 /// Appends that the build has no step left.
-pub fn push_idle(text: &mut String, place: usize) -> Result<(), AllocError>
+pub fn push_idle(text: &mut String, place: usize) -> Pushed
     ensures { OnOk result (string_bytes text.new ≡ string_bytes text.old ++ told_members place None) }
 {
     text.push_str("\"place\":null,\"step\":null,\"answer\":null,\"accepted\":null,\"numbers\":[],")
@@ -254,7 +225,7 @@ fn push_added<S: PageStore>(
     host: &Host<S>,
     build: BuildId,
     event: Option<&Event>,
-) -> Result<(), AllocError>
+) -> Pushed
     ensures { OnOk result (string_bytes text.new ≡ string_bytes text.old ++ event_members host.now build (option_map (λ it. it.now) event.entry)) }
 {
     match event {
@@ -264,19 +235,11 @@ fn push_added<S: PageStore>(
 }
 
 // Appends the members of what the host keeps of a build: how much it has open, its mark, and whether it is in abort.
-fn push_build_members<S: PageStore>(
-    text: &mut String,
-    host: &Host<S>,
-    build: BuildId,
-) -> Result<(), AllocError>
+fn push_build_members<S: PageStore>(text: &mut String, host: &Host<S>, build: BuildId) -> Pushed
     ensures { OnOk result (string_bytes text.new ≡ string_bytes text.old ++ build_members host.now build) }
 {
     let open = host.open_acts(build).len();
-    let mark = match host.kept_mark(build) {
-        Some(mark) => NumberOrNull(Some(mark.length())),
-        None => NumberOrNull(None),
-    };
-    let aborting = host.is_aborting(build);
+    let (mark, aborting) = (mark_of(host, build), host.is_aborting(build));
     write!(
         text,
         ",\"open\":{open},\"mark\":{mark},\"aborting\":{aborting}}}"
@@ -291,7 +254,7 @@ pub fn push_behind<S: PageStore>(
     host: &Host<S>,
     build: BuildId,
     before: usize,
-) -> Result<(), AllocError>
+) -> Pushed
     ensures { OnOk result (string_bytes text.new ≡ string_bytes text.old ++ behind_members host.now build before) }
 {
     push_added(alloc, text, host, build, host.history().get(before))?;

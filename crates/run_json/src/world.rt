@@ -5,7 +5,9 @@ ghost use Rattle.run_json.specs.Worlds.{world_granule, granules_text, page_objec
 
 use crate::build_id::id_of;
 use crate::items::{GranuleItem, RecItem};
-use crate::numbers::{Comma, NumberOrNull};
+use crate::kept::mark_of;
+use crate::numbers::Comma;
+use crate::pushed::Pushed;
 use crate::realm::push_realm_fields;
 use crate::rows::rows_of;
 use granule_addr::{BuildId, Gran, RecNo};
@@ -16,11 +18,7 @@ use realm_model::{Act, Event};
 use std::alloc::{AllocError, Global};
 
 // Appends the granule of that number, where the machine has one.
-fn push_granule<S: PageStore>(
-    text: &mut String,
-    host: &Host<S>,
-    number: u16,
-) -> Result<(), AllocError>
+fn push_granule<S: PageStore>(text: &mut String, host: &Host<S>, number: u16) -> Pushed
     ensures { OnOk result (string_bytes text.new ≡ string_bytes text.old ++ world_granule host.now number) }
 {
     let Some(granule) = Gran::new(number, host.pages()) else {
@@ -31,7 +29,7 @@ fn push_granule<S: PageStore>(
 }
 
 // Appends all granules.
-fn push_granules<S: PageStore>(text: &mut String, host: &Host<S>) -> Result<(), AllocError>
+fn push_granules<S: PageStore>(text: &mut String, host: &Host<S>) -> Pushed
     ensures { OnOk result (string_bytes text.new ≡ string_bytes text.old ++ granules_text host.now) }
 {
     for number in 0..host.pages() {
@@ -41,12 +39,7 @@ fn push_granules<S: PageStore>(text: &mut String, host: &Host<S>) -> Result<(), 
 }
 
 // Appends a granule and the sum of its bytes, which are those of the page at a place.
-fn push_page_object(
-    text: &mut String,
-    place: u16,
-    granule: Gran,
-    sum: u32,
-) -> Result<(), AllocError>
+fn push_page_object(text: &mut String, place: u16, granule: Gran, sum: u32) -> Pushed
     ensures { OnOk result (string_bytes text.new ≡ string_bytes text.old ++ (comma place ++ page_object (Some granule) (Some sum))) }
 {
     let (comma, granule) = (Comma(place as usize), granule.number());
@@ -54,12 +47,7 @@ fn push_page_object(
 }
 
 // Appends a page of a build: its granule, and the sum of its bytes.
-fn push_page<S: PageStore>(
-    text: &mut String,
-    host: &Host<S>,
-    build: BuildId,
-    page: u16,
-) -> Result<(), AllocError>
+fn push_page<S: PageStore>(text: &mut String, host: &Host<S>, build: BuildId, page: u16) -> Pushed
     ensures { OnOk result (string_bytes text.new ≡ string_bytes text.old ++ page_item host.now build page) }
 {
     match (host.page_granule(build, page), host.page_sum(build, page)) {
@@ -69,11 +57,7 @@ fn push_page<S: PageStore>(
 }
 
 // Appends the pages of a build.
-fn push_pages<S: PageStore>(
-    text: &mut String,
-    host: &Host<S>,
-    build: BuildId,
-) -> Result<(), AllocError>
+fn push_pages<S: PageStore>(text: &mut String, host: &Host<S>, build: BuildId) -> Pushed
     ensures { OnOk result (string_bytes text.new ≡ string_bytes text.old ++ page_items host.now build) }
 {
     for page in 0..host.page_count(build) {
@@ -83,7 +67,7 @@ fn push_pages<S: PageStore>(
 }
 
 // Appends an act as the event that it was, behind what separates it from the one before.
-fn push_act(text: &mut String, separator: &str, build: BuildId, act: &Act) -> Result<(), AllocError>
+fn push_act(text: &mut String, separator: &str, build: BuildId, act: &Act) -> Pushed
     ensures { OnOk result (string_bytes text.new ≡ string_bytes text.old ++ (separator.now ++ open_item build act.now)) }
 {
     let event = Event {
@@ -94,7 +78,7 @@ fn push_act(text: &mut String, separator: &str, build: BuildId, act: &Act) -> Re
 }
 
 // Appends acts, each behind a comma.
-fn push_more_open(text: &mut String, build: BuildId, acts: &[Act]) -> Result<(), AllocError>
+fn push_more_open(text: &mut String, build: BuildId, acts: &[Act]) -> Pushed
     ensures { OnOk result (string_bytes text.new ≡ string_bytes text.old ++ more_open build acts.now) }
 {
     for act in acts {
@@ -104,7 +88,7 @@ fn push_more_open(text: &mut String, build: BuildId, acts: &[Act]) -> Result<(),
 }
 
 // Appends acts that are open.
-fn push_open(text: &mut String, build: BuildId, acts: &[Act]) -> Result<(), AllocError>
+fn push_open(text: &mut String, build: BuildId, acts: &[Act]) -> Pushed
     ensures { OnOk result (string_bytes text.new ≡ string_bytes text.old ++ open_acts_text build acts.now) }
 {
     let Some((first, more)) = acts.split_first() else {
@@ -115,12 +99,7 @@ fn push_open(text: &mut String, build: BuildId, acts: &[Act]) -> Result<(), Allo
 }
 
 // Appends the REC of that number, or that there is none.
-fn push_rec<S: PageStore>(
-    text: &mut String,
-    host: &Host<S>,
-    build: BuildId,
-    number: u16,
-) -> Result<(), AllocError>
+fn push_rec<S: PageStore>(text: &mut String, host: &Host<S>, build: BuildId, number: u16) -> Pushed
     ensures { OnOk result (string_bytes text.new ≡ string_bytes text.old ++ numbered_rec host.now build number) }
 {
     let rec = RecNo::new(number);
@@ -129,12 +108,7 @@ fn push_rec<S: PageStore>(
 }
 
 // Appends the RECs of a build's realm whose numbers are below that of its next REC.
-fn push_recs<S: PageStore>(
-    text: &mut String,
-    host: &Host<S>,
-    build: BuildId,
-    next: u16,
-) -> Result<(), AllocError>
+fn push_recs<S: PageStore>(text: &mut String, host: &Host<S>, build: BuildId, next: u16) -> Pushed
     ensures { OnOk result (string_bytes text.new ≡ string_bytes text.old ++ recs_text host.now build next) }
 {
     for number in 0..next {
@@ -149,7 +123,7 @@ fn push_realm<S: PageStore>(
     text: &mut String,
     host: &Host<S>,
     build: BuildId,
-) -> Result<(), AllocError>
+) -> Pushed
     ensures { OnOk result (IsRealmText host.now build (string_bytes text.old) (string_bytes text.new)) }
 {
     let (Some(rd), Some(realm)) = (host.rd(build), host.realm(build)) else {
@@ -164,19 +138,11 @@ fn push_realm<S: PageStore>(
 }
 
 // Appends what is kept of a build: its mark, and whether it is in abort.
-fn push_kept<S: PageStore>(
-    text: &mut String,
-    host: &Host<S>,
-    build: BuildId,
-) -> Result<(), AllocError>
+fn push_kept<S: PageStore>(text: &mut String, host: &Host<S>, build: BuildId) -> Pushed
     ensures { OnOk result (string_bytes text.new ≡ string_bytes text.old ++ build_front host.now build) }
 {
-    let mark = match host.kept_mark(build) {
-        Some(mark) => NumberOrNull(Some(mark.length())),
-        None => NumberOrNull(None),
-    };
     let (number, aborting) = (build.number(), host.is_aborting(build));
-    let comma = Comma(number as usize);
+    let (comma, mark) = (Comma(number as usize), mark_of(host, build));
     write!(
         text,
         "{comma}{{\"build\":{number},\"mark\":{mark},\"aborting\":{aborting},\"open\":["
@@ -189,7 +155,7 @@ fn push_build<S: PageStore>(
     text: &mut String,
     host: &Host<S>,
     build: BuildId,
-) -> Result<(), AllocError>
+) -> Pushed
     ensures { OnOk result (IsBuildText host.now build (string_bytes text.old) (string_bytes text.new)) }
 {
     push_kept(text, host, build)?;
@@ -201,11 +167,7 @@ fn push_build<S: PageStore>(
     write!(text, "}}")
 }
 
-fn push_builds<S: PageStore>(
-    alloc: Global,
-    text: &mut String,
-    host: &Host<S>,
-) -> Result<(), AllocError>
+fn push_builds<S: PageStore>(alloc: Global, text: &mut String, host: &Host<S>) -> Pushed
     ensures { OnOk result (AreBuildTexts host.now (string_bytes text.old) (string_bytes text.new)) }
 {
     for number in 0..host.build_count() {

@@ -25,7 +25,8 @@ returns g c =
     let behind = behind_members host build (length c.args.host.now.history) in
     let same = place_is-place_of places build c.index-places-build.result c.requires c.args.plan.now.builds_in_limits.1 c.told-places in
     let told_is : with_told ≡ opened ++ told_members done told = elim c.match-take_turn.branch [
-      | in-Some+in_ok-push_answered-in-Some w ↦ told_from opened with_told (slice_index_or places build c.index-places-build.result) (place_of places build) (Some (w.in-Some.step.now, w.in-Some.answer)) told
+      | in-Some+in_ok-push_answered-in-Some w ↦ told_from opened with_told (slice_index_or places build c.index-places-build.result) (place_of places build)
+          (Some (w.in-Some.step.now, w.in-Some.answer)) told
           (ap string_bytes w.text-is ∙ w.in_ok-push_answered-in-Some.ensures) same (ap (λ it. option_map (λ one. (one.0.now, one.1)) it) (sym w.in-Some.is))
       | in-None+in_ok-push_idle-in-None w ↦ told_from opened with_told (slice_index_or places build c.index-places-build.result) (place_of places build) None told
           (ap string_bytes w.text-is ∙ w.in_ok-push_idle-in-None.ensures) same (ap (λ it. option_map (λ one. (one.0.now, one.1)) it) (sym w.in-None.is))

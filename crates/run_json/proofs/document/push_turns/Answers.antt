@@ -18,7 +18,8 @@ loop-build-preserved g c =
     let between = string_bytes c.loop-build.text in
     let new = string_bytes c.push_turn.new.text in
     let build = slice_index c.deref-build-items.result.now i in
-    let taken = ap (λ items. take i order ++ slice_index items i ∷ []) c.deref-build-items.ensures.value ∙ sym (take_more order i 0 (subst (λ items. i < length items) c.deref-build-items.ensures.value c.loop-build-test.true)) in
+    let taken = ap (λ items. take i order ++ slice_index items i ∷ []) c.deref-build-items.ensures.value
+    ∙ sym (take_more order i 0 (subst (λ items. i < length items) c.deref-build-items.ensures.value c.loop-build-test.true)) in
     subst (λ o. AreTurnItems plan o from to old new) taken
     (AreTurnItems-more plan (take i order) from at build to old between new c.loop-build.invariant c.in_ok-push_turn.ensures)
 

@@ -1,4 +1,4 @@
-use Rattle.std.proofs.Common.{string_bytes, ◌++◌, ap, ◌∙◌, codes, subst}
+use Rattle.std.proofs.Common.{◌≡◌, string_bytes, ◌++◌, ap, ◌∙◌, codes, subst}
 use Rattle.realm_plan.specs.PlanView.{plan_view}
 use Rattle.run_json.specs.Document.{settings_text, HasTurnItems}
 use Rattle.run_json.specs.Worlds.{IsWorldText}
@@ -17,8 +17,10 @@ returns g c =
     let second = string_bytes c.push_settings.new.text in
     let head = string_bytes c.write.new.self in
     let world = string_bytes c.push_world.new.text in
-    let first_is = c.in_ok-push_str.ensures.bytes ∙ ap (λ t. t ++ version) c.new-text.ensures.bytes in
-    let head_is = then_text first settings second turns_part head c.in_ok-push_settings.ensures c.in_ok-write.ensures.bytes ∙ ap (λ t. t ++ (settings ++ turns_part)) first_is in
+    let first_is : first ≡ version = c.in_ok-push_str.ensures.bytes ∙ ap (λ t. t ++ version) c.new-text.ensures.bytes in
+    let head_is : head ≡ version ++ (settings ++ turns_part) =
+    then_text first settings second turns_part head c.in_ok-push_settings.ensures c.in_ok-write.ensures.bytes
+    ∙ ap (λ t. t ++ (settings ++ turns_part)) first_is in
     record {
       turns = turns;
       are_turns = subst (λ t. HasTurnItems plan c.args.host.now host t turns) c.new-turns.ensures.bytes c.in_ok-push_turns.ensures;

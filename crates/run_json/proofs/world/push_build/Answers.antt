@@ -1,6 +1,6 @@
-use Rattle.std.proofs.Common.{string_bytes, ◌++◌, ap, ◌∙◌, codes, subst}
+use Rattle.std.proofs.Common.{◌≡◌, string_bytes, ◌++◌, ap, ◌∙◌, codes, subst}
 use Rattle.std.proofs.lemmas.Result.{on_ok_weaker}
-use Rattle.run_json.specs.Worlds.{build_front, open_acts_text, open_text, page_items, IsRealmText}
+use Rattle.run_json.specs.Worlds.{build_front, build_head, open_acts_text, open_text, page_items, IsRealmText}
 use Rattle.run_json.proofs.Texts.{then_text}
 use Rattle.run_json.proofs.world.push_build.Goals as goal
 
@@ -18,8 +18,8 @@ returns g c =
     let pages_name = codes "],\"pages\":[" in
     let realm_name = codes "],\"realm\":" in
     let pages = page_items host build in
-    let open_is = c.in_ok-push_open.ensures ∙ ap (λ acts. with_front ++ open_acts_text build acts) c.open_acts.ensures in
-    let head_is =
+    let open_is : with_open ≡ with_front ++ open_text host build = c.in_ok-push_open.ensures ∙ ap (λ acts. with_front ++ open_acts_text build acts) c.open_acts.ensures in
+    let head_is : head ≡ old ++ build_head host build =
     then_text old (build_front host build) with_front (open_text host build ++ (pages_name ++ (pages ++ realm_name))) head c.in_ok-push_kept.ensures
     (then_text with_front (open_text host build) with_open (pages_name ++ (pages ++ realm_name)) head open_is
     (then_text with_open pages_name with_name (pages ++ realm_name) head c.in_ok-push_str.ensures.bytes

@@ -1,4 +1,4 @@
-use Rattle.std.proofs.Common.{string_bytes, ◌++◌, ap, ap₂, sym, ◌∙◌, codes}
+use Rattle.std.proofs.Common.{◌≡◌, string_bytes, ◌++◌, ap, ap₂, sym, ◌∙◌, codes}
 use Rattle.std.specs.Option.{option_copied}
 use Rattle.std.proofs.lemmas.Result.{on_ok_weaker}
 use Rattle.run_json.specs.Items.{realm_fields}
@@ -21,7 +21,7 @@ returns g c =
     let new = string_bytes c.write-2.new.self in
     let fields = realm_fields rd realm in
     let recs = recs_text host build realm.next in
-    let recs_are = c.in_ok-push_recs.ensures ∙ ap (λ next. with_rows ++ recs_text host build next) (c.number.ensures ∙ c.next_number.ensures) in
+    let recs_are : with_recs ≡ with_rows ++ recs = c.in_ok-push_recs.ensures ∙ ap (λ next. with_rows ++ recs_text host build next) (c.number.ensures ∙ c.next_number.ensures) in
     on_ok_weaker c.write-2.result
     (λ last. record {
       rows = rows;
