@@ -69,7 +69,7 @@ test: ## the whole gate from nothing: proofs, tests, what the built programs pri
 	@tools/gate
 	@mkdir -p bin
 	@for it in $(PROGRAMS) test_memory; do install -m 755 crates/$$it/out/$$it bin/$$it || exit 1; done
-	@! command -v $(CC) > /dev/null || tools/c-library --after-ci
+	@! command -v $(CC) > /dev/null || tools/c-library
 	@tools/at_once tests/commands tests/program tests/traces tests/rules tests/view tests/orders tests/json tests/page tests/allocations tests/c-library tests/documents tests/believed tests/names tests/pages tests/schema "tools/pictures --check" "tools/calls --check" "tools/page_template --check"
 
 wrong-bodies: ## tries bodies that do something else, of CRATE or all: the prover has to refuse each

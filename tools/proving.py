@@ -51,12 +51,11 @@ def is_stamped(crate, made):
 
 
 def keep(libraries, stamps):
-    """Keeps the statements of libraries that `rt ci` has just proved and left in out/rlib/, where the crates are still those of
-    the stamps that were taken before."""
-    # (each library's stamp has those below it: after an edit meanwhile, its own and those of the crates above it differ)
-    for crate in [it for it in libraries if os.path.isdir(it.rlib)]:
-        make(crate, f"{crate.folder}/{FOLDER}/{crate.name}.rlib", lambda it: it.stamp() == stamps[it.name] and
-             bool(shutil.copytree(crate.rlib, f"{crate.folder}/{FOLDER}/{crate.name}.rlib")))
+    """Keeps the statements of libraries that `rt ci` has just proved and left in out/rlib/, each where the crate is still that of
+    its stamp, which was taken before."""
+    for crate in libraries:
+        to = f"{crate.folder}/{FOLDER}/{crate.name}.rlib"
+        make(crate, to, lambda it: it.stamp() == stamps[it.name] and bool(shutil.copytree(it.rlib, to)))
 
 
 def make(crate, made, work):
