@@ -1,7 +1,7 @@
 -- A byte of a realm's page of data is written: the machine has it, and nothing else changes.
-use Rattle.std.proofs.Common.{◌≡◌, ◌≢◌, ℕ, ◌<◌, Bool, List, [], ◌∷◌, length, set, Ok, Some, refl, sym, ap, ◌∙◌, subst}
+use Rattle.std.proofs.Common.{◌≡◌, ◌≢◌, ℕ, ◌<◌, Bool, false, List, [], ◌∷◌, length, set, Ok, Some, refl, sym, ap, ◌∙◌, subst}
 use Rattle.std.proofs.lemmas.List.{length-set, get_or-set_same, get_or-set_other}
-use Rattle.page_arena.specs.Page.{page_at, with_byte}
+use Rattle.page_arena.specs.Page.{page_at, is_free, with_byte}
 use Rattle.granule_table.specs.Granules.{granule_at, IsIn}
 use Rattle.granule_table.specs.declared.granule.Granule.{Granule}
 use Rattle.realm_model.specs.declared.states.GranuleState.{GranuleState}
@@ -33,6 +33,9 @@ module _ (old : Fields) (whole : IsWhole old) (rd page offset value : ℕ) (is :
 
   pub page_inside : page < length old.pages
   page_inside = subst (λ n. page < n) whole.backed.as_many is.inside
+
+  pub page_taken : is_free old.free page ≡ false
+  page_taken = whole.backed.taken page is.inside (λ e. let differ = sym state_is ∙ e in cc)
 
   here : page_at new.pages page ≡ set (page_at old.pages page) offset value
   here = get_or-set_same old.pages page (set (page_at old.pages page) offset value) [] page_inside

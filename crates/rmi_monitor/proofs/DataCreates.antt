@@ -1,6 +1,6 @@
 -- A DELEGATED granule becomes a page of a NEW realm with the bytes of another granule, over the fields of a monitor.
 use Rattle.std.proofs.Common.{◌≡◌, ◌≢◌, ℕ, ◌<◌, ◌&&◌, Bool, true, false, List, [], ◌∷◌, length, set, Option, Some, None, Ok, Err, refl, sym, ap, ◌∙◌, subst, arith}
-use Rattle.std.proofs.lemmas.Bool.{and_from, and_left, and_right}
+use Rattle.std.proofs.lemmas.Bool.{and_from, and_left, and_right, and_parts}
 use Rattle.std.proofs.lemmas.List.{get_or-set_other}
 use Rattle.granule_addr.specs.Ipa.{is_protected_at}
 use Rattle.granule_table.specs.Granules.{granule_at}
@@ -21,27 +21,46 @@ use Rattle.rtt.specs.declared.tables.Tables.{Tables}
 use Rattle.rtt.specs.Tables.{rows}
 use Rattle.realm_model.specs.Command.Found.{with_free_page}
 use Rattle.rmi_monitor.specs.View.{MonitorView, IsTaken, seen_in}
-use Rattle.rmi_monitor.specs.Inside.{Fields, realm_at, bytes_of, seen_as, IsWhole}
+use Rattle.rmi_monitor.specs.Inside.{Fields, realm_at, bytes_of}
+use Rattle.rmi_monitor.specs.Located.{IsLocated}
 use Rattle.rmi_monitor.specs.Places.{is_delegated_at, is_undelegated_at}
 use Rattle.rmi_monitor.proofs.Checks.{delegated_state, undelegated_state}
-use Rattle.rmi_monitor.proofs.Granules.{has_fields, in_granules, cell_is, seen_delegated, seen_undelegated, states_apart}
+use Rattle.rmi_monitor.proofs.Granules.{HasFields, in_granules, cell_is, seen_delegated, seen_undelegated, states_apart}
 use Rattle.rmi_monitor.proofs.DataMaps.{MapCall, map_call_at, mapped_by, rows_kept, page_written, mapped_written}
-use Rattle.rmi_monitor.proofs.Located.{IsLocated}
 use Rattle.rmi_monitor.proofs.Refusals.{Passes, passed_row, row_passes}
 use Rattle.rmi_monitor.proofs.RealmCommands.{with_call, Done, Moves, moves_done}
 use Rattle.rmi_monitor.proofs.RealmAfter.{Keeps}
 use Rattle.rmi_monitor.proofs.RealmPlaces.{no_table}
 use Rattle.rmi_monitor.proofs.RealmFound.{row_of, nowhere, somewhere}
 
-module _ (monitor : MonitorView) (fields : Fields) (view_is : seen_as fields ≡ monitor) (whole : IsWhole fields) (rd : ℕ) (taken : IsTaken monitor rd)
-    (g : ℕ) (page_taken : IsTaken monitor g) (source : ℕ) (source_taken : IsTaken monitor source) (ipa : ℕ) where
+-- the granules that the command names
+abbrev pub AreNamed : MonitorView → ℕ → ℕ → ℕ → Type 0
+AreNamed monitor rd g source = record { rd_taken : IsTaken monitor rd; page_taken : IsTaken monitor g; source_taken : IsTaken monitor source }
+
+module _ {monitor : MonitorView} {fields : Fields} (has : HasFields monitor fields) (rd g ipa source : ℕ) (named : AreNamed monitor rd g source) where
   abbrev outcome : Outcome
   outcome = data_create (seen_in monitor rd) (seen_in monitor g) ipa (seen_in monitor source)
 
   pub create_no_realm : realm_at fields rd ≡ None → outcome ≡ Err error_input
-  create_no_realm none = nowhere monitor fields view_is whole rd taken.inside none _
+  create_no_realm none = nowhere monitor fields has.view_is has.whole rd named.rd_taken.inside none _
 
-  module _ (realm : RealmAttributes) (there : realm_at fields rd ≡ Some realm) where
+  delegated_seen : is_delegated (seen_in monitor g) ≡ is_delegated_at fields.granules g
+  delegated_seen = seen_delegated monitor fields has.view_is has.whole g named.page_taken
+
+  undelegated_seen : is_undelegated (seen_in monitor source) ≡ is_undelegated_at fields.granules source
+  undelegated_seen = seen_undelegated monitor fields has.view_is has.whole source named.source_taken
+
+  abbrev may_copy : Bool
+  may_copy = is_delegated_at fields.granules g && is_undelegated_at fields.granules source
+
+  -- the granules are fit, as the command sees them
+  pub copy_fits : (is_delegated (seen_in monitor g) && is_undelegated (seen_in monitor source)) ≡ true → may_copy ≡ true
+  copy_fits h = (λ k. sym delegated_seen k && sym undelegated_seen k) ∙ h
+
+  pub fit_seen : may_copy ≡ true → (is_delegated (seen_in monitor g) && is_undelegated (seen_in monitor source)) ≡ true
+  fit_seen h = (λ k. delegated_seen k && undelegated_seen k) ∙ h
+
+  module _ {realm : RealmAttributes} (there : realm_at fields rd ≡ Some realm) where
     abbrev row : RealmRow
     row = row_of fields rd realm
 
@@ -64,25 +83,25 @@ module _ (monitor : MonitorView) (fields : Fields) (view_is : seen_as fields ≡
     on_row r = Ok (Put g (record (held InData rd) { bytes = bytes_there }) ∷ put_realm (seen_in monitor rd) made ∷ [])
 
     refused_input : inputs ≡ false → outcome ≡ Err error_input
-    refused_input h = somewhere monitor fields view_is whole rd realm there _ ∙ check_false inputs error_input _ h
+    refused_input h = somewhere monitor fields has.view_is has.whole rd realm there _ ∙ check_false inputs error_input _ h
 
     pub create_unprotected : is_protected_at ipa realm.root.width ≡ false → outcome ≡ Err error_input
     create_unprotected h = refused_input (and_right _ _ h)
 
-    pub create_not_delegated : is_delegated_at fields.granules g ≡ false → outcome ≡ Err error_input
-    create_not_delegated h = refused_input (and_left _ _ (and_left _ _ (seen_delegated monitor fields view_is whole g page_taken ∙ h)))
+    pub create_unfit : may_copy ≡ false → outcome ≡ Err error_input
+    create_unfit h = refused_input (and_left _ _ ((λ k. delegated_seen k && undelegated_seen k) ∙ h))
 
-    pub create_not_undelegated : is_undelegated_at fields.granules source ≡ false → outcome ≡ Err error_input
-    create_not_undelegated h = refused_input (and_left _ _ (and_right _ _ (seen_undelegated monitor fields view_is whole source source_taken ∙ h)))
+    module _ {at : Tables × ℕ} (located : IsLocated realm rd ipa at) (fit : may_copy ≡ true) where
+      delegated : is_delegated_at fields.granules g ≡ true
+      delegated = (and_parts _ _ fit).0
 
-    module _ (at : Tables) (given : ℕ) (located : IsLocated realm rd ipa at given) (delegated : is_delegated_at fields.granules g ≡ true)
-        (undelegated : is_undelegated_at fields.granules source ≡ true) where
+      undelegated : is_undelegated_at fields.granules source ≡ true
+      undelegated = (and_parts _ _ fit).1
+
       passed : outcome ≡ check (is_new row.state) error_realm (with_free_page old_rows ipa on_row)
       passed =
-          somewhere monitor fields view_is whole rd realm there _
-          ∙ check_true inputs error_input _
-          (and_from _ _ (and_from _ _ (seen_delegated monitor fields view_is whole g page_taken ∙ delegated) (seen_undelegated monitor fields view_is whole source source_taken ∙ undelegated))
-          located.protected)
+          somewhere monitor fields has.view_is has.whole rd realm there _
+          ∙ check_true inputs error_input _ (and_from _ _ (fit_seen fit) located.protected)
 
       pub create_not_new : is_new row.state ≡ false → outcome ≡ Err error_realm
       create_not_new h = passed ∙ check_false (is_new row.state) error_realm _ h
@@ -91,16 +110,16 @@ module _ (monitor : MonitorView) (fields : Fields) (view_is : seen_as fields ≡
         decided : outcome ≡ with_free_page old_rows ipa on_row
         decided = passed ∙ check_true (is_new row.state) error_realm _ is_fresh
 
-        pub create_refused : (l : ℕ) → ((f : Row → Outcome) → with_free_page (rows fields.pages at.root) given f ≡ Err (error_rtt l)) → outcome ≡ Err (error_rtt l)
-        create_refused l refused = decided ∙ (λ k. with_free_page (rows fields.pages (sym located.tables k).root) (sym located.same k) on_row) ∙ refused on_row
+        pub create_refused : {l : ℕ} → ((f : Row → Outcome) → with_free_page (rows fields.pages at.0.root) at.1 f ≡ Err (error_rtt l)) → outcome ≡ Err (error_rtt l)
+        create_refused refused = decided ∙ (λ k. with_free_page (rows fields.pages (sym located.tables k).root) (sym located.same k) on_row) ∙ refused on_row
 
         -- what the calls leave: the map, the copy, and the measurement
-        module _ (granules : List Granule) (pages : List (List ℕ)) (free : List Bool)
-            (given_call : MapCall at fields.pages fields.free fields.granules pages free granules g given (Some Ram))
-            (copied : List (List ℕ)) (copies : copied ≡ set pages g (page_at pages source)) (kept : List Bool) (keeps : kept ≡ free)
-            (now : RealmAttributes) (event bytes : List ℕ) (read : bytes ≡ page_at copied source) (event_is : event ≡ data_event given bytes)
-            (measured : now ≡ record realm { measurement = measurement_after realm.measurement event })
-            (realms : List (Option RealmAttributes)) (put : realms ≡ set fields.realms rd (Some now)) where
+        module _ {granules : List Granule} {pages : List (List ℕ)} {free : List Bool}
+            (given_call : MapCall at.0 fields.pages fields.free fields.granules pages free granules g at.1 (Some Ram))
+            {copied : List (List ℕ)} (copies : copied ≡ set pages g (page_at pages source)) {kept : List Bool} (keeps : kept ≡ free)
+            {event bytes : List ℕ} (read : bytes ≡ page_at copied source) (event_is : event ≡ data_event at.1 bytes)
+            {now : RealmAttributes} (measured : now ≡ record realm { measurement = measurement_after realm.measurement event })
+            {realms : List (Option RealmAttributes)} (put : realms ≡ set fields.realms rd (Some now)) where
           call : MapCall (record { rd = rd; root = realm.root }) fields.pages fields.free fields.granules pages free granules g ipa (Some Ram)
           call = map_call_at located given_call
 
@@ -120,7 +139,7 @@ module _ (monitor : MonitorView) (fields : Fields) (view_is : seen_as fields ≡
           apart e = states_apart fields.granules g source delegated undelegated (sym e)
 
           inside : g < length fields.granules
-          inside = in_granules monitor fields view_is whole g page_taken
+          inside = in_granules monitor fields has.view_is has.whole g named.page_taken
 
           abbrev IsMap : List (List ℕ) → List Bool → Type 0
           IsMap pages free = Moves fields rd realm.root g (record { state = InData; realm = Some rd }) granules pages free
@@ -136,9 +155,9 @@ module _ (monitor : MonitorView) (fields : Fields) (view_is : seen_as fields ≡
           -- the source is as it was, and its bytes are now those of the page
           source_bytes : page_at pages source ≡ bytes_there
           source_bytes =
-              call.others source (no_table fields whole rd realm there source (λ e. let differ : Undelegated ≡ InRtt = sym source_was ∙ e in cc))
+              call.others source (no_table fields has.whole rd realm there source (λ e. let differ : Undelegated ≡ InRtt = sym source_was ∙ e in cc))
               ∙ ap (λ (s : GranuleState). bytes_of s (page_at fields.pages source)) (sym source_was)
-              ∙ ap (λ (c : Cell). c.bytes) (sym (cell_is monitor fields view_is whole source source_taken.inside))
+              ∙ ap (λ (c : Cell). c.bytes) (sym (cell_is monitor fields has.view_is has.whole source named.source_taken.inside))
 
           page_is : page_at copied g ≡ bytes_there
           page_is =
@@ -166,4 +185,4 @@ module _ (monitor : MonitorView) (fields : Fields) (view_is : seen_as fields ≡
 
           pub create_done : Done monitor outcome (with_call fields granules copied kept realms)
           create_done =
-              moves_done (has_fields view_is whole) taken there map_after same_realm put outcome (λ i. record (held InData rd) { bytes = page_is i }) row_now created
+              moves_done has named.rd_taken there map_after same_realm put outcome (λ i. record (held InData rd) { bytes = page_is i }) row_now created

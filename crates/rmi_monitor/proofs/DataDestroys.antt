@@ -24,9 +24,8 @@ use Rattle.rmi_monitor.proofs.Outcomes.{input_refused}
 use Rattle.rmi_monitor.proofs.LedTo.{page_led}
 use Rattle.rmi_monitor.proofs.Located.{Stands, stands}
 use Rattle.rmi_monitor.proofs.Protected.{protected_inside}
-use Rattle.rmi_monitor.proofs.TableMoves.{is_moved_state}
 use Rattle.rmi_monitor.proofs.Refusals.{Passes, passed_row, row_passes}
-use Rattle.rmi_monitor.proofs.RealmCommands.{with_call, Done, rows_done}
+use Rattle.rmi_monitor.proofs.RealmCommands.{with_call, Done, left_by, rows_done}
 use Rattle.rmi_monitor.proofs.RealmFound.{row_of, somewhere}
 
 -- What the call says where it is not refused.
@@ -98,16 +97,7 @@ module _ (monitor : MonitorView) (rd ipa : ℕ) where
 
       pub destroy_done : Done monitor outcome (with_call fields granules pages free fields.realms)
       destroy_done =
-          rows_done kept taken it.there {to = record { state = Delegated; realm = None }}
-          (record {
-            inside = led.2.inside;
-            was = ap (λ (x : Granule). is_moved_state x.state) led.2.is;
-            is = refl;
-            moved = call.moved page leads;
-            host = λ e. refl;
-            zero = λ e. call.cleared page leads;
-            others = λ g differs not_table. call.others g (λ l. differs (leads_once g l)) not_table;
-            keeps = call.keeps;
-          })
+          rows_done kept taken it.there
+          (left_by led.2 refl (call.moved page leads) (call.cleared page leads) (λ g differs. call.others g (λ l. differs (leads_once g l))) call.keeps)
           outcome (λ i. record left { bytes = call.cleared page leads i }) (call.loses found.row found.at)
           (decided ∙ row_passes old_rows ipa 3 is_assigned on_row found ∙ granule_there found.row _ page led.1)

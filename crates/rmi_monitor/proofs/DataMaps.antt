@@ -16,7 +16,7 @@ use Rattle.rtt.specs.Realm.{IsBacked}
 use Rattle.realm_model.specs.Command.Found.{with_free_page}
 use Rattle.rtt.specs.Calls.{with_state, ChangesTablesOnly, GainsPage, Keeps}
 use Rattle.rmi_monitor.specs.Inside.{Fields}
-use Rattle.rmi_monitor.proofs.Located.{IsLocated}
+use Rattle.rmi_monitor.specs.Located.{IsLocated}
 use Rattle.rmi_monitor.proofs.DataPages.{alone_twice, alone_written, tables_written, rows_written, backed_written}
 use Rattle.rmi_monitor.proofs.TableMoves.{is_moved_state}
 use Rattle.rmi_monitor.proofs.RealmCommands.{Moves}
@@ -39,9 +39,9 @@ pub record MapCall (at : Tables) (pages : List (List ℕ)) (free : List Bool) (g
   pub keeps : Keeps at.rd at.root pages free granules new_pages new_free new_granules
 
 -- the same of the tables and the IPA granule that code has
-pub map_call_at : {realm : RealmAttributes} {rd ipa : ℕ} {at : Tables} {given : ℕ} {pages : List (List ℕ)} {free : List Bool} {granules : List Granule}
+pub map_call_at : {realm : RealmAttributes} {rd ipa : ℕ} {at : Tables × ℕ} {pages : List (List ℕ)} {free : List Bool} {granules : List Granule}
     {new_pages : List (List ℕ)} {new_free : List Bool} {new_granules : List Granule} {page : ℕ} {ripas : Option Ripas}
-    → IsLocated realm rd ipa at given → MapCall at pages free granules new_pages new_free new_granules page given ripas
+    → IsLocated realm rd ipa at → MapCall at.0 pages free granules new_pages new_free new_granules page at.1 ripas
     → MapCall (record { rd = rd; root = realm.root }) pages free granules new_pages new_free new_granules page ipa ripas
 map_call_at {pages = pages} {free = free} {granules = granules} {new_pages = new_pages} {new_free = new_free} {new_granules = new_granules} {page = page} {ripas = ripas} located call =
     subst (λ (to : Tables × ℕ). MapCall to.0 pages free granules new_pages new_free new_granules page to.1 ripas) (λ k. (located.tables k, located.same k)) call

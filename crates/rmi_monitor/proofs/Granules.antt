@@ -180,3 +180,8 @@ module _ (monitor : MonitorView) (fields : Fields) (view_is : seen_as fields ≡
       undelegated_done =
           moved_after Undelegated (page_at fields.pages g) (ap is_host_state was) refl (λ e. cc) (after_calls granules fields.pages fields.free) undelegated_fields
           (is_delegated (seen_in monitor g)) (record (seen_in monitor g).cell { state = Undelegated }) (is_delegated_there was) undelegated_cell
+
+-- a DELEGATED granule that is taken belongs to no realm
+pub delegated_there : {monitor : MonitorView} {fields : Fields} → HasFields monitor fields → {g : ℕ} → IsTaken monitor g → is_delegated_at fields.granules g ≡ true
+    → IsIn fields.granules g Delegated None
+delegated_there {monitor} {fields} has {g} taken is = in_delegated monitor fields has.view_is has.whole g taken is

@@ -8,6 +8,10 @@ use Rattle.realm_model.specs.Command.Check.{check, error_input, with_realm}
 use Rattle.realm_model.proofs.Outcomes.{check_false}
 use Rattle.rmi_monitor.specs.View.{MonitorView, Answers, after_command}
 
+-- what the contract of a command says of its answer, and of the monitor after it
+abbrev pub Says : MonitorView → Outcome → Result (Unit {0}) Rmi → MonitorView → Type 0
+Says monitor outcome result new = record { answer : Answers result outcome; machine : new ≡ after_command outcome monitor }
+
 pub answers_err : (A : Type 0) (rmi : Rmi) (outcome : Outcome) → outcome ≡ Err rmi → Answers {A = A} (Err rmi) outcome
 answers_err A rmi outcome e = subst (λ (o : Outcome). Answers {A = A} (Err rmi) o) (sym e) refl
 
@@ -26,6 +30,18 @@ answers_input answer rmi outcome said is e = answers_refused answer rmi outcome 
 -- a refusal changes nothing
 pub after_err : (monitor : MonitorView) (rmi : Rmi) (outcome : Outcome) → outcome ≡ Err rmi → monitor ≡ after_command outcome monitor
 after_err monitor rmi outcome e = ap (λ (o : Outcome). after_command o monitor) (sym e)
+
+module _ {monitor : MonitorView} {outcome : Outcome} where
+  pub refusal : {rmi : Rmi} → outcome ≡ Err rmi → Says monitor outcome (Err rmi) monitor
+  refusal {rmi} e = record { answer = answers_err (Unit {0}) rmi outcome e; machine = after_err monitor rmi outcome e }
+
+  -- also one that comes of a call's
+  pub refusal_of : {rmi : Rmi} (answer : Result (Unit {0}) Rmi) → IsErrAnd answer (λ e. e ≡ rmi) → outcome ≡ Err rmi → Says monitor outcome answer monitor
+  refusal_of {rmi} answer said e = record { answer = answers_refused answer rmi outcome said e; machine = after_err monitor rmi outcome e }
+
+  pub refusal_input : {rmi : Rmi} (answer : Result (Unit {0}) Rmi) → IsErrAnd answer (λ e. e ≡ rmi) → rmi ≡ error_input → outcome ≡ Err error_input
+      → Says monitor outcome answer monitor
+  refusal_input answer said is e = refusal_of answer said (e ∙ ap (λ (r : Rmi). Err r) (sym is))
 
 -- ---- what is refused
 

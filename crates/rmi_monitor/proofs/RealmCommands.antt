@@ -1,6 +1,7 @@
 -- The monitor after a command on a realm, by what its call leaves.
-use Rattle.std.proofs.Common.{◌≡◌, ℕ, ◌<◌, Bool, true, List, [], ◌∷◌, length, set, Option, Some, None, Ok, Err, refl, sym, ap, ◌∙◌, subst, get_or}
-use Rattle.granule_table.specs.Granules.{granule_at}
+use Rattle.std.proofs.Common.{◌≡◌, ℕ, ◌<◌, Bool, true, List, [], ◌∷◌, length, set, Option, Some, None, Result, Ok, Err, refl, sym, ap, ◌∙◌, subst, get_or}
+use Rattle.std.specs.Result.{IsErrAnd}
+use Rattle.granule_table.specs.Granules.{granule_at, IsIn}
 use Rattle.granule_table.specs.declared.granule.Granule.{Granule}
 use Rattle.granule_addr.specs.Page.{zero_page}
 use Rattle.page_arena.specs.Page.{page_at}
@@ -16,9 +17,9 @@ use Rattle.granule_addr.specs.declared.root.Root.{Root}
 use Rattle.rtt.specs.Calls.{Keeps as KeepsTables}
 use Rattle.rtt.specs.Tables.{rows}
 use Rattle.rtt.specs.Realm.{IsBacked, HasTables, IsTableOf, LeavesOthers}
-use Rattle.rmi_monitor.specs.View.{MonitorView, IsTaken, Answers, seen_in, after_command}
+use Rattle.rmi_monitor.specs.View.{MonitorView, IsTaken, seen_in, after_command}
 use Rattle.rmi_monitor.specs.Inside.{Fields, realm_at, recs_of, bytes_of, machine_of, seen_as, IsWhole, cell_of}
-use Rattle.rmi_monitor.proofs.Outcomes.{answers_ok, after_err}
+use Rattle.rmi_monitor.proofs.Outcomes.{Says, answers_ok, answers_err, answers_refused, after_err}
 use Rattle.rmi_monitor.proofs.Granules.{HasFields, machine_is, cell_is, after_done}
 use Rattle.rmi_monitor.proofs.RealmAfter.{Keeps, keeps_all, with_row_of}
 use Rattle.rmi_monitor.proofs.RealmFound.{row_of}
@@ -34,39 +35,35 @@ pub nothing_moved : (fields : Fields) (granules : List Granule) (pages : List (L
     → granules ≡ fields.granules → pages ≡ fields.pages → free ≡ fields.free → realms ≡ fields.realms → with_call fields granules pages free realms ≡ fields
 nothing_moved fields granules pages free realms a b c d i = with_call fields (a i) (b i) (c i) (d i)
 
--- what comes of a command whose call is refused
-pub seen_refused : (monitor : MonitorView) (fields : Fields) → seen_as fields ≡ monitor
-    → (granules : List Granule) (pages : List (List ℕ)) (free : List Bool) → granules ≡ fields.granules → pages ≡ fields.pages → free ≡ fields.free
-    → (rmi : Rmi) (outcome : Outcome) → outcome ≡ Err rmi → seen_as (with_call fields granules pages free fields.realms) ≡ after_command outcome monitor
-seen_refused monitor fields view_is granules pages free a b c rmi outcome e =
-    ap seen_as (nothing_moved fields granules pages free fields.realms a b c refl) ∙ view_is ∙ after_err monitor rmi outcome e
-
--- and of one that is done
+-- what comes of a command that is done
 pub record Done (monitor : MonitorView) (outcome : Outcome) (new : Fields) : Type 0 where
   pub whole : IsWhole new
-  pub seen : seen_as new ≡ after_command outcome monitor
-  pub answers : Answers (Ok (tt {0})) outcome
+  pub says : Says monitor outcome (Ok (tt {0})) (seen_as new)
 
--- the realm's place is written as it was
-pub seen_unmoved : (monitor : MonitorView) (fields : Fields) → seen_as fields ≡ monitor
-    → (granules : List Granule) (pages : List (List ℕ)) (free : List Bool) → granules ≡ fields.granules → pages ≡ fields.pages → free ≡ fields.free
-    → (number : ℕ) (x y : Option RealmAttributes) → x ≡ get_or fields.realms number x → x ≡ y
-    → seen_as (with_call fields granules pages free (set fields.realms number y)) ≡ monitor
-seen_unmoved monitor fields view_is granules pages free a b c number x y read is =
-    ap seen_as (nothing_moved fields granules pages free (set fields.realms number y) a b c (put_back fields.realms number x y (sym read ∙ is))) ∙ view_is
+-- and of one whose call is refused, which leaves pages and granules as they were
+module _ {fields : Fields} {granules : List Granule} {pages : List (List ℕ)} {free : List Bool} where
+  pub whole_refused : IsWhole fields → (pages ≡ fields.pages) × (granules ≡ fields.granules) → free ≡ fields.free → IsWhole (with_call fields granules pages free fields.realms)
+  whole_refused whole same flags = subst IsWhole (sym (nothing_moved fields granules pages free fields.realms same.1 same.0 flags refl)) whole
 
--- and what always holds does then too
-pub whole_unmoved : (fields : Fields) → IsWhole fields
-    → (granules : List Granule) (pages : List (List ℕ)) (free : List Bool) → granules ≡ fields.granules → pages ≡ fields.pages → free ≡ fields.free
-    → (number : ℕ) (x y : Option RealmAttributes) → x ≡ get_or fields.realms number x → x ≡ y
-    → IsWhole (with_call fields granules pages free (set fields.realms number y))
-whole_unmoved fields whole granules pages free a b c number x y read is =
-    subst IsWhole (sym (nothing_moved fields granules pages free (set fields.realms number y) a b c (put_back fields.realms number x y (sym read ∙ is)))) whole
+  pub refused_call : {monitor : MonitorView} → HasFields monitor fields → (pages ≡ fields.pages) × (granules ≡ fields.granules) → free ≡ fields.free
+      → {rmi : Rmi} {outcome : Outcome} (answer : Result (Unit {0}) Rmi) → IsErrAnd answer (λ e. e ≡ rmi) → outcome ≡ Err rmi
+      → Says monitor outcome answer (seen_as (with_call fields granules pages free fields.realms))
+  refused_call {monitor} kept same flags {rmi} {outcome} answer said e = record {
+    answer = answers_refused answer rmi outcome said e;
+    machine = ap seen_as (nothing_moved fields granules pages free fields.realms same.1 same.0 flags refl) ∙ kept.view_is ∙ after_err monitor rmi outcome e;
+  }
 
-pub whole_refused : (fields : Fields) → IsWhole fields
-    → (granules : List Granule) (pages : List (List ℕ)) (free : List Bool) → granules ≡ fields.granules → pages ≡ fields.pages → free ≡ fields.free
-    → IsWhole (with_call fields granules pages free fields.realms)
-whole_refused fields whole granules pages free a b c = subst IsWhole (sym (nothing_moved fields granules pages free fields.realms a b c refl)) whole
+-- and of one that is refused after the realm's place is written as it was
+module _ {monitor : MonitorView} {fields : Fields} (kept : HasFields monitor fields) (number : ℕ) {x y : Option RealmAttributes}
+    (read : x ≡ get_or fields.realms number x) (is : x ≡ y) where
+  back : record fields { realms = set fields.realms number y } ≡ fields
+  back = nothing_moved fields fields.granules fields.pages fields.free (set fields.realms number y) refl refl refl (put_back fields.realms number x y (sym read ∙ is))
+
+  pub whole_back : IsWhole (record fields { realms = set fields.realms number y })
+  whole_back = subst IsWhole (sym back) kept.whole
+
+  pub refused_back : {rmi : Rmi} {outcome : Outcome} → outcome ≡ Err rmi → Says monitor outcome (Err rmi) (seen_as (record fields { realms = set fields.realms number y }))
+  refused_back {rmi} {outcome} e = record { answer = answers_err (Unit {0}) rmi outcome e; machine = ap seen_as back ∙ kept.view_is ∙ after_err monitor rmi outcome e }
 
 module _ (monitor : MonitorView) (fields : Fields) (view_is : seen_as fields ≡ monitor) (whole : IsWhole fields) (rd : ℕ) (taken : IsTaken monitor rd) where
   -- a command that puts the realm's row
@@ -123,6 +120,22 @@ pub record Moves (fields : Fields) (rd : ℕ) (root : Root) (g : ℕ) (to : Gran
   pub others : (h : ℕ) → (h ≡ g → ⊥) → (IsTableOf fields.pages root h → ⊥) → page_at pages h ≡ page_at fields.pages h
   pub keeps : KeepsTables rd root fields.pages fields.free fields.granules pages free granules
 
+-- so where the granule leaves the realm
+pub left_by : {fields : Fields} {rd : ℕ} {root : Root} {g : ℕ} {state : GranuleState} {granules : List Granule} {pages : List (List ℕ)} {free : List Bool}
+    → IsIn fields.granules g state (Some rd) → is_moved_state state ≡ true → granules ≡ set fields.granules g (record { state = Delegated; realm = None })
+    → page_at pages g ≡ zero_page → ((h : ℕ) → (h ≡ g → ⊥) → (IsTableOf fields.pages root h → ⊥) → page_at pages h ≡ page_at fields.pages h)
+    → KeepsTables rd root fields.pages fields.free fields.granules pages free granules → Moves fields rd root g (record { state = Delegated; realm = None }) granules pages free
+left_by at was moved cleared others keeps = record {
+  inside = at.inside;
+  was = ap (λ (x : Granule). is_moved_state x.state) at.is ∙ was;
+  is = refl;
+  moved = moved;
+  host = λ e. refl;
+  zero = λ e. cleared;
+  others = others;
+  keeps = keeps;
+}
+
 module _ {monitor : MonitorView} {fields : Fields} (kept : HasFields monitor fields) {rd : ℕ} (taken : IsTaken monitor rd)
     {realm : RealmAttributes} (there : realm_at fields rd ≡ Some realm)
     {g : ℕ} {to : Granule} {granules : List Granule} {pages : List (List ℕ)} {free : List Bool} (moves : Moves fields rd realm.root g to granules pages free) where
@@ -138,11 +151,13 @@ module _ {monitor : MonitorView} {fields : Fields} (kept : HasFields monitor fie
         whole_after_move monitor fields kept.view_is kept.whole rd taken realm there now stay granules pages free realms put
         moves.keeps.rest.flags moves.keeps.rest.backed moves.keeps.tables moves.keeps.rest.other_realms
         g moves.inside to.state to.realm moves.moved moves.was moves.is moves.host moves.zero moves.others;
-    seen =
-        seen_after_move monitor fields kept.view_is kept.whole rd taken realm there now stay granules pages free realms put
-        moves.keeps.rest.flags moves.keeps.rest.backed moves.keeps.tables moves.keeps.rest.other_realms
-        g moves.inside to.state to.realm moves.moved moves.was moves.is moves.host moves.zero moves.others outcome cell row here row_is done;
-    answers = answers_ok {A = Unit {0}} tt _ outcome done;
+    says = record {
+      answer = answers_ok {A = Unit {0}} tt _ outcome done;
+      machine =
+          seen_after_move monitor fields kept.view_is kept.whole rd taken realm there now stay granules pages free realms put
+          moves.keeps.rest.flags moves.keeps.rest.backed moves.keeps.tables moves.keeps.rest.other_realms
+          g moves.inside to.state to.realm moves.moved moves.was moves.is moves.host moves.zero moves.others outcome cell row here row_is done;
+    };
   }
 
   -- and one that leaves the realm's attributes

@@ -1,5 +1,5 @@
 -- The realm that an RD is: where code reads it, and what the machine and a command find there.
-use Rattle.std.proofs.Common.{◌≡◌, ℕ, ◌<◌, length, get_or, Option, Some, None, option_map, Err, refl, sym, ap, ◌∙◌, subst, ⊎_elim}
+use Rattle.std.proofs.Common.{◌≡◌, ℕ, ◌<◌, List, length, set, get_or, Option, Some, None, option_map, Err, refl, sym, ap, ◌∙◌, subst, ⊎_elim}
 use Rattle.std.proofs.lemmas.Bool.{cases_lt}
 use Rattle.std.proofs.lemmas.List.{get_or_past}
 use Rattle.std.proofs.lemmas.Option.{none-some}
@@ -11,7 +11,8 @@ use Rattle.realm_objects.specs.Attributes.{RealmAttributes, realm_row}
 use Rattle.rtt.specs.Tables.{rows}
 use Rattle.rmi_monitor.specs.View.{MonitorView, seen_in}
 use Rattle.rmi_monitor.specs.Inside.{Fields, realm_at, recs_of, seen_as, IsWhole}
-use Rattle.rmi_monitor.proofs.Granules.{as_many_granules, in_machine, cell_is}
+use Rattle.rmi_monitor.specs.Places.{measured_by}
+use Rattle.rmi_monitor.proofs.Granules.{HasFields, as_many_granules, in_machine, cell_is}
 use Rattle.rmi_monitor.proofs.Listed.{read_at}
 use Rattle.rmi_monitor.proofs.Outcomes.{realm_absent}
 use Rattle.rmi_monitor.proofs.RealmPlaces.{realm_inside}
@@ -45,10 +46,20 @@ module _ (monitor : MonitorView) (fields : Fields) (view_is : seen_as fields ≡
     nowhere none f =
         realm_absent (seen_in monitor rd) f (ap (λ (c : Cell). c.descriptor) (cell_is monitor fields view_is whole rd inside) ∙ ap (option_map (row_of fields rd)) none)
 
-    -- ---- the place, by the number that code reads it with
+-- ---- the place, by the number that code reads it with
 
-    pub realm_place : (n : ℕ) → n ≡ rd → n < length fields.realms
-    realm_place n same = subst (λ k. n < k) (as_many_granules monitor fields view_is whole ∙ sym whole.realm_places) (subst (λ k. k < length monitor.machine) (sym same) inside)
+module _ {monitor : MonitorView} {fields : Fields} (kept : HasFields monitor fields) {rd : ℕ} (inside : rd < length monitor.machine) {n : ℕ} (same : n ≡ rd) where
+  rd_place : rd < length fields.realms
+  rd_place = subst (λ k. rd < k) (as_many_granules monitor fields kept.view_is kept.whole ∙ sym kept.whole.realm_places) inside
 
-    pub realm_read : (n : ℕ) (x y : Option RealmAttributes) → n ≡ rd → x ≡ get_or fields.realms n x → x ≡ y → realm_at fields rd ≡ y
-    realm_read n x y same read is = read_at fields.realms n rd None x y same (realm_place rd refl) read is
+  pub realm_place : n < length fields.realms
+  realm_place = subst (λ k. k < length fields.realms) (sym same) rd_place
+
+  pub realm_read : {x y : Option RealmAttributes} → x ≡ get_or fields.realms n x → x ≡ y → realm_at fields rd ≡ y
+  realm_read {x} {y} read is = read_at fields.realms n rd None x y same rd_place read is
+
+  -- what stands there after the measurement is extended
+  pub measured_there : {x now : Option RealmAttributes} → x ≡ get_or fields.realms n x → (event : List ℕ) → now ≡ option_map (measured_by event) x
+      → {realm : RealmAttributes} → realm_at fields rd ≡ Some realm → set fields.realms n now ≡ set fields.realms rd (Some (measured_by event realm))
+  measured_there {x} read event made there =
+      λ i. set fields.realms (same i) ((made ∙ ap (option_map (measured_by event)) (sym (realm_read read refl) ∙ there)) i)

@@ -24,15 +24,16 @@ use Rattle.realm_model.proofs.Lists.{all_in, is_in_at, is_in_head, is_in_more}
 use Rattle.realm_model.proofs.Outcomes.{check_true, check_false}
 use Rattle.realm_objects.specs.Attributes.{RealmAttributes, RecAttributes, realm_row, rec_row}
 use Rattle.rtt.specs.Tables.{rows}
-use Rattle.rmi_monitor.specs.View.{MonitorView, IsTaken, seen_in, after_command}
+use Rattle.rmi_monitor.specs.View.{MonitorView, IsTaken, Answers, seen_in, after_command}
 use Rattle.rmi_monitor.specs.Inside.{Fields, realm_at, rec_count_at, recs_of, seen_as, IsWhole}
 use Rattle.rmi_monitor.specs.Places.{is_delegated_at, are_fit_for_rec, IsInState}
 use Rattle.rmi_monitor.proofs.Checks.{delegated_state}
-use Rattle.rmi_monitor.proofs.Granules.{machine_is, cell_is, in_granules, seen_delegated, after_done}
-use Rattle.rmi_monitor.proofs.Listed.{once_from_distinct, holds_in, put_back}
+use Rattle.rmi_monitor.proofs.Granules.{HasFields, machine_is, cell_is, in_granules, seen_delegated, after_done}
+use Rattle.rmi_monitor.proofs.Listed.{once_from_distinct, holds_in}
 use Rattle.rmi_monitor.proofs.RecMade.{CanMake, made, new_rec, with_rec_more}
 use Rattle.rmi_monitor.proofs.RecMadeAfter.{whole_made, machine_made}
-use Rattle.rmi_monitor.proofs.Outcomes.{after_err}
+use Rattle.rmi_monitor.proofs.Outcomes.{answers_ok, answers_err}
+use Rattle.rmi_monitor.proofs.RealmCommands.{refused_back}
 use Rattle.rmi_monitor.proofs.RealmFound.{row_of, descriptor_there, nowhere, somewhere}
 use Rattle.rmi_monitor.proofs.Comparisons.{either}
 
@@ -60,8 +61,16 @@ module _ (monitor : MonitorView) where
   delegated_seen granules (x ∷ xs) same =
       λ i. same x (is_in_head x xs) i && delegated_seen granules xs (λ y e. same y (is_in_more y x xs e)) i
 
-module _ (monitor : MonitorView) (fields : Fields) (view_is : seen_as fields ≡ monitor) (whole : IsWhole fields) (rd g : ℕ) (others : List ℕ)
-    (rd_taken : IsTaken monitor rd) (g_taken : IsTaken monitor g) (others_taken : All (IsTaken monitor) others) where
+-- what the command is given: granules that are taken, and a number for the REC
+abbrev pub AreGiven : MonitorView → ℕ → ℕ → List ℕ → Type 0
+AreGiven monitor rd g others = record {
+  rd_taken : IsTaken monitor rd;
+  rec_taken : IsTaken monitor g;
+  auxiliaries_taken : All (IsTaken monitor) others;
+  numbers : (realm : RealmRow) → (cell_at monitor.machine rd).descriptor ≡ Some realm → realm.next < 65535;
+}
+
+module _ {monitor : MonitorView} {fields : Fields} (has : HasFields monitor fields) (rd g : ℕ) (others : List ℕ) (given : AreGiven monitor rd g others) where
   abbrev outcome : Outcome
   outcome = rec_create monitor.aux (seen_in monitor rd) (seen_in monitor g) (map (seen_in monitor) others)
 
@@ -69,47 +78,45 @@ module _ (monitor : MonitorView) (fields : Fields) (view_is : seen_as fields ≡
   fit = are_fit_for_rec fields.granules g others fields.aux
 
   taken : (h : ℕ) → is_in h (g ∷ others) ≡ true → IsTaken monitor h
-  taken h e = either (h == g) (is_in h others) e (λ same. subst (IsTaken monitor) (sym (eqb-true h g same)) g_taken) (holds_in (IsTaken monitor) others h others_taken)
+  taken h e = either (h == g) (is_in h others) e (λ same. subst (IsTaken monitor) (sym (eqb-true h g same)) given.rec_taken) (holds_in (IsTaken monitor) others h given.auxiliaries_taken)
 
   others_inside : All (λ h. h < length fields.granules) others
-  others_inside k d lt = in_granules monitor fields view_is whole (get_or others k d) (others_taken k d lt)
+  others_inside k d lt = in_granules monitor fields has.view_is has.whole (get_or others k d) (given.auxiliaries_taken k d lt)
 
-  pub inside_by : (list : List ℕ) → list ≡ others → All (λ h. h < length fields.granules) list
-  inside_by list same = subst (λ l. All (λ h. h < length fields.granules) l) (sym same) others_inside
+  pub inside_by : {list : List ℕ} → list ≡ others → All (λ h. h < length fields.granules) list
+  inside_by {list} same = subst (λ l. All (λ h. h < length fields.granules) l) (sym same) others_inside
 
   -- what a call answers of them
-  pub fit_by : (list : List ℕ) (answer wanted : Bool) → list ≡ others → answer ≡ are_fit_for_rec fields.granules g list fields.aux → answer ≡ wanted → fit ≡ wanted
-  fit_by list answer wanted same e is = ap (λ l. are_fit_for_rec fields.granules g l fields.aux) (sym same) ∙ sym e ∙ is
+  pub fit_by : {list : List ℕ} {answer wanted : Bool} → list ≡ others → answer ≡ are_fit_for_rec fields.granules g list fields.aux → answer ≡ wanted → fit ≡ wanted
+  fit_by same e is = ap (λ l. are_fit_for_rec fields.granules g l fields.aux) (sym same) ∙ sym e ∙ is
 
   -- a refusal changes nothing
-  pub refused_after : (n : ℕ) (x : Option RealmAttributes) (rmi : Rmi) → n ≡ rd → realm_at fields rd ≡ x → outcome ≡ Err rmi
-      → seen_as (record fields { realms = set fields.realms n x }) ≡ after_command outcome monitor
-  refused_after n x rmi same e refused =
-      ap (λ rs. seen_as (record fields { realms = rs })) (put_back fields.realms n None x (ap (λ k. get_or fields.realms k None) same ∙ e))
-      ∙ view_is
-      ∙ after_err monitor rmi outcome refused
+  pub refused_create : (place : ℕ) {x y : Option RealmAttributes} → x ≡ get_or fields.realms place x → x ≡ y → {rmi : Rmi} → outcome ≡ Err rmi
+      → record {
+        answer : Answers {A = ℕ} (Err rmi) outcome;
+        number : Unit {0};
+        machine : seen_as (record fields { realms = set fields.realms place y }) ≡ after_command outcome monitor;
+      }
+  refused_create place read is {rmi} refused =
+      record { answer = answers_err ℕ rmi outcome refused; number = tt; machine = (refused_back has place read is refused).machine }
 
   -- ---- its checks
 
   fit_is : (list_all is_delegated (map (seen_in monitor) (g ∷ others)) && are_distinct (numbers_of (map (seen_in monitor) (g ∷ others))) && length (map (seen_in monitor) others) == monitor.aux) ≡ fit
   fit_is i =
-      delegated_seen monitor fields.granules (g ∷ others) (λ h e. seen_delegated monitor fields view_is whole h (taken h e)) i
+      delegated_seen monitor fields.granules (g ∷ others) (λ h e. seen_delegated monitor fields has.view_is has.whole h (taken h e)) i
       && distinct_seen monitor (g ∷ others) i
-      && length_seen monitor others i == sym (ap (λ (m : MonitorView). m.aux) view_is) i
+      && length_seen monitor others i == sym (ap (λ (m : MonitorView). m.aux) has.view_is) i
 
   pub refuses_no_realm : realm_at fields rd ≡ None → outcome ≡ Err error_input
-  refuses_no_realm none = nowhere monitor fields view_is whole rd rd_taken.inside none _
+  refuses_no_realm none = nowhere monitor fields has.view_is has.whole rd given.rd_taken.inside none _
 
-  module _ (realm : RealmAttributes) (there : realm_at fields rd ≡ Some realm) where
+  module _ {realm : RealmAttributes} (there : realm_at fields rd ≡ Some realm) where
     abbrev pub row : RealmRow
     row = row_of fields rd realm
 
     pub row_is : (cell_at monitor.machine rd).descriptor ≡ Some row
-    row_is = descriptor_there monitor fields view_is whole rd realm there
-
-    -- what a call answers of the realm
-    pub new_by : (answer wanted : Bool) → answer ≡ is_new realm.state → answer ≡ wanted → is_new row.state ≡ wanted
-    new_by answer wanted says is = sym says ∙ is
+    row_is = descriptor_there monitor fields has.view_is has.whole rd realm there
 
     pub next_is : (other : RealmRow) → (cell_at monitor.machine rd).descriptor ≡ Some other → realm.next ≡ other.next
     next_is other e = ap (λ (r : RealmRow). r.next) (same_Some row other (sym row_is ∙ e))
@@ -130,7 +137,7 @@ module _ (monitor : MonitorView) (fields : Fields) (view_is : seen_as fields ≡
     checked : outcome
         ≡ check (list_all is_delegated (map (seen_in monitor) (g ∷ others)) && are_distinct (numbers_of (map (seen_in monitor) (g ∷ others)))
         && length (map (seen_in monitor) others) == monitor.aux) error_input rest
-    checked = somewhere monitor fields view_is whole rd realm there _
+    checked = somewhere monitor fields has.view_is has.whole rd realm there _
 
     pub refuses_unfit : fit ≡ false → outcome ≡ Err error_input
     refuses_unfit e = checked ∙ check_false _ error_input rest (fit_is ∙ e)
@@ -160,8 +167,8 @@ module _ (monitor : MonitorView) (fields : Fields) (view_is : seen_as fields ≡
       g_delegated = all_delegated g (is_in_head g others)
 
       -- after the REC's granule is moved, the auxiliaries are DELEGATED still
-      pub others_stand : (granule : Granule) (then : List Granule) (list : List ℕ) → list ≡ others → then ≡ set fields.granules g granule → All (IsInState then Delegated) list
-      others_stand granule then list same made =
+      pub others_stand : (granule : Granule) {then : List Granule} {list : List ℕ} → list ≡ others → then ≡ set fields.granules g granule → All (IsInState then Delegated) list
+      others_stand granule {then} {list} same made =
           subst (λ l. All (IsInState then Delegated) l) (sym same) (subst (λ gs. All (IsInState gs Delegated) others) (sym made) (λ k d lt.
           let x = get_or others k d in
           let there : is_in x others ≡ true = is_in_at others k x (slice_get-get_or others k d lt) in
@@ -172,13 +179,13 @@ module _ (monitor : MonitorView) (fields : Fields) (view_is : seen_as fields ≡
           }))
 
       -- the REC's granule is moved
-      pub shifted_by : (answer : Bool) (then : List Granule) (granule : Granule) → ((granule_at fields.granules g).state ≡ Delegated → IsTrue answer)
+      pub shifted_by : (answer : Bool) (granule : Granule) {then : List Granule} → ((granule_at fields.granules g).state ≡ Delegated → IsTrue answer)
           → OnTrue answer (then ≡ set fields.granules g granule) → then ≡ set fields.granules g granule
-      shifted_by answer then granule says made = OnTrue_at (says g_delegated) made
+      shifted_by answer granule says made = OnTrue_at (says g_delegated) made
 
       can : CanMake fields rd g others realm
       can = record {
-        inside = λ h k. in_granules monitor fields view_is whole h (taken h k);
+        inside = λ h k. in_granules monitor fields has.view_is has.whole h (taken h k);
         there = there;
         delegated = all_delegated;
         own = own;
@@ -186,45 +193,59 @@ module _ (monitor : MonitorView) (fields : Fields) (view_is : seen_as fields ≡
       }
 
       pub whole_created : IsWhole (made fields rd g others realm)
-      whole_created = whole_made fields whole rd g others realm can
+      whole_created = whole_made fields has.whole rd g others realm can
 
       pub created : is_new row.state ≡ true → seen_as (made fields rd g others realm) ≡ after_command outcome monitor
       created new =
-          after_done monitor fields view_is whole (made fields rd g others realm) updates outcome (creates e new) refl refl refl
-          (machine_made fields whole rd g others realm can
+          after_done monitor fields has.view_is has.whole (made fields rd g others realm) updates outcome (creates e new) refl refl refl
+          (machine_made fields has.whole rd g others realm can
           ∙ (λ i. machine_after_all
-          (updates_by (sym (puts_seen monitor (held InRecAux rd) others) i) (sym (numbers_seen monitor others) i) (sym (cell_is monitor fields view_is whole rd rd_taken.inside) i))
-          (machine_is monitor fields view_is whole i)))
+          (updates_by (sym (puts_seen monitor (held InRecAux rd) others) i) (sym (numbers_seen monitor others) i) (sym (cell_is monitor fields has.view_is has.whole rd given.rd_taken.inside) i))
+          (machine_is monitor fields has.view_is has.whole i)))
 
 -- ---- the fields as calls leave them
 
-module _ (fields : Fields) (rd g : ℕ) (others : List ℕ) (realm : RealmAttributes) where
-  abbrev fields_with : List Granule → List (Option RealmAttributes) → List ℕ → List (Option RecAttributes) → Fields
-  fields_with granules realms rec_counts recs = record fields { granules = granules; realms = realms; rec_counts = rec_counts; recs = recs }
-
-  pub made_by : (begun granules : List Granule) (list : List ℕ) (rd' g' at count : ℕ) (now : RealmAttributes) (rec : RecAttributes)
-      → begun ≡ set fields.granules g (record { state = InRec; realm = Some rd })
-      → granules ≡ set_each (record { state = InRecAux; realm = Some rd }) list begun → list ≡ others → rd' ≡ rd → g' ≡ g → now ≡ with_rec_more realm → rec ≡ new_rec realm.next others → at ≡ rd
-      → count ≡ rec_count_at fields rd
-      → fields_with granules (set fields.realms rd' (Some now)) (set fields.rec_counts at (count + 1)) (set fields.recs g' (Some rec)) ≡ made fields rd g others realm
-  made_by begun granules list rd' g' at count now rec first then same rd_is g_is realm_is rec_is at_is count_is =
-      (λ i. record fields {
-        granules = then i;
-        realms = set fields.realms (rd_is i) (Some (realm_is i));
-        rec_counts = set fields.rec_counts (at_is i) (count_is i + 1);
-        recs = set fields.recs (g_is i)
-            (Some (rec_is i));
-      })
-      ∙ (λ i. record fields {
-        granules = set_each (record { state = InRecAux; realm = Some rd }) (same i) (first i);
-        realms = set fields.realms rd (Some (with_rec_more realm));
-        rec_counts = set fields.rec_counts rd (rec_count_at fields rd + 1);
-        recs = set fields.recs g (Some (new_rec realm.next others));
-      })
-
--- the realm's attributes as calls leave them
-pub more_by : (realm then now : RealmAttributes) (number : ℕ) (event : List ℕ) → number ≡ realm.next → then ≡ record realm { next = realm.next + 1 } → event ≡ rec_event number
+-- the realm's attributes
+pub more_by : {realm then now : RealmAttributes} {number : ℕ} {event : List ℕ} → number ≡ realm.next → then ≡ record realm { next = realm.next + 1 } → event ≡ rec_event number
     → now ≡ record then { measurement = measurement_after then.measurement event } → now ≡ with_rec_more realm
-more_by realm then now number event numbered raised events measured =
-    let named : event ≡ rec_event realm.next = events ∙ ap rec_event numbered in
-    measured ∙ (λ i. record (raised i) { measurement = measurement_after (raised i).measurement (named i) })
+more_by numbered raised events measured = measured ∙ (λ i. record (raised i) { measurement = measurement_after (raised i).measurement ((events ∙ ap rec_event numbered) i) })
+
+abbrev fields_with : Fields → List Granule → List (Option RealmAttributes) → List ℕ → List (Option RecAttributes) → Fields
+fields_with fields granules realms rec_counts recs = record fields { granules = granules; realms = realms; rec_counts = rec_counts; recs = recs }
+
+-- what comes of the command where it is done, with the number that it answers
+pub record Created (monitor : MonitorView) (rd g : ℕ) (others : List ℕ) (number : ℕ) (new : Fields) : Type 0 where
+  pub whole : IsWhole new
+  pub says : record {
+    answer : Answers (Ok number) (rec_create monitor.aux (seen_in monitor rd) (seen_in monitor g) (map (seen_in monitor) others));
+    number : (realm : RealmRow) → (cell_at monitor.machine rd).descriptor ≡ Some realm → number ≡ realm.next;
+    machine : seen_as new ≡ after_command (rec_create monitor.aux (seen_in monitor rd) (seen_in monitor g) (map (seen_in monitor) others)) monitor;
+  }
+
+module _ {monitor : MonitorView} {fields : Fields} (has : HasFields monitor fields) (rd g : ℕ) (others : List ℕ) (given : AreGiven monitor rd g others)
+    {realm : RealmAttributes} (there : realm_at fields rd ≡ Some realm) (fit : are_fit_for_rec fields.granules g others fields.aux ≡ true) (new : is_new realm.state ≡ true)
+    {begun granules : List Granule} {list : List ℕ} {n m k count number : ℕ} {now : RealmAttributes} {rec : RecAttributes}
+    (first : begun ≡ set fields.granules g (record { state = InRec; realm = Some rd }))
+    (rest : granules ≡ set_each (record { state = InRecAux; realm = Some rd }) list begun) (listed : list ≡ others)
+    (n_is : n ≡ rd) (m_is : m ≡ g) (k_is : k ≡ rd) (count_is : count ≡ rec_count_at fields rd)
+    (now_is : now ≡ with_rec_more realm) (number_is : number ≡ realm.next) (rec_is : rec ≡ new_rec number others) where
+  abbrev left : Fields
+  left = fields_with fields granules (set fields.realms n (Some now)) (set fields.rec_counts k (count + 1)) (set fields.recs m (Some rec))
+
+  left_is : left ≡ made fields rd g others realm
+  left_is i = record fields {
+    granules = (rest ∙ (λ j. set_each (record { state = InRecAux; realm = Some rd }) (listed j) (first j))) i;
+    realms = set fields.realms (n_is i) (Some (now_is i));
+    rec_counts = set fields.rec_counts (k_is i) (count_is i + 1);
+    recs = set fields.recs (m_is i) (Some ((rec_is ∙ ap (λ j. new_rec j others) number_is) i));
+  }
+
+  pub create_done : Created monitor rd g others number (fields_with fields granules (set fields.realms n (Some now)) (set fields.rec_counts k (count + 1)) (set fields.recs m (Some rec)))
+  create_done = record {
+    whole = subst IsWhole (sym left_is) (whole_created has rd g others given there fit);
+    says = record {
+      answer = answers_ok number _ _ (creates has rd g others given there fit new);
+      number = λ other e. number_is ∙ next_is has rd g others given there other e;
+      machine = ap seen_as left_is ∙ created has rd g others given there fit new;
+    };
+  }

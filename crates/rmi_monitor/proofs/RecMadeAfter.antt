@@ -20,7 +20,8 @@ use Rattle.rmi_monitor.proofs.Gathered.{len-insert_new, gathered-put}
 use Rattle.rmi_monitor.proofs.Puts.{out_of, many_put}
 use Rattle.rmi_monitor.proofs.RealmAfter.{Changes, whole_changed, cell_unchanged, cell_changed}
 use Rattle.rmi_monitor.proofs.RealmPlaces.{realm_inside}
-use Rattle.rmi_monitor.proofs.RecMoves.{RecMove, granule_count, granule_first, granule_rest, granule_out, rec_first, rec_out, count_rd, count_out, no_realm, rec_of_stays, recs_of_stays, translation, changes, zero_cell}
+use Rattle.rmi_monitor.proofs.RecMoves.{RecMove, granule_count, granule_first, granule_rest, granule_out, rec_first, rec_out}
+use Rattle.rmi_monitor.proofs.RecMoves.{count_rd, count_out, no_realm, rec_of_stays, recs_of_stays, translation, changes, zero_cell}
 use Rattle.rmi_monitor.proofs.RealmRecs.{recs_of-without}
 use Rattle.rmi_monitor.proofs.RecEntries.{IsEntry, entry_at, of_realm, of_other, numbered_recs, rec_of-none, rec_of-other, rec_of-some}
 use Rattle.rmi_monitor.proofs.RecMade.{CanMake, made, making, new_rec, with_rec_more, was_none, zero_after, sound_made}

@@ -1,25 +1,24 @@
 -- What code reads at the place of a granule: the REC that it is, its realm, and that these are there.
-use Rattle.std.proofs.Common.{◌≡◌, ℕ, ◌<◌, ◌≤◌, length, get_or, Option, Some, None, refl, sym, ap, ◌∙◌, subst, arith}
+use Rattle.std.proofs.Common.{◌≡◌, ℕ, ◌+◌, ◌<◌, ◌≤◌, length, get_or, Option, Some, None, refl, sym, ap, ◌∙◌, subst, arith}
 use Rattle.std.proofs.lemmas.Option.{same_Some, none-some}
 use Rattle.granule_table.specs.Granules.{granule_at}
 use Rattle.realm_objects.specs.Attributes.{RealmAttributes, RecAttributes, rec_row}
 use Rattle.rmi_monitor.specs.View.{MonitorView, IsTaken}
-use Rattle.rmi_monitor.specs.Inside.{Fields, realm_at, rec_count_at, rec_at, rec_of, recs_of, seen_as, IsWhole}
+use Rattle.rmi_monitor.specs.Inside.{Fields, realm_at, rec_count_at, rec_at, rec_of, recs_of, IsWhole}
 use Rattle.rmi_monitor.proofs.Gathered.{len-some, len-gathered}
-use Rattle.rmi_monitor.proofs.Granules.{in_granules}
+use Rattle.rmi_monitor.proofs.Granules.{HasFields, in_granules}
 use Rattle.rmi_monitor.proofs.RecFound.{IsKept, row_found}
 use Rattle.rmi_monitor.proofs.Listed.{some_inside, read_at}
 
-module _ (monitor : MonitorView) (fields : Fields) (view_is : seen_as fields ≡ monitor) (whole : IsWhole fields) (granule : ℕ) (taken : IsTaken monitor granule)
-    (i : ℕ) (same : i ≡ granule) where
+module _ {monitor : MonitorView} {fields : Fields} (has : HasFields monitor fields) {granule : ℕ} (taken : IsTaken monitor granule) {i : ℕ} (same : i ≡ granule) where
   inside : granule < length fields.recs
-  inside = subst (λ n. granule < n) (sym whole.rec_places) (in_granules monitor fields view_is whole granule taken)
+  inside = subst (λ n. granule < n) (sym has.whole.rec_places) (in_granules monitor fields has.view_is has.whole granule taken)
 
   pub rec_place : i < length fields.recs
   rec_place = subst (λ k. k < length fields.recs) (sym same) inside
 
-  pub rec_read : (x y : Option RecAttributes) → x ≡ get_or fields.recs i x → x ≡ y → rec_at fields granule ≡ y
-  rec_read x y = read_at fields.recs i granule None x y same inside
+  pub rec_read : {x y : Option RecAttributes} → x ≡ get_or fields.recs i x → x ≡ y → rec_at fields granule ≡ y
+  rec_read {x} {y} = read_at fields.recs i granule None x y same inside
 
 module _ (fields : Fields) (whole : IsWhole fields) (granule : ℕ) (rec : RecAttributes) (at : rec_at fields granule ≡ Some rec) where
   -- a REC has a realm
@@ -63,6 +62,13 @@ few_recs fields whole rd =
     let counted = whole.counted rd in
     let few = len-gathered (rec_of fields.granules fields.recs rd) (length fields.granules) in
     omega (arith, counted, few)
+
+-- so one more can be counted
+pub one_more_fits : {fields : Fields} (rd : ℕ) {count pages : ℕ} → IsWhole fields → count ≡ rec_count_at fields rd → length fields.pages ≡ pages → pages ≤ 4096 → count + 1 ≤ 65535
+one_more_fits {fields} rd whole counted sized most =
+    let few = few_recs fields whole rd in
+    let as_many = whole.backed.as_many in
+    omega (arith, few, as_many)
 
 -- and one that has a REC has some
 pub some_recs : (fields : Fields) (whole : IsWhole fields) (granule : ℕ) (rec : RecAttributes) (rd : ℕ) (realm : RealmAttributes) → IsKept fields granule rec rd realm → 0 < rec_count_at fields rd

@@ -58,8 +58,8 @@ module _ (monitor : MonitorView) (rd table ipa level : ℕ) where
 
     -- ---- the granule is DELEGATED, and the place is one of a table
 
-    module _ {at : Tables × ℕ} {given_level : ℕ} (here : Locates monitor.machine rd ipa at) (same_level : given_level ≡ level)
-        (place : is_table_place ipa level ≡ true) (delegated : is_delegated_at fields.granules table ≡ true) where
+    module _ {at : Tables × ℕ} {given_level : ℕ} (here : Locates monitor.machine rd ipa at)
+        (of_level : (given_level ≡ level) × (is_table_place ipa level ≡ true)) (delegated : is_delegated_at fields.granules table ≡ true) where
       it : Stands fields rd ipa at
       it = stands kept here
 
@@ -77,13 +77,13 @@ module _ (monitor : MonitorView) (rd table ipa level : ℕ) where
       looks =
           somewhere monitor fields kept.view_is kept.whole rd it.realm it.there _
           ∙ check_true (may_be row) error_input _
-          (and_from _ _ (and_from _ _ (seen_delegated monitor fields kept.view_is kept.whole table table_taken ∙ delegated) place) it.located.protected)
+          (and_from _ _ (and_from _ _ (seen_delegated monitor fields kept.view_is kept.whole table table_taken ∙ delegated) of_level.1) it.located.protected)
 
       pub create_refused : {l : ℕ} → ((f : Row → Outcome) → with_room_for_table (rows fields.pages at.0.root) at.1 given_level f ≡ Err (error_rtt l))
           → outcome ≡ Err (error_rtt l)
       create_refused refused =
           looks
-          ∙ (λ k. with_room_for_table (rows fields.pages (sym it.located.tables k).root) (sym it.located.same k) (sym same_level k) made)
+          ∙ (λ k. with_room_for_table (rows fields.pages (sym it.located.tables k).root) (sym it.located.same k) (sym of_level.0 k) made)
           ∙ refused made
 
       -- ---- the call is not refused
@@ -93,7 +93,7 @@ module _ (monitor : MonitorView) (rd table ipa level : ℕ) where
         call : CreateCall (record { rd = rd; root = it.realm.root }) table fields.pages fields.free fields.granules pages free granules ipa level
         call =
             subst (λ (to : Tables × ℕ × ℕ). CreateCall to.0 table fields.pages fields.free fields.granules pages free granules to.1 to.2)
-            (λ k. (it.located.tables k, it.located.same k, same_level k)) given
+            (λ k. (it.located.tables k, it.located.same k, of_level.0 k)) given
 
         passed : Passes old_rows ipa (level - 1) (λ row. not (is_table row))
         passed = (passed_row old_rows ipa (level - 1) (λ row. not (is_table row)) made _ (call.answer.1 made)).0

@@ -1,5 +1,5 @@
 -- A table of a realm is taken away: RMI_RTT_DESTROY over the fields of a monitor.
-use Rattle.std.proofs.Common.{◌≡◌, ℕ, ◌-◌, Bool, true, false, List, [], ◌∷◌, Some, None, Ok, Err, refl, sym, ap, ◌∙◌, subst, arith}
+use Rattle.std.proofs.Common.{◌≡◌, ℕ, ◌-◌, Bool, true, false, List, [], ◌∷◌, Some, None, Ok, Err, refl, sym, ◌∙◌, subst, arith}
 use Rattle.std.specs.Prelude.{◌&&◌}
 use Rattle.std.proofs.lemmas.Bool.{and_from, and_left, and_right}
 use Rattle.granule_addr.specs.Page.{zero_page}
@@ -23,14 +23,13 @@ use Rattle.rmi_monitor.specs.View.{MonitorView, IsTaken, seen_in}
 use Rattle.rmi_monitor.specs.Inside.{Fields}
 use Rattle.rmi_monitor.specs.Located.{Locates, IsNowhere}
 use Rattle.rmi_monitor.proofs.Granules.{HasFields}
-use Rattle.rmi_monitor.proofs.TableMoves.{is_moved_state}
 use Rattle.rmi_monitor.proofs.LedTo.{table_led}
 use Rattle.rmi_monitor.proofs.Located.{Stands, stands}
 use Rattle.rmi_monitor.proofs.Protected.{protected_inside}
 use Rattle.rmi_monitor.proofs.Refusals.{Passes, check_done, passed_row, row_passes}
 use Rattle.rmi_monitor.proofs.Outcomes.{input_refused}
 use Rattle.rmi_monitor.proofs.RealmFound.{row_of, somewhere}
-use Rattle.rmi_monitor.proofs.RealmCommands.{with_call, Done, rows_done}
+use Rattle.rmi_monitor.proofs.RealmCommands.{with_call, Done, left_by, rows_done}
 
 -- What the call says where it is not refused.
 pub record DestroyCall (at : Tables) (pages : List (List ℕ)) (free : List Bool) (granules : List Granule) (new_pages : List (List ℕ)) (new_free : List Bool) (new_granules : List Granule)
@@ -56,7 +55,7 @@ module _ (monitor : MonitorView) (rd ipa level : ℕ) where
   destroy_nowhere none = input_refused (seen_in monitor rd) may_go _ (λ row at. and_right _ _ (none row at))
 
   module _ {fields : Fields} (kept : HasFields monitor fields) {at : Tables × ℕ} {given_level : ℕ} (here : Locates monitor.machine rd ipa at)
-      (same_level : given_level ≡ level) (place : is_table_place ipa level ≡ true) where
+      (of_level : (given_level ≡ level) × (is_table_place ipa level ≡ true)) where
     it : Stands fields rd ipa at
     it = stands kept here
 
@@ -72,13 +71,13 @@ module _ (monitor : MonitorView) (rd ipa level : ℕ) where
     looks : outcome ≡ with_unused_table old_rows ipa level (λ above. with_granule above made)
     looks =
         somewhere monitor fields kept.view_is kept.whole rd it.realm it.there _
-        ∙ check_true (may_go row) error_input _ (and_from _ _ place it.located.protected)
+        ∙ check_true (may_go row) error_input _ (and_from _ _ of_level.1 it.located.protected)
 
     pub destroy_refused : {l : ℕ} → ((f : Row → Outcome) → with_unused_table (rows fields.pages at.0.root) at.1 given_level f ≡ Err (error_rtt l))
         → outcome ≡ Err (error_rtt l)
     destroy_refused refused =
         looks
-        ∙ (λ k. with_unused_table (rows fields.pages (sym it.located.tables k).root) (sym it.located.same k) (sym same_level k) (λ above. with_granule above made))
+        ∙ (λ k. with_unused_table (rows fields.pages (sym it.located.tables k).root) (sym it.located.same k) (sym of_level.0 k) (λ above. with_granule above made))
         ∙ refused (λ above. with_granule above made)
 
     -- ---- the call is not refused
@@ -88,7 +87,7 @@ module _ (monitor : MonitorView) (rd ipa level : ℕ) where
       call : DestroyCall (record { rd = rd; root = it.realm.root }) fields.pages fields.free fields.granules pages free granules ipa level
       call =
           subst (λ (to : Tables × ℕ × ℕ). DestroyCall to.0 fields.pages fields.free fields.granules pages free granules to.1 to.2)
-          (λ k. (it.located.tables k, it.located.same k, same_level k)) given
+          (λ k. (it.located.tables k, it.located.same k, of_level.0 k)) given
 
       abbrev unused : Bool
       unused = is_table_unused old_rows level ipa
@@ -101,14 +100,14 @@ module _ (monitor : MonitorView) (rd ipa level : ℕ) where
 
       above : IsInside it.realm.root.width (level - 1) ipa
       above =
-          let low = (table_place ipa level place).low.0 in
-          let high = (table_place ipa level place).low.1 in
+          let low = (table_place ipa level of_level.1).low.0 in
+          let high = (table_place ipa level of_level.1).low.1 in
           record { least = low; most = omega arith; below = protected_inside it.realm.root.width ipa it.located.protected }
 
       led : (table : ℕ) × (passed.row.granule ≡ Some table) × IsIn fields.granules table InRtt (Some rd)
       led =
-          let low = (table_place ipa level place).low.0 in
-          let high = (table_place ipa level place).low.1 in
+          let low = (table_place ipa level of_level.1).low.0 in
+          let high = (table_place ipa level of_level.1).low.1 in
           table_led fields.pages fields.granules rd it.realm.root (kept.whole.tables rd it.realm it.there) (level - 1) ipa above passed.row passed.at (omega arith) passed.holds
 
       abbrev table : ℕ
@@ -126,15 +125,6 @@ module _ (monitor : MonitorView) (rd ipa level : ℕ) where
 
       pub destroy_done : Done monitor outcome (with_call fields granules pages free fields.realms)
       destroy_done =
-          rows_done kept taken it.there {to = record { state = Delegated; realm = None }}
-          (record {
-            inside = led.2.inside;
-            was = ap (λ (x : Granule). is_moved_state x.state) led.2.is;
-            is = refl;
-            moved = call.moved table leads;
-            host = λ e. refl;
-            zero = λ e. call.cleared table leads;
-            others = λ g differs. call.others g;
-            keeps = call.keeps;
-          })
+          rows_done kept taken it.there
+          (left_by led.2 refl (call.moved table leads) (call.cleared table leads) (λ g differs. call.others g) call.keeps)
           outcome (λ i. record left { bytes = call.cleared table leads i }) call.loses destroyed

@@ -1,7 +1,7 @@
 -- Pages of a NEW realm become RAM: RMI_RTT_INIT_RIPAS over the fields of a monitor.
 use Rattle.std.proofs.Common.{◌≡◌, ℕ, Bool, true, false, List, [], ◌∷◌, set, cond, Option, Some, None, Ok, Err, refl, sym, ap, ◌∙◌, subst, arith}
 use Rattle.std.specs.Prelude.{◌&&◌}
-use Rattle.std.proofs.lemmas.Bool.{and_parts}
+use Rattle.std.proofs.lemmas.Bool.{and_from, and_parts}
 use Rattle.granule_addr.specs.Ipa.{is_protected_at}
 use Rattle.granule_addr.specs.declared.root.Root.{Root}
 use Rattle.granule_table.specs.declared.granule.Granule.{Granule}
@@ -18,9 +18,10 @@ use Rattle.realm_model.specs.Command.Found.{with_free_pages}
 use Rattle.rtt.specs.Calls.{ChangesTablesOnly, Keeps, KeepsRest}
 use Rattle.rmi_monitor.specs.View.{MonitorView, IsTaken, seen_in}
 use Rattle.rmi_monitor.specs.Inside.{Fields, realm_at, seen_as, IsWhole, recs_of}
+use Rattle.rmi_monitor.specs.Located.{IsLocated}
 use Rattle.rmi_monitor.proofs.TableMoves.{whole_still, machine_still}
 use Rattle.rmi_monitor.proofs.Comparisons.{test_held, test_failed}
-use Rattle.rmi_monitor.proofs.Located.{IsLocated}
+use Rattle.rmi_monitor.proofs.Granules.{HasFields}
 use Rattle.rmi_monitor.proofs.Outcomes.{answers_ok}
 use Rattle.rmi_monitor.proofs.RealmAfter.{Keeps as KeepsRealm}
 use Rattle.rmi_monitor.proofs.RealmFound.{row_of, nowhere, somewhere}
@@ -38,32 +39,29 @@ abbrev pub is_run : ℕ → ℕ → ℕ → Bool
 is_run ipa count width = is_page_run ipa count && is_protected_at ipa width
 
 -- what code makes of them, by the root that it reads of the realm
-module _ (realm : RealmAttributes) (ipa count : ℕ) (root : Root) (read : root ≡ realm.root) (place : Option ℕ) (tested : place ≡ cond (is_run ipa count root.width) (Some ipa) None) where
-  pub no_run : place ≡ None → is_run ipa count realm.root.width ≡ false
-  no_run none = ap (λ (r : Root). is_run ipa count r.width) (sym read) ∙ test_failed (is_run ipa count root.width) ipa place tested none
+module _ (realm : RealmAttributes) (ipa count : ℕ) (root : Root) (read : root ≡ realm.root) where
+  pub no_run : None ≡ cond (is_run ipa count root.width) (Some ipa) None → is_run ipa count realm.root.width ≡ false
+  no_run tested = ap (λ (r : Root). is_run ipa count r.width) (sym read) ∙ test_failed (is_run ipa count root.width) ipa None tested refl
 
-  pub is_run_there : (given : ℕ) → place ≡ Some given → is_run ipa count realm.root.width ≡ true
-  is_run_there given some = ap (λ (r : Root). is_run ipa count r.width) (sym read) ∙ (test_held (is_run ipa count root.width) ipa given place tested some).0
-
-  pub run_located : (rd : ℕ) (at : Tables) → at ≡ record { rd = rd; root = realm.root } → (given : ℕ) → place ≡ Some given → IsLocated realm rd ipa at given
-  run_located rd at tables given some = record {
-    tables = tables;
-    same = (test_held (is_run ipa count root.width) ipa given place tested some).1;
-    protected = (and_parts _ (is_protected_at ipa realm.root.width) (is_run_there given some)).1;
-  }
+  pub run_located : (rd : ℕ) (at : Tables) → at ≡ record { rd = rd; root = realm.root } → (given : ℕ) → Some given ≡ cond (is_run ipa count root.width) (Some ipa) None
+      → IsLocated realm rd ipa (at, given) × (is_page_run ipa count ≡ true)
+  run_located rd at tables given tested =
+      let held = test_held (is_run ipa count root.width) ipa given (Some given) tested refl in
+      let both = and_parts (is_page_run ipa count) _ (ap (λ (r : Root). is_run ipa count r.width) (sym read) ∙ held.0) in
+      (record { tables = tables; same = held.1; protected = both.1 }, both.0)
 
 -- the realm, with its measurement extended
 abbrev pub measured : RealmAttributes → ℕ → ℕ → RealmAttributes
 measured realm ipa count = record realm { measurement = measurement_after realm.measurement (ripas_event ipa count) }
 
-module _ (monitor : MonitorView) (fields : Fields) (view_is : seen_as fields ≡ monitor) (whole : IsWhole fields) (rd ipa count : ℕ) (taken : IsTaken monitor rd) where
+module _ {monitor : MonitorView} {fields : Fields} (has : HasFields monitor fields) {rd : ℕ} (taken : IsTaken monitor rd) (ipa count : ℕ) where
   abbrev outcome : Outcome
   outcome = rtt_init_ripas (seen_in monitor rd) ipa count
 
   pub ripas_nowhere : realm_at fields rd ≡ None → outcome ≡ Err error_input
-  ripas_nowhere none = nowhere monitor fields view_is whole rd taken.inside none _
+  ripas_nowhere none = nowhere monitor fields has.view_is has.whole rd taken.inside none _
 
-  module _ (realm : RealmAttributes) (there : realm_at fields rd ≡ Some realm) where
+  module _ {realm : RealmAttributes} (there : realm_at fields rd ≡ Some realm) where
     abbrev old_rows : Rows
     old_rows = rows fields.pages realm.root
 
@@ -84,31 +82,35 @@ module _ (monitor : MonitorView) (fields : Fields) (view_is : seen_as fields ≡
     checked = check (is_new realm.state) error_realm looked
 
     found : outcome ≡ check run error_input checked
-    found = somewhere monitor fields view_is whole rd realm there _
+    found = somewhere monitor fields has.view_is has.whole rd realm there _
 
     pub ripas_no_run : run ≡ false → outcome ≡ Err error_input
     ripas_no_run h = found ∙ check_false run error_input checked h
 
-    module _ (runs : run ≡ true) where
+    module _ {at : Tables × ℕ} (located : IsLocated realm rd ipa at × (is_page_run ipa count ≡ true)) where
+      runs : run ≡ true
+      runs = and_from _ _ located.1 located.0.protected
+
       pub ripas_not_new : is_new realm.state ≡ false → outcome ≡ Err error_realm
       ripas_not_new h = found ∙ check_true run error_input checked runs ∙ check_false (is_new realm.state) error_realm looked h
 
-      module _ (new_realm : is_new realm.state ≡ true) (at : Tables) (given : ℕ) (located : IsLocated realm rd ipa at given) where
-        looks : outcome ≡ with_free_pages (rows fields.pages at.root) given count (λ row. made)
+      module _ (new_realm : is_new realm.state ≡ true) where
+        looks : outcome ≡ with_free_pages (rows fields.pages at.0.root) at.1 count (λ row. made)
         looks =
             found ∙ check_true run error_input checked runs ∙ check_true (is_new realm.state) error_realm looked new_realm
-            ∙ (λ k. with_free_pages (rows fields.pages (sym located.tables k).root) (sym located.same k) count (λ row. made))
+            ∙ (λ k. with_free_pages (rows fields.pages (sym located.0.tables k).root) (sym located.0.same k) count (λ row. made))
 
-        pub ripas_refused : (l : ℕ) → ((f : Row → Outcome) → with_free_pages (rows fields.pages at.root) given count f ≡ Err (error_rtt l)) → outcome ≡ Err (error_rtt l)
-        ripas_refused l refused = looks ∙ refused (λ row. made)
+        pub ripas_refused : {l : ℕ} → ((f : Row → Outcome) → with_free_pages (rows fields.pages at.0.root) at.1 count f ≡ Err (error_rtt l)) → outcome ≡ Err (error_rtt l)
+        ripas_refused refused = looks ∙ refused (λ row. made)
 
         -- ---- the call is not refused
 
-        module _ (pages : List (List ℕ)) (free : List Bool) (given_call : RipasCall at fields.pages fields.free fields.granules pages free given count)
-            (now : RealmAttributes) (event : List ℕ) (now_is : now ≡ record realm { measurement = measurement_after realm.measurement event }) (event_is : event ≡ ripas_event given count)
-            (realms : List (Option RealmAttributes)) (put : realms ≡ set fields.realms rd (Some now)) where
+        module _ {pages : List (List ℕ)} {free : List Bool} (given_call : RipasCall at.0 fields.pages fields.free fields.granules pages free at.1 count)
+            {event : List ℕ} (event_is : event ≡ ripas_event at.1 count)
+            {now : RealmAttributes} (now_is : now ≡ record realm { measurement = measurement_after realm.measurement event })
+            {realms : List (Option RealmAttributes)} (put : realms ≡ set fields.realms rd (Some now)) where
           call : RipasCall (record { rd = rd; root = realm.root }) fields.pages fields.free fields.granules pages free ipa count
-          call = subst (λ (to : Tables × ℕ). RipasCall to.0 fields.pages fields.free fields.granules pages free to.1 count) (λ k. (located.tables k, located.same k)) given_call
+          call = subst (λ (to : Tables × ℕ). RipasCall to.0 fields.pages fields.free fields.granules pages free to.1 count) (λ k. (located.0.tables k, located.0.same k)) given_call
 
           gives_ram : outcome ≡ made
           gives_ram = looks ∙ given_call.answer.1 (λ row. made)
@@ -117,7 +119,7 @@ module _ (monitor : MonitorView) (fields : Fields) (view_is : seen_as fields ≡
           measured_now =
               now_is
               ∙ ap (λ (e : List ℕ). record realm { measurement = measurement_after realm.measurement e }) event_is
-              ∙ ap (λ (n : ℕ). measured realm n count) located.same
+              ∙ ap (λ (n : ℕ). measured realm n count) located.0.same
 
           abbrev rest : KeepsRest rd fields.pages fields.free fields.granules pages free fields.granules
           rest = call.keeps.rest
@@ -135,12 +137,15 @@ module _ (monitor : MonitorView) (fields : Fields) (view_is : seen_as fields ≡
           ripas_done = record {
             whole =
                 subst (λ rs. IsWhole (after rs)) (sym realms_are)
-                (whole_still fields whole rd realm (measured realm ipa count) there same_realm fields.granules pages free rest.flags rest.backed call.keeps.tables rest.other_realms refl call.others);
-            seen =
-                ap (λ rs. seen_as (after rs)) realms_are
-                ∙ after_put monitor fields view_is whole rd taken outcome (after (set fields.realms rd (Some (measured realm ipa count)))) refl refl rest.flags _ _
-                (λ i. realm_row (measured realm ipa count) (recs_of fields.granules fields.recs rd) (call.gains i)) gives_ram
-                (machine_still fields whole rd realm (measured realm ipa count) there same_realm fields.granules pages free rest.flags rest.backed call.keeps.tables rest.other_realms refl
-                call.others);
-            answers = answers_ok {A = Unit {0}} tt _ outcome gives_ram;
+                (whole_still fields has.whole rd realm (measured realm ipa count) there same_realm fields.granules pages free
+                rest.flags rest.backed call.keeps.tables rest.other_realms refl call.others);
+            says = record {
+              answer = answers_ok {A = Unit {0}} tt _ outcome gives_ram;
+              machine =
+                  ap (λ rs. seen_as (after rs)) realms_are
+                  ∙ after_put monitor fields has.view_is has.whole rd taken outcome (after (set fields.realms rd (Some (measured realm ipa count)))) refl refl rest.flags _ _
+                  (λ i. realm_row (measured realm ipa count) (recs_of fields.granules fields.recs rd) (call.gains i)) gives_ram
+                  (machine_still fields has.whole rd realm (measured realm ipa count) there same_realm fields.granules pages free
+                  rest.flags rest.backed call.keeps.tables rest.other_realms refl call.others);
+            };
           }

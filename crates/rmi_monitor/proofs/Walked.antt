@@ -57,13 +57,17 @@ module _ {monitor : MonitorView} {fields : Fields} (kept : HasFields monitor fie
       inside : is_in_space ipa number ≡ true
       inside = (and_parts _ _ held.0).1
 
-      pub walk_tables : HasTables fields.pages fields.granules at.rd at.root
-      walk_tables = subst (λ (t : Tables). HasTables fields.pages fields.granules t.rd t.root) (sym at_is) (kept.whole.tables rd realm there)
+      tables : HasTables fields.pages fields.granules at.rd at.root
+      tables = subst (λ (t : Tables). HasTables fields.pages fields.granules t.rd t.root) (sym at_is) (kept.whole.tables rd realm there)
 
-      pub walk_space : given < served_space at.root.width
-      walk_space =
+      space : given < served_space at.root.width
+      space =
           subst (λ (t : Tables). given < served_space t.root.width) (sym at_is)
           (subst (λ n. given < served_space n) width_is (subst (λ n. n < served_space number) (sym held.1) (space_served number ipa wide inside)))
+
+      -- what a walk asks, and where it ends
+      pub walk_asks : HasTables fields.pages fields.granules at.rd at.root × (given < served_space at.root.width)
+      walk_asks = (tables, space)
 
       pub walk_ends : (end : Walk) → walk (rows fields.pages at.root) given level ≡ Some end → Some end ≡ walk_in monitor.machine rd ipa level
       walk_ends end is =

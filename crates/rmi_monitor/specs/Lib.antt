@@ -6,3 +6,4 @@ pub mod Located
 pub mod Places
 pub mod Named
 pub mod Walked
+pub mod GuestPages

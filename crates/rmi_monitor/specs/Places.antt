@@ -6,10 +6,15 @@ use Rattle.granule_addr.specs.declared.root.Root.{Root}
 use Rattle.page_arena.specs.Page.{is_free}
 use Rattle.granule_table.specs.Granules.{granule_at}
 use Rattle.granule_table.specs.declared.granule.Granule.{Granule}
+use Rattle.realm_model.specs.Measurement.{measurement_after}
 use Rattle.realm_model.specs.Command.Check.{are_distinct}
 use Rattle.realm_model.specs.declared.states.GranuleState.{GranuleState}
 use Rattle.realm_model.specs.declared.states.GranuleState.TheVariants.{Undelegated, Delegated}
 use Rattle.realm_objects.specs.Attributes.{RealmAttributes}
+
+-- a realm's attributes with the measurement extended by an event
+abbrev pub measured_by : List ℕ → RealmAttributes → RealmAttributes
+measured_by event realm = record realm { measurement = measurement_after realm.measurement event }
 
 abbrev pub is_delegated_at : List Granule → ℕ → Bool
 is_delegated_at granules granule = elim (granule_at granules granule).state [ Delegated ↦ true | _ ↦ false ]

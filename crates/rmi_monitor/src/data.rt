@@ -1,15 +1,18 @@
 //! Commands on pages of data.
-ghost use Rattle.std.specs.Prelude.{◌≡◌};
+ghost use Rattle.std.specs.Prelude.{◌≡◌, ◌&&◌, true, IfOk, IfErr, Err};
+ghost use Rattle.realm_model.specs.Command.Check.{is_delegated, is_undelegated};
 ghost use Rattle.realm_model.specs.Command.Data as command;
 ghost use Rattle.rmi_monitor.specs.View.{IsTaken, Answers, seen_in, after_command};
+ghost use Rattle.rmi_monitor.specs.Located.{LocatesNew};
 
 use crate::Monitor;
-use crate::inputs::protected;
-use crate::places::{is_delegated, is_undelegated, tables_of};
-use granule_addr::Gran;
+use crate::locate::located;
+use crate::places::{can_be_copied, is_delegated, measure};
+use granule_addr::{Gran, IpaGran};
 use page_arena::PageStore;
 use realm_model::{Ripas, Rmi};
 use realm_objects::data_event;
+use rtt::Tables;
 
 impl<S: PageStore> Monitor<S> {
     /// Makes a DELEGATED granule a page of a NEW realm, with the bytes of an UNDELEGATED one, and extends the realm's
@@ -27,22 +30,8 @@ impl<S: PageStore> Monitor<S> {
         ensures machine { self.new ≡ after_command
             (command.data_create (seen_in self.old rd) (seen_in self.old page) ipa (seen_in self.old source)) self.old }
     {
-        let Some(realm) = &mut self.realms[rd.number() as usize] else {
-            return Err(Rmi::INPUT);
-        };
-        let Some(ipa) = protected(ipa, realm.root().width) else {
-            return Err(Rmi::INPUT);
-        };
-        if !is_delegated(&self.granules, page) {
-            return Err(Rmi::INPUT);
-        }
-        if !is_undelegated(&self.granules, source) {
-            return Err(Rmi::INPUT);
-        }
-        if !realm.is_new() {
-            return Err(Rmi::REALM);
-        }
-        tables_of(rd, realm).map(
+        let (tables, ipa) = self.check_copy(rd, page, ipa, source)?;
+        tables.map(
             &mut self.store,
             &mut self.granules,
             page,
@@ -50,8 +39,42 @@ impl<S: PageStore> Monitor<S> {
             Some(Ripas::Ram),
         )?;
         self.store.copy(page, source);
-        realm.measure(&data_event(ipa, self.store.bytes(source)));
+        measure(
+            &mut self.realms[rd.number() as usize],
+            &data_event(ipa, self.store.bytes(source)),
+        );
         Ok(())
+    }
+
+    // Where a page of a NEW realm is mapped that gets the bytes of `source`.
+    fn check_copy(
+        &self,
+        rd: Gran,
+        page: Gran,
+        ipa: u32,
+        source: Gran,
+    ) -> Result<(Tables, IpaGran), Rmi>
+        requires rd_taken { IsTaken self.now rd }
+        requires page_taken { IsTaken self.now page }
+        requires source_taken { IsTaken self.now source }
+        ensures ok { IfOk result (λ at. LocatesNew self.now.machine rd ipa at
+            × ((is_delegated (seen_in self.now page) && is_undelegated (seen_in self.now source)) ≡ true)) }
+        ensures err { IfErr result (λ e.
+            command.data_create (seen_in self.now rd) (seen_in self.now page) ipa (seen_in self.now source) ≡ Err e) }
+    {
+        let Some(realm) = &self.realms[rd.number() as usize] else {
+            return Err(Rmi::INPUT);
+        };
+        let Some(at) = located(rd, realm, ipa) else {
+            return Err(Rmi::INPUT);
+        };
+        if !can_be_copied(&self.granules, source, page) {
+            return Err(Rmi::INPUT);
+        }
+        if !realm.is_new() {
+            return Err(Rmi::REALM);
+        }
+        Ok(at)
     }
 
     /// Makes a DELEGATED granule a page of zeros of a realm; the RIPAS stays.

@@ -1,10 +1,11 @@
 //! What guests do.
+ghost use Rattle.std.specs.Prelude.{ℕ, Err, IfOk, IfErr};
 ghost use Rattle.realm_model.specs.Command.Rec as command;
 ghost use Rattle.rmi_monitor.specs.View.{IsTaken, IsOnRec};
+ghost use Rattle.rmi_monitor.specs.GuestPages.{IsGuestPage};
 
 use crate::Monitor;
-use crate::inputs::protected;
-use crate::places::tables_of;
+use crate::locate::located;
 use granule_addr::{Gran, Level, PageOff};
 use page_arena::PageStore;
 use realm_model::Rmi;
@@ -26,6 +27,18 @@ impl<S: PageStore> Monitor<S> {
         requires { IsTaken self.old rec }
         ensures { IsOnRec (λ rd number. command.guest_write rd number ipa offset value) self.old rec result self.new }
     {
+        let page = self.guest_page(rec, ipa)?;
+        self.store.set(page, offset, value);
+        Ok(())
+    }
+
+    // The page of a RUNNING REC's realm at that IPA granule.
+    fn guest_page(&self, rec: Gran, ipa: u32) -> Result<Gran, Rmi>
+        requires { IsTaken self.now rec }
+        ensures ok { IfOk result (IsGuestPage self.now rec ipa) }
+        ensures err { IfErr result (λ e. (offset value : ℕ)
+            → IsOnRec {A = Unit {0}} (λ rd number. command.guest_write rd number ipa offset value) self.now rec (Err e) self.now) }
+    {
         let Some(kept) = &self.recs[rec.number() as usize] else {
             return Err(Rmi::INPUT);
         };
@@ -35,17 +48,16 @@ impl<S: PageStore> Monitor<S> {
         let Some(realm) = &self.realms[rd.number() as usize] else {
             unreachable!()
         };
-        let Some(granule) = protected(ipa, realm.root().width) else {
+        let Some((tables, granule)) = located(rd, realm, ipa) else {
             return Err(Rmi::INPUT);
         };
         if kept.is_ready() {
             return Err(Rmi::REC);
         }
-        let walk = tables_of(rd, realm).walk(&self.store, &self.granules, granule, Level::last());
+        let walk = tables.walk(&self.store, &self.granules, granule, Level::last());
         let Some(page) = walk.entry.page() else {
             return Err(Rmi::from(Rtt { level: walk.level }));
         };
-        self.store.set(page, offset, value);
-        Ok(())
+        Ok(page)
     }
 }

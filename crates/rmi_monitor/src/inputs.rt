@@ -1,5 +1,5 @@
 //! Checks of what a command is given.
-ghost use Rattle.std.specs.Prelude.{◌≡◌, ◌&&◌, Some, None, if◌then◌else◌};
+ghost use Rattle.std.specs.Prelude.{◌≡◌, ◌&&◌, true, false, Some, None, IfSome, IfNone, if◌then◌else◌};
 ghost use Rattle.granule_addr.specs.Ipa.{is_protected_at};
 ghost use Rattle.realm_model.specs.Rows.{is_table_place, is_page_run};
 
@@ -30,7 +30,8 @@ pub(crate) fn protected_run(ipa: u32, count: u16, width: IpaWidth) -> Option<Ipa
 
 // The level of a table below the root, where one can start at that IPA granule.
 pub(crate) fn table_level(ipa: u32, level: u8) -> Option<Level>
-    ensures { result ≡ (if is_table_place ipa level then Some level else None) }
+    ensures some { IfSome result (λ given. (given ≡ level) × (is_table_place ipa level ≡ true)) }
+    ensures none { IfNone result (is_table_place ipa level ≡ false) }
 {
     let served = match level {
         2 => 262_144,

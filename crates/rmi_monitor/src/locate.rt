@@ -1,16 +1,42 @@
 //! Where a command on a realm's tables goes on.
-ghost use Rattle.std.specs.Prelude.{◌≡◌, IfOk, IfErr};
+ghost use Rattle.std.specs.Prelude.{◌≡◌, ◌&&◌, true, false, IfOk, IfErr, IfSome, IfNone};
+ghost use Rattle.granule_addr.specs.Ipa.{is_protected_at};
+ghost use Rattle.realm_model.specs.Rows.{is_page_run};
 ghost use Rattle.realm_model.specs.Command.Check.{error_input};
 ghost use Rattle.rmi_monitor.specs.View.{IsTaken};
-ghost use Rattle.rmi_monitor.specs.Located.{Locates, IsNowhere};
+ghost use Rattle.rmi_monitor.specs.Located.{IsLocated, Locates, IsNowhere};
 
 use crate::Monitor;
-use crate::inputs::protected;
+use crate::inputs::{protected, protected_run};
 use crate::places::tables_of;
 use granule_addr::{Gran, IpaGran};
 use page_arena::PageStore;
 use realm_model::Rmi;
+use realm_objects::RealmDesc;
 use rtt::Tables;
+
+// The tables of the realm that stands at an RD, and the IPA granule of that number, where it is protected there.
+pub(crate) fn located(rd: Gran, realm: &RealmDesc, ipa: u32) -> Option<(Tables, IpaGran)>
+    ensures some { IfSome result (IsLocated realm.now rd ipa) }
+    ensures none { IfNone result (is_protected_at ipa realm.now.root.width ≡ false) }
+{
+    let ipa = protected(ipa, realm.root().width)?;
+    Some((tables_of(rd, realm), ipa))
+}
+
+// The same of the first of `count` IPA granules, where they are 1 to 512, and one table of level 3 serves all of them.
+pub(crate) fn located_run(
+    rd: Gran,
+    realm: &RealmDesc,
+    ipa: u32,
+    count: u16,
+) -> Option<(Tables, IpaGran)>
+    ensures some { IfSome result (λ at. IsLocated realm.now rd ipa at × (is_page_run ipa count ≡ true)) }
+    ensures none { IfNone result (is_page_run ipa count && is_protected_at ipa realm.now.root.width ≡ false) }
+{
+    let first = protected_run(ipa, count, realm.root().width)?;
+    Some((tables_of(rd, realm), first))
+}
 
 impl<S: PageStore> Monitor<S> {
     // The tables of the realm whose RD that is, and the IPA granule of that number, where it is protected there.
@@ -22,9 +48,9 @@ impl<S: PageStore> Monitor<S> {
         let Some(realm) = &self.realms[rd.number() as usize] else {
             return Err(Rmi::INPUT);
         };
-        let Some(ipa) = protected(ipa, realm.root().width) else {
+        let Some(at) = located(rd, realm, ipa) else {
             return Err(Rmi::INPUT);
         };
-        Ok((tables_of(rd, realm), ipa))
+        Ok(at)
     }
 }

@@ -1,11 +1,11 @@
 //! What stands at granules, and what moves them.
-ghost use Rattle.std.specs.Prelude.{◌≡◌, ◌<◌, ◌∷◌, All, IsTrue, length, Some, None, slice_set};
+ghost use Rattle.std.specs.Prelude.{◌≡◌, ◌<◌, ◌&&◌, ◌∷◌, All, IsTrue, length, Some, None, option_map, slice_set};
 ghost use Rattle.std.specs.List.{list_all};
 ghost use Rattle.granule_addr.specs.Page.{zero_page};
 ghost use Rattle.realm_model.specs.Command.Check.{is_apart_from, are_distinct};
 ghost use Rattle.realm_model.specs.StepLaw.{set_each};
 ghost use Rattle.realm_model.specs.declared.states.GranuleState.TheVariants.{Delegated};
-ghost use Rattle.rmi_monitor.specs.Places.{is_delegated_at, is_undelegated_at, are_fit_for_rec, IsInState, HasPage};
+ghost use Rattle.rmi_monitor.specs.Places.{measured_by, is_delegated_at, is_undelegated_at, are_fit_for_rec, IsInState, HasPage};
 
 use granule_addr::Gran;
 use granule_table::GranuleTable;
@@ -24,6 +24,15 @@ pub(crate) fn tables_of(rd: Gran, realm: &RealmDesc) -> Tables
     }
 }
 
+// Extends the measurement of the realm that stands at a place, if there is one.
+pub(crate) fn measure(place: &mut Option<RealmDesc>, event: &[u8])
+    ensures { place.new ≡ option_map (measured_by event.now) place.old }
+{
+    if let Some(realm) = place {
+        realm.measure(event);
+    }
+}
+
 // Whether a granule is DELEGATED.
 pub(crate) fn is_delegated(granules: &GranuleTable, granule: Gran) -> bool
     requires { granule < length granules.now }
@@ -33,11 +42,20 @@ pub(crate) fn is_delegated(granules: &GranuleTable, granule: Gran) -> bool
 }
 
 // Whether a granule is UNDELEGATED.
-pub(crate) fn is_undelegated(granules: &GranuleTable, granule: Gran) -> bool
+fn is_undelegated(granules: &GranuleTable, granule: Gran) -> bool
     requires { granule < length granules.now }
     ensures { result ≡ is_undelegated_at granules.now granule }
 {
     matches!(granules.state(granule), GranuleState::Undelegated)
+}
+
+// Whether the bytes of a granule can be those of a page: it is UNDELEGATED, and the page's granule is DELEGATED.
+pub(crate) fn can_be_copied(granules: &GranuleTable, source: Gran, page: Gran) -> bool
+    requires source { source < length granules.now }
+    requires page { page < length granules.now }
+    ensures { result ≡ (is_delegated_at granules.now page && is_undelegated_at granules.now source) }
+{
+    is_delegated(granules, page) && is_undelegated(granules, source)
 }
 
 // Whether granules are all DELEGATED.

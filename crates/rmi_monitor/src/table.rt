@@ -1,15 +1,19 @@
 //! Commands on translation tables.
-ghost use Rattle.std.specs.Prelude.{◌≡◌};
+ghost use Rattle.std.specs.Prelude.{◌≡◌, true, IfOk, IfErr, Err};
+ghost use Rattle.realm_model.specs.Rows.{is_page_run};
 ghost use Rattle.realm_model.specs.Command.Table as command;
 ghost use Rattle.rmi_monitor.specs.View.{IsTaken, Answers, seen_in, after_command};
+ghost use Rattle.rmi_monitor.specs.Located.{LocatesNew};
 
 use crate::Monitor;
-use crate::inputs::{protected_run, table_level};
-use crate::places::{is_delegated, tables_of};
-use granule_addr::Gran;
+use crate::inputs::table_level;
+use crate::locate::located_run;
+use crate::places::{is_delegated, measure};
+use granule_addr::{Gran, IpaGran};
 use page_arena::PageStore;
 use realm_model::Rmi;
 use realm_objects::ripas_event;
+use rtt::Tables;
 
 impl<S: PageStore> Monitor<S> {
     /// Makes a DELEGATED granule a table of level 2 or 3 of a realm.
@@ -64,17 +68,30 @@ impl<S: PageStore> Monitor<S> {
         ensures answer { Answers result (command.rtt_init_ripas (seen_in self.old rd) ipa count) }
         ensures machine { self.new ≡ after_command (command.rtt_init_ripas (seen_in self.old rd) ipa count) self.old }
     {
-        let Some(realm) = &mut self.realms[rd.number() as usize] else {
+        let (tables, first) = self.check_run(rd, ipa, count)?;
+        tables.init_ripas(&mut self.store, &self.granules, first, count)?;
+        measure(
+            &mut self.realms[rd.number() as usize],
+            &ripas_event(first, count),
+        );
+        Ok(())
+    }
+
+    // Where the pages of a NEW realm are that become RAM.
+    fn check_run(&self, rd: Gran, ipa: u32, count: u16) -> Result<(Tables, IpaGran), Rmi>
+        requires { IsTaken self.now rd }
+        ensures ok { IfOk result (λ at. LocatesNew self.now.machine rd ipa at × (is_page_run ipa count ≡ true)) }
+        ensures err { IfErr result (λ e. command.rtt_init_ripas (seen_in self.now rd) ipa count ≡ Err e) }
+    {
+        let Some(realm) = &self.realms[rd.number() as usize] else {
             return Err(Rmi::INPUT);
         };
-        let Some(first) = protected_run(ipa, count, realm.root().width) else {
+        let Some(at) = located_run(rd, realm, ipa, count) else {
             return Err(Rmi::INPUT);
         };
         if !realm.is_new() {
             return Err(Rmi::REALM);
         }
-        tables_of(rd, realm).init_ripas(&mut self.store, &self.granules, first, count)?;
-        realm.measure(&ripas_event(first, count));
-        Ok(())
+        Ok(at)
     }
 }

@@ -4,15 +4,18 @@ use Rattle.realm_model.specs.Machine.{cell_at}
 use Rattle.realm_model.specs.Update.{Put}
 use Rattle.realm_model.specs.Command.Check.{error_input}
 use Rattle.realm_model.proofs.Outcomes.{check_true, check_false}
-use Rattle.rmi_monitor.proofs.Granules.{in_granules, in_pages, is_undelegated_there, is_not_undelegated, whole_filled, filled_done}
-use Rattle.rmi_monitor.proofs.Outcomes.{answers_ok, answers_err, after_err}
+use Rattle.rmi_monitor.proofs.Granules.{in_granules, in_pages, not_free, is_undelegated_there, is_not_undelegated, whole_filled, filled_done}
+use Rattle.rmi_monitor.proofs.Outcomes.{answers_ok, refusal}
 use Rattle.rmi_monitor.proofs.monitor.Monitor.host_fill.Goals as goal
 
 pub state-requires : goal.state-requires
 state-requires g c = in_granules c.args.self.now _ c.self.view_is c.self.invariant c.args.granule c.requires
 
-pub fill-requires-clause-inside : goal.fill-requires-clause-inside
-fill-requires-clause-inside g c = in_pages c.args.self.now _ c.self.view_is c.self.invariant c.args.granule c.requires
+pub fill-requires : goal.fill-requires
+fill-requires g c = record {
+  inside = in_pages c.args.self.now _ c.self.view_is c.self.invariant c.args.granule c.requires;
+  taken = not_free c.args.self.now _ c.self.view_is c.self.invariant c.args.granule c.requires;
+}
 
 pub invariant_of-self : goal.invariant_of-self
 invariant_of-self g c =
@@ -30,12 +33,5 @@ returns-in-Undelegated-clause-machine g c =
 
 pub returns-in_default : goal.returns-in_default
 returns-in_default g c =
-    let not_there = is_not_undelegated c.args.self.now _ c.self.view_is c.self.invariant c.args.granule c.requires (λ e. c.in_default.not-Undelegated (c.state.ensures ∙ e)) in
-    record {
-      answer =
-          answers_err (Unit {0}) error_input _
-          (check_false _ error_input (Ok (Put c.args.granule (record (cell_at c.args.self.now.machine c.args.granule) { bytes = page_of c.args.value }) ∷ [])) not_there);
-      machine =
-          after_err c.args.self.now error_input _
-          (check_false _ error_input (Ok (Put c.args.granule (record (cell_at c.args.self.now.machine c.args.granule) { bytes = page_of c.args.value }) ∷ [])) not_there);
-    }
+    refusal (check_false _ error_input (Ok (Put c.args.granule (record (cell_at c.args.self.now.machine c.args.granule) { bytes = page_of c.args.value }) ∷ []))
+    (is_not_undelegated c.args.self.now _ c.self.view_is c.self.invariant c.args.granule c.requires (λ e. c.in_default.not-Undelegated (c.state.ensures ∙ e))))

@@ -1,14 +1,15 @@
 use Rattle.std.proofs.Common.{◌<◌, refl, sym, subst, ◌∙◌}
 use Rattle.rmi_monitor.proofs.Readings.{attributes_there}
+use Rattle.rmi_monitor.proofs.Granules.{has_fields}
 use Rattle.rmi_monitor.proofs.RealmFound.{realm_place, realm_read}
 use Rattle.rmi_monitor.proofs.monitor.Monitor.realm.Goals as goal
 
 pub index-requires : goal.index-requires
 index-requires g c =
-    subst (λ n. c.number.result < n) (sym c.self.inside.realms.ok.0) (realm_place c.args.self.now _ c.self.view_is c.self.invariant c.args.rd c.requires c.number.result c.number.ensures.value)
+    subst (λ n. c.number.result < n) (sym c.self.inside.realms.ok.0) (realm_place (has_fields c.self.view_is c.self.invariant) c.requires c.number.ensures.value)
 
 pub returns : goal.returns
 returns g c =
     c.as_ref.ensures.value
-    ∙ sym (realm_read c.args.self.now _ c.self.view_is c.self.invariant c.args.rd c.requires c.number.result c.index.result.now c.index.result.now c.number.ensures.value c.index.ensures refl)
+    ∙ sym (realm_read (has_fields c.self.view_is c.self.invariant) c.requires c.number.ensures.value c.index.ensures refl)
     ∙ attributes_there c.args.self.now _ c.self.view_is c.self.invariant c.args.rd c.requires

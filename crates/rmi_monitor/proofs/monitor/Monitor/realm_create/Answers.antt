@@ -2,7 +2,7 @@ use Rattle.std.proofs.Common.{◌<◌, sym, ap, ◌∙◌, subst}
 use Rattle.realm_objects.proofs.NewRealm.{new_vmid, new_root}
 use Rattle.realm_model.specs.Command.Check.{error_input}
 use Rattle.rmi_monitor.specs.View.{after_command}
-use Rattle.rmi_monitor.proofs.Granules.{in_granules}
+use Rattle.rmi_monitor.proofs.Granules.{has_fields, in_granules}
 use Rattle.rmi_monitor.proofs.Creates.{create_no_width, is_given, by_width, create_used, create_unfit, create_done, create_shifted, create_backed, create_delegated}
 use Rattle.rmi_monitor.proofs.Creates.{whole_after_create, seen_after_create}
 use Rattle.rmi_monitor.proofs.Outcomes.{answers_err, answers_ok, after_err}
@@ -66,7 +66,7 @@ open_root-requires-clause-delegated g c =
 pub index_mut-requires : goal.index_mut-requires
 index_mut-requires g c =
     subst (λ n. c.number.result < n) (sym c.self.inside.realms.ok.0)
-    (realm_place c.args.self.now _ c.self.view_is c.self.invariant c.args.rd c.requires.inside c.number.result c.number.ensures.value)
+    (realm_place (has_fields c.self.view_is c.self.invariant) c.requires.inside c.number.ensures.value)
 
 pub shift-requires : goal.shift-requires
 shift-requires g c = in_granules c.args.self.now _ c.self.view_is c.self.invariant c.args.rd c.requires

@@ -1,4 +1,4 @@
-use Rattle.std.proofs.Common.{◌<◌, length, sym, ap, subst, ◌∙◌, arith}
+use Rattle.std.proofs.Common.{◌<◌, length, sym, ap, subst, ◌∙◌}
 use Rattle.std.specs.Prelude.{option_map}
 use Rattle.std.specs.FinMap.{get}
 use Rattle.std.specs.Option.{option_copied}
@@ -44,6 +44,5 @@ find_rec-requires-clause-numbered g c =
 
 pub index-requires : goal.index-requires
 index-requires g c =
-    let inside = c.in_ok-granule.ensures.some.inside in
-    let places = c.self.invariant.rec_places in
-    omega (arith, inside, places)
+    subst (λ n. c.number.result < n) (sym (c.self.inside.recs.ok.0 ∙ c.self.invariant.rec_places))
+    (subst (λ n. n < length c.self.inside.granules) (sym c.number.ensures.value) c.in_ok-granule.ensures.some.inside)

@@ -1,7 +1,7 @@
-use Rattle.std.proofs.Common.{Some, None, refl, sym, ◌∙◌, slice_set, arith}
+use Rattle.std.proofs.Common.{Some, None, refl, sym, ◌∙◌, slice_set, ◌<◌, subst}
 use Rattle.realm_model.specs.declared.states.RecState.TheVariants.{Running}
 use Rattle.realm_model.specs.Command.Rec.{rec_enter}
-use Rattle.rmi_monitor.proofs.Granules.{in_granules}
+use Rattle.rmi_monitor.proofs.Granules.{has_fields, in_granules}
 use Rattle.rmi_monitor.proofs.RecReads.{rec_place, rec_read, no_rd, no_realm, realm_place, realm_read, kept_there}
 use Rattle.rmi_monitor.proofs.RecChanges.{whole_recs, whole_rec_unmoved}
 use Rattle.rmi_monitor.proofs.RecRuns.{refused_none, enter_new, enter_running, enter_done}
@@ -9,8 +9,8 @@ use Rattle.rmi_monitor.proofs.monitor.Monitor.rec_enter.Goals as goal
 
 pub index_mut-requires : goal.index_mut-requires
 index_mut-requires g c =
-    let place = rec_place c.args.self.now _ c.self.view_is c.self.invariant c.args.rec c.requires c.number.result c.number.ensures.value in
-    omega arith
+    subst (λ n. c.number.result < n) (sym c.self.inside.recs.ok.0)
+    (rec_place (has_fields c.self.view_is c.self.invariant) c.requires c.number.ensures.value)
 
 pub invariant_of-self : goal.invariant_of-self
 invariant_of-self g c = whole_rec_unmoved _ c.self.invariant c.number.result c.index_mut.result.now _ c.index_mut.ensures.value refl
@@ -18,7 +18,7 @@ invariant_of-self g c = whole_rec_unmoved _ c.self.invariant c.number.result c.i
 pub returns-in_default : goal.returns-in_default
 returns-in_default g c =
     refused_none c.args.self.now _ c.self.view_is c.self.invariant c.args.rec _ rec_enter
-    (rec_read c.args.self.now _ c.self.view_is c.self.invariant c.args.rec c.requires c.number.result c.number.ensures.value _ None c.index_mut.ensures.value c.in_default.is)
+    (rec_read (has_fields c.self.view_is c.self.invariant) c.requires c.number.ensures.value c.index_mut.ensures.value c.in_default.is)
     (λ i. slice_set c.self.inside.recs.items (c.number.ensures.value i) (c.in_default.is i))
 
 pub realm_of-requires : goal.realm_of-requires
@@ -26,18 +26,18 @@ realm_of-requires g c = in_granules c.args.self.now _ c.self.view_is c.self.inva
 
 pub unreachable-requires : goal.unreachable-requires
 unreachable-requires g c =
-    let at = rec_read c.args.self.now _ c.self.view_is c.self.invariant c.args.rec c.requires c.number.result c.number.ensures.value _ (Some c.in-Some.kept) c.index_mut.ensures.value c.in-Some.is in
+    let at = rec_read (has_fields c.self.view_is c.self.invariant) c.requires c.number.ensures.value c.index_mut.ensures.value c.in-Some.is in
     no_rd _ c.self.invariant c.args.rec c.in-Some.kept at (sym c.realm_of.ensures ∙ c.in_default-realm_of.is)
 
 pub index-requires : goal.index-requires
 index-requires g c =
-    let at = rec_read c.args.self.now _ c.self.view_is c.self.invariant c.args.rec c.requires c.number.result c.number.ensures.value _ (Some c.in-Some.kept) c.index_mut.ensures.value c.in-Some.is in
-    let place = realm_place _ c.self.invariant c.args.rec c.in-Some.kept at c.in-Some-realm_of.rd (sym c.realm_of.ensures ∙ c.in-Some-realm_of.is) c.number-2.result c.number-2.ensures.value in
-    omega arith
+    let at = rec_read (has_fields c.self.view_is c.self.invariant) c.requires c.number.ensures.value c.index_mut.ensures.value c.in-Some.is in
+    subst (λ n. c.number-2.result < n) (sym c.self.inside.realms.ok.0)
+    (realm_place _ c.self.invariant c.args.rec c.in-Some.kept at c.in-Some-realm_of.rd (sym c.realm_of.ensures ∙ c.in-Some-realm_of.is) c.number-2.result c.number-2.ensures.value)
 
 pub unreachable-requires-in_default-index : goal.unreachable-requires-in_default-index
 unreachable-requires-in_default-index g c =
-    let at = rec_read c.args.self.now _ c.self.view_is c.self.invariant c.args.rec c.requires c.number.result c.number.ensures.value _ (Some c.in-Some.kept) c.index_mut.ensures.value c.in-Some.is in
+    let at = rec_read (has_fields c.self.view_is c.self.invariant) c.requires c.number.ensures.value c.index_mut.ensures.value c.in-Some.is in
     let of = sym c.realm_of.ensures ∙ c.in-Some-realm_of.is in
     no_realm _ c.self.invariant c.args.rec c.in-Some.kept at c.in-Some-realm_of.rd of
     (realm_read _ c.self.invariant c.args.rec c.in-Some.kept at c.in-Some-realm_of.rd of c.number-2.result c.number-2.ensures.value _ None c.index.ensures c.in_default-index.is)
@@ -47,7 +47,7 @@ invariant_of-self-then-is_new g c = whole_rec_unmoved _ c.self.invariant c.numbe
 
 pub returns-then-is_new : goal.returns-then-is_new
 returns-then-is_new g c =
-    let at = rec_read c.args.self.now _ c.self.view_is c.self.invariant c.args.rec c.requires c.number.result c.number.ensures.value _ (Some c.in-Some.kept) c.index_mut.ensures.value c.in-Some.is in
+    let at = rec_read (has_fields c.self.view_is c.self.invariant) c.requires c.number.ensures.value c.index_mut.ensures.value c.in-Some.is in
     let kept = kept_there _ c.self.invariant c.args.rec c.in-Some.kept at c.in-Some-realm_of.rd (sym c.realm_of.ensures ∙ c.in-Some-realm_of.is)
     c.number-2.result c.number-2.ensures.value _ c.in-Some-index.realm c.index.ensures c.in-Some-index.is in
     enter_new c.args.self.now _ c.self.view_is c.self.invariant c.args.rec _ c.in-Some.kept c.in-Some-realm_of.rd c.in-Some-index.realm kept
@@ -59,7 +59,7 @@ invariant_of-self-then-not-is_ready g c = whole_rec_unmoved _ c.self.invariant c
 
 pub returns-then-not-is_ready : goal.returns-then-not-is_ready
 returns-then-not-is_ready g c =
-    let at = rec_read c.args.self.now _ c.self.view_is c.self.invariant c.args.rec c.requires c.number.result c.number.ensures.value _ (Some c.in-Some.kept) c.index_mut.ensures.value c.in-Some.is in
+    let at = rec_read (has_fields c.self.view_is c.self.invariant) c.requires c.number.ensures.value c.index_mut.ensures.value c.in-Some.is in
     let kept = kept_there _ c.self.invariant c.args.rec c.in-Some.kept at c.in-Some-realm_of.rd (sym c.realm_of.ensures ∙ c.in-Some-realm_of.is)
     c.number-2.result c.number-2.ensures.value _ c.in-Some-index.realm c.index.ensures c.in-Some-index.is in
     enter_running c.args.self.now _ c.self.view_is c.self.invariant c.args.rec _ c.in-Some.kept c.in-Some-realm_of.rd c.in-Some-index.realm kept
@@ -68,7 +68,7 @@ returns-then-not-is_ready g c =
 
 pub invariant_of-self-2 : goal.invariant_of-self-2
 invariant_of-self-2 g c =
-    let at = rec_read c.args.self.now _ c.self.view_is c.self.invariant c.args.rec c.requires c.number.result c.number.ensures.value _ (Some c.in-Some.kept) c.index_mut.ensures.value c.in-Some.is in
+    let at = rec_read (has_fields c.self.view_is c.self.invariant) c.requires c.number.ensures.value c.index_mut.ensures.value c.in-Some.is in
     let kept = kept_there _ c.self.invariant c.args.rec c.in-Some.kept at c.in-Some-realm_of.rd (sym c.realm_of.ensures ∙ c.in-Some-realm_of.is)
     c.number-2.result c.number-2.ensures.value _ c.in-Some-index.realm c.index.ensures c.in-Some-index.is in
     whole_recs _ c.self.invariant c.args.rec c.in-Some.kept c.in-Some-realm_of.rd c.in-Some-index.realm kept (record c.in-Some.kept { state = Running }) refl refl _
@@ -76,7 +76,7 @@ invariant_of-self-2 g c =
 
 pub returns : goal.returns
 returns g c =
-    let at = rec_read c.args.self.now _ c.self.view_is c.self.invariant c.args.rec c.requires c.number.result c.number.ensures.value _ (Some c.in-Some.kept) c.index_mut.ensures.value c.in-Some.is in
+    let at = rec_read (has_fields c.self.view_is c.self.invariant) c.requires c.number.ensures.value c.index_mut.ensures.value c.in-Some.is in
     let kept = kept_there _ c.self.invariant c.args.rec c.in-Some.kept at c.in-Some-realm_of.rd (sym c.realm_of.ensures ∙ c.in-Some-realm_of.is)
     c.number-2.result c.number-2.ensures.value _ c.in-Some-index.realm c.index.ensures c.in-Some-index.is in
     enter_done c.args.self.now _ c.self.view_is c.self.invariant c.args.rec _ c.in-Some.kept c.in-Some-realm_of.rd c.in-Some-index.realm kept
