@@ -8,7 +8,8 @@ use Rattle.number_text.proofs.Cuts.{HasNoSpace}
 use Rattle.number_text.proofs.Spelled.{no_space_from_test}
 use Rattle.number_text.proofs.UpTo.{up_to-items, few_from_test}
 use Rattle.rmi_trace.specs.declared.request.Command.{Command}
-use Rattle.rmi_trace.specs.declared.request.Command.TheVariants.{GranuleDelegate, GranuleUndelegate, HostFill, HostPeek, RealmCreate, RealmActivate, RealmDestroy, RttCreate, RttDestroy, RttInitRipas, DataCreate, DataCreateUnknown, DataDestroy, RecCreate, RecEnter, RecExit, RecDestroy, GuestWrite}
+use Rattle.rmi_trace.specs.declared.request.Command.TheVariants.{GranuleDelegate, GranuleUndelegate, HostFill, HostPeek, RealmCreate, RealmActivate, RealmDestroy, RttCreate, RttDestroy}
+use Rattle.rmi_trace.specs.declared.request.Command.TheVariants.{RttInitRipas, DataCreate, DataCreateUnknown, DataDestroy, RecCreate, RecEnter, RecExit, RecDestroy, GuestWrite}
 use Rattle.rmi_trace.specs.declared.request.Request.TheVariants as request
 use Rattle.rmi_trace.specs.Commands.{command_at}
 use Rattle.rmi_trace.specs.Written.{written_command, IsRequestInRange}

@@ -5,10 +5,11 @@ use Rattle.number_text.specs.Ranges.{AreAtMost}
 use Rattle.number_text.specs.Rows.{one, two, three, four, up_to}
 use Rattle.number_text.specs.Written.{u8, u16, u32}
 use Rattle.number_text.proofs.Grammars.{Spells, map_some}
-use Rattle.number_text.proofs.Rows.{one_makes, two_makes, three_makes, four_makes, choose, either}
+use Rattle.number_text.proofs.Rows.{one_makes, two_makes, three_makes, four_makes, choose, among_five}
 use Rattle.number_text.proofs.UpTo.{up_to-some}
 use Rattle.rmi_trace.specs.declared.request.Command.{Command}
-use Rattle.rmi_trace.specs.declared.request.Command.TheVariants.{GranuleDelegate, GranuleUndelegate, HostFill, HostPeek, RealmCreate, RealmActivate, RealmDestroy, RttCreate, RttDestroy, RttInitRipas, DataCreate, DataCreateUnknown, DataDestroy, RecCreate, RecEnter, RecExit, RecDestroy, GuestWrite}
+use Rattle.rmi_trace.specs.declared.request.Command.TheVariants.{GranuleDelegate, GranuleUndelegate, HostFill, HostPeek, RealmCreate, RealmActivate, RealmDestroy, RttCreate, RttDestroy}
+use Rattle.rmi_trace.specs.declared.request.Command.TheVariants.{RttInitRipas, DataCreate, DataCreateUnknown, DataDestroy, RecCreate, RecEnter, RecExit, RecDestroy, GuestWrite}
 use Rattle.rmi_trace.specs.declared.request.Request.TheVariants as request
 use Rattle.rmi_trace.specs.Commands.{rec_create_at, granule_command_at, realm_command_at, table_command_at, data_command_at, rec_command_at, command_at}
 use Rattle.rmi_trace.specs.Written.{written_command, HasCounts, IsRequestInRange}
@@ -84,7 +85,5 @@ rec_spells word ns c =
 
 pub command_spells : (word ns : List ℕ) (c : Command) → command_at word ns ≡ Some c → SpellsCommand word ns c
 command_spells word ns c =
-    either SpellsCommand word ns c (granule_command_at word ns) _ (granule_spells word ns c)
-    (either SpellsCommand word ns c (realm_command_at word ns) _ (realm_spells word ns c)
-    (either SpellsCommand word ns c (table_command_at word ns) _ (table_spells word ns c)
-    (either SpellsCommand word ns c (data_command_at word ns) (rec_command_at word ns) (data_spells word ns c) (rec_spells word ns c))))
+    among_five SpellsCommand word ns c (granule_command_at word ns) (realm_command_at word ns) (table_command_at word ns) (data_command_at word ns) (rec_command_at word ns)
+    (granule_spells word ns c) (realm_spells word ns c) (table_spells word ns c) (data_spells word ns c) (rec_spells word ns c)

@@ -1,5 +1,6 @@
 -- What a line means, as a relation and as a function.
-use Rattle.std.proofs.Common.{◌≡◌, ℕ, ◌+◌, ◌-◌, ◌<◌, List, [], ◌∷◌, ◌++◌, get_or, take, drop, nat_eq, true, false, cond, IsUtf8, Option, Some, None, refl, sym, ap, subst, ◌∙◌, inl, inr, length, leb, arith}
+use Rattle.std.proofs.Common.{◌≡◌, ℕ, ◌+◌, ◌-◌, ◌<◌, List, [], ◌∷◌, ◌++◌, get_or, take, drop, nat_eq, true, false}
+use Rattle.std.proofs.Common.{cond, IsUtf8, Option, Some, None, refl, sym, ap, subst, ◌∙◌, inl, inr, length, leb, arith}
 use Rattle.std.specs.List.{ends_with}
 use Rattle.std.specs.Cmp.Lexicographic.{pointwise}
 use Rattle.std.proofs.Math.Seq.{take-append_seam, get_or-append_seam}

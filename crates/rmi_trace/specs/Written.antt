@@ -5,7 +5,8 @@ use Rattle.number_text.specs.Grammar.{spelled}
 use Rattle.number_text.specs.Ranges.{AreAtMost}
 use Rattle.number_text.specs.Written.{Written, written, u8, u16, u32}
 use Rattle.rmi_trace.specs.declared.request.Command.{Command}
-use Rattle.rmi_trace.specs.declared.request.Command.TheVariants.{GranuleDelegate, GranuleUndelegate, HostFill, HostPeek, RealmCreate, RealmActivate, RealmDestroy, RttCreate, RttDestroy, RttInitRipas, DataCreate, DataCreateUnknown, DataDestroy, RecCreate, RecEnter, RecExit, RecDestroy, GuestWrite}
+use Rattle.rmi_trace.specs.declared.request.Command.TheVariants.{GranuleDelegate, GranuleUndelegate, HostFill, HostPeek, RealmCreate, RealmActivate, RealmDestroy, RttCreate, RttDestroy}
+use Rattle.rmi_trace.specs.declared.request.Command.TheVariants.{RttInitRipas, DataCreate, DataCreateUnknown, DataDestroy, RecCreate, RecEnter, RecExit, RecDestroy, GuestWrite}
 use Rattle.rmi_trace.specs.declared.request.Opening.{Opening}
 use Rattle.rmi_trace.specs.declared.request.Reading.{Reading}
 use Rattle.rmi_trace.specs.declared.request.Reading.TheVariants as reading

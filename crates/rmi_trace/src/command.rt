@@ -3,28 +3,20 @@ ghost use Rattle.std.specs.Prelude.{◌≡◌};
 ghost use Rattle.rmi_trace.specs.Commands.{rec_create_at, granule_command_at, realm_command_at, table_command_at, data_command_at, rec_command_at, command_at};
 
 use crate::request::Command;
-use number_text::{Operand, four_operands, one_operand, three_operands, two_operands, up_to};
+use number_text::{
+    Operand, four_operands, made_of, one_operand, three_operands, two_operands, up_to,
+};
 
 fn granule_command(word: &str, numbers: &[u32]) -> Option<Command>
     ensures { result ≡ granule_command_at word.now numbers.now }
 {
     match word {
-        "granule_delegate" => match one_operand(numbers) {
-            Some(granule) => Some(Command::GranuleDelegate { granule }),
-            None => None,
-        },
-        "granule_undelegate" => match one_operand(numbers) {
-            Some(granule) => Some(Command::GranuleUndelegate { granule }),
-            None => None,
-        },
-        "host_fill" => match two_operands(numbers) {
-            Some((granule, value)) => Some(Command::HostFill { granule, value }),
-            None => None,
-        },
-        "host_peek" => match two_operands(numbers) {
-            Some((granule, offset)) => Some(Command::HostPeek { granule, offset }),
-            None => None,
-        },
+        "granule_delegate" =>
+            made_of!(one_operand(numbers) => Command::GranuleDelegate { granule }),
+        "granule_undelegate" =>
+            made_of!(one_operand(numbers) => Command::GranuleUndelegate { granule }),
+        "host_fill" => made_of!(two_operands(numbers) => Command::HostFill { granule, value }),
+        "host_peek" => made_of!(two_operands(numbers) => Command::HostPeek { granule, offset }),
         _ => None,
     }
 }
@@ -33,23 +25,10 @@ fn realm_command(word: &str, numbers: &[u32]) -> Option<Command>
     ensures { result ≡ realm_command_at word.now numbers.now }
 {
     match word {
-        "realm_create" => match four_operands(numbers) {
-            Some((rd, root, vmid, width)) => Some(Command::RealmCreate {
-                rd,
-                root,
-                vmid,
-                width,
-            }),
-            None => None,
-        },
-        "realm_activate" => match one_operand(numbers) {
-            Some(rd) => Some(Command::RealmActivate { rd }),
-            None => None,
-        },
-        "realm_destroy" => match one_operand(numbers) {
-            Some(rd) => Some(Command::RealmDestroy { rd }),
-            None => None,
-        },
+        "realm_create" =>
+            made_of!(four_operands(numbers) => Command::RealmCreate { rd, root, vmid, width }),
+        "realm_activate" => made_of!(one_operand(numbers) => Command::RealmActivate { rd }),
+        "realm_destroy" => made_of!(one_operand(numbers) => Command::RealmDestroy { rd }),
         _ => None,
     }
 }
@@ -58,23 +37,12 @@ fn table_command(word: &str, numbers: &[u32]) -> Option<Command>
     ensures { result ≡ table_command_at word.now numbers.now }
 {
     match word {
-        "rtt_create" => match four_operands(numbers) {
-            Some((rd, granule, ipa, level)) => Some(Command::RttCreate {
-                rd,
-                granule,
-                ipa,
-                level,
-            }),
-            None => None,
-        },
-        "rtt_destroy" => match three_operands(numbers) {
-            Some((rd, ipa, level)) => Some(Command::RttDestroy { rd, ipa, level }),
-            None => None,
-        },
-        "rtt_init_ripas" => match three_operands(numbers) {
-            Some((rd, ipa, count)) => Some(Command::RttInitRipas { rd, ipa, count }),
-            None => None,
-        },
+        "rtt_create" =>
+            made_of!(four_operands(numbers) => Command::RttCreate { rd, granule, ipa, level }),
+        "rtt_destroy" =>
+            made_of!(three_operands(numbers) => Command::RttDestroy { rd, ipa, level }),
+        "rtt_init_ripas" =>
+            made_of!(three_operands(numbers) => Command::RttInitRipas { rd, ipa, count }),
         _ => None,
     }
 }
@@ -83,23 +51,11 @@ fn data_command(word: &str, numbers: &[u32]) -> Option<Command>
     ensures { result ≡ data_command_at word.now numbers.now }
 {
     match word {
-        "data_create" => match four_operands(numbers) {
-            Some((rd, granule, ipa, source)) => Some(Command::DataCreate {
-                rd,
-                granule,
-                ipa,
-                source,
-            }),
-            None => None,
-        },
-        "data_create_unknown" => match three_operands(numbers) {
-            Some((rd, granule, ipa)) => Some(Command::DataCreateUnknown { rd, granule, ipa }),
-            None => None,
-        },
-        "data_destroy" => match two_operands(numbers) {
-            Some((rd, ipa)) => Some(Command::DataDestroy { rd, ipa }),
-            None => None,
-        },
+        "data_create" =>
+            made_of!(four_operands(numbers) => Command::DataCreate { rd, granule, ipa, source }),
+        "data_create_unknown" =>
+            made_of!(three_operands(numbers) => Command::DataCreateUnknown { rd, granule, ipa }),
+        "data_destroy" => made_of!(two_operands(numbers) => Command::DataDestroy { rd, ipa }),
         _ => None,
     }
 }
@@ -122,27 +78,11 @@ fn rec_command(word: &str, numbers: &[u32]) -> Option<Command>
 {
     match word {
         "rec_create" => rec_create(numbers),
-        "rec_enter" => match one_operand(numbers) {
-            Some(rec) => Some(Command::RecEnter { rec }),
-            None => None,
-        },
-        "rec_exit" => match one_operand(numbers) {
-            Some(rec) => Some(Command::RecExit { rec }),
-            None => None,
-        },
-        "rec_destroy" => match one_operand(numbers) {
-            Some(rec) => Some(Command::RecDestroy { rec }),
-            None => None,
-        },
-        "guest_write" => match four_operands(numbers) {
-            Some((rec, ipa, offset, value)) => Some(Command::GuestWrite {
-                rec,
-                ipa,
-                offset,
-                value,
-            }),
-            None => None,
-        },
+        "rec_enter" => made_of!(one_operand(numbers) => Command::RecEnter { rec }),
+        "rec_exit" => made_of!(one_operand(numbers) => Command::RecExit { rec }),
+        "rec_destroy" => made_of!(one_operand(numbers) => Command::RecDestroy { rec }),
+        "guest_write" =>
+            made_of!(four_operands(numbers) => Command::GuestWrite { rec, ipa, offset, value }),
         _ => None,
     }
 }

@@ -7,7 +7,7 @@ ghost use Rattle.rmi_trace.specs.Written.{IsWritten};
 
 use crate::command::command;
 use crate::request::{Opening, Reading, Request};
-use number_text::{cut_at_space, numbers_of, one_operand, three_operands, two_operands};
+use number_text::{cut_at_space, made_of, numbers_of, one_operand, three_operands, two_operands};
 
 /// The most numbers that a request has: an RD, a REC's granule, and its auxiliaries.
 const MOST_NUMBERS: usize = 18;
@@ -23,30 +23,12 @@ fn reading(word: &str, numbers: &[u32]) -> Option<Reading>
     ensures { result ≡ reading_at word.now numbers.now }
 {
     match word {
-        "state" => match one_operand(numbers) {
-            Some(granule) => Some(Reading::State { granule }),
-            None => None,
-        },
-        "sum" => match one_operand(numbers) {
-            Some(granule) => Some(Reading::Sum { granule }),
-            None => None,
-        },
-        "word" => match two_operands(numbers) {
-            Some((granule, index)) => Some(Reading::Word { granule, index }),
-            None => None,
-        },
-        "realm" => match one_operand(numbers) {
-            Some(granule) => Some(Reading::Realm { granule }),
-            None => None,
-        },
-        "measurement" => match one_operand(numbers) {
-            Some(granule) => Some(Reading::Measurement { granule }),
-            None => None,
-        },
-        "rec" => match one_operand(numbers) {
-            Some(granule) => Some(Reading::Rec { granule }),
-            None => None,
-        },
+        "state" => made_of!(one_operand(numbers) => Reading::State { granule }),
+        "sum" => made_of!(one_operand(numbers) => Reading::Sum { granule }),
+        "word" => made_of!(two_operands(numbers) => Reading::Word { granule, index }),
+        "realm" => made_of!(one_operand(numbers) => Reading::Realm { granule }),
+        "measurement" => made_of!(one_operand(numbers) => Reading::Measurement { granule }),
+        "rec" => made_of!(one_operand(numbers) => Reading::Rec { granule }),
         _ => None,
     }
 }
