@@ -1,6 +1,8 @@
 -- What is answered to C, and what is left of the bench.
 use Rattle.std.specs.Prelude.{◌≡◌, ℕ, List, [], ◌∷◌, length, map, ◌&&◌, nat_le, nat_lt, Bool, true, false, Option, Some, None, is_some, unwrap_or, option_map, option_and_then, Ok, Err}
 use Rattle.std.specs.List.{list_all}
+use denote.Ref.{Bor, MutBor}
+use denote.Param.Members.{Once}
 use Rattle.realm_model.specs.Rmi.{result_word}
 use Rattle.realm_model.specs.Update.{Outcome}
 use Rattle.realm_model.specs.Command.Check.{check, error_input}
@@ -62,7 +64,19 @@ abbrev pub rec_create_of : ℕ → ℕ → List ℕ → MonitorView → Outcome
 rec_create_of rd rec auxiliaries m =
     naming (rd ∷ rec ∷ auxiliaries) m (numbered (seen_in m rd) (rec_create m.aux (seen_in m rd) (seen_in m rec) (map (seen_in m) auxiliaries)))
 
+-- a call of f at a bench and at the number of a granule may give r, and leave the bench so
+pub record DoesAt {F M R : Type 0} (g : Once F (MutBor M × (ℕ × Unit {0})) (R × (MutBor M × Unit {0}))) (f : F) (granule : ℕ) (old : M) (r : R) (new : M) : Type 0 where
+  pub shown : MutBor M
+  pub shows : shown.now ≡ old
+  pub left : MutBor M
+  pub met : g.post f (shown, (granule, tt)) (r, (left, tt))
+  pub leaves : left.now ≡ new
+
 -- ---- readings
+
+-- a call of f at a bench and at the number of a granule may give r
+abbrev pub FindsAt : {F M R : Type 0} → Once F (Bor M × (ℕ × Unit {0})) R → F → ℕ → M → R → Type 0
+FindsAt {F} {M} g f granule m r = (p : Bor M) × g.post f (p, (granule, tt)) r × (p.now ≡ m)
 
 -- What is read is told, and that there was something; where there was nothing, what was to be written stays.
 pub record Tells {A : Type 0} (read : Option A) (old : A) (told : Bool) (new : A) : Type 0 where

@@ -6,7 +6,7 @@ ghost use Rattle.rmi_bench.specs.Calls.{naming};
 ghost use Rattle.rmi_bench_c.specs.Answers.{fits_u16, fits_u32, Serves};
 
 use crate::Handle;
-use crate::word::{MOST_U16, MOST_U32};
+use crate::operands::{narrow, serve};
 use std::alloc::Global;
 
 /// RMI_DATA_CREATE: `page` gets the bytes of `source`.
@@ -22,13 +22,7 @@ pub extern "C" fn rmi_data_create(
     ensures { Serves (fits_u16 rd && fits_u16 page && fits_u32 ipa && fits_u16 source) (λ m. naming (rd ∷ page ∷ source ∷ []) m
         (command.data_create (seen_in m rd) (seen_in m page) ipa (seen_in m source))) handle.old.held.bench result handle.new.held.bench }
 {
-    if rd > MOST_U16 || page > MOST_U16 || ipa > MOST_U32 || source > MOST_U16 {
-        return handle.refuse();
-    }
-    handle.perform(
-        alloc,
-        |bench| bench.data_create(rd as u16, page as u16, ipa as u32, source as u16),
-    )
+    serve!(handle, alloc, data_create(rd: u16, page: u16, ipa: u32, source: u16))
 }
 
 /// RMI_DATA_CREATE_UNKNOWN.
@@ -43,13 +37,7 @@ pub extern "C" fn rmi_data_create_unknown(
     ensures { Serves (fits_u16 rd && fits_u16 page && fits_u32 ipa) (λ m. naming (rd ∷ page ∷ []) m
         (command.data_create_unknown (seen_in m rd) (seen_in m page) ipa)) handle.old.held.bench result handle.new.held.bench }
 {
-    if rd > MOST_U16 || page > MOST_U16 || ipa > MOST_U32 {
-        return handle.refuse();
-    }
-    handle.perform(
-        alloc,
-        |bench| bench.data_create_unknown(rd as u16, page as u16, ipa as u32),
-    )
+    serve!(handle, alloc, data_create_unknown(rd: u16, page: u16, ipa: u32))
 }
 
 /// RMI_DATA_DESTROY.
@@ -58,8 +46,5 @@ pub extern "C" fn rmi_data_destroy(alloc: Global, handle: &mut Handle, rd: u64, 
     ensures { Serves (fits_u16 rd && fits_u32 ipa) (λ m. naming (rd ∷ []) m (command.data_destroy (seen_in m rd) ipa))
         handle.old.held.bench result handle.new.held.bench }
 {
-    if rd > MOST_U16 || ipa > MOST_U32 {
-        return handle.refuse();
-    }
-    handle.perform(alloc, |bench| bench.data_destroy(rd as u16, ipa as u32))
+    serve!(handle, alloc, data_destroy(rd: u16, ipa: u32))
 }

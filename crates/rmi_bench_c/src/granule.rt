@@ -8,8 +8,10 @@ ghost use Rattle.rmi_bench.specs.Calls.{naming};
 ghost use Rattle.rmi_bench_c.specs.Answers.{fits_u8, fits_u16, Serves};
 
 use crate::Handle;
+use crate::operands::{narrow, serve};
 use crate::peek::peek;
-use crate::word::{CLOSED, MOST_U8, MOST_U16};
+use crate::word::CLOSED;
+use rmi_bench::Bench;
 use std::alloc::Global;
 
 /// RMI_GRANULE_DELEGATE.
@@ -18,10 +20,7 @@ pub extern "C" fn rmi_granule_delegate(alloc: Global, handle: &mut Handle, granu
     ensures { Serves (fits_u16 granule) (λ m. naming (granule ∷ []) m (command.granule_delegate (seen_in m granule)))
         handle.old.held.bench result handle.new.held.bench }
 {
-    if granule > MOST_U16 {
-        return handle.refuse();
-    }
-    handle.perform(alloc, |bench| bench.granule_delegate(granule as u16))
+    handle.on_granule(alloc, granule, Bench::granule_delegate)
 }
 
 /// RMI_GRANULE_UNDELEGATE.
@@ -30,10 +29,7 @@ pub extern "C" fn rmi_granule_undelegate(alloc: Global, handle: &mut Handle, gra
     ensures { Serves (fits_u16 granule) (λ m. naming (granule ∷ []) m (command.granule_undelegate (seen_in m granule)))
         handle.old.held.bench result handle.new.held.bench }
 {
-    if granule > MOST_U16 {
-        return handle.refuse();
-    }
-    handle.perform(alloc, |bench| bench.granule_undelegate(granule as u16))
+    handle.on_granule(alloc, granule, Bench::granule_undelegate)
 }
 
 /// Writes a value to each byte of an UNDELEGATED granule. This profile's own.
@@ -42,10 +38,7 @@ pub extern "C" fn rmi_host_fill(alloc: Global, handle: &mut Handle, granule: u64
     ensures { Serves (fits_u16 granule && fits_u8 value) (λ m. naming (granule ∷ []) m (command.host_fill (seen_in m granule) value))
         handle.old.held.bench result handle.new.held.bench }
 {
-    if granule > MOST_U16 || value > MOST_U8 {
-        return handle.refuse();
-    }
-    handle.perform(alloc, |bench| bench.host_fill(granule as u16, value as u8))
+    serve!(handle, alloc, host_fill(granule: u16, value: u8))
 }
 
 /// Reads a byte of an UNDELEGATED granule into `byte`, which stays as it is where this is refused. This profile's own. An
@@ -63,13 +56,11 @@ pub extern "C" fn rmi_host_peek(
     ensures byte { result ≡ 0 → IfSome handle.old.held.bench (λ m. byte.new ≡ slice_index (cell_at m.machine granule).bytes offset) }
     ensures kept { result ≢ 0 → byte.new ≡ byte.old }
 {
-    if granule > MOST_U16 || offset > MOST_U16 {
-        return handle.refuse();
-    }
+    narrow!(granule: u16, offset: u16; else handle.refuse());
     let Some(bench) = handle.take(alloc) else {
         return CLOSED;
     };
-    let answer = peek(&bench, granule as u16, offset as u16, byte);
+    let answer = peek(&bench, granule, offset, byte);
     handle.give(bench);
     answer
 }

@@ -1,15 +1,17 @@
 //! What C keeps of a bench.
-ghost use Rattle.std.specs.Prelude.{◌≡◌, Result, None, Some, Err, IfSome, IfNone, is_some};
+ghost use Rattle.std.specs.Prelude.{◌≡◌, Result, Option, None, Some, Err, IfSome, IfNone, is_some};
 ghost use Rattle.std.specs.Fn.{FnOnceReturnsAtMut};
 ghost use Rattle.realm_model.specs.Update.{Outcome};
 ghost use Rattle.realm_model.specs.declared.rmi.Rmi.{Rmi};
 ghost use Rattle.realm_model.specs.Command.Check.{error_input};
 ghost use Rattle.rmi_monitor.specs.View.{MonitorView};
 ghost use Rattle.rmi_bench.specs.Calls.{Does};
-ghost use Rattle.rmi_bench_c.specs.Answers.{Performs};
+ghost use Rattle.rmi_bench_c.specs.Answers.{fits_u16, Performs, Serves, Reads, DoesAt, FindsAt};
 
 use crate::Held;
+use crate::operands::narrow;
 use crate::parts::Parts;
+use crate::told::tell;
 use crate::word::{CLOSED, word};
 use realm_model::Rmi;
 use rmi_bench::Bench;
@@ -79,6 +81,51 @@ impl Handle {
         let call = command(&mut bench);
         self.give(bench);
         word(call)
+    }
+
+    // As `perform`, of a command on the granule of that number.
+    pub(crate) fn on_granule<F: FnOnce(&mut Bench, u16) -> Result<(), Rmi>>(
+        &mut self,
+        alloc: Global,
+        granule: u64,
+        command: F,
+    ) -> u64
+        requires { F.IsAlwaysCallable command }
+        ensures { (outcome : MonitorView → Outcome)
+            → ((old new : MonitorView) (call : Result (Unit {0}) Rmi) → DoesAt F.FnOnce command granule old call new → Does (outcome old) old call new)
+            → Serves (fits_u16 granule) outcome self.old.held.bench result self.new.held.bench }
+    {
+        narrow!(granule: u16; else self.refuse());
+        let Some(mut bench) = self.take(alloc) else {
+            return CLOSED;
+        };
+        let call = command(&mut bench, granule);
+        self.give(bench);
+        word(call)
+    }
+
+    // Reads the granule of that number into `into`, and answers whether there was something to read. What was there stays where
+    // there was not.
+    pub(crate) fn read<T: Drop, F: FnOnce(&Bench, u16) -> Option<T>>(
+        &mut self,
+        alloc: Global,
+        granule: u64,
+        reading: F,
+        into: &mut T,
+    ) -> bool
+        requires { F.IsAlwaysCallable reading }
+        ensures read { (read : MonitorView → Option T)
+            → ((m : MonitorView) (found : Option T) → FindsAt F.FnOnce reading granule m found → found ≡ read m)
+            → Reads (fits_u16 granule) read self.old.held.bench into.old result into.new }
+        ensures same { self.new.held.bench ≡ self.old.held.bench }
+    {
+        narrow!(granule: u16; else false);
+        let Some(bench) = self.take(alloc) else {
+            return false;
+        };
+        let found = reading(&bench, granule);
+        self.give(bench);
+        tell(found, into)
     }
 
     // What is answered where an operand fits no field: an input error, and on a closed handle that it is closed.

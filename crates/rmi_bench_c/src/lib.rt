@@ -10,6 +10,7 @@ mod handle;
 mod held;
 mod made;
 mod open;
+mod operands;
 mod parts;
 mod peek;
 mod reading;

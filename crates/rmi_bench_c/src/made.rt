@@ -4,7 +4,6 @@ ghost use Rattle.realm_model.specs.Machine.{RealmRow, cell_at};
 ghost use Rattle.rmi_monitor.specs.View.{after_command};
 ghost use Rattle.rmi_bench_c.specs.Answers.{fit_auxiliaries, rec_create_of, word_of};
 
-use crate::word::MOST_U16;
 use arrayvec::ArrayVec;
 use rmi_bench::Bench;
 
@@ -21,7 +20,7 @@ pub(crate) fn narrowed(numbers: &[u64]) -> Option<ArrayVec<u16, 16>>
     }
     let mut narrow = ArrayVec::new();
     'numbers: for number in numbers {
-        if *number > MOST_U16 {
+        if *number > u16::MAX as u64 {
             return None;
         }
         narrow.push(*number as u16);

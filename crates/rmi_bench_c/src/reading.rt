@@ -6,8 +6,8 @@ ghost use Rattle.rmi_bench_c.specs.Answers.{fits_u16, has_word, Reads};
 ghost use Rattle.rmi_bench_c.specs.Told.{granule_state_code, realm_told, rec_told};
 
 use crate::Handle;
-use crate::told::{Realm, Rec, granule_state_code, read_realm, read_rec};
-use crate::word::MOST_U16;
+use crate::operands::narrow;
+use crate::told::{Realm, Rec, realm_of, rec_of, state_of, sum_of};
 use std::alloc::Global;
 
 /// The state of a granule, by its number, into `state`. RMM 1.0, Granule state.
@@ -24,21 +24,7 @@ pub extern "C" fn rmi_read_state(
         handle.old.held.bench state.old result state.new }
     ensures same { handle.new.held.bench ≡ handle.old.held.bench }
 {
-    if granule > MOST_U16 {
-        return false;
-    }
-    let Some(bench) = handle.take(alloc) else {
-        return false;
-    };
-    let read = bench.state(granule as u16);
-    handle.give(bench);
-    match read {
-        Some(it) => {
-            *state = granule_state_code(it);
-            true
-        }
-        None => false,
-    }
+    handle.read(alloc, granule, state_of, state)
 }
 
 /// The sum of a granule's bytes, of a table 0, into `total`.
@@ -54,21 +40,7 @@ pub extern "C" fn rmi_read_sum(
     ensures read { Reads (fits_u16 granule) (λ m. reading (λ cell. sum cell.bytes) m granule) handle.old.held.bench total.old result total.new }
     ensures same { handle.new.held.bench ≡ handle.old.held.bench }
 {
-    if granule > MOST_U16 {
-        return false;
-    }
-    let Some(bench) = handle.take(alloc) else {
-        return false;
-    };
-    let read = bench.sum(granule as u16);
-    handle.give(bench);
-    match read {
-        Some(it) => {
-            *total = it as u64;
-            true
-        }
-        None => false,
-    }
+    handle.read(alloc, granule, sum_of, total)
 }
 
 /// The word at 8 * `index` of a granule's page, little endian, into `word`: of a table, the entry word.
@@ -87,13 +59,11 @@ pub extern "C" fn rmi_read_word(
     ensures kept { result ≡ false → word.new ≡ word.old }
     ensures same { handle.new.held.bench ≡ handle.old.held.bench }
 {
-    if granule > MOST_U16 || index > MOST_U16 {
-        return false;
-    }
+    narrow!(granule: u16, index: u16; else false);
     let Some(bench) = handle.take(alloc) else {
         return false;
     };
-    let read = bench.word(granule as u16, index as u16);
+    let read = bench.word(granule, index);
     handle.give(bench);
     match read {
         Some(it) => {
@@ -116,15 +86,7 @@ pub extern "C" fn rmi_read_realm(
         handle.old.held.bench realm.old result realm.new }
     ensures same { handle.new.held.bench ≡ handle.old.held.bench }
 {
-    if granule > MOST_U16 {
-        return false;
-    }
-    let Some(bench) = handle.take(alloc) else {
-        return false;
-    };
-    let read = read_realm(&bench, granule as u16, realm);
-    handle.give(bench);
-    read
+    handle.read(alloc, granule, realm_of, realm)
 }
 
 /// The REC that a granule is, into `rec`. False exactly where it is no REC, and on a closed handle.
@@ -139,13 +101,5 @@ pub extern "C" fn rmi_read_rec(
         handle.old.held.bench rec.old result rec.new }
     ensures same { handle.new.held.bench ≡ handle.old.held.bench }
 {
-    if granule > MOST_U16 {
-        return false;
-    }
-    let Some(bench) = handle.take(alloc) else {
-        return false;
-    };
-    let read = read_rec(&bench, granule as u16, rec);
-    handle.give(bench);
-    read
+    handle.read(alloc, granule, rec_of, rec)
 }

@@ -6,7 +6,8 @@ ghost use Rattle.rmi_bench.specs.Calls.{naming};
 ghost use Rattle.rmi_bench_c.specs.Answers.{fits_u8, fits_u16, Serves};
 
 use crate::Handle;
-use crate::word::{MOST_U8, MOST_U16};
+use crate::operands::{narrow, serve};
+use rmi_bench::Bench;
 use std::alloc::Global;
 
 /// RMI_REALM_CREATE. `root` is the first of 2^(width - 39) starting tables.
@@ -22,13 +23,7 @@ pub extern "C" fn rmi_realm_create(
     ensures { Serves (fits_u16 rd && fits_u16 root && fits_u8 vmid && fits_u8 width) (λ m. naming (rd ∷ root ∷ []) m
         (make_realm m rd (record { first = root; width = width }) vmid)) handle.old.held.bench result handle.new.held.bench }
 {
-    if rd > MOST_U16 || root > MOST_U16 || vmid > MOST_U8 || width > MOST_U8 {
-        return handle.refuse();
-    }
-    handle.perform(
-        alloc,
-        |bench| bench.realm_create(rd as u16, root as u16, vmid as u8, width as u8),
-    )
+    serve!(handle, alloc, realm_create(rd: u16, root: u16, vmid: u8, width: u8))
 }
 
 /// RMI_REALM_ACTIVATE.
@@ -37,10 +32,7 @@ pub extern "C" fn rmi_realm_activate(alloc: Global, handle: &mut Handle, rd: u64
     ensures { Serves (fits_u16 rd) (λ m. naming (rd ∷ []) m (command.realm_activate (seen_in m rd)))
         handle.old.held.bench result handle.new.held.bench }
 {
-    if rd > MOST_U16 {
-        return handle.refuse();
-    }
-    handle.perform(alloc, |bench| bench.realm_activate(rd as u16))
+    handle.on_granule(alloc, rd, Bench::realm_activate)
 }
 
 /// RMI_REALM_DESTROY.
@@ -49,8 +41,5 @@ pub extern "C" fn rmi_realm_destroy(alloc: Global, handle: &mut Handle, rd: u64)
     ensures { Serves (fits_u16 rd) (λ m. naming (rd ∷ []) m (command.realm_destroy (seen_in m rd)))
         handle.old.held.bench result handle.new.held.bench }
 {
-    if rd > MOST_U16 {
-        return handle.refuse();
-    }
-    handle.perform(alloc, |bench| bench.realm_destroy(rd as u16))
+    handle.on_granule(alloc, rd, Bench::realm_destroy)
 }

@@ -8,7 +8,9 @@ ghost use Rattle.rmi_bench_c.specs.Answers.{fits_u8, fits_u16, fits_u32, fit_aux
 
 use crate::Handle;
 use crate::made::{create, narrowed};
-use crate::word::{CLOSED, MOST_U8, MOST_U16, MOST_U32};
+use crate::operands::{narrow, serve};
+use crate::word::CLOSED;
+use rmi_bench::Bench;
 use std::alloc::Global;
 
 /// RMI_REC_CREATE, with these auxiliary granules. `number` becomes the REC's, and stays as it is where this is refused.
@@ -29,9 +31,7 @@ pub extern "C" fn rmi_rec_create(
         (realm : RealmRow) → (cell_at m.machine rd).descriptor ≡ Some realm → number.new ≡ realm.next) }
     ensures kept { result ≢ 0 → number.new ≡ number.old }
 {
-    if rd > MOST_U16 || rec > MOST_U16 {
-        return handle.refuse();
-    }
+    narrow!(rd: u16, rec: u16; else handle.refuse());
     let Some(granules) = narrowed(auxiliaries) else {
         return handle.refuse();
     };
@@ -39,7 +39,7 @@ pub extern "C" fn rmi_rec_create(
         return CLOSED;
     };
     let list = granules.as_slice();
-    let answer = create(&mut bench, rd as u16, rec as u16, list, number);
+    let answer = create(&mut bench, rd, rec, list, number);
     handle.give(bench);
     answer
 }
@@ -50,10 +50,7 @@ pub extern "C" fn rmi_rec_enter(alloc: Global, handle: &mut Handle, rec: u64) ->
     ensures { Serves (fits_u16 rec) (λ m. naming (rec ∷ []) m (on_rec command.rec_enter m rec))
         handle.old.held.bench result handle.new.held.bench }
 {
-    if rec > MOST_U16 {
-        return handle.refuse();
-    }
-    handle.perform(alloc, |bench| bench.rec_enter(rec as u16))
+    handle.on_granule(alloc, rec, Bench::rec_enter)
 }
 
 /// REC exit; as a command of its own it is this profile's.
@@ -62,10 +59,7 @@ pub extern "C" fn rmi_rec_exit(alloc: Global, handle: &mut Handle, rec: u64) -> 
     ensures { Serves (fits_u16 rec) (λ m. naming (rec ∷ []) m (on_rec command.rec_exit m rec))
         handle.old.held.bench result handle.new.held.bench }
 {
-    if rec > MOST_U16 {
-        return handle.refuse();
-    }
-    handle.perform(alloc, |bench| bench.rec_exit(rec as u16))
+    handle.on_granule(alloc, rec, Bench::rec_exit)
 }
 
 /// RMI_REC_DESTROY.
@@ -74,10 +68,7 @@ pub extern "C" fn rmi_rec_destroy(alloc: Global, handle: &mut Handle, rec: u64) 
     ensures { Serves (fits_u16 rec) (λ m. naming (rec ∷ []) m (on_rec command.rec_destroy m rec))
         handle.old.held.bench result handle.new.held.bench }
 {
-    if rec > MOST_U16 {
-        return handle.refuse();
-    }
-    handle.perform(alloc, |bench| bench.rec_destroy(rec as u16))
+    handle.on_granule(alloc, rec, Bench::rec_destroy)
 }
 
 /// Lets a RUNNING REC write a byte of a page of its realm. This profile's own. An offset above 4,095 is an input error.
@@ -94,11 +85,5 @@ pub extern "C" fn rmi_guest_write(
         (naming (rec ∷ []) m (on_rec (λ rd number. command.guest_write rd number ipa offset value) m rec)))
         handle.old.held.bench result handle.new.held.bench }
 {
-    if rec > MOST_U16 || ipa > MOST_U32 || offset > MOST_U16 || value > MOST_U8 {
-        return handle.refuse();
-    }
-    handle.perform(
-        alloc,
-        |bench| bench.guest_write(rec as u16, ipa as u32, offset as u16, value as u8),
-    )
+    serve!(handle, alloc, guest_write(rec: u16, ipa: u32, offset: u16, value: u8))
 }

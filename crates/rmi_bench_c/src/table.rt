@@ -6,7 +6,7 @@ ghost use Rattle.rmi_bench.specs.Calls.{naming};
 ghost use Rattle.rmi_bench_c.specs.Answers.{fits_u8, fits_u16, fits_u32, Serves};
 
 use crate::Handle;
-use crate::word::{MOST_U8, MOST_U16, MOST_U32};
+use crate::operands::{narrow, serve};
 use std::alloc::Global;
 
 /// RMI_RTT_CREATE. `ipa` is the first IPA granule that the table serves.
@@ -22,13 +22,7 @@ pub extern "C" fn rmi_rtt_create(
     ensures { Serves (fits_u16 rd && fits_u16 table && fits_u32 ipa && fits_u8 level) (λ m. naming (rd ∷ table ∷ []) m
         (command.rtt_create (seen_in m rd) (seen_in m table) ipa level)) handle.old.held.bench result handle.new.held.bench }
 {
-    if rd > MOST_U16 || table > MOST_U16 || ipa > MOST_U32 || level > MOST_U8 {
-        return handle.refuse();
-    }
-    handle.perform(
-        alloc,
-        |bench| bench.rtt_create(rd as u16, table as u16, ipa as u32, level as u8),
-    )
+    serve!(handle, alloc, rtt_create(rd: u16, table: u16, ipa: u32, level: u8))
 }
 
 /// RMI_RTT_DESTROY. `ipa` is the first IPA granule that the table serves.
@@ -43,13 +37,7 @@ pub extern "C" fn rmi_rtt_destroy(
     ensures { Serves (fits_u16 rd && fits_u32 ipa && fits_u8 level) (λ m. naming (rd ∷ []) m
         (command.rtt_destroy (seen_in m rd) ipa level)) handle.old.held.bench result handle.new.held.bench }
 {
-    if rd > MOST_U16 || ipa > MOST_U32 || level > MOST_U8 {
-        return handle.refuse();
-    }
-    handle.perform(
-        alloc,
-        |bench| bench.rtt_destroy(rd as u16, ipa as u32, level as u8),
-    )
+    serve!(handle, alloc, rtt_destroy(rd: u16, ipa: u32, level: u8))
 }
 
 /// RMI_RTT_INIT_RIPAS: RAM at `count` IPA granules from `ipa` on.
@@ -64,11 +52,5 @@ pub extern "C" fn rmi_rtt_init_ripas(
     ensures { Serves (fits_u16 rd && fits_u32 ipa && fits_u16 count) (λ m. naming (rd ∷ []) m
         (command.rtt_init_ripas (seen_in m rd) ipa count)) handle.old.held.bench result handle.new.held.bench }
 {
-    if rd > MOST_U16 || ipa > MOST_U32 || count > MOST_U16 {
-        return handle.refuse();
-    }
-    handle.perform(
-        alloc,
-        |bench| bench.rtt_init_ripas(rd as u16, ipa as u32, count as u16),
-    )
+    serve!(handle, alloc, rtt_init_ripas(rd: u16, ipa: u32, count: u16))
 }

@@ -1,6 +1,6 @@
 //! What is read of a realm and of a REC, as C has it.
-ghost use Rattle.std.specs.Prelude.{◌≡◌, ◌≤◌, length, option_map};
-ghost use Rattle.rmi_bench.specs.Readings.{realm_reading, rec_reading};
+ghost use Rattle.std.specs.Prelude.{◌≡◌, ◌≤◌, length, option_map, sum};
+ghost use Rattle.rmi_bench.specs.Readings.{reading, realm_reading, rec_reading};
 ghost use Rattle.rmi_bench_c.specs.Answers.{Tells};
 ghost use Rattle.rmi_bench_c.specs.Told as told;
 
@@ -36,7 +36,7 @@ pub struct Rec {
 }
 
 // The number of a granule's state.
-pub(crate) fn granule_state_code(state: GranuleState) -> u64
+fn granule_state_code(state: GranuleState) -> u64
     ensures { result ≡ told.granule_state_code state }
 {
     match state {
@@ -108,26 +108,41 @@ fn rec_told(rec: &monitor::Rec) -> Rec
     }
 }
 
-// The realm whose RD a granule is, into `realm`, where it is one.
-pub(crate) fn read_realm(bench: &Bench, granule: u16, realm: &mut Realm) -> bool
-    ensures { Tells (option_map told.realm_told (realm_reading bench.now granule)) realm.old result realm.new }
+// The number of a granule's state.
+pub(crate) fn state_of(bench: &Bench, granule: u16) -> Option<u64>
+    ensures { result ≡ option_map told.granule_state_code (reading (λ cell. cell.state) bench.now granule) }
 {
-    match bench.realm(granule) {
-        Some(it) => {
-            *realm = realm_told(it);
-            true
-        }
-        None => false,
-    }
+    Some(granule_state_code(bench.state(granule)?))
 }
 
-// The REC that a granule is, into `rec`, where it is one.
-pub(crate) fn read_rec(bench: &Bench, granule: u16, rec: &mut Rec) -> bool
-    ensures { Tells (option_map told.rec_told (rec_reading bench.now granule)) rec.old result rec.new }
+// The sum of a granule's bytes.
+pub(crate) fn sum_of(bench: &Bench, granule: u16) -> Option<u64>
+    ensures { result ≡ reading (λ cell. sum cell.bytes) bench.now granule }
 {
-    match bench.rec(granule) {
+    Some(bench.sum(granule)? as u64)
+}
+
+// What is told of the realm whose RD a granule is.
+pub(crate) fn realm_of(bench: &Bench, granule: u16) -> Option<Realm>
+    ensures { result ≡ option_map told.realm_told (realm_reading bench.now granule) }
+{
+    Some(realm_told(bench.realm(granule)?))
+}
+
+// What is told of the REC that a granule is.
+pub(crate) fn rec_of(bench: &Bench, granule: u16) -> Option<Rec>
+    ensures { result ≡ option_map told.rec_told (rec_reading bench.now granule) }
+{
+    Some(rec_told(bench.rec(granule)?))
+}
+
+// What is read goes into `into`, which stays as it is where nothing is. Answers whether something is.
+pub(crate) fn tell<T: Drop>(read: Option<T>, into: &mut T) -> bool
+    ensures { Tells read into.old result into.new }
+{
+    match read {
         Some(it) => {
-            *rec = rec_told(it);
+            *into = it;
             true
         }
         None => false,

@@ -9,13 +9,6 @@ use realm_model::Rmi;
 // What a command answers on a closed handle: no result word of RMI.
 pub(crate) const CLOSED: u64 = u64::MAX;
 
-// The greatest numbers of the fields that operands have.
-pub(crate) const MOST_U8: u64 = 255;
-
-pub(crate) const MOST_U16: u64 = 65_535;
-
-pub(crate) const MOST_U32: u64 = 4_294_967_295;
-
 // The result word of a command: RMI_SUCCESS is 0.
 pub(crate) fn word(call: Result<(), Rmi>) -> u64
     ensures { (outcome : Outcome) → Answers call outcome → result ≡ word_of outcome }

@@ -1,6 +1,6 @@
-use Rattle.std.proofs.Common.{Some, refl, sym, ap, ◌∙◌}
+use Rattle.std.proofs.Common.{refl}
 use Rattle.std.specs.Fn.{FnOnceReturnsAtMut}
-use Rattle.rmi_bench_c.specs.Answers.{word_on, bench_after}
+use Rattle.rmi_bench_c.proofs.Served.{performs}
 use Rattle.rmi_bench_c.proofs.handle.Handle.perform.Goals as goal
 
 pub returns : goal.returns
@@ -10,7 +10,4 @@ returns g c outcome does =
     let gave : FnOnceReturnsAtMut g.F.FnOnce c.args.command bench c.command-call.result new =
     record { shown = _; shows = c.deref_mut.ensures.value; left = _; met = c.command-call.ensures; leaves = refl } in
     let done = does bench new c.command-call.result gave in
-    record {
-      answer = c.word.ensures (outcome bench) done.answer ∙ ap (word_on outcome) (sym c.in-Some.ensures.some);
-      bench = c.give.ensures ∙ ap Some done.machine ∙ ap (bench_after outcome) (sym c.in-Some.ensures.some);
-    }
+    performs outcome _ _ _ bench new c.in-Some.ensures.some c.give.ensures done.machine (c.word.ensures (outcome bench) done.answer)

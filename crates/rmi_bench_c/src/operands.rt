@@ -1,0 +1,22 @@
+//! Operands as C has them, in 64 bits, and the fields of fewer bits that they have to fit.
+
+// Each operand becomes the number in its field. Where its field cannot hold it, the function answers what is refused with.
+macro_rules! narrow {
+    ($($operand:ident: $field:ident),+; else $refused:expr) => {
+        if $($operand > $field::MAX as u64)||+ {
+            return $refused;
+        }
+        $(let $operand = $operand as $field;)+
+    };
+}
+
+// Does a command of the bench, and answers its word. An operand that its field cannot hold is an input error.
+macro_rules! serve {
+    ($handle:ident, $alloc:ident, $command:ident($($operand:ident: $field:ident),+)) => {{
+        narrow!($($operand: $field),+; else $handle.refuse());
+        $handle.perform($alloc, |bench| bench.$command($($operand),+))
+    }};
+}
+
+pub(crate) use narrow;
+pub(crate) use serve;
