@@ -1,5 +1,5 @@
 -- A DELEGATED granule becomes a page of a NEW realm with the bytes of another granule, over the fields of a monitor.
-use Rattle.std.proofs.Common.{◌≡◌, ◌≢◌, ℕ, ◌<◌, ◌&&◌, Bool, true, false, List, [], ◌∷◌, length, set, Option, Some, None, Ok, Err, refl, sym, ap, ◌∙◌, subst, arith}
+use Rattle.std.proofs.Common.{◌≡◌, ◌≢◌, ℕ, ◌<◌, ◌&&◌, Bool, true, false, List, [], ◌∷◌, length, set, get_or, Option, option_map, Some, None, Ok, Err, refl, sym, ap, ◌∙◌, subst, arith}
 use Rattle.std.proofs.lemmas.Bool.{and_from, and_left, and_right, and_parts}
 use Rattle.std.proofs.lemmas.List.{get_or-set_other}
 use Rattle.granule_addr.specs.Ipa.{is_protected_at}
@@ -22,16 +22,17 @@ use Rattle.rtt.specs.Tables.{rows}
 use Rattle.realm_model.specs.Command.Found.{with_free_page}
 use Rattle.rmi_monitor.specs.View.{MonitorView, IsTaken, seen_in}
 use Rattle.rmi_monitor.specs.Inside.{Fields, realm_at, bytes_of}
-use Rattle.rmi_monitor.specs.Located.{IsLocated}
-use Rattle.rmi_monitor.specs.Places.{is_delegated_at, is_undelegated_at}
+use Rattle.rmi_monitor.specs.Located.{IsLocated, LocatesNew}
+use Rattle.rmi_monitor.specs.Places.{measured_by, is_delegated_at, is_undelegated_at}
 use Rattle.rmi_monitor.proofs.Checks.{delegated_state, undelegated_state}
 use Rattle.rmi_monitor.proofs.Granules.{HasFields, in_granules, cell_is, seen_delegated, seen_undelegated, states_apart}
 use Rattle.rmi_monitor.proofs.DataMaps.{MapCall, map_call_at, mapped_by, rows_kept, page_written, mapped_written}
+use Rattle.rmi_monitor.proofs.Located.{Stands, stands, stands_new}
 use Rattle.rmi_monitor.proofs.Refusals.{Passes, passed_row, row_passes}
 use Rattle.rmi_monitor.proofs.RealmCommands.{with_call, Done, Moves, moves_done}
 use Rattle.rmi_monitor.proofs.RealmAfter.{Keeps}
 use Rattle.rmi_monitor.proofs.RealmPlaces.{no_table}
-use Rattle.rmi_monitor.proofs.RealmFound.{row_of, nowhere, somewhere}
+use Rattle.rmi_monitor.proofs.RealmFound.{row_of, nowhere, somewhere, measured_there}
 
 -- the granules that the command names
 abbrev pub AreNamed : MonitorView → ℕ → ℕ → ℕ → Type 0
@@ -54,9 +55,6 @@ module _ {monitor : MonitorView} {fields : Fields} (has : HasFields monitor fiel
   may_copy = is_delegated_at fields.granules g && is_undelegated_at fields.granules source
 
   -- the granules are fit, as the command sees them
-  pub copy_fits : (is_delegated (seen_in monitor g) && is_undelegated (seen_in monitor source)) ≡ true → may_copy ≡ true
-  copy_fits h = (λ k. sym delegated_seen k && sym undelegated_seen k) ∙ h
-
   pub fit_seen : may_copy ≡ true → (is_delegated (seen_in monitor g) && is_undelegated (seen_in monitor source)) ≡ true
   fit_seen h = (λ k. delegated_seen k && undelegated_seen k) ∙ h
 
@@ -110,7 +108,7 @@ module _ {monitor : MonitorView} {fields : Fields} (has : HasFields monitor fiel
         decided : outcome ≡ with_free_page old_rows ipa on_row
         decided = passed ∙ check_true (is_new row.state) error_realm _ is_fresh
 
-        pub create_refused : {l : ℕ} → ((f : Row → Outcome) → with_free_page (rows fields.pages at.0.root) at.1 f ≡ Err (error_rtt l)) → outcome ≡ Err (error_rtt l)
+        create_refused : {l : ℕ} → ((f : Row → Outcome) → with_free_page (rows fields.pages at.0.root) at.1 f ≡ Err (error_rtt l)) → outcome ≡ Err (error_rtt l)
         create_refused refused = decided ∙ (λ k. with_free_page (rows fields.pages (sym located.tables k).root) (sym located.same k) on_row) ∙ refused on_row
 
         -- what the calls leave: the map, the copy, and the measurement
@@ -183,6 +181,34 @@ module _ {monitor : MonitorView} {fields : Fields} (has : HasFields monitor fiel
               (λ i. realm_row (measured i) row.recs (rows_now i))
               ∙ ap (λ (e : List ℕ). record row { rows = put_row old_rows 3 ipa (assigned Ram g); measurement = measurement_after row.measurement e }) event_there
 
-          pub create_done : Done monitor outcome (with_call fields granules copied kept realms)
+          create_done : Done monitor outcome (with_call fields granules copied kept realms)
           create_done =
               moves_done has named.rd_taken there map_after same_realm put outcome (λ i. record (held InData rd) { bytes = page_is i }) row_now created
+
+  -- ---- where the page goes is found
+
+  module _ {at : Tables × ℕ} (found : LocatesNew monitor.machine rd ipa at × ((is_delegated (seen_in monitor g) && is_undelegated (seen_in monitor source)) ≡ true)) where
+    it : Stands fields rd ipa at
+    it = stands has found.0.place
+
+    is_fresh : is_new it.realm.state ≡ true
+    unfolding it
+    is_fresh = stands_new has found.0.place found.0.is_fresh
+
+    both : may_copy ≡ true
+    both = (λ k. sym delegated_seen k && sym undelegated_seen k) ∙ found.1
+
+    pub copy_fits : (is_delegated_at fields.granules g ≡ true) × (is_undelegated_at fields.granules source ≡ true)
+    copy_fits = and_parts _ _ both
+
+    pub copy_refused : {l : ℕ} → ((f : Row → Outcome) → with_free_page (rows fields.pages at.0.root) at.1 f ≡ Err (error_rtt l)) → outcome ≡ Err (error_rtt l)
+    copy_refused refused = create_refused it.there it.located both is_fresh refused
+
+    pub copy_done : {granules : List Granule} {pages : List (List ℕ)} {free : List Bool}
+        → MapCall at.0 fields.pages fields.free fields.granules pages free granules g at.1 (Some Ram)
+        → {copied : List (List ℕ)} → copied ≡ set pages g (page_at pages source) → {kept : List Bool} → kept ≡ free
+        → {event bytes : List ℕ} → bytes ≡ page_at copied source → event ≡ data_event at.1 bytes
+        → {n : ℕ} → n ≡ rd → {x now : Option RealmAttributes} → x ≡ get_or fields.realms n x → now ≡ option_map (measured_by event) x
+        → Done monitor outcome (with_call fields granules copied kept (set fields.realms n now))
+    copy_done call copies keeps {event} read event_is same stood measured =
+        create_done it.there it.located both is_fresh call copies keeps read event_is refl (measured_there has named.rd_taken.inside same stood event measured it.there)

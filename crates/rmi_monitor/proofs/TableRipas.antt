@@ -1,5 +1,5 @@
 -- Pages of a NEW realm become RAM: RMI_RTT_INIT_RIPAS over the fields of a monitor.
-use Rattle.std.proofs.Common.{◌≡◌, ℕ, Bool, true, false, List, [], ◌∷◌, set, cond, Option, Some, None, Ok, Err, refl, sym, ap, ◌∙◌, subst, arith}
+use Rattle.std.proofs.Common.{◌≡◌, ℕ, Bool, true, false, List, [], ◌∷◌, set, get_or, cond, Option, option_map, Some, None, Ok, Err, refl, sym, ap, ◌∙◌, subst, arith}
 use Rattle.std.specs.Prelude.{◌&&◌}
 use Rattle.std.proofs.lemmas.Bool.{and_from, and_parts}
 use Rattle.granule_addr.specs.Ipa.{is_protected_at}
@@ -18,13 +18,15 @@ use Rattle.realm_model.specs.Command.Found.{with_free_pages}
 use Rattle.rtt.specs.Calls.{ChangesTablesOnly, Keeps, KeepsRest}
 use Rattle.rmi_monitor.specs.View.{MonitorView, IsTaken, seen_in}
 use Rattle.rmi_monitor.specs.Inside.{Fields, realm_at, seen_as, IsWhole, recs_of}
-use Rattle.rmi_monitor.specs.Located.{IsLocated}
+use Rattle.rmi_monitor.specs.Located.{IsLocated, LocatesNew}
+use Rattle.rmi_monitor.specs.Places.{measured_by}
 use Rattle.rmi_monitor.proofs.TableMoves.{whole_still, machine_still}
 use Rattle.rmi_monitor.proofs.Comparisons.{test_held, test_failed}
 use Rattle.rmi_monitor.proofs.Granules.{HasFields}
+use Rattle.rmi_monitor.proofs.Located.{Stands, stands, stands_new}
 use Rattle.rmi_monitor.proofs.Outcomes.{answers_ok}
 use Rattle.rmi_monitor.proofs.RealmAfter.{Keeps as KeepsRealm}
-use Rattle.rmi_monitor.proofs.RealmFound.{row_of, nowhere, somewhere}
+use Rattle.rmi_monitor.proofs.RealmFound.{row_of, nowhere, somewhere, measured_there}
 use Rattle.rmi_monitor.proofs.RealmCommands.{with_call, Done, after_put}
 
 -- What the call says where it is not refused.
@@ -100,7 +102,7 @@ module _ {monitor : MonitorView} {fields : Fields} (has : HasFields monitor fiel
             found ∙ check_true run error_input checked runs ∙ check_true (is_new realm.state) error_realm looked new_realm
             ∙ (λ k. with_free_pages (rows fields.pages (sym located.0.tables k).root) (sym located.0.same k) count (λ row. made))
 
-        pub ripas_refused : {l : ℕ} → ((f : Row → Outcome) → with_free_pages (rows fields.pages at.0.root) at.1 count f ≡ Err (error_rtt l)) → outcome ≡ Err (error_rtt l)
+        ripas_refused : {l : ℕ} → ((f : Row → Outcome) → with_free_pages (rows fields.pages at.0.root) at.1 count f ≡ Err (error_rtt l)) → outcome ≡ Err (error_rtt l)
         ripas_refused refused = looks ∙ refused (λ row. made)
 
         -- ---- the call is not refused
@@ -133,7 +135,7 @@ module _ {monitor : MonitorView} {fields : Fields} (has : HasFields monitor fiel
           abbrev after : List (Option RealmAttributes) → Fields
           after rs = with_call fields fields.granules pages free rs
 
-          pub ripas_done : Done monitor outcome (after realms)
+          ripas_done : Done monitor outcome (after realms)
           ripas_done = record {
             whole =
                 subst (λ rs. IsWhole (after rs)) (sym realms_are)
@@ -149,3 +151,23 @@ module _ {monitor : MonitorView} {fields : Fields} (has : HasFields monitor fiel
                   rest.flags rest.backed call.keeps.tables rest.other_realms refl call.others);
             };
           }
+
+  -- ---- where the pages are is found
+
+  module _ {at : Tables × ℕ} (place : LocatesNew monitor.machine rd ipa at × (is_page_run ipa count ≡ true)) where
+    it : Stands fields rd ipa at
+    it = stands has place.0.place
+
+    is_fresh : is_new it.realm.state ≡ true
+    unfolding it
+    is_fresh = stands_new has place.0.place place.0.is_fresh
+
+    pub run_refused : {l : ℕ} → ((f : Row → Outcome) → with_free_pages (rows fields.pages at.0.root) at.1 count f ≡ Err (error_rtt l)) → outcome ≡ Err (error_rtt l)
+    run_refused refused = ripas_refused it.there (it.located, place.1) is_fresh refused
+
+    pub run_done : {pages : List (List ℕ)} {free : List Bool} → RipasCall at.0 fields.pages fields.free fields.granules pages free at.1 count
+        → {event : List ℕ} → event ≡ ripas_event at.1 count
+        → {n : ℕ} → n ≡ rd → {x now : Option RealmAttributes} → x ≡ get_or fields.realms n x → now ≡ option_map (measured_by event) x
+        → Done monitor outcome (with_call fields fields.granules pages free (set fields.realms n now))
+    run_done call {event} event_is same stood measured =
+        ripas_done it.there (it.located, place.1) is_fresh call event_is refl (measured_there has taken.inside same stood event measured it.there)

@@ -4,11 +4,11 @@ use Rattle.realm_model.specs.Command.Table.{rtt_init_ripas}
 use Rattle.rmi_monitor.specs.View.{seen_in}
 use Rattle.rmi_monitor.specs.Inside.{fields_of}
 use Rattle.rmi_monitor.proofs.Granules.{has_fields}
-use Rattle.rmi_monitor.proofs.Located.{stands, stands_new, its_tables, its_space}
+use Rattle.rmi_monitor.proofs.Located.{its_tables, its_space}
 use Rattle.rmi_monitor.proofs.Outcomes.{refusal_of}
 use Rattle.rmi_monitor.proofs.RealmCommands.{Done, whole_refused, refused_call}
-use Rattle.rmi_monitor.proofs.RealmFound.{realm_place, measured_there}
-use Rattle.rmi_monitor.proofs.TableRipas.{ripas_refused, ripas_done}
+use Rattle.rmi_monitor.proofs.RealmFound.{realm_place}
+use Rattle.rmi_monitor.proofs.TableRipas.{run_refused, run_done}
 use Rattle.rmi_monitor.proofs.monitor.Monitor.rtt_init_ripas.Given.{Over}
 use Rattle.rmi_monitor.proofs.monitor.Monitor.rtt_init_ripas.Goals as goal
 
@@ -36,11 +36,9 @@ invariant_of-self g c = whole_refused c.self.invariant (c.in_err-init_ripas.ensu
 pub returns-in_err-init_ripas : goal.returns-in_err-init_ripas
 returns-in_err-init_ripas g c =
     let has = has_fields c.self.view_is c.self.invariant in
-    let ok = c.in_ok-tables.ensures.ok in
-    let it = stands has ok.0.place in
     let said = c.in_err-init_ripas.ensures in
     refused_call has (said.unchanged, refl) said.keeps.rest.flags c.from_residual-in_err-init_ripas.result c.from_residual-in_err-init_ripas.ensures.1
-    (ripas_refused has c.requires c.args.ipa c.args.count it.there (it.located, ok.1) (stands_new has ok.0.place ok.0.is_fresh) said.answer)
+    (run_refused has c.requires c.args.ipa c.args.count c.in_ok-tables.ensures.ok said.answer)
 
 -- ---- the pages are RAM
 
@@ -53,13 +51,10 @@ done : (g : Over) (c : goal.After-self-1 g) → Done c.args.self.now (rtt_init_r
     (fields_of c.self.inside.vmids c.self.inside.aux c.self.inside.used c.self.inside.granules (g.S.PageStore.page_bytes c.init_ripas.new.store)
     (g.S.PageStore.free_flags c.init_ripas.new.store) (set c.self.inside.realms.items c.number.result c.measure.new.place) c.self.inside.rec_counts.items c.self.inside.recs.items)
 done g c =
-    let has = has_fields c.self.view_is c.self.invariant in
-    let ok = c.in_ok-tables.ensures.ok in
-    let it = stands has ok.0.place in
     let said = c.in_ok-init_ripas.ensures in
-    ripas_done has c.requires c.args.ipa c.args.count it.there (it.located, ok.1) (stands_new has ok.0.place ok.0.is_fresh)
-    (record { answer = said.answer; gains = said.rows; others = said.others; keeps = said.keeps }) c.ripas_event.ensures refl
-    (measured_there has c.requires.inside c.number.ensures.value c.index_mut.ensures.value c.ripas_event.result c.measure.ensures it.there)
+    run_done (has_fields c.self.view_is c.self.invariant) c.requires c.args.ipa c.args.count c.in_ok-tables.ensures.ok
+    (record { answer = said.answer; gains = said.rows; others = said.others; keeps = said.keeps }) c.ripas_event.ensures
+    c.number.ensures.value c.index_mut.ensures.value c.measure.ensures
 
 pub invariant_of-self-2 : goal.invariant_of-self-2
 invariant_of-self-2 g c = (done g c).whole
