@@ -2,6 +2,8 @@
 //!
 //! The text is one that the reader of TOML has taken, so the walk asks only what comes next. Where it meets what it does not
 //! expect it ends, and the parts behind that place have none.
+ghost use Rattle.std.specs.Prelude.{◌<◌};
+
 use crate::places::Places;
 use std::alloc::{AllocError, AllocFailed, Global};
 use toml_parser::text::{first, skip, skip_blank, skip_ws};
@@ -256,7 +258,7 @@ fn add_to_build<'a>(
     if name_of(key) == "steps" {
         let first = places.steps.len();
         add_items(source, value, &mut places.steps)?;
-        places.keep_steps(value_at, first);
+        places.add_steps(value_at, first)?;
     }
     let build = Some(places.last_build());
     places.add_key(build, first_part(key), at, value_at)?;
@@ -274,10 +276,9 @@ fn name_of(key: &Key) -> &str {
 
 // The builds of an array of inline tables.
 fn builds_in(source: Source, s: &str, places: &mut Places) -> Result<(), Lost> {
-    if first(s) != b'[' {
+    let Some(mut rest) = behind_mark(s, b'[') else {
         return Ok(());
-    }
-    let mut rest = skip_blank(skip(s, 1), true);
+    };
     for _ in 0..s.len() {
         if first(rest) == b']' {
             return Ok(());
@@ -298,10 +299,9 @@ fn build_in<'a>(source: Source, s: &'a str, places: &mut Places) -> Result<&'a s
 
 // The keys of a build that is an inline table.
 fn keys_in(source: Source, s: &str, places: &mut Places) -> Result<(), Lost> {
-    if first(s) != b'{' {
+    let Some(mut rest) = behind_mark(s, b'{') else {
         return Ok(());
-    }
-    let mut rest = skip_blank(skip(s, 1), true);
+    };
     for _ in 0..s.len() {
         if first(rest) == b'}' {
             return Ok(());
@@ -322,10 +322,9 @@ fn pair_of_build<'a>(source: Source, s: &'a str, places: &mut Places) -> Result<
 
 // Adds where the items of an array stand. What is no array has none.
 fn add_items(source: Source, s: &str, found: &mut Vec<usize>) -> Result<(), Lost> {
-    if first(s) != b'[' {
+    let Some(mut rest) = behind_mark(s, b'[') else {
         return Ok(());
-    }
-    let mut rest = skip_blank(skip(s, 1), true);
+    };
     for _ in 0..s.len() {
         if first(rest) == b']' {
             return Ok(());
@@ -345,10 +344,18 @@ fn behind_item(alloc: Global, s: &str) -> Result<&str, Lost> {
 }
 
 fn behind_comma(s: &str) -> &str {
-    if first(s) == b',' {
-        skip_blank(skip(s, 1), true)
+    behind_mark(s, b',').unwrap_or(s)
+}
+
+// The text behind a character of one byte and the blanks behind it, where it begins with that byte.
+fn behind_mark(s: &str, mark: u8) -> Option<&str>
+    requires there { 0 < mark }
+    requires ascii { mark < 128 }
+{
+    if first(s) == mark {
+        Some(skip_blank(skip(s, 1), true))
     } else {
-        s
+        None
     }
 }
 
