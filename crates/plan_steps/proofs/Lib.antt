@@ -1,6 +1,5 @@
 -- words and their numbers
 pub mod Auxiliaries
-pub mod RowsMapped
 pub mod StepMeans
 pub mod StepSpells
 pub mod StepTexts

@@ -5,7 +5,7 @@ use Rattle.number_text.specs.Ranges.{AreAtMost}
 use Rattle.number_text.specs.Rows.{none, one, two, three, four, up_to}
 use Rattle.number_text.specs.Written.{u8, u16, u32}
 use Rattle.number_text.proofs.Grammars.{Spells, map_some}
-use Rattle.number_text.proofs.Rows.{none_makes, one_makes, two_makes, three_makes, four_makes, choose, either}
+use Rattle.number_text.proofs.Rows.{none_makes, one_makes, two_makes, three_makes, four_makes, choose, either, among_five}
 use Rattle.number_text.proofs.UpTo.{up_to-some}
 use Rattle.build_commands.specs.declared.cmd.Cmd.TheVariants.{Take, Fill, Peek, Delegate, Realm, Rtt, Ripas, Data, Unknown, Rec, Activate, Enter, Exit, Poke}
 use Rattle.build_commands.specs.declared.cmd.Step.TheVariants.{Undo, Abort, Mark, Back}
@@ -83,7 +83,5 @@ way_back_spells word ns s =
 
 pub spells : (word ns : List ℕ) (s : PlanStep) → step_at word ns ≡ Some s → SpellsStep word ns s
 spells word ns s =
-    either SpellsStep word ns s (page_step_at word ns) _ (page_spells word ns s)
-    (either SpellsStep word ns s (realm_step_at word ns) _ (realm_step_spells word ns s)
-    (either SpellsStep word ns s (table_step_at word ns) _ (table_spells word ns s)
-    (either SpellsStep word ns s (rec_step_at word ns) (way_back_step_at word ns) (rec_step_spells word ns s) (way_back_spells word ns s))))
+    among_five SpellsStep word ns s (page_step_at word ns) (realm_step_at word ns) (table_step_at word ns) (rec_step_at word ns) (way_back_step_at word ns)
+    (page_spells word ns s) (realm_step_spells word ns s) (table_spells word ns s) (rec_step_spells word ns s) (way_back_spells word ns s)

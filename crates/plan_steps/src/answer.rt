@@ -5,7 +5,7 @@ ghost use Rattle.plan_steps.specs.Answers.{kind_word, refusal_name, refusal_numb
 use crate::numbers::{MOST_NUMBERS, one, two};
 use arrayvec::ArrayVec;
 use build_commands::{Refusal, Reply};
-use number_text::NumbersText;
+use number_text::SpelledText;
 use realm_model::Kind;
 use std::fmt;
 
@@ -83,12 +83,7 @@ impl fmt::Display for RefusalText {
 
     fn fmt<W: fmt::Write>(&self, f: &mut fmt::Formatter<W>) -> fmt::Result {
         let numbers = refusal_numbers(self.0);
-        write!(
-            f,
-            "{}{}",
-            refusal_name(self.0),
-            NumbersText(numbers.as_slice())
-        )
+        fmt::Display::fmt(&SpelledText(refusal_name(self.0), numbers.as_slice()), f)
     }
 }
 
@@ -116,6 +111,6 @@ impl fmt::Display for ReplyText {
 
     fn fmt<W: fmt::Write>(&self, f: &mut fmt::Formatter<W>) -> fmt::Result {
         let numbers = reply_numbers(self.0);
-        write!(f, "ok{}", NumbersText(numbers.as_slice()))
+        fmt::Display::fmt(&SpelledText("ok", numbers.as_slice()), f)
     }
 }

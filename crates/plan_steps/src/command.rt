@@ -1,44 +1,38 @@
 //! The step that a word and its numbers are.
-ghost use Rattle.std.specs.Prelude.{◌≡◌, Some, codes};
-ghost use Rattle.number_text.specs.Rows.{none};
+ghost use Rattle.std.specs.Prelude.{◌≡◌, codes};
+ghost use Rattle.number_text.specs.Rows.{none, one};
+ghost use Rattle.number_text.specs.Written.{u16};
 ghost use Rattle.plan_steps.specs.declared.step.PlanStep.TheVariants.{Whole};
-ghost use Rattle.plan_steps.specs.Steps.{whole, page_step_at, short_realm_at, whole_realm_at, realm_of_numbers, realm_step_at, table_step_at, rec_of_numbers, rec_step_at, way_back_step_at, step_at};
+ghost use Rattle.plan_steps.specs.Steps.{page_step_at, short_realm_at, whole_realm_at, realm_of_numbers, realm_step_at, table_step_at, rec_of_numbers, rec_step_at, way_back_step_at, step_at};
 
 use crate::operands::{MOST_PAGE, Offset, Page};
 use crate::step::PlanStep;
 use build_commands::{Cmd, Step};
 use granule_addr::RecNo;
-use number_text::{Operand, four_operands, one_operand, three_operands, two_operands, up_to};
+use number_text::{
+    Operand, four_operands, made_of, one_operand, three_operands, two_operands, up_to,
+};
 
 /// The most auxiliary pages of a REC.
 const MOST_AUXILIARIES: usize = 16;
 
-fn whole(cmd: Cmd) -> Option<PlanStep>
-    ensures { result ≡ Some (whole cmd) }
-{
-    Some(PlanStep::Whole(Step::Ask(cmd)))
+// The step that asks for the command.
+macro_rules! ask {
+    ($kind:ident { $($field:tt)* }) => {
+        PlanStep::Whole(Step::Ask(Cmd::$kind { $($field)* }))
+    };
 }
 
 fn page_step(word: &str, numbers: &[u32]) -> Option<PlanStep>
     ensures { result ≡ page_step_at word.now numbers.now }
 {
     match word {
-        "take" => {
-            let order = one_operand(numbers)?;
-            whole(Cmd::Take { order })
-        }
-        "fill" => {
-            let (Page(page), value) = two_operands(numbers)?;
-            whole(Cmd::Fill { page, value })
-        }
-        "peek" => {
-            let (Page(page), Offset(offset)) = two_operands(numbers)?;
-            whole(Cmd::Peek { page, offset })
-        }
-        "delegate" => {
-            let Page(page) = one_operand(numbers)?;
-            whole(Cmd::Delegate { page })
-        }
+        "take" => made_of!(one_operand(numbers), order => ask!(Take { order })),
+        "fill" =>
+            made_of!(two_operands(numbers), (Page(page), value) => ask!(Fill { page, value })),
+        "peek" =>
+            made_of!(two_operands(numbers), (Page(page), Offset(offset)) => ask!(Peek { page, offset })),
+        "delegate" => made_of!(one_operand(numbers), Page(page) => ask!(Delegate { page })),
         _ => None,
     }
 }
@@ -47,15 +41,13 @@ fn page_step(word: &str, numbers: &[u32]) -> Option<PlanStep>
 fn short_realm(numbers: &[u32]) -> Option<PlanStep>
     ensures { result ≡ short_realm_at numbers.now }
 {
-    let (Page(rd), Page(root)) = two_operands(numbers)?;
-    Some(PlanStep::WidthLeftOut { rd, root })
+    made_of!(two_operands(numbers), (Page(rd), Page(root)) => PlanStep::WidthLeftOut { rd, root })
 }
 
 fn whole_realm(numbers: &[u32]) -> Option<PlanStep>
     ensures { result ≡ whole_realm_at numbers.now }
 {
-    let (Page(rd), Page(root), width) = three_operands(numbers)?;
-    whole(Cmd::Realm { rd, root, width })
+    made_of!(three_operands(numbers), (Page(rd), Page(root), width) => ask!(Realm { rd, root, width }))
 }
 
 fn realm(numbers: &[u32]) -> Option<PlanStep>
@@ -78,22 +70,13 @@ fn table_step(word: &str, numbers: &[u32]) -> Option<PlanStep>
     ensures { result ≡ table_step_at word.now numbers.now }
 {
     match word {
-        "rtt" => {
-            let (Page(page), ipa, level) = three_operands(numbers)?;
-            whole(Cmd::Rtt { page, ipa, level })
-        }
-        "ripas" => {
-            let (ipa, count) = two_operands(numbers)?;
-            whole(Cmd::Ripas { ipa, count })
-        }
-        "data" => {
-            let (Page(page), ipa, Page(source)) = three_operands(numbers)?;
-            whole(Cmd::Data { page, ipa, source })
-        }
-        "unknown" => {
-            let (Page(page), ipa) = two_operands(numbers)?;
-            whole(Cmd::Unknown { page, ipa })
-        }
+        "rtt" =>
+            made_of!(three_operands(numbers), (Page(page), ipa, level) => ask!(Rtt { page, ipa, level })),
+        "ripas" => made_of!(two_operands(numbers), (ipa, count) => ask!(Ripas { ipa, count })),
+        "data" =>
+            made_of!(three_operands(numbers), (Page(page), ipa, Page(source)) => ask!(Data { page, ipa, source })),
+        "unknown" =>
+            made_of!(two_operands(numbers), (Page(page), ipa) => ask!(Unknown { page, ipa })),
         _ => None,
     }
 }
@@ -107,19 +90,24 @@ fn rec(numbers: &[u32]) -> Option<PlanStep>
     };
     let Page(page) = Page::from_number(*page)?;
     let auxiliaries = up_to::<MOST_AUXILIARIES>(more, MOST_PAGE)?;
-    whole(Cmd::Rec { page, auxiliaries })
+    Some(ask!(Rec { page, auxiliaries }))
+}
+
+fn rec_number(numbers: &[u32]) -> Option<RecNo>
+    ensures { result ≡ one u16 (λ number. number) numbers.now }
+{
+    made_of!(one_operand(numbers), number => RecNo::new(number))
 }
 
 fn poke(numbers: &[u32]) -> Option<PlanStep>
     ensures { result ≡ rec_step_at (codes "poke") numbers.now }
 {
-    let (number, ipa, Offset(offset), value) = four_operands(numbers)?;
-    whole(Cmd::Poke {
+    made_of!(four_operands(numbers), (number, ipa, Offset(offset), value) => ask!(Poke {
         number: RecNo::new(number),
         ipa,
         offset,
         value,
-    })
+    }))
 }
 
 fn rec_step(word: &str, numbers: &[u32]) -> Option<PlanStep>
@@ -127,14 +115,8 @@ fn rec_step(word: &str, numbers: &[u32]) -> Option<PlanStep>
 {
     match word {
         "rec" => rec(numbers),
-        "enter" => {
-            let number = RecNo::new(one_operand(numbers)?);
-            whole(Cmd::Enter { number })
-        }
-        "exit" => {
-            let number = RecNo::new(one_operand(numbers)?);
-            whole(Cmd::Exit { number })
-        }
+        "enter" => made_of!(rec_number(numbers), number => ask!(Enter { number })),
+        "exit" => made_of!(rec_number(numbers), number => ask!(Exit { number })),
         "poke" => poke(numbers),
         _ => None,
     }

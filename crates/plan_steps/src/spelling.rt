@@ -6,7 +6,7 @@ use crate::numbers::{MOST_NUMBERS, four, one, three, two};
 use crate::step::PlanStep;
 use arrayvec::ArrayVec;
 use build_commands::{Cmd, Step};
-use number_text::NumbersText;
+use number_text::SpelledText;
 use std::fmt;
 
 // The word of a command.
@@ -109,11 +109,6 @@ impl fmt::Display for StepText<'_> {
 
     fn fmt<W: fmt::Write>(&self, f: &mut fmt::Formatter<W>) -> fmt::Result {
         let numbers = numbers_of_step(self.0);
-        write!(
-            f,
-            "{}{}",
-            word_of_step(self.0),
-            NumbersText(numbers.as_slice())
-        )
+        fmt::Display::fmt(&SpelledText(word_of_step(self.0), numbers.as_slice()), f)
     }
 }

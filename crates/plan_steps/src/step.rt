@@ -6,7 +6,7 @@ use build_commands::{Cmd, Step};
 use granule_addr::IpaWidth;
 
 /// A step as it stands in a plan.
-#[derive(Debug, PartialEq, Eq, Drop)]
+#[derive(Drop)]
 pub enum PlanStep {
     /// Every number is written.
     Whole(Step),
