@@ -5,7 +5,7 @@ use crate::Gran;
 use std::marker::Model;
 
 /// The order of a block, 0 to 9: the block has 2^order granules, and its first number is a multiple of that.
-#[derive(Clone, Copy, Debug, PartialEq, Eq, PartialOrd, Ord)]
+#[derive(Clone, Copy, Debug, PartialEq, Eq)]
 pub struct Order(u8);
 
 impl Model for Order {

@@ -39,7 +39,7 @@ impl BuildId {
 }
 
 /// The VMID of a realm, 1 to 255. RMM 1.0, Realm attributes.
-#[derive(Clone, Copy, Debug, PartialEq, Eq, PartialOrd, Ord)]
+#[derive(Clone, Copy, Debug, PartialEq, Eq)]
 pub struct Vmid(u8);
 
 impl Model for Vmid {
@@ -70,7 +70,7 @@ impl Vmid {
 }
 
 /// The number of a REC in its realm. RMM 1.0, REC index.
-#[derive(Clone, Copy, Debug, PartialEq, Eq, PartialOrd, Ord)]
+#[derive(Clone, Copy, Debug, PartialEq, Eq)]
 pub struct RecNo(u16);
 
 impl Model for RecNo {

@@ -6,7 +6,7 @@ ghost use Rattle.granule_addr.specs.Root.{start_count};
 use std::marker::Model;
 
 /// The IPA width of a realm, 39 to 43 bits. RMM 1.0, Realm attributes; which widths there are is this profile's own.
-#[derive(Clone, Copy, Debug, PartialEq, Eq, PartialOrd, Ord)]
+#[derive(Clone, Copy, Debug, PartialEq, Eq)]
 pub struct IpaWidth(u8);
 
 impl Model for IpaWidth {
