@@ -4,9 +4,10 @@ use Rattle.number_text.specs.Ranges.{AreAtMost}
 use Rattle.number_text.specs.Rows.{none, one, two, three, four}
 use Rattle.number_text.specs.Written.{u8, u16}
 use Rattle.number_text.proofs.Grammars.{Spells}
-use Rattle.number_text.proofs.Rows.{none_makes, one_makes, two_makes, three_makes, four_makes, choose, either}
+use Rattle.number_text.proofs.Rows.{none_makes, one_makes, two_makes, three_makes, four_makes, choose, among_five}
 use Rattle.realm_model.specs.declared.act.Act.{Act}
-use Rattle.realm_model.specs.declared.act.Act.TheVariants.{Take, UnTake, Fill, Peek, Delegate, Undelegate, Realm, UnRealm, Activate, Rtt, UnRtt, Ripas, Data, Unknown, UnData, Rec, UnRec, Enter, Exit, Poke}
+use Rattle.realm_model.specs.declared.act.Act.TheVariants.{Take, UnTake, Fill, Peek, Delegate, Undelegate, Realm, UnRealm, Activate, Rtt}
+use Rattle.realm_model.specs.declared.act.Act.TheVariants.{UnRtt, Ripas, Data, Unknown, UnData, Rec, UnRec, Enter, Exit, Poke}
 use Rattle.history_text.specs.Acts.{realm_row, table_row, rec_row, page_act_at, realm_act_at, table_act_at, data_act_at, rec_act_at, act_at}
 use Rattle.history_text.specs.Written.{order, granule, offset, ipa, written_act, HasBounds, IsActInRange}
 use Rattle.history_text.proofs.RowsMake.{realm_makes, table_makes, rec_makes}
@@ -68,7 +69,5 @@ rec_spells word ns a =
 
 pub spells : (word ns : List ℕ) (a : Act) → act_at word ns ≡ Some a → SpellsAct word ns a
 spells word ns a =
-    either SpellsAct word ns a (page_act_at word ns) _ (page_spells word ns a)
-    (either SpellsAct word ns a (realm_act_at word ns) _ (realm_spells word ns a)
-    (either SpellsAct word ns a (table_act_at word ns) _ (table_spells word ns a)
-    (either SpellsAct word ns a (data_act_at word ns) (rec_act_at word ns) (data_spells word ns a) (rec_spells word ns a))))
+    among_five SpellsAct word ns a (page_act_at word ns) (realm_act_at word ns) (table_act_at word ns) (data_act_at word ns) (rec_act_at word ns)
+    (page_spells word ns a) (realm_spells word ns a) (table_spells word ns a) (data_spells word ns a) (rec_spells word ns a)

@@ -116,6 +116,28 @@ module _ {A : Type 0} (a b c d : ℕ) (make : ℕ → ℕ → ℕ → ℕ → A)
   pub four_not_found : (ns : List ℕ) → (AreAtMost ns (a ∷ b ∷ c ∷ d ∷ []) → ⊥) → None ≡ four a b c d make ns
   four_not_found ns h = nothing (four a b c d make ns) (λ value e. h (four_makes (λ ms _. AreAtMost ms (a ∷ b ∷ c ∷ d ∷ [])) a b c d make (λ k l m n u v w x. (u, (v, (w, (x, tt))))) ns value e))
 
+-- ---- each of the numbers is at most its maximum
+
+pub first_low : (ns : List ℕ) (a : ℕ) (ms : List ℕ) → AreAtMost ns (a ∷ ms) → get_or ns 0 0 ≤ a
+first_low [] a ms h = absurd h
+first_low (n ∷ ns) a ms h = h.0
+
+pub second_low : (ns : List ℕ) (a b : ℕ) (ms : List ℕ) → AreAtMost ns (a ∷ b ∷ ms) → get_or ns 1 0 ≤ b
+second_low [] a b ms h = absurd h
+second_low (n ∷ ns) a b ms h = first_low ns b ms h.1
+
+pub third_low : (ns : List ℕ) (a b c : ℕ) (ms : List ℕ) → AreAtMost ns (a ∷ b ∷ c ∷ ms) → get_or ns 2 0 ≤ c
+third_low [] a b c ms h = absurd h
+third_low (n ∷ ns) a b c ms h = second_low ns b c ms h.1
+
+pub fourth_low : (ns : List ℕ) (a b c d : ℕ) (ms : List ℕ) → AreAtMost ns (a ∷ b ∷ c ∷ d ∷ ms) → get_or ns 3 0 ≤ d
+fourth_low [] a b c d ms h = absurd h
+fourth_low (n ∷ ns) a b c d ms h = third_low ns b c d ms h.1
+
+pub fifth_low : (ns : List ℕ) (a b c d e : ℕ) (ms : List ℕ) → AreAtMost ns (a ∷ b ∷ c ∷ d ∷ e ∷ ms) → get_or ns 4 0 ≤ e
+fifth_low [] a b c d e ms h = absurd h
+fifth_low (n ∷ ns) a b c d e ms h = fourth_low ns b c d e ms h.1
+
 -- ---- what a row makes of what was found of it
 
 map_tests : {A B : Type 0} (f : A → B) (s t : Bool) (x : A) → option_map f (cond s (cond t (Some x) None) None) ≡ cond s (cond t (Some (f x)) None) None
@@ -130,6 +152,18 @@ module _ {A : Type 0} (make : ℕ → ℕ → ℕ → A) where
   table_made (g ∷ i ∷ []) found e = rw e refl
   table_made (g ∷ i ∷ l ∷ []) found e = rw e (map_tests (λ it. make it.0 it.1 it.2) (leb g granule && leb i ipa && leb l level) (leb 1 l) (g, i, l))
   table_made (g ∷ i ∷ l ∷ n ∷ ns) found e = rw e refl
+
+module _ {A : Type 0} (make : ℕ → Root → ℕ → A) where
+  pub realm_made : (ns : List ℕ) (found : Option (ℕ × Root × ℕ)) → found ≡ realm_row (λ rd root vmid. (rd, root, vmid)) ns
+      → option_map (λ it. make it.0 it.1 it.2) found ≡ realm_row make ns
+  realm_made [] found e = rw e refl
+  realm_made (rd ∷ []) found e = rw e refl
+  realm_made (rd ∷ first ∷ []) found e = rw e refl
+  realm_made (rd ∷ first ∷ w ∷ []) found e = rw e refl
+  realm_made (rd ∷ first ∷ w ∷ vmid ∷ []) found e =
+      rw e (map_tests (λ it. make it.0 it.1 it.2) (leb rd granule && leb first granule && leb w width && leb vmid u8) (leb 39 w && leb 1 vmid)
+      (rd, record { first = first; width = w }, vmid))
+  realm_made (rd ∷ first ∷ w ∷ vmid ∷ n ∷ ns) found e = rw e refl
 
 map_maps : {A B C : Type 0} (f : B → C) (h : A → B) (t : Bool) (found : Option A) → option_map f (cond t (option_map h found) None) ≡ cond t (option_map (λ x. f (h x)) found) None
 map_maps f h true (Some x) = refl

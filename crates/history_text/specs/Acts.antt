@@ -8,7 +8,8 @@ use Rattle.number_text.specs.Grammar.{meaning_of_text}
 use Rattle.number_text.specs.Rows.{none, one, two, three, four, up_to}
 use Rattle.number_text.specs.Written.{u8, u16}
 use Rattle.realm_model.specs.declared.act.Act.{Act}
-use Rattle.realm_model.specs.declared.act.Act.TheVariants.{Take, UnTake, Fill, Peek, Delegate, Undelegate, Realm, UnRealm, Activate, Rtt, UnRtt, Ripas, Data, Unknown, UnData, Rec, UnRec, Enter, Exit, Poke}
+use Rattle.realm_model.specs.declared.act.Act.TheVariants.{Take, UnTake, Fill, Peek, Delegate, Undelegate, Realm, UnRealm, Activate, Rtt}
+use Rattle.realm_model.specs.declared.act.Act.TheVariants.{UnRtt, Ripas, Data, Unknown, UnData, Rec, UnRec, Enter, Exit, Poke}
 use Rattle.history_text.specs.Written.{order, granule, offset, ipa, width, level}
 
 -- ---- rows with more than maxima

@@ -7,7 +7,8 @@ use Rattle.number_text.specs.Grammar.{spelled}
 use Rattle.number_text.specs.Ranges.{AreAtMost}
 use Rattle.number_text.specs.Written.{Written, written, u8, u16}
 use Rattle.realm_model.specs.declared.act.Act.{Act}
-use Rattle.realm_model.specs.declared.act.Act.TheVariants.{Take, UnTake, Fill, Peek, Delegate, Undelegate, Realm, UnRealm, Activate, Rtt, UnRtt, Ripas, Data, Unknown, UnData, Rec, UnRec, Enter, Exit, Poke}
+use Rattle.realm_model.specs.declared.act.Act.TheVariants.{Take, UnTake, Fill, Peek, Delegate, Undelegate, Realm, UnRealm, Activate, Rtt}
+use Rattle.realm_model.specs.declared.act.Act.TheVariants.{UnRtt, Ripas, Data, Unknown, UnData, Rec, UnRec, Enter, Exit, Poke}
 
 -- the greatest order of a block
 abbrev pub order : ℕ

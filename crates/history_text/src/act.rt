@@ -1,14 +1,15 @@
 //! The act that a word and its numbers are.
-ghost use Rattle.std.specs.Prelude.{◌≡◌, ◌≤◌, codes, IfSome, IfNone};
-ghost use Rattle.number_text.specs.Rows.{one, two};
-ghost use Rattle.number_text.specs.Written.{u16};
-ghost use Rattle.history_text.specs.Written.{order, granule, ipa};
+ghost use Rattle.std.specs.Prelude.{◌≡◌, ◌≤◌};
+ghost use Rattle.number_text.specs.Rows.{none, one, two, three, four};
+ghost use Rattle.number_text.specs.Written.{u8, u16};
+ghost use Rattle.realm_model.specs.declared.act.Act.TheVariants.{Activate};
+ghost use Rattle.history_text.specs.Written.{order, granule, offset, ipa};
 ghost use Rattle.history_text.specs.Acts.{realm_row, table_row, rec_row, page_act_at, realm_act_at, table_act_at, data_act_at, rec_act_at, act_at, act_of_text};
 
 use crate::granules::{GRANULE, IPA, granule_of, granules_of, ipa_of};
 use arrayvec::ArrayVec;
 use granule_addr::{Gran, IpaGran, IpaWidth, Level, Order, PageOff, RecNo, Root, Vmid};
-use number_text::{at_most, cut_at_space, numbers_of};
+use number_text::{at_most, cut_at_space, made_of, numbers_of};
 use realm_model::Act;
 
 // The greatest number of each operand.
@@ -56,49 +57,32 @@ fn one_granule(numbers: &[u32]) -> Option<Gran>
     Some(granule_of(granule))
 }
 
-fn fill(numbers: &[u32]) -> Option<Act>
-    ensures { result ≡ page_act_at (codes "fill") numbers.now }
+// A granule, and the value of each byte.
+fn filled(numbers: &[u32]) -> Option<(Gran, u8)>
+    ensures { result ≡ two granule u8 (λ g value. (g, value)) numbers.now }
 {
     let [granule, value] = at_most(numbers, [GRANULE, U8])?;
-    Some(Act::Fill {
-        granule: granule_of(granule),
-        value: value as u8,
-    })
+    Some((granule_of(granule), value as u8))
 }
 
-fn peek(numbers: &[u32]) -> Option<Act>
-    ensures { result ≡ page_act_at (codes "peek") numbers.now }
+// A granule, the offset of a byte in it, and the byte.
+fn byte_at(numbers: &[u32]) -> Option<(Gran, PageOff, u8)>
+    ensures { result ≡ three granule offset u8 (λ g o byte. (g, o, byte)) numbers.now }
 {
     let [granule, offset, byte] = at_most(numbers, [GRANULE, OFFSET, U8])?;
-    Some(Act::Peek {
-        granule: granule_of(granule),
-        offset: offset_of(offset),
-        byte: byte as u8,
-    })
+    Some((granule_of(granule), offset_of(offset), byte as u8))
 }
 
 fn page_act(word: &str, numbers: &[u32]) -> Option<Act>
     ensures { result ≡ page_act_at word.now numbers.now }
 {
     match word {
-        "take" => match block(numbers) {
-            Some((order, first)) => Some(Act::Take { order, first }),
-            None => None,
-        },
-        "untake" => match block(numbers) {
-            Some((order, first)) => Some(Act::UnTake { order, first }),
-            None => None,
-        },
-        "fill" => fill(numbers),
-        "peek" => peek(numbers),
-        "delegate" => match one_granule(numbers) {
-            Some(granule) => Some(Act::Delegate { granule }),
-            None => None,
-        },
-        "undelegate" => match one_granule(numbers) {
-            Some(granule) => Some(Act::Undelegate { granule }),
-            None => None,
-        },
+        "take" => made_of!(block(numbers) => Act::Take { order, first }),
+        "untake" => made_of!(block(numbers) => Act::UnTake { order, first }),
+        "fill" => made_of!(filled(numbers) => Act::Fill { granule, value }),
+        "peek" => made_of!(byte_at(numbers) => Act::Peek { granule, offset, byte }),
+        "delegate" => made_of!(one_granule(numbers) => Act::Delegate { granule }),
+        "undelegate" => made_of!(one_granule(numbers) => Act::Undelegate { granule }),
         _ => None,
     }
 }
@@ -117,22 +101,22 @@ fn realm(numbers: &[u32]) -> Option<(Gran, Root, Vmid)>
     Some((granule_of(rd), root, vmid))
 }
 
+fn activate(numbers: &[u32]) -> Option<Act>
+    ensures { result ≡ none Activate numbers.now }
+{
+    match numbers {
+        [] => Some(Act::Activate),
+        _ => None,
+    }
+}
+
 fn realm_act(word: &str, numbers: &[u32]) -> Option<Act>
     ensures { result ≡ realm_act_at word.now numbers.now }
 {
     match word {
-        "realm" => {
-            let (rd, root, vmid) = realm(numbers)?;
-            Some(Act::Realm { rd, root, vmid })
-        }
-        "unrealm" => {
-            let (rd, root, vmid) = realm(numbers)?;
-            Some(Act::UnRealm { rd, root, vmid })
-        }
-        "activate" => {
-            let [] = at_most(numbers, [])?;
-            Some(Act::Activate)
-        }
+        "realm" => made_of!(realm(numbers) => Act::Realm { rd, root, vmid }),
+        "unrealm" => made_of!(realm(numbers) => Act::UnRealm { rd, root, vmid }),
+        "activate" => activate(numbers),
         _ => None,
     }
 }
@@ -146,33 +130,21 @@ fn table(numbers: &[u32]) -> Option<(Gran, IpaGran, Level)>
     Some((granule_of(granule), ipa_of(ipa), level))
 }
 
+// The first IPA granule of a range, and how many there are.
+fn range(numbers: &[u32]) -> Option<(IpaGran, u16)>
+    ensures { result ≡ two ipa u16 (λ i count. (i, count)) numbers.now }
+{
+    let [ipa, count] = at_most(numbers, [IPA, U16])?;
+    Some((ipa_of(ipa), count as u16))
+}
+
 fn table_act(word: &str, numbers: &[u32]) -> Option<Act>
     ensures { result ≡ table_act_at word.now numbers.now }
 {
     match word {
-        "rtt" => match table(numbers) {
-            Some((granule, ipa, level)) => Some(Act::Rtt {
-                granule,
-                ipa,
-                level,
-            }),
-            None => None,
-        },
-        "unrtt" => match table(numbers) {
-            Some((granule, ipa, level)) => Some(Act::UnRtt {
-                granule,
-                ipa,
-                level,
-            }),
-            None => None,
-        },
-        "ripas" => {
-            let [ipa, count] = at_most(numbers, [IPA, U16])?;
-            Some(Act::Ripas {
-                ipa: ipa_of(ipa),
-                count: count as u16,
-            })
-        }
+        "rtt" => made_of!(table(numbers) => Act::Rtt { granule, ipa, level }),
+        "unrtt" => made_of!(table(numbers) => Act::UnRtt { granule, ipa, level }),
+        "ripas" => made_of!(range(numbers) => Act::Ripas { ipa, count }),
         _ => None,
     }
 }
@@ -185,26 +157,21 @@ fn mapped(numbers: &[u32]) -> Option<(Gran, IpaGran)>
     Some((granule_of(granule), ipa_of(ipa)))
 }
 
+// A granule, the IPA granule that it is mapped at, and the granule that it is copied from.
+fn copied(numbers: &[u32]) -> Option<(Gran, IpaGran, Gran)>
+    ensures { result ≡ three granule ipa granule (λ g i source. (g, i, source)) numbers.now }
+{
+    let [granule, ipa, source] = at_most(numbers, [GRANULE, IPA, GRANULE])?;
+    Some((granule_of(granule), ipa_of(ipa), granule_of(source)))
+}
+
 fn data_act(word: &str, numbers: &[u32]) -> Option<Act>
     ensures { result ≡ data_act_at word.now numbers.now }
 {
     match word {
-        "data" => {
-            let [granule, ipa, source] = at_most(numbers, [GRANULE, IPA, GRANULE])?;
-            Some(Act::Data {
-                granule: granule_of(granule),
-                ipa: ipa_of(ipa),
-                source: granule_of(source),
-            })
-        }
-        "unknown" => match mapped(numbers) {
-            Some((granule, ipa)) => Some(Act::Unknown { granule, ipa }),
-            None => None,
-        },
-        "undata" => match mapped(numbers) {
-            Some((granule, ipa)) => Some(Act::UnData { granule, ipa }),
-            None => None,
-        },
+        "data" => made_of!(copied(numbers) => Act::Data { granule, ipa, source }),
+        "unknown" => made_of!(mapped(numbers) => Act::Unknown { granule, ipa }),
+        "undata" => made_of!(mapped(numbers) => Act::UnData { granule, ipa }),
         _ => None,
     }
 }
@@ -228,47 +195,28 @@ fn rec_number(numbers: &[u32]) -> Option<RecNo>
     Some(RecNo::new(number as u16))
 }
 
-fn poke(numbers: &[u32]) -> Option<Act>
-    ensures { result ≡ rec_act_at (codes "poke") numbers.now }
+// The number of a REC, the IPA granule and the offset that it writes at, and the value.
+fn written(numbers: &[u32]) -> Option<(RecNo, IpaGran, PageOff, u8)>
+    ensures { result ≡ four u16 ipa offset u8 (λ number i o value. (number, i, o, value)) numbers.now }
 {
     let [number, ipa, offset, value] = at_most(numbers, [U16, IPA, OFFSET, U8])?;
-    Some(Act::Poke {
-        number: RecNo::new(number as u16),
-        ipa: ipa_of(ipa),
-        offset: offset_of(offset),
-        value: value as u8,
-    })
+    Some((
+        RecNo::new(number as u16),
+        ipa_of(ipa),
+        offset_of(offset),
+        value as u8,
+    ))
 }
 
 fn rec_act(word: &str, numbers: &[u32]) -> Option<Act>
     ensures { result ≡ rec_act_at word.now numbers.now }
 {
     match word {
-        "rec" => match rec(numbers) {
-            Some((granule, auxiliaries, number)) => Some(Act::Rec {
-                granule,
-                auxiliaries,
-                number,
-            }),
-            None => None,
-        },
-        "unrec" => match rec(numbers) {
-            Some((granule, auxiliaries, number)) => Some(Act::UnRec {
-                granule,
-                auxiliaries,
-                number,
-            }),
-            None => None,
-        },
-        "enter" => match rec_number(numbers) {
-            Some(number) => Some(Act::Enter { number }),
-            None => None,
-        },
-        "exit" => match rec_number(numbers) {
-            Some(number) => Some(Act::Exit { number }),
-            None => None,
-        },
-        "poke" => poke(numbers),
+        "rec" => made_of!(rec(numbers) => Act::Rec { granule, auxiliaries, number }),
+        "unrec" => made_of!(rec(numbers) => Act::UnRec { granule, auxiliaries, number }),
+        "enter" => made_of!(rec_number(numbers) => Act::Enter { number }),
+        "exit" => made_of!(rec_number(numbers) => Act::Exit { number }),
+        "poke" => made_of!(written(numbers) => Act::Poke { number, ipa, offset, value }),
         _ => None,
     }
 }

@@ -7,7 +7,7 @@ ghost use Rattle.history_text.specs.Events.{IsEventText};
 use crate::act::act_from_text;
 use crate::spelling::{numbers_of, word_of};
 use granule_addr::BuildId;
-use number_text::NumbersText;
+use number_text::SpelledText;
 use realm_model::Event;
 use std::fmt;
 
@@ -23,9 +23,9 @@ impl fmt::Display for EventText<'_> {
 
     fn fmt<W: fmt::Write>(&self, f: &mut fmt::Formatter<W>) -> fmt::Result {
         let build = self.0.build.number();
-        let word = word_of(&self.0.act);
         let numbers = numbers_of(&self.0.act);
-        write!(f, "{build} {word}{}", NumbersText(numbers.as_slice()))
+        let act = SpelledText(word_of(&self.0.act), numbers.as_slice());
+        write!(f, "{build} {act}")
     }
 }
 

@@ -4,7 +4,7 @@ ghost use Rattle.number_text.specs.Ranges.{AreAtMost};
 ghost use Rattle.history_text.specs.declared.opening.Opening.{Opening};
 ghost use Rattle.history_text.specs.Histories.{opening_numbers, opening_maxima, HasEnough, IsOpeningText};
 
-use number_text::{at_most, numbers_of};
+use number_text::{SpelledText, at_most, numbers_of};
 use std::fmt;
 
 /// The greatest number of each: pages, VMIDs, auxiliary granules of a REC, events of a build, builds.
@@ -12,7 +12,7 @@ const MAXIMA: [u32; 5] = [4096, 255, 16, 16_384, 8];
 
 /// The size of the machine that a history is of: its pages, its VMIDs, the auxiliary granules of each REC, the room of each
 /// build in the history, and the builds.
-#[derive(Clone, Copy, Debug, PartialEq, Eq)]
+#[derive(Clone, Copy)]
 pub struct Opening {
     pub pages: u16,
     pub vmids: u8,
@@ -28,9 +28,9 @@ impl fmt::Display for Opening {
     ghost output = { λ o. Some (opening_text o) };
 
     fn fmt<W: fmt::Write>(&self, f: &mut fmt::Formatter<W>) -> fmt::Result {
-        let (pages, vmids, aux) = (self.pages, self.vmids, self.aux);
-        let (history, builds) = (self.history, self.builds);
-        write!(f, "history 1 {pages} {vmids} {aux} {history} {builds}")
+        let (pages, vmids, aux) = (self.pages as u32, self.vmids as u32, self.aux as u32);
+        let numbers = [pages, vmids, aux, self.history as u32, self.builds as u32];
+        fmt::Display::fmt(&SpelledText("history 1", &numbers), f)
     }
 }
 

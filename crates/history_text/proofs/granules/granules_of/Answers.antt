@@ -1,4 +1,4 @@
-use Rattle.std.proofs.Common.{sym, ◌∙◌}
+use Rattle.std.proofs.Common.{sym, ◌∙◌, arith}
 use Rattle.std.proofs.lemmas.List.{take_more}
 use Rattle.history_text.specs.Written.{granule}
 use Rattle.number_text.proofs.UpTo.{up_to-long, up_to-above, up_to-found, small_more}
@@ -20,3 +20,6 @@ pub returns : goal.returns
 returns c =
     up_to-found 16 granule c.args.numbers.now c.loop-number.found c.loop-number.number-index c.if-numbers-gt-MOST_AUXILIARIES.false c.loop-number-test.false
     c.loop-number.invariant.same c.loop-number.invariant.small
+
+pub granule_of-requires : goal.granule_of-requires
+granule_of-requires c = omega (arith, c.if-number-gt-GRANULE.false)
