@@ -95,7 +95,8 @@ module _ (limits : Limits) (b : ℕ) where
             ∙ undone_one b before e turns.0 first;
       })
 
-pub abort_goes_on : (limits : Limits) (history later : List Event) (b : ℕ) (begun w : World) → IsLegal limits (history ++ later) → replay limits history ≡ Some begun → replay limits (history ++ later) ≡ Some w
+pub abort_goes_on : (limits : Limits) (history later : List Event) (b : ℕ) (begun w : World) → IsLegal limits (history ++ later) → replay limits history ≡ Some begun
+    → replay limits (history ++ later) ≡ Some w
     → AbortGoesOn limits history later b begun w
 abort_goes_on limits history later b begun w legal at_begun at_w rest undoing =
     let parts = split limits history later w legal at_w in

@@ -67,7 +67,8 @@ put_alike (u ∷ us) (x ∷ xs) h k c d same =
     (subst (λ g. SameCell (cond (k == granule_of u) (cell_after u c) c) (cond (k == g) (cell_after x d) d)) h.0.granule
     (elim (k == granule_of u) as (λ t. SameCell (cond t (cell_after u c) c) (cond t (cell_after x d) d)) [ true ↦ h.0.cell c d same | false ↦ same ]))
 
-leases_alike : (b : ℕ) (us xs : List Update) → AreAlike us xs → (w v next other : World) → w.leases ≡ v.leases → updated_all b us w ≡ Some next → updated_all b xs v ≡ Some other → next.leases ≡ other.leases
+leases_alike : (b : ℕ) (us xs : List Update) → AreAlike us xs → (w v next other : World) → w.leases ≡ v.leases → updated_all b us w ≡ Some next
+    → updated_all b xs v ≡ Some other → next.leases ≡ other.leases
 unfolding updated_all
 leases_alike b [] [] h w v next other same e f = ap (λ (a : World). a.leases) (sym (same_Some _ _ e)) ∙ same ∙ ap (λ (a : World). a.leases) (same_Some _ _ f)
 leases_alike b [] (x ∷ xs) h w v next other same e f = absurd h
@@ -75,7 +76,8 @@ leases_alike b (u ∷ us) [] h w v next other same e f = absurd h
 leases_alike b (u ∷ us) (x ∷ xs) h w v next other same e f =
     leases_alike b us xs h.1 (updated b u w) (updated b x v) next other (λ i. set (same i) (h.0.granule i) (h.0.lease b i)) (guarded _ _ _ e).1 (guarded _ _ _ f).1
 
-pub own_alike : (b : ℕ) (us xs : List Update) (w v next other : World) → AreAlike us xs → IsSquare w → IsSquare v → OwnsSame w v → updated_all b us w ≡ Some next → updated_all b xs v ≡ Some other → OwnsSame next other
+pub own_alike : (b : ℕ) (us xs : List Update) (w v next other : World) → AreAlike us xs → IsSquare w → IsSquare v → OwnsSame w v → updated_all b us w ≡ Some next
+    → updated_all b xs v ≡ Some other → OwnsSame next other
 own_alike b us xs w v next other alike sw sv same e f = record {
   leases = leases_alike b us xs alike w v next other same.leases e f;
   cells = λ k. subst (λ c. SameCell c (cell_at other.machine k)) (sym (cell_put b us w next sw e k))
@@ -103,7 +105,8 @@ Agree-check s t a b o p h = record {
   both = (Yields-check (With (check t b p)) s a o (λ e. record { where_ok = λ us x. Yields-check (AreAlike us) t b p (λ f. (h e f).both us x) })).where_ok;
 }
 
-pub Agree-with_realm : (rd sd : Seen) (f g : RealmRow → Outcome) → ((d e : RealmRow) → rd.cell.descriptor ≡ Some d → sd.cell.descriptor ≡ Some e → Agree (f d) (g e)) → Agree (with_realm rd f) (with_realm sd g)
+pub Agree-with_realm : (rd sd : Seen) (f g : RealmRow → Outcome) → ((d e : RealmRow) → rd.cell.descriptor ≡ Some d → sd.cell.descriptor ≡ Some e → Agree (f d) (g e))
+    → Agree (with_realm rd f) (with_realm sd g)
 Agree-with_realm rd sd f g h = record {
   both = (Yields-with_realm (With (with_realm sd g)) rd f (λ d is. record { where_ok = λ us x. Yields-with_realm (AreAlike us) sd g (λ e ise. (h d e is ise).both us x) })).where_ok;
 }
@@ -118,7 +121,9 @@ Agree-with_granule r s f g h = record {
   both = (Yields-with_granule (With (with_granule s g)) r f (λ k is. record { where_ok = λ us x. Yields-with_granule (AreAlike us) s g (λ l ise. (h k l is ise).both us x) })).where_ok;
 }
 
-pub Agree-with_end : (r s : Rows) (ipa level : ℕ) (f g : Walk → Outcome) → ((a b : Walk) → walk r ipa level ≡ Some a → walk s ipa level ≡ Some b → Agree (f a) (g b)) → Agree (with_end r ipa level f) (with_end s ipa level g)
+pub Agree-with_end : (r s : Rows) (ipa level : ℕ) (f g : Walk → Outcome) → ((a b : Walk) → walk r ipa level ≡ Some a → walk s ipa level ≡ Some b → Agree (f a) (g b))
+    → Agree (with_end r ipa level f) (with_end s ipa level g)
 Agree-with_end r s ipa level f g h = record {
-  both = (Yields-with_end (With (with_end s ipa level g)) r ipa level f (λ a is. record { where_ok = λ us x. Yields-with_end (AreAlike us) s ipa level g (λ b ise. (h a b is ise).both us x) })).where_ok;
+  both = (Yields-with_end (With (with_end s ipa level g)) r ipa level f (λ a is.
+      record { where_ok = λ us x. Yields-with_end (AreAlike us) s ipa level g (λ b ise. (h a b is ise).both us x) })).where_ok;
 }

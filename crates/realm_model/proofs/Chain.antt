@@ -59,14 +59,16 @@ module _ (limits : Limits) (b : ℕ) (Same : World → World → Type 0) (Sound 
   abbrev KeptBy : List Event → World → Type 0
   KeptBy history w = (st : List Act) × Kept st history w
 
-  kept_paired : (st : List Act) (before : List Event) (w x : World) (act : Act) → is_paired act ≡ true → Kept st before w → step limits w (by b act) ≡ Some x → Kept (act ∷ st) (before ++ by b act ∷ []) x
+  kept_paired : (st : List Act) (before : List Event) (w x : World) (act : Act) → is_paired act ≡ true → Kept st before w → step limits w (by b act) ≡ Some x
+      → Kept (act ∷ st) (before ++ by b act ∷ []) x
   kept_paired st before w x act p kept stepped = record {
     sound = laws.sound_step w x (by b act) kept.sound stepped;
     open_is = open_entries-own before (by b act) ∙ ap (λ s. pushed s act) kept.open_is ∙ pushed_paired (below ++ reverse st) act p ∙ on_top st act;
     chained = (w, x, kept.sound, kept.chained, stepped, laws.itself x, p);
   }
 
-  kept_other : (st : List Act) (before : List Event) (w x : World) (act : Act) → is_paired act ≡ false → is_reverse act ≡ false → Kept st before w → step limits w (by b act) ≡ Some x → Kept st (before ++ by b act ∷ []) x
+  kept_other : (st : List Act) (before : List Event) (w x : World) (act : Act) → is_paired act ≡ false → is_reverse act ≡ false → Kept st before w
+      → step limits w (by b act) ≡ Some x → Kept st (before ++ by b act ∷ []) x
   kept_other st before w x act p r kept stepped = record {
     sound = laws.sound_step w x (by b act) kept.sound stepped;
     open_is = open_entries-own before (by b act) ∙ ap (λ s. pushed s act) kept.open_is ∙ pushed_other (below ++ reverse st) act p r;
@@ -74,7 +76,8 @@ module _ (limits : Limits) (b : ℕ) (Same : World → World → Type 0) (Sound 
   }
 
   -- the newest act above the base is taken away
-  pub kept_back : (top : Act) (st : List Act) (before : List Event) (w x : World) (act : Act) → is_paired act ≡ false → is_reverse act ≡ true → Kept (top ∷ st) before w → IsInTurn before (by b act) → step limits w (by b act) ≡ Some x
+  pub kept_back : (top : Act) (st : List Act) (before : List Event) (w x : World) (act : Act) → is_paired act ≡ false → is_reverse act ≡ true
+      → Kept (top ∷ st) before w → IsInTurn before (by b act) → step limits w (by b act) ≡ Some x
       → Kept st (before ++ by b act ∷ []) x
   kept_back top st before w x act p r kept turn stepped =
       let whole : open_entries b before ≡ (below ++ reverse st) ++ top ∷ [] = kept.open_is ∙ sym (on_top st top) in
@@ -96,7 +99,8 @@ module _ (limits : Limits) (b : ℕ) (Same : World → World → Type 0) (Sound 
       let all : length (open_entries b before) ≡ length below = ap length (kept.open_is ∙ append-nil below) in
       omega arith
 
-  kept_own : (st : List Act) (before : List Event) (w x : World) (act : Act) → Kept st before w → IsInTurn before (by b act) → step limits w (by b act) ≡ Some x → Stays (before ++ by b act ∷ []) → KeptBy (before ++ by b act ∷ []) x
+  kept_own : (st : List Act) (before : List Event) (w x : World) (act : Act) → Kept st before w → IsInTurn before (by b act) → step limits w (by b act) ≡ Some x
+      → Stays (before ++ by b act ∷ []) → KeptBy (before ++ by b act ∷ []) x
   kept_own st before w x act kept turn stepped stays = elim (kind act) [
     | paired p r ↦ (act ∷ st, kept_paired st before w x act p kept stepped)
     | back p r ↦ by_stack st p r kept
@@ -107,7 +111,8 @@ module _ (limits : Limits) (b : ℕ) (Same : World → World → Type 0) (Sound 
       by_stack [] p r kept = absurd (too_low before w act p r kept turn stays)
       by_stack (top ∷ st) p r kept = (st, kept_back top st before w x act p r kept turn stepped)
 
-  pub kept_step : (st : List Act) (before : List Event) (w x : World) (e : Event) → Kept st before w → IsInTurn before e → step limits w e ≡ Some x → Stays (before ++ e ∷ []) → KeptBy (before ++ e ∷ []) x
+  pub kept_step : (st : List Act) (before : List Event) (w x : World) (e : Event) → Kept st before w → IsInTurn before e → step limits w e ≡ Some x
+      → Stays (before ++ e ∷ []) → KeptBy (before ++ e ∷ []) x
   kept_step st before w x e kept turn stepped stays =
       elim (e.build == b) as (λ t. (e.build == b) ≡ t → KeptBy (before ++ e ∷ []) x) [
         | true ↦ λ own.
@@ -124,7 +129,8 @@ module _ (limits : Limits) (b : ℕ) (Same : World → World → Type 0) (Sound 
         )
       ] refl
 
-  pub kept_after : (st : List Act) (before es : List Event) (w x : World) → Kept st before w → AllInTurn before es → after limits es w ≡ Some x → ((n : ℕ) → Stays (before ++ take n es)) → KeptBy (before ++ es) x
+  pub kept_after : (st : List Act) (before es : List Event) (w x : World) → Kept st before w → AllInTurn before es → after limits es w ≡ Some x
+      → ((n : ℕ) → Stays (before ++ take n es)) → KeptBy (before ++ es) x
   unfolding after
   kept_after st before [] w x kept turns h stays =
       (st, subst (Kept st (before ++ [])) (same_Some _ _ h) (subst (λ es. Kept st es w) (sym (append-nil before)) kept))
@@ -140,7 +146,8 @@ module _ (limits : Limits) (b : ℕ) (Same : World → World → Type 0) (Sound 
   pub kept : (history : List Event) (w : World) → IsLegal limits history → replay limits history ≡ Some w → (st : List Act) × Kept limits b Same Sound laws (opening limits) [] st history w
   unfolding open_entries
   kept history w legal at_w =
-      kept_after limits b Same Sound laws (opening limits) [] [] [] history (opening limits) w (record { sound = laws.sound_opening; open_is = refl; chained = laws.itself (opening limits) }) legal.in_turn at_w (λ n. omega arith)
+      kept_after limits b Same Sound laws (opening limits) [] [] [] history (opening limits) w
+          (record { sound = laws.sound_opening; open_is = refl; chained = laws.itself (opening limits) }) legal.in_turn at_w (λ n. omega arith)
 
   -- Where nothing is open, the build owns what it owned at first
   pub nothing_open : (history : List Event) (w : World) → IsLegal limits history → replay limits history ≡ Some w → open_entries b history ≡ [] → Same (opening limits) w
@@ -168,4 +175,5 @@ module _ (limits : Limits) (b : ℕ) (Same : World → World → Type 0) (Sound 
       top_of [] h sound e = cc
       top_of (a ∷ st) h sound e =
           let same : a ≡ act = same_Some _ _ (sym (last-reverse st a) ∙ e) in
-          record { before = h.0; after_it = h.1; sound_before = h.2; sound = sound; stepped = subst (λ d. step limits h.0 (by b d) ≡ Some h.1) same h.4; same = h.5; paired = ap is_paired (sym same) ∙ h.6 }
+          record { before = h.0; after_it = h.1; sound_before = h.2; sound = sound; stepped = subst (λ d. step limits h.0 (by b d) ≡ Some h.1) same h.4;
+              same = h.5; paired = ap is_paired (sym same) ∙ h.6 }

@@ -71,7 +71,8 @@ step-command limits w build act us below leases range fit planned changes =
     ∙ updated_all-changes build us w changes
 
 -- the row where the walk ends points to the granule that the act names
-pub pointed : (rows : Rows) (ipa level g pa : ℕ) (end : Walk) → leads_to (row_at rows level ipa) g ≡ true → walk rows ipa level ≡ Some end → (end.level == level) ≡ true → end.row.granule ≡ Some pa → pa ≡ g
+pub pointed : (rows : Rows) (ipa level g pa : ℕ) (end : Walk) → leads_to (row_at rows level ipa) g ≡ true → walk rows ipa level ≡ Some end
+    → (end.level == level) ≡ true → end.row.granule ≡ Some pa → pa ≡ g
 pointed rows ipa level g pa end fit e last there =
     eqb-true pa g (sym (ap (λ o. option_eq nat_eq o (Some g)) there) ∙ sym (ap (λ o. leads_to o g) (walk_at rows ipa level end e (eqb-true end.level level last))) ∙ fit)
 
@@ -127,7 +128,8 @@ module _ (limits : Limits) (b : ℕ) (w : World) where
 
   -- the granule that a guest's write reaches is leased too: what is asked of the worlds that are reached
   abbrev pub ReachesOwn : Act → Option Seen → Type 0
-  ReachesOwn (Poke n ipa o v) (Some rd) = (d : RealmRow) (end : Walk) (pa : ℕ) → rd.cell.descriptor ≡ Some d → walk d.rows ipa 3 ≡ Some end → is_assigned end.row ≡ true → end.row.granule ≡ Some pa → L pa ≡ true
+  ReachesOwn (Poke n ipa o v) (Some rd) =
+      (d : RealmRow) (end : Walk) (pa : ℕ) → rd.cell.descriptor ≡ Some d → walk d.rows ipa 3 ≡ Some end → is_assigned end.row ≡ true → end.row.granule ≡ Some pa → L pa ≡ true
   ReachesOwn _ realm = Unit {0}
 
   pub changes : (act : Act) (realm : Option Seen) → is_of_block act ≡ false → ReachesOwn act realm → list_all L (named act) ≡ true → IsAt w.machine realm → IsHeld b w.leases realm
@@ -145,23 +147,30 @@ module _ (limits : Limits) (b : ℕ) (w : World) where
   changes Activate None k reach h at held fit = Yields-Err C _
   changes Activate (Some rd) k reach h at held fit = Yields-with_realm C _ _ (λ d is. Yields-check C _ _ _ (λ _. Yields-Ok C _ (one rd.number held)))
   changes (Rtt g ipa level) None k reach h at held fit = Yields-Err C _
-  changes (Rtt g ipa level) (Some rd) k reach h at held fit = Yields-with_realm C _ _ (λ d is. Yields-check C _ _ _ (λ _. Yields-with_end C _ _ _ _ (λ end e. Yields-check C _ _ _ (λ _. Yields-check C _ _ _ (λ _.
+  changes (Rtt g ipa level) (Some rd) k reach h at held fit =
+      Yields-with_realm C _ _ (λ d is. Yields-check C _ _ _ (λ _. Yields-with_end C _ _ _ _ (λ end e. Yields-check C _ _ _ (λ _. Yields-check C _ _ _ (λ _.
       Yields-Ok C _ (two g rd.number (and_parts _ _ h).0 held))))))
   changes (UnRtt g ipa level) None k reach h at held fit = Yields-Err C _
-  changes (UnRtt g ipa level) (Some rd) k reach h at held fit = Yields-with_realm C _ _ (λ d is. Yields-check C _ _ _ (λ _. Yields-with_end C _ _ _ _ (λ end e. Yields-check C _ _ _ (λ last. Yields-check C _ _ _ (λ _. Yields-check C _ _ _ (λ _. Yields-with_granule C _ _ (λ pa there.
+  changes (UnRtt g ipa level) (Some rd) k reach h at held fit =
+      Yields-with_realm C _ _ (λ d is. Yields-check C _ _ _ (λ _. Yields-with_end C _ _ _ _
+      (λ end e. Yields-check C _ _ _ (λ last. Yields-check C _ _ _ (λ _. Yields-check C _ _ _ (λ _. Yields-with_granule C _ _ (λ pa there.
       Yields-Ok C _ (two pa rd.number
       (ap L (pointed d.rows ipa (level - 1) g pa end (realm_test rd d (λ x r. leads_to (row_at r.rows (level - 1) ipa) g) fit is) e last there) ∙ (and_parts _ _ h).0) held))))))))
   changes (Ripas ipa n) None k reach h at held fit = Yields-Err C _
-  changes (Ripas ipa n) (Some rd) k reach h at held fit = Yields-with_realm C _ _ (λ d is. Yields-check C _ _ _ (λ _. Yields-check C _ _ _ (λ _. Yields-with_end C _ _ _ _ (λ end e. Yields-check C _ _ _ (λ _. Yields-check C _ _ _ (λ _.
+  changes (Ripas ipa n) (Some rd) k reach h at held fit =
+      Yields-with_realm C _ _ (λ d is. Yields-check C _ _ _ (λ _. Yields-check C _ _ _ (λ _. Yields-with_end C _ _ _ _ (λ end e. Yields-check C _ _ _ (λ _. Yields-check C _ _ _ (λ _.
       Yields-Ok C _ (one rd.number held)))))))
   changes (Data g ipa source) None k reach h at held fit = Yields-Err C _
-  changes (Data g ipa source) (Some rd) k reach h at held fit = Yields-with_realm C _ _ (λ d is. Yields-check C _ _ _ (λ _. Yields-check C _ _ _ (λ _. Yields-with_end C _ _ _ _ (λ end e. Yields-check C _ _ _ (λ _. Yields-check C _ _ _ (λ _.
+  changes (Data g ipa source) (Some rd) k reach h at held fit =
+      Yields-with_realm C _ _ (λ d is. Yields-check C _ _ _ (λ _. Yields-check C _ _ _ (λ _. Yields-with_end C _ _ _ _ (λ end e. Yields-check C _ _ _ (λ _. Yields-check C _ _ _ (λ _.
       Yields-Ok C _ (two g rd.number (and_parts _ _ h).0 held)))))))
   changes (Unknown g ipa) None k reach h at held fit = Yields-Err C _
-  changes (Unknown g ipa) (Some rd) k reach h at held fit = Yields-with_realm C _ _ (λ d is. Yields-check C _ _ _ (λ _. Yields-with_end C _ _ _ _ (λ end e. Yields-check C _ _ _ (λ _. Yields-check C _ _ _ (λ _.
+  changes (Unknown g ipa) (Some rd) k reach h at held fit =
+      Yields-with_realm C _ _ (λ d is. Yields-check C _ _ _ (λ _. Yields-with_end C _ _ _ _ (λ end e. Yields-check C _ _ _ (λ _. Yields-check C _ _ _ (λ _.
       Yields-Ok C _ (two g rd.number (and_parts _ _ h).0 held))))))
   changes (UnData g ipa) None k reach h at held fit = Yields-Err C _
-  changes (UnData g ipa) (Some rd) k reach h at held fit = Yields-with_realm C _ _ (λ d is. Yields-check C _ _ _ (λ _. Yields-with_end C _ _ _ _ (λ end e. Yields-check C _ _ _ (λ last. Yields-check C _ _ _ (λ _. Yields-with_granule C _ _ (λ pa there.
+  changes (UnData g ipa) (Some rd) k reach h at held fit =
+      Yields-with_realm C _ _ (λ d is. Yields-check C _ _ _ (λ _. Yields-with_end C _ _ _ _ (λ end e. Yields-check C _ _ _ (λ last. Yields-check C _ _ _ (λ _. Yields-with_granule C _ _ (λ pa there.
       Yields-Ok C _ (two pa rd.number
       (ap L (pointed d.rows ipa 3 g pa end (realm_test rd d (λ x r. leads_to (row_at r.rows 3 ipa) g) fit is) e last there) ∙ (and_parts _ _ h).0) held)))))))
   changes (Rec g aux n) None k reach h at held fit = Yields-Err C _
@@ -174,7 +183,8 @@ module _ (limits : Limits) (b : ℕ) (w : World) where
       and_from _ _ (ap L (eqb-true rec.granule g known.0) ∙ both.0)
       (puts_more left rec.auxiliaries _ (ap (list_all L) ((bytes_decides rec.auxiliaries aux.items).0 known.1) ∙ both.1) (one rd.number held))))))
   changes (Enter n) None k reach h at held fit = Yields-Err C _
-  changes (Enter n) (Some rd) k reach h at held fit = Yields-with_realm C _ _ (λ d is. Yields-with_rec C _ _ _ (λ rec there. Yields-check C _ _ _ (λ _. Yields-check C _ _ _ (λ _. Yields-Ok C _ (one rd.number held)))))
+  changes (Enter n) (Some rd) k reach h at held fit =
+      Yields-with_realm C _ _ (λ d is. Yields-with_rec C _ _ _ (λ rec there. Yields-check C _ _ _ (λ _. Yields-check C _ _ _ (λ _. Yields-Ok C _ (one rd.number held)))))
   changes (Exit n) None k reach h at held fit = Yields-Err C _
   changes (Exit n) (Some rd) k reach h at held fit = Yields-with_realm C _ _ (λ d is. Yields-with_rec C _ _ _ (λ rec there. Yields-check C _ _ _ (λ _. Yields-Ok C _ (one rd.number held))))
   changes (Poke n ipa o v) None k reach h at held fit = Yields-Err C _

@@ -37,7 +37,8 @@ same_half width known level i j same =
     stays tables level i j = elim (level == 1) as (λ t. i / (if t then 262144 else (if level == 2 then 512 else 1)) * (if t then 262144 else (if level == 2 then 512 else 1))
         ≡ j / (if t then 262144 else (if level == 2 then 512 else 1)) * (if t then 262144 else (if level == 2 then 512 else 1)) → i < tables * 67108864 → j < tables * 67108864) [
           | true ↦ one
-          | false ↦ elim (level == 2) as (λ t. i / (if t then 512 else 1) * (if t then 512 else 1) ≡ j / (if t then 512 else 1) * (if t then 512 else 1) → i < tables * 67108864 → j < tables * 67108864) [
+          | false ↦ elim (level == 2) as (λ t. i / (if t then 512 else 1) * (if t then 512 else 1) ≡ j / (if t then 512 else 1) * (if t then 512 else 1)
+              → i < tables * 67108864 → j < tables * 67108864) [
             | true ↦ two
             | false ↦ three
           ]

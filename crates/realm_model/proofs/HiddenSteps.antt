@@ -56,7 +56,8 @@ module _ (p : Option ℕ → Bool) (lease : Option ℕ) (apart : IsShown p lease
 abbrev realm_or : ℕ → ℕ → Option ℕ → Cell → Option Seen → Option Seen
 realm_or c n lease cell rest = cond (same_lease lease (Some c) && is_some cell.descriptor) (Some (record { number = n; cell = cell })) rest
 
-realm_or_kept : (p : Option ℕ → Bool) (c n : ℕ) → p (Some c) ≡ false → (lease : Option ℕ) (cell : Cell) (rest : Option Seen) → realm_or c n (unleased p lease) (hidden p lease cell) rest ≡ realm_or c n lease cell rest
+realm_or_kept : (p : Option ℕ → Bool) (c n : ℕ) → p (Some c) ≡ false → (lease : Option ℕ) (cell : Cell) (rest : Option Seen)
+    → realm_or c n (unleased p lease) (hidden p lease cell) rest ≡ realm_or c n lease cell rest
 realm_or_kept p c n other lease cell rest =
     elim (p lease) as (λ t. p lease ≡ t → realm_or c n (cond t None lease) (cond t blank cell) rest ≡ realm_or c n lease cell rest) [
       | true ↦ λ h. let not_c : same_lease lease (Some c) ≡ false = false_from _ (λ e. true_false (p lease) h (ap p (lease_is lease (Some c) e) ∙ other)) in
@@ -64,7 +65,8 @@ realm_or_kept p c n other lease cell rest =
       | false ↦ λ h. refl
     ] refl
 
-pub realm_kept : (p : Option ℕ → Bool) (c n : ℕ) → p (Some c) ≡ false → (leases : List (Option ℕ)) (machine : Machine) → realm_from c n (map (unleased p) leases) (each (hidden p) leases machine) ≡ realm_from c n leases machine
+pub realm_kept : (p : Option ℕ → Bool) (c n : ℕ) → p (Some c) ≡ false → (leases : List (Option ℕ)) (machine : Machine)
+    → realm_from c n (map (unleased p) leases) (each (hidden p) leases machine) ≡ realm_from c n leases machine
 unfolding realm_from
 realm_kept p c n other [] machine = refl
 realm_kept p c n other (l ∷ leases) [] = refl
@@ -74,7 +76,8 @@ realm_kept p c n other (l ∷ leases) (cell ∷ machine) =
 
 -- what a command answered, and did, it answers and does
 module _ (p : Option ℕ → Bool) (free : p None ≡ false) (c : ℕ) where
-  after_outcome-masked : p (Some c) ≡ false → (o fewer : Outcome) (w v : World) → ((us : List Update) → o ≡ Ok us → fewer ≡ Ok us) → after_outcome c o w ≡ Some v → after_outcome c fewer (masked p w) ≡ Some (masked p v)
+  after_outcome-masked : p (Some c) ≡ false → (o fewer : Outcome) (w v : World) → ((us : List Update) → o ≡ Ok us → fewer ≡ Ok us) → after_outcome c o w ≡ Some v
+      → after_outcome c fewer (masked p w) ≡ Some (masked p v)
   after_outcome-masked other (Ok us) fewer w v same e = ap (λ o. after_outcome c o (masked p w)) (same us refl) ∙ updated_all-masked p free c other us w v e
   after_outcome-masked other (Err rmi) fewer w v same e = cc
 
@@ -112,7 +115,8 @@ module _ (limits : Limits) (p : Option ℕ → Bool) (free : p None ≡ false) (
       let fewer : List ℕ = used_vmids (masked p w).machine in
       ap (λ t. cond t (after_outcome c (outcome_of limits.vmids limits.aux fewer e.act (realm_of c (masked p w)) (map (seen (masked p w).machine) (named e.act))) (masked p w)) None) open_too
       ∙ (λ i. after_outcome c (outcome_of limits.vmids limits.aux fewer e.act (realm i) (granules i)) (masked p w))
-      ∙ after_outcome-masked p free c other (outcome_of limits.vmids limits.aux used e.act (realm_of c w) (map (seen w.machine) (named e.act))) (outcome_of limits.vmids limits.aux fewer e.act (realm_of c w) (map (seen w.machine) (named e.act))) w v
+      ∙ after_outcome-masked p free c other (outcome_of limits.vmids limits.aux used e.act (realm_of c w) (map (seen w.machine) (named e.act)))
+          (outcome_of limits.vmids limits.aux fewer e.act (realm_of c w) (map (seen w.machine) (named e.act))) w v
       (outcome_of-fewer limits used fewer (used-hidden p w.leases w.machine) e.act (realm_of c w) (map (seen w.machine) (named e.act))) both.1
 
   -- an event of a hidden build is not seen

@@ -48,7 +48,9 @@ split limits p s w legal at_w =
 
 -- the acts of both
 pub acts_of-append : (b : ℕ) (xs ys : List Event) → acts_of b (xs ++ ys) ≡ acts_of b xs ++ acts_of b ys
-acts_of-append b xs ys = ap (map (λ (x : Event). x.act)) (filter-append (λ (x : Event). x.build == b) xs ys) ∙ map-append (λ (x : Event). x.act) (filter (λ (x : Event). x.build == b) xs) (filter (λ (x : Event). x.build == b) ys)
+acts_of-append b xs ys =
+    ap (map (λ (x : Event). x.act)) (filter-append (λ (x : Event). x.build == b) xs ys)
+    ∙ map-append (λ (x : Event). x.act) (filter (λ (x : Event). x.build == b) xs) (filter (λ (x : Event). x.build == b) ys)
 
 -- another build's events leave open what was
 pub open_others : (b c : ℕ) → c ≢ b → (xs ys : List Event) → open_entries c (xs ++ erase b ys) ≡ open_entries c (xs ++ ys)

@@ -54,7 +54,8 @@ abbrev acts_or : Bool → Event → List Act → List Act
 acts_or t e acts = cond t (e.act ∷ acts) acts
 
 map-act : (c : ℕ) (e : Event) (es : List Event) → acts_of c (e ∷ es) ≡ acts_or (e.build == c) e (acts_of c es)
-map-act c e es = elim (e.build == c) as (λ t. map (λ (x : Event). x.act) (cond t (e ∷ filter (λ x. x.build == c) es) (filter (λ x. x.build == c) es)) ≡ acts_or t e (acts_of c es)) [ true ↦ refl | false ↦ refl ]
+map-act c e es = elim (e.build == c) as (λ t. map (λ (x : Event). x.act) (cond t (e ∷ filter (λ x. x.build == c) es) (filter (λ x. x.build == c) es)) ≡ acts_or t e (acts_of c es))
+    [ true ↦ refl | false ↦ refl ]
 
 pub acts_of-erase : (b c : ℕ) → c ≢ b → (es : List Event) → acts_of c (erase b es) ≡ acts_of c es
 acts_of-erase b c apart [] = refl

@@ -110,11 +110,13 @@ module _ (limits : Limits) (w : World) (sound : IsSoundPart w) (old : IsLinked (
   linked Activate None at none fit = Yields-Err R _
   linked Activate (Some rd) at none fit = Yields-with_realm R _ _ (λ d is. Yields-check R _ _ _ (λ _. Yields-Ok R _ (realm_same w sound old rd d _ at is refl (λ q. refl) (λ q. refl))))
   linked (Rtt g ipa level) None at none fit = Yields-Err R _
-  linked (Rtt g ipa level) (Some rd) at none fit = Yields-with_realm R _ _ (λ d is. Yields-check R _ _ _ (λ place. Yields-with_end R _ _ _ _ (λ end e. Yields-check R _ _ _ (λ last. Yields-check R _ _ _ (λ plain.
+  linked (Rtt g ipa level) (Some rd) at none fit =
+      Yields-with_realm R _ _ (λ d is. Yields-check R _ _ _ (λ place. Yields-with_end R _ _ _ _ (λ end e. Yields-check R _ _ _ (λ last. Yields-check R _ _ _ (λ plain.
       let outer = and_parts _ _ (and_parts _ _ place).0 in
       let rows = ((subst (IsSoundCell sound.rd rd.number) at (sound.cells rd.number)).row d is).rows in
       let there = walk_at d.rows ipa (level - 1) end e (eqb-true end.level (level - 1) last) in
-      Yields-Ok R _ (row_more w sound old rd d (record d { rows = with_table d.rows level ipa g end.row.ripas }) at is refl refl g (held InRtt rd.number) (level - 1, first_covered (level - 1) ipa) outer.0 refl refl
+      Yields-Ok R _ (row_more w sound old rd d (record d { rows = with_table d.rows level ipa g end.row.ripas }) at is refl refl g (held InRtt rd.number)
+          (level - 1, first_covered (level - 1) ipa) outer.0 refl refl
       (ap row_target (look-with_table d.rows level ipa end.row rows (table_place ipa level outer.1) there g end.row.ripas (not_true _ plain)))
       (λ q to h. elim (with_table_cases d.rows level ipa end.row rows (table_place ipa level outer.1) there g end.row.ripas q (not_true _ plain)) [
         | inl new ↦ inr new.0
@@ -131,7 +133,9 @@ module _ (limits : Limits) (w : World) (sound : IsSoundPart w) (old : IsLinked (
         ]
       ])))))))
   linked (UnRtt g ipa level) None at none fit = Yields-Err R _
-  linked (UnRtt g ipa level) (Some rd) at none fit = Yields-with_realm R _ _ (λ d is. Yields-check R _ _ _ (λ place. Yields-with_end R _ _ _ _ (λ end e. Yields-check R _ _ _ (λ last. Yields-check R _ _ _ (λ table. Yields-check R _ _ _ (λ unused. Yields-with_granule R _ _ (λ pa to.
+  linked (UnRtt g ipa level) (Some rd) at none fit =
+      Yields-with_realm R _ _ (λ d is. Yields-check R _ _ _ (λ place. Yields-with_end R _ _ _ _
+      (λ end e. Yields-check R _ _ _ (λ last. Yields-check R _ _ _ (λ table. Yields-check R _ _ _ (λ unused. Yields-with_granule R _ _ (λ pa to.
       let rows = ((subst (IsSoundCell sound.rd rd.number) at (sound.cells rd.number)).row d is).rows in
       let there = walk_at d.rows ipa (level - 1) end e (eqb-true end.level (level - 1) last) in
       let up : ℕ × ℕ = (level - 1, first_covered (level - 1) ipa) in
@@ -151,18 +155,22 @@ module _ (limits : Limits) (w : World) (sound : IsSoundPart w) (old : IsLinked (
         | inr rest ↦ elim rest [ inl gone ↦ absurd (true_false _ (ap is_some h) (ap is_some gone.1)) | inr same ↦ inl (ap row_target same.0 ∙ h) ]
       ])))))))))
   linked (ToRam ipa n) None at none fit = Yields-Err R _
-  linked (ToRam ipa n) (Some rd) at none fit = Yields-with_realm R _ _ (λ d is. Yields-check R _ _ _ (λ _. Yields-check R _ _ _ (λ _. Yields-with_end R _ _ _ _ (λ end e. Yields-check R _ _ _ (λ _. Yields-check R _ _ _ (λ all.
+  linked (ToRam ipa n) (Some rd) at none fit =
+      Yields-with_realm R _ _ (λ d is. Yields-check R _ _ _ (λ _. Yields-check R _ _ _ (λ _. Yields-with_end R _ _ _ _ (λ end e. Yields-check R _ _ _ (λ _. Yields-check R _ _ _ (λ all.
       Yields-Ok R _ (realm_same w sound old rd d _ at is refl (same_rows d.rows ipa n all) (λ q. refl))))))))
   linked (Data g ipa source) None at none fit = Yields-Err R _
-  linked (Data g ipa source) (Some rd) at none fit = Yields-with_realm R _ _ (λ d is. Yields-check R _ _ _ (λ free. Yields-check R _ _ _ (λ _. Yields-with_end R _ _ _ _ (λ end e. Yields-check R _ _ _ (λ last. Yields-check R _ _ _ (λ plain.
+  linked (Data g ipa source) (Some rd) at none fit =
+      Yields-with_realm R _ _ (λ d is. Yields-check R _ _ _ (λ free. Yields-check R _ _ _ (λ _. Yields-with_end R _ _ _ _ (λ end e. Yields-check R _ _ _ (λ last. Yields-check R _ _ _ (λ plain.
       Yields-Ok R _ (data_linked rd d at is g (record (held InData rd.number) { bytes = (now source).bytes }) Ram ipa (measurement_after d.measurement (data_event ipa (now source).bytes)) end.row
       (and_parts _ _ (and_parts _ _ free).0).0 refl refl refl (walk_at d.rows ipa 3 end e (eqb-true end.level 3 last)) plain)))))))
   linked (Unknown g ipa) None at none fit = Yields-Err R _
-  linked (Unknown g ipa) (Some rd) at none fit = Yields-with_realm R _ _ (λ d is. Yields-check R _ _ _ (λ free. Yields-with_end R _ _ _ _ (λ end e. Yields-check R _ _ _ (λ last. Yields-check R _ _ _ (λ plain.
+  linked (Unknown g ipa) (Some rd) at none fit =
+      Yields-with_realm R _ _ (λ d is. Yields-check R _ _ _ (λ free. Yields-with_end R _ _ _ _ (λ end e. Yields-check R _ _ _ (λ last. Yields-check R _ _ _ (λ plain.
       Yields-Ok R _ (data_linked rd d at is g (held InData rd.number) end.row.ripas ipa d.measurement end.row
       (and_parts _ _ free).0 refl refl refl (walk_at d.rows ipa 3 end e (eqb-true end.level 3 last)) plain))))))
   linked (UnData g ipa) None at none fit = Yields-Err R _
-  linked (UnData g ipa) (Some rd) at none fit = Yields-with_realm R _ _ (λ d is. Yields-check R _ _ _ (λ _. Yields-with_end R _ _ _ _ (λ end e. Yields-check R _ _ _ (λ last. Yields-check R _ _ _ (λ used. Yields-with_granule R _ _ (λ pa to.
+  linked (UnData g ipa) (Some rd) at none fit =
+      Yields-with_realm R _ _ (λ d is. Yields-check R _ _ _ (λ _. Yields-with_end R _ _ _ _ (λ end e. Yields-check R _ _ _ (λ last. Yields-check R _ _ _ (λ used. Yields-with_granule R _ _ (λ pa to.
       let there = walk_at d.rows ipa 3 end e (eqb-true end.level 3 last) in
       let place : ℕ × ℕ = (3, first_covered 3 ipa) in
       let row : Row = unassigned (unmapped_ripas end.row.ripas) in
@@ -203,7 +211,8 @@ module _ (limits : Limits) (w : World) (sound : IsSoundPart w) (old : IsLinked (
 
 -- ---- steps
 
-part_linked : (limits : Limits) (b : ℕ) (w v : World) (act : Act) → IsSquare w → IsSoundPart w → IsLinked (λ k. cell_at w.machine k) → (realm_of b w ≡ None → (k : ℕ) → (cell_at w.machine k).descriptor ≡ None)
+part_linked : (limits : Limits) (b : ℕ) (w v : World) (act : Act) → IsSquare w → IsSoundPart w → IsLinked (λ k. cell_at w.machine k)
+    → (realm_of b w ≡ None → (k : ℕ) → (cell_at w.machine k).descriptor ≡ None)
     → step limits w (by b act) ≡ Some v → IsLinked (λ k. cell_at v.machine k)
 part_linked limits b w v act square sound old none s =
     let did = done limits b w v act (λ us. IsLinked (λ k. put_at us k (cell_at w.machine k)))

@@ -45,7 +45,8 @@ module _ (mark : Mark) (history : List Event) (event : Event) (within : mark.pla
         depth = ap (λ es. length (open_entries mark.build es)) (sym (early mark.place within)) ∙ s.depth;
         since = λ n h. by_place n
             (λ low. subst Deep (early n low) (s.since n h))
-            (λ high. subst Deep (early (length history) (omega arith) ∙ take_all (length history) history (omega arith) ∙ sym (take_all n history (omega (arith, longer)))) (s.since (length history) within));
+            (λ high. subst Deep (early (length history) (omega arith) ∙ take_all (length history) history (omega arith) ∙ sym (take_all n history (omega (arith, longer))))
+                (s.since (length history) within));
       },
       subst Deep (take_all (length next) next (omega arith)) (s.since (length next) (omega (arith, longer))),
     ),

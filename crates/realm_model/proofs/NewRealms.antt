@@ -25,10 +25,12 @@ new_rd rd root vmid = record { state = Rd; realm = Some rd; bytes = zero_page; d
 abbrev pub creation : ℕ → Root → ℕ → List Update
 creation rd root vmid = Put rd (new_rd rd root vmid) ∷ each_put (held InRtt rd) (starting_tables root)
 
-pub seen-creation : (machine : Machine) (rd : ℕ) (root : Root) (vmid : ℕ) → Put rd (new_rd rd root vmid) ∷ map (put_seen (held InRtt rd)) (map (seen machine) (starting_tables root)) ≡ creation rd root vmid
+pub seen-creation : (machine : Machine) (rd : ℕ) (root : Root) (vmid : ℕ)
+    → Put rd (new_rd rd root vmid) ∷ map (put_seen (held InRtt rd)) (map (seen machine) (starting_tables root)) ≡ creation rd root vmid
 seen-creation machine rd root vmid = ap (λ us. Put rd (new_rd rd root vmid) ∷ us) (seen-each_put machine (held InRtt rd) (starting_tables root))
 
-pub put_at-creation : (rd : ℕ) (root : Root) (vmid k : ℕ) (c : Cell) → put_at (creation rd root vmid) k c ≡ cond (is_in k (starting_tables root)) (held InRtt rd) (cond (k == rd) (new_rd rd root vmid) c)
+pub put_at-creation : (rd : ℕ) (root : Root) (vmid k : ℕ) (c : Cell) → put_at (creation rd root vmid) k c ≡ cond (is_in k (starting_tables root))
+    (held InRtt rd) (cond (k == rd) (new_rd rd root vmid) c)
 put_at-creation rd root vmid k c = put_at-each_put (held InRtt rd) (starting_tables root) k (cond (k == rd) (new_rd rd root vmid) c)
 
 pub put_at-creation_rd : (rd : ℕ) (root : Root) (vmid : ℕ) (c : Cell) → AllDistinct (rd ∷ starting_tables root) → put_at (creation rd root vmid) rd c ≡ new_rd rd root vmid

@@ -59,7 +59,8 @@ module _ (limits : Limits) (b : ℕ) (base y x : World) (back : IsBack b base y 
             (ap (λ n. is_in n (used_vmids (without y b).machine)) (sym user.same) ∙ used_at (without y b).machine user.at user.realm there)
       ]
 
-  pub other_there : IsSound b x → (y' : World) (e : Event) → e.build ≢ b → StepIsWhatItSays limits x e → IsSound b y → step limits y e ≡ Some y' → (x' : World) × (step limits x e ≡ Some x') × IsBack b base y' x'
+  pub other_there : IsSound b x → (y' : World) (e : Event) → e.build ≢ b → StepIsWhatItSays limits x e → IsSound b y → step limits y e ≡ Some y'
+      → (x' : World) × (step limits x e ≡ Some x') × IsBack b base y' x'
   other_there sound_x y' e apart says sound_y stepped =
       let free : (g : ℕ) → is_in g (granules_taken e.act) ≡ true → slice_get x.leases g ≡ Some (Some b) → ⊥ =
       λ g i held. (let clash : Some (Some b) ≡ Some None = sym (own_there g held) ∙ was_free limits e.build e.act y y' g stepped i in cc) in

@@ -26,7 +26,8 @@ module _ (P : List Update → Type 0) where
 
   pub Yields-with_realm : (rd : Seen) (f : RealmRow → Outcome) → ((r : RealmRow) → rd.cell.descriptor ≡ Some r → Yields P (f r)) → Yields P (with_realm rd f)
   unfolding with_realm
-  Yields-with_realm rd f h = elim rd.cell.descriptor as (λ o. rd.cell.descriptor ≡ o → Yields P (elim o [ Some realm ↦ f realm | None ↦ Err error_input ])) [ Some r ↦ λ e. h r e | None ↦ λ e. Yields-Err _ ] refl
+  Yields-with_realm rd f h =
+      elim rd.cell.descriptor as (λ o. rd.cell.descriptor ≡ o → Yields P (elim o [ Some realm ↦ f realm | None ↦ Err error_input ])) [ Some r ↦ λ e. h r e | None ↦ λ e. Yields-Err _ ] refl
 
   pub Yields-with_rec : (r : RealmRow) (n : ℕ) (f : RecRow → Outcome) → ((rec : RecRow) → get r.recs n ≡ Some rec → Yields P (f rec)) → Yields P (with_rec r n f)
   unfolding with_rec
@@ -34,11 +35,13 @@ module _ (P : List Update → Type 0) where
 
   pub Yields-with_granule : (row : Row) (f : ℕ → Outcome) → ((granule : ℕ) → row.granule ≡ Some granule → Yields P (f granule)) → Yields P (with_granule row f)
   unfolding with_granule
-  Yields-with_granule row f h = elim row.granule as (λ o. row.granule ≡ o → Yields P (elim o [ Some granule ↦ f granule | None ↦ Err error_input ])) [ Some granule ↦ λ e. h granule e | None ↦ λ e. Yields-Err _ ] refl
+  Yields-with_granule row f h =
+      elim row.granule as (λ o. row.granule ≡ o → Yields P (elim o [ Some granule ↦ f granule | None ↦ Err error_input ])) [ Some granule ↦ λ e. h granule e | None ↦ λ e. Yields-Err _ ] refl
 
   pub Yields-with_end : (rows : Rows) (ipa level : ℕ) (f : Walk → Outcome) → ((end : Walk) → walk rows ipa level ≡ Some end → Yields P (f end)) → Yields P (with_end rows ipa level f)
   unfolding with_end
-  Yields-with_end rows ipa level f h = elim (walk rows ipa level) as (λ o. walk rows ipa level ≡ o → Yields P (elim o [ Some end ↦ f end | None ↦ Err (error_rtt 0) ])) [ Some end ↦ λ e. h end e | None ↦ λ e. Yields-Err _ ] refl
+  Yields-with_end rows ipa level f h =
+      elim (walk rows ipa level) as (λ o. walk rows ipa level ≡ o → Yields P (elim o [ Some end ↦ f end | None ↦ Err (error_rtt 0) ])) [ Some end ↦ λ e. h end e | None ↦ λ e. Yields-Err _ ] refl
 
 -- ---- what is looked up is there
 

@@ -57,7 +57,8 @@ rows_both None (Some e) h = absurd h
 rows_both (Some d) None h = absurd h
 rows_both (Some d) (Some e) h = refl
 
-realm_from_twins : (b n : ℕ) (leases : List (Option ℕ)) (ms ns : Machine) → length ms ≡ length ns → ((g : ℕ) → SameCell (cell_at ms g) (cell_at ns g)) → AreTwins (realm_from b n leases ms) (realm_from b n leases ns)
+realm_from_twins : (b n : ℕ) (leases : List (Option ℕ)) (ms ns : Machine) → length ms ≡ length ns → ((g : ℕ) → SameCell (cell_at ms g) (cell_at ns g))
+    → AreTwins (realm_from b n leases ms) (realm_from b n leases ns)
 unfolding realm_from
 realm_from_twins b n [] ms ns long same = tt
 realm_from_twins b n (l ∷ leases) [] [] long same = tt
@@ -67,7 +68,8 @@ realm_from_twins b n (l ∷ leases) (c ∷ ms) (d ∷ ns) long same =
     let here : Bool = same_lease l (Some b) && is_some c.descriptor in
     let r : Option Seen = realm_from b (suc n) leases ms in
     let s : Option Seen = realm_from b (suc n) leases ns in
-    subst (λ t. AreTwins (cond here (Some (record { number = n; cell = c })) r) (cond (same_lease l (Some b) && t) (Some (record { number = n; cell = d })) s)) (rows_both c.descriptor d.descriptor (same 0).descriptor)
+    subst (λ t. AreTwins (cond here (Some (record { number = n; cell = c })) r) (cond (same_lease l (Some b) && t) (Some (record { number = n; cell = d })) s))
+        (rows_both c.descriptor d.descriptor (same 0).descriptor)
     (elim here as (λ t. AreTwins (cond t (Some (record { number = n; cell = c })) r) (cond t (Some (record { number = n; cell = d })) s)) [
       | true ↦ record { number = refl; cell = same 0 }
       | false ↦ realm_from_twins b (suc n) leases ms ns (ap pred long) (λ g. same (suc g))
@@ -103,7 +105,8 @@ module _ (r s : Rows) (same : LookSame r s) (ipa level : ℕ) (a b : Walk) (ra :
 
 module _ (limits : Limits) (w v : World) (cells : (g : ℕ) → SameCell (cell_at w.machine g) (cell_at v.machine g)) where
   abbrev Follows : Act → Option Seen → Option Seen → Type 0
-  Follows act r s = Agree (outcome_of limits.vmids limits.aux (used_vmids w.machine) act r (map (seen w.machine) (named act))) (outcome_of limits.vmids limits.aux (used_vmids v.machine) act s (map (seen v.machine) (named act)))
+  Follows act r s = Agree (outcome_of limits.vmids limits.aux (used_vmids w.machine) act r (map (seen w.machine) (named act)))
+      (outcome_of limits.vmids limits.aux (used_vmids v.machine) act s (map (seen v.machine) (named act)))
 
   module _ (rd sd : Seen) (twin : IsTwin rd sd) where
     at_realm : (d e : RealmRow) → rd.cell.descriptor ≡ Some d → sd.cell.descriptor ≡ Some e → SameRealm d e
@@ -137,7 +140,8 @@ module _ (limits : Limits) (w v : World) (cells : (g : ℕ) → SameCell (cell_a
         let same = at_realm d e is ise in
         Agree-Ok _ _ (
           alike_put g g _ _ refl (record { state = refl; realm = ap Some twin.number; descriptor = tt }),
-          (alike_realm rd sd _ _ twin (record { vmid = same.vmid; root = same.root; recs = same.recs; rows = both_put d.rows e.rows same.rows (3, first_covered 3 ipa) (assigned Ram g) (assigned Ram g) refl }), tt),
+          (alike_realm rd sd _ _ twin (record { vmid = same.vmid; root = same.root; recs = same.recs; rows = both_put d.rows e.rows same.rows
+              (3, first_covered 3 ipa) (assigned Ram g) (assigned Ram g) refl }), tt),
         )))))))
 
     unknown_follows : (g ipa : ℕ) → Follows (Unknown g ipa) (Some rd) (Some sd)
@@ -147,7 +151,8 @@ module _ (limits : Limits) (w v : World) (cells : (g : ℕ) → SameCell (cell_a
         let same = at_realm d e is ise in
         Agree-Ok _ _ (
           alike_put g g _ _ refl (held_same InData rd.number sd.number twin.number),
-          (alike_realm rd sd _ _ twin (record { vmid = same.vmid; root = same.root; recs = same.recs; rows = both_put d.rows e.rows same.rows (3, first_covered 3 ipa) (assigned a.row.ripas g) (assigned b.row.ripas g) refl }), tt),
+          (alike_realm rd sd _ _ twin (record { vmid = same.vmid; root = same.root; recs = same.recs; rows = both_put d.rows e.rows same.rows
+              (3, first_covered 3 ipa) (assigned a.row.ripas g) (assigned b.row.ripas g) refl }), tt),
         ))))))
 
     undata_follows : (g ipa : ℕ) → Follows (UnData g ipa) (Some rd) (Some sd)
@@ -170,13 +175,15 @@ module _ (limits : Limits) (w v : World) (cells : (g : ℕ) → SameCell (cell_a
         )))))))
 
     -- the number of a new REC is no part of ownership, but the act names it
-    rec_follows : (g : ℕ) (aux : ArrayVec ℕ 16 (Unit {0})) (n : ℕ) → fits (Rec g aux n) (Some rd) (map (seen w.machine) (named (Rec g aux n))) ≡ true → fits (Rec g aux n) (Some sd) (map (seen v.machine) (named (Rec g aux n))) ≡ true
+    rec_follows : (g : ℕ) (aux : ArrayVec ℕ 16 (Unit {0})) (n : ℕ) → fits (Rec g aux n) (Some rd) (map (seen w.machine) (named (Rec g aux n))) ≡ true
+        → fits (Rec g aux n) (Some sd) (map (seen v.machine) (named (Rec g aux n))) ≡ true
         → Follows (Rec g aux n) (Some rd) (Some sd)
     unfolding outcome_of named fits
     rec_follows g aux n fit_w fit_v = Agree-with_realm rd sd _ _ (λ d e is ise. Agree-check _ _ _ _ _ _ (λ _ _. Agree-check _ _ _ _ _ _ (λ _ _.
         let same = at_realm d e is ise in
         let next : d.next ≡ e.next = sym (eqb-true n d.next (realm_test rd d (λ x r. n == r.next) fit_w is)) ∙ eqb-true n e.next (realm_test sd e (λ x r. n == r.next) fit_v ise) in
-        let recs : (q : ℕ) → option_map granules_of_rec (get (insert d.recs d.next (made w.machine g aux.items)) q) ≡ option_map granules_of_rec (get (insert e.recs e.next (made v.machine g aux.items)) q) = λ q.
+        let recs : (q : ℕ) → option_map granules_of_rec (get (insert d.recs d.next (made w.machine g aux.items)) q) ≡ option_map granules_of_rec
+            (get (insert e.recs e.next (made v.machine g aux.items)) q) = λ q.
         both_insert nat_cmp_total granules_of_rec d.recs e.recs same.recs d.next (made w.machine g aux.items) (made v.machine g aux.items) (λ i. (g, numbers aux.items i)) q
         ∙ ap (λ k. option_map granules_of_rec (get (insert e.recs k (made v.machine g aux.items)) q)) next in
         Agree-Ok _ _ (
@@ -198,7 +205,8 @@ module _ (limits : Limits) (w v : World) (cells : (g : ℕ) → SameCell (cell_a
         let alike : granules_of_rec r ≡ granules_of_rec s = same_Some _ _ (ap (option_map granules_of_rec) (sym there) ∙ same.recs n ∙ ap (option_map granules_of_rec) theres) in
         let d2 : RealmRow = record d { recs = remove d.recs n } in
         let e2 : RealmRow = record e { recs = remove e.recs n } in
-        let last : IsAlike (put_realm rd d2) (put_realm sd e2) = alike_realm rd sd d2 e2 twin (record { vmid = same.vmid; root = same.root; recs = λ q. both_remove nat_cmp_total granules_of_rec d.recs e.recs same.recs n q; rows = same.rows }) in
+        let last : IsAlike (put_realm rd d2) (put_realm sd e2) = alike_realm rd sd d2 e2 twin
+            (record { vmid = same.vmid; root = same.root; recs = λ q. both_remove nat_cmp_total granules_of_rec d.recs e.recs same.recs n q; rows = same.rows }) in
         Agree-Ok _ _ (alike_more (lefts (r.granule ∷ r.auxiliaries)) (lefts (s.granule ∷ s.auxiliaries)) (put_realm rd d2 ∷ []) (put_realm sd e2 ∷ [])
         (alike_lefts (r.granule ∷ r.auxiliaries) (s.granule ∷ s.auxiliaries) (λ i. (alike i).0 ∷ (alike i).1)) (last, tt)))))
 
@@ -221,7 +229,8 @@ module _ (limits : Limits) (w v : World) (cells : (g : ℕ) → SameCell (cell_a
   act_follows (UnTake order first) r s p twins fit_w fit_v = Agree-Ok _ _ (alike_seen _ _ w.machine v.machine (λ k. alike_free k) (block order first))
   act_follows (Delegate g) r s p twins fit_w fit_v = Agree-check _ _ _ _ _ _ (λ _ _. Agree-Ok _ _ (alike_put g g _ _ refl (cell_itself left), tt))
   act_follows (Undelegate g) r s p twins fit_w fit_v = undelegate_follows g r s
-  act_follows (Realm rd root vmid) r s p twins fit_w fit_v = Agree-check _ _ _ _ _ _ (λ _ _. Agree-Ok _ _ (alike_put rd rd _ _ refl (cell_itself _), alike_seen _ _ w.machine v.machine (λ k. alike_put k k _ _ refl (cell_itself _)) (starting_tables root)))
+  act_follows (Realm rd root vmid) r s p twins fit_w fit_v =
+      Agree-check _ _ _ _ _ _ (λ _ _. Agree-Ok _ _ (alike_put rd rd _ _ refl (cell_itself _), alike_seen _ _ w.machine v.machine (λ k. alike_put k k _ _ refl (cell_itself _)) (starting_tables root)))
   act_follows (UnRealm rd root vmid) r s p twins fit_w fit_v = unrealm_follows rd root vmid r s
   act_follows (Rtt g ipa level) None s p twins fit_w fit_v = Agree-Err _ _
   act_follows (Rtt g ipa level) (Some rd) None p twins fit_w fit_v = absurd twins
@@ -260,7 +269,8 @@ both_step limits b act w v next other sw sv p same step_w step_v =
     let q : Outcome = outcome_of limits.vmids limits.aux (used_vmids v.machine) act (realm_of b v) (map (seen v.machine) (named act)) in
     let did_w = done limits b w next act (λ us. o ≡ Ok us) (record { where_ok = λ us e. e }) step_w in
     let did_v = done limits b v other act (λ us. q ≡ Ok us) (record { where_ok = λ us e. e }) step_v in
-    let follows = act_follows limits w v same.cells act (realm_of b w) (realm_of b v) p (realms_twins b w v sw sv same) (asked limits b w next act step_w).fit (asked limits b v other act step_v).fit in
+    let follows = act_follows limits w v same.cells act (realm_of b w) (realm_of b v) p (realms_twins b w v sw sv same) (asked limits b w next act step_w).fit
+        (asked limits b v other act step_v).fit in
     own_alike b did_w.0 did_v.0 w v next other ((follows.both did_w.0 did_w.1).where_ok did_v.0 did_v.1) sw sv same did_w.2 did_v.2
 
 any_step : (limits : Limits) (b : ℕ) (act : Act) (w v next other : World) → IsSquare w → IsSquare v → OwnershipFollows limits b act w v next other

@@ -68,7 +68,8 @@ unfolding reverse_of
 held_by_other (Take order first) act e k = absurd (true_false (is_of_block act) (ap is_of_block (sym (same_Some _ _ e))) k)
 held_by_other _ act e k = refl
 
-pub pages_of-untake : (b : ℕ) (history : List Event) (order first : ℕ) → IsInTurn history (by b (UnTake order first)) → pages_of b history ≡ pages_of b (history ++ by b (UnTake order first) ∷ []) ++ block order first
+pub pages_of-untake : (b : ℕ) (history : List Event) (order first : ℕ) → IsInTurn history (by b (UnTake order first))
+    → pages_of b history ≡ pages_of b (history ++ by b (UnTake order first) ∷ []) ++ block order first
 unfolding reverse_of is_reverse
 pages_of-untake b history order first turn =
     let away = takes_away b history (UnTake order first) refl refl turn in
@@ -161,7 +162,8 @@ module _ (limits : Limits) (b : ℕ) (history : List Event) (w v : World) (h : P
 
   paged_other : (e : Event) → e.build ≢ b → IsClean w → step limits w e ≡ Some v → Paged b (history ++ e ∷ []) v
   paged_other e apart clean s = record {
-    same = λ g. ap (is_in g) (pages_of-other b history e apart) ∙ h.same g ∙ sym (leased_in_part b w g) ∙ ap (λ (x : World). is_leased_to (Some b) x.leases g) (sym (part_of-other_step limits b w v e apart clean s)) ∙ leased_in_part b v g;
+    same = λ g. ap (is_in g) (pages_of-other b history e apart) ∙ h.same g ∙ sym (leased_in_part b w g)
+        ∙ ap (λ (x : World). is_leased_to (Some b) x.leases g) (sym (part_of-other_step limits b w v e apart clean s)) ∙ leased_in_part b v g;
     distinct = subst AllDistinct (sym (pages_of-other b history e apart)) h.distinct;
   }
 
@@ -184,7 +186,8 @@ paged limits b history w legal at_w =
     none_leased (suc g) (suc n) = none_leased g n
 
 -- a page, by its lease
-pub is_in-pages_of : (limits : Limits) (b : ℕ) (history : List Event) (w : World) → IsLegal limits history → replay limits history ≡ Some w → (g : ℕ) → is_in g (pages_of b history) ≡ is_leased_to (Some b) w.leases g
+pub is_in-pages_of : (limits : Limits) (b : ℕ) (history : List Event) (w : World) → IsLegal limits history → replay limits history ≡ Some w → (g : ℕ)
+    → is_in g (pages_of b history) ≡ is_leased_to (Some b) w.leases g
 is_in-pages_of limits b history w legal at_w = (paged limits b history w legal at_w).same
 
 pub pages_are_leased : (limits : Limits) (b : ℕ) (history : List Event) (w : World) → IsLegal limits history → replay limits history ≡ Some w → PagesAreLeased limits history b w

@@ -32,26 +32,41 @@ module _ (limits : Limits) (used : List ℕ) where
   puts m Activate None k = Yields-Err Q _
   puts m Activate (Some rd) k = Yields-with_realm Q _ _ (λ d is. Yields-check Q _ _ _ (λ _. Yields-Ok Q _ refl))
   puts m (Rtt g ipa level) None k = Yields-Err Q _
-  puts m (Rtt g ipa level) (Some rd) k = Yields-with_realm Q _ _ (λ d is. Yields-check Q _ _ _ (λ _. Yields-with_end Q _ _ _ _ (λ end e. Yields-check Q _ _ _ (λ _. Yields-check Q _ _ _ (λ _. Yields-Ok Q _ refl)))))
+  puts m (Rtt g ipa level) (Some rd) k =
+      Yields-with_realm Q _ _ (λ d is. Yields-check Q _ _ _ (λ _. Yields-with_end Q _ _ _ _ (λ end e. Yields-check Q _ _ _ (λ _. Yields-check Q _ _ _ (λ _. Yields-Ok Q _ refl)))))
   puts m (UnRtt g ipa level) None k = Yields-Err Q _
-  puts m (UnRtt g ipa level) (Some rd) k = Yields-with_realm Q _ _ (λ d is. Yields-check Q _ _ _ (λ _. Yields-with_end Q _ _ _ _ (λ end e. Yields-check Q _ _ _ (λ _. Yields-check Q _ _ _ (λ _. Yields-check Q _ _ _ (λ _. Yields-with_granule Q _ _ (λ pa to. Yields-Ok Q _ refl)))))))
+  puts m (UnRtt g ipa level) (Some rd) k =
+      Yields-with_realm Q _ _ (λ d is. Yields-check Q _ _ _ (λ _. Yields-with_end Q _ _ _ _
+      (λ end e. Yields-check Q _ _ _ (λ _. Yields-check Q _ _ _ (λ _. Yields-check Q _ _ _ (λ _. Yields-with_granule Q _ _ (λ pa to. Yields-Ok Q _ refl)))))))
   puts m (Ripas ipa n) None k = Yields-Err Q _
-  puts m (Ripas ipa n) (Some rd) k = Yields-with_realm Q _ _ (λ d is. Yields-check Q _ _ _ (λ _. Yields-check Q _ _ _ (λ _. Yields-with_end Q _ _ _ _ (λ end e. Yields-check Q _ _ _ (λ _. Yields-check Q _ _ _ (λ _. Yields-Ok Q _ refl))))))
+  puts m (Ripas ipa n) (Some rd) k =
+      Yields-with_realm Q _ _ (λ d is. Yields-check Q _ _ _ (λ _. Yields-check Q _ _ _
+      (λ _. Yields-with_end Q _ _ _ _ (λ end e. Yields-check Q _ _ _ (λ _. Yields-check Q _ _ _ (λ _. Yields-Ok Q _ refl))))))
   puts m (Data g ipa source) None k = Yields-Err Q _
-  puts m (Data g ipa source) (Some rd) k = Yields-with_realm Q _ _ (λ d is. Yields-check Q _ _ _ (λ _. Yields-check Q _ _ _ (λ _. Yields-with_end Q _ _ _ _ (λ end e. Yields-check Q _ _ _ (λ _. Yields-check Q _ _ _ (λ _. Yields-Ok Q _ refl))))))
+  puts m (Data g ipa source) (Some rd) k =
+      Yields-with_realm Q _ _ (λ d is. Yields-check Q _ _ _ (λ _. Yields-check Q _ _ _
+      (λ _. Yields-with_end Q _ _ _ _ (λ end e. Yields-check Q _ _ _ (λ _. Yields-check Q _ _ _ (λ _. Yields-Ok Q _ refl))))))
   puts m (Unknown g ipa) None k = Yields-Err Q _
-  puts m (Unknown g ipa) (Some rd) k = Yields-with_realm Q _ _ (λ d is. Yields-check Q _ _ _ (λ _. Yields-with_end Q _ _ _ _ (λ end e. Yields-check Q _ _ _ (λ _. Yields-check Q _ _ _ (λ _. Yields-Ok Q _ refl)))))
+  puts m (Unknown g ipa) (Some rd) k =
+      Yields-with_realm Q _ _ (λ d is. Yields-check Q _ _ _ (λ _. Yields-with_end Q _ _ _ _ (λ end e. Yields-check Q _ _ _ (λ _. Yields-check Q _ _ _ (λ _. Yields-Ok Q _ refl)))))
   puts m (UnData g ipa) None k = Yields-Err Q _
-  puts m (UnData g ipa) (Some rd) k = Yields-with_realm Q _ _ (λ d is. Yields-check Q _ _ _ (λ _. Yields-with_end Q _ _ _ _ (λ end e. Yields-check Q _ _ _ (λ _. Yields-check Q _ _ _ (λ _. Yields-with_granule Q _ _ (λ pa to. Yields-Ok Q _ refl))))))
+  puts m (UnData g ipa) (Some rd) k =
+      Yields-with_realm Q _ _ (λ d is. Yields-check Q _ _ _ (λ _. Yields-with_end Q _ _ _ _
+      (λ end e. Yields-check Q _ _ _ (λ _. Yields-check Q _ _ _ (λ _. Yields-with_granule Q _ _ (λ pa to. Yields-Ok Q _ refl))))))
   puts m (Rec g aux n) None k = Yields-Err Q _
-  puts m (Rec g aux n) (Some rd) k = Yields-with_realm Q _ _ (λ d is. Yields-check Q _ _ _ (λ _. Yields-check Q _ _ _ (λ _. Yields-Ok Q _ (each_in_front Q (put_seen (held RecAux rd.number)) (λ a us h. h) (map (seen m) aux.items) _ refl))))
+  puts m (Rec g aux n) (Some rd) k =
+      Yields-with_realm Q _ _ (λ d is. Yields-check Q _ _ _ (λ _. Yields-check Q _ _ _
+      (λ _. Yields-Ok Q _ (each_in_front Q (put_seen (held RecAux rd.number)) (λ a us h. h) (map (seen m) aux.items) _ refl))))
   puts m (UnRec g aux n) None k = Yields-Err Q _
-  puts m (UnRec g aux n) (Some rd) k = Yields-with_realm Q _ _ (λ d is. Yields-with_rec Q _ _ _ (λ rec there. Yields-check Q _ _ _ (λ _. Yields-Ok Q _ (each_in_front Q (λ g. Put g left) (λ g us h. h) rec.auxiliaries _ refl))))
+  puts m (UnRec g aux n) (Some rd) k =
+      Yields-with_realm Q _ _ (λ d is. Yields-with_rec Q _ _ _ (λ rec there. Yields-check Q _ _ _ (λ _. Yields-Ok Q _ (each_in_front Q (λ g. Put g left) (λ g us h. h) rec.auxiliaries _ refl))))
   puts m (Enter n) None k = Yields-Err Q _
   puts m (Enter n) (Some rd) k = Yields-with_realm Q _ _ (λ d is. Yields-with_rec Q _ _ _ (λ rec there. Yields-check Q _ _ _ (λ _. Yields-check Q _ _ _ (λ _. Yields-Ok Q _ refl))))
   puts m (Exit n) None k = Yields-Err Q _
   puts m (Exit n) (Some rd) k = Yields-with_realm Q _ _ (λ d is. Yields-with_rec Q _ _ _ (λ rec there. Yields-check Q _ _ _ (λ _. Yields-Ok Q _ refl)))
   puts m (Poke n ipa o v) None k = Yields-Err Q _
-  puts m (Poke n ipa o v) (Some rd) k = Yields-with_realm Q _ _ (λ d is. Yields-with_rec Q _ _ _ (λ rec there. Yields-check Q _ _ _ (λ _. Yields-check Q _ _ _ (λ _. Yields-with_end Q _ _ _ _ (λ end e. Yields-check Q _ _ _ (λ _. Yields-with_granule Q _ _ (λ pa to. Yields-Ok Q _ refl)))))))
+  puts m (Poke n ipa o v) (Some rd) k =
+      Yields-with_realm Q _ _ (λ d is. Yields-with_rec Q _ _ _ (λ rec there. Yields-check Q _ _ _
+      (λ _. Yields-check Q _ _ _ (λ _. Yields-with_end Q _ _ _ _ (λ end e. Yields-check Q _ _ _ (λ _. Yields-with_granule Q _ _ (λ pa to. Yields-Ok Q _ refl)))))))
   puts m (Take order first) realm k = cc
   puts m (UnTake order first) realm k = cc

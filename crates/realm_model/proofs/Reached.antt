@@ -58,7 +58,8 @@ pub sized_reached : (limits : Limits) (history : List Event) (w : World) → rep
 sized_reached limits = of_reached limits (IsSized limits) (λ w v e h s. sized_step limits w v e h s) (sized_opening limits)
 
 module _ (limits : Limits) (P : List Event → World → Type 0)
-    (kept : (before : List Event) (w v : World) (e : Event) → IsLegal limits before → replay limits before ≡ Some w → P before w → IsInTurn before e → step limits w e ≡ Some v → P (before ++ e ∷ []) v) where
+    (kept : (before : List Event) (w v : World) (e : Event) → IsLegal limits before → replay limits before ≡ Some w → P before w → IsInTurn before e
+        → step limits w e ≡ Some v → P (before ++ e ∷ []) v) where
   kept_legal : (before es : List Event) (w v : World) → IsLegal limits before → replay limits before ≡ Some w → P before w → AllInTurn before es → after limits es w ≡ Some v → P (before ++ es) v
   unfolding after
   kept_legal before [] w v legal at_w h turns done = subst (λ es. P es v) (sym (append-nil before)) (subst (P before) (same_Some _ _ done) h)

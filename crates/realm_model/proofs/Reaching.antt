@@ -28,12 +28,14 @@ use Rattle.realm_model.proofs.RowKinds.{assigned_target}
 use Rattle.realm_model.proofs.Parts.{IsLinkedFor}
 
 -- a cell of a part that is not the host's is of its build
-pub state_leased : (b : ℕ) (leases : List (Option ℕ)) (machine : Machine) → each scrubbed leases machine ≡ machine → (g : ℕ) → is_host_state (cell_at (each (hidden (is_of_other b)) leases machine) g).state ≡ false
+pub state_leased : (b : ℕ) (leases : List (Option ℕ)) (machine : Machine) → each scrubbed leases machine ≡ machine → (g : ℕ)
+    → is_host_state (cell_at (each (hidden (is_of_other b)) leases machine) g).state ≡ false
     → slice_get (map (unleased (is_of_other b)) leases) g ≡ Some (Some b)
 state_leased b [] machine clean g held = cc
 state_leased b (l ∷ leases) [] clean g held = cc
 state_leased b (None ∷ leases) (c ∷ machine) clean zero held = absurd (true_false _ (ap (λ (x : Cell). is_host_state x.state) (sym (ap (head_or blank) clean))) held)
-state_leased b (Some o ∷ leases) (c ∷ machine) clean zero held = elim (o == b) as (λ t. (o == b) ≡ t → is_host_state (cond (not t) blank c).state ≡ false → Some (cond (not t) None (Some o)) ≡ Some (Some b)) [
+state_leased b (Some o ∷ leases) (c ∷ machine) clean zero held =
+    elim (o == b) as (λ t. (o == b) ≡ t → is_host_state (cond (not t) blank c).state ≡ false → Some (cond (not t) None (Some o)) ≡ Some (Some b)) [
   | true ↦ λ same h. ap (λ x. Some (Some x)) (eqb-true o b same)
   | false ↦ λ other h. cc
 ] refl held

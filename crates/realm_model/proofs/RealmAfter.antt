@@ -104,22 +104,29 @@ module _ (limits : Limits) (w : World) (sound : IsSoundPart w) (T : RealmRow →
   turns Activate None allows at none fit = Yields-Err S _
   turns Activate (Some rd) allows at none fit = Yields-with_realm S _ _ (λ d is. Yields-check S _ _ _ (λ _. Yields-Ok S _ (turned rd d _ [] at is (allows d _ refl))))
   turns (Rtt g ipa level) None allows at none fit = Yields-Err S _
-  turns (Rtt g ipa level) (Some rd) allows at none fit = Yields-with_realm S _ _ (λ d is. Yields-check S _ _ _ (λ _. Yields-with_end S _ _ _ _ (λ end e. Yields-check S _ _ _ (λ _. Yields-check S _ _ _ (λ _.
+  turns (Rtt g ipa level) (Some rd) allows at none fit =
+      Yields-with_realm S _ _ (λ d is. Yields-check S _ _ _ (λ _. Yields-with_end S _ _ _ _ (λ end e. Yields-check S _ _ _ (λ _. Yields-check S _ _ _ (λ _.
       Yields-Ok S _ (turned rd d _ (Put g _ ∷ []) at is (allows d _ refl)))))))
   turns (UnRtt g ipa level) None allows at none fit = Yields-Err S _
-  turns (UnRtt g ipa level) (Some rd) allows at none fit = Yields-with_realm S _ _ (λ d is. Yields-check S _ _ _ (λ _. Yields-with_end S _ _ _ _ (λ end e. Yields-check S _ _ _ (λ _. Yields-check S _ _ _ (λ _. Yields-check S _ _ _ (λ _. Yields-with_granule S _ _ (λ pa to.
+  turns (UnRtt g ipa level) (Some rd) allows at none fit =
+      Yields-with_realm S _ _ (λ d is. Yields-check S _ _ _ (λ _. Yields-with_end S _ _ _ _
+      (λ end e. Yields-check S _ _ _ (λ _. Yields-check S _ _ _ (λ _. Yields-check S _ _ _ (λ _. Yields-with_granule S _ _ (λ pa to.
       Yields-Ok S _ (turned rd d _ (Put pa _ ∷ []) at is (allows d _ refl)))))))))
   turns (Ripas ipa n) None allows at none fit = Yields-Err S _
-  turns (Ripas ipa n) (Some rd) allows at none fit = Yields-with_realm S _ _ (λ d is. Yields-check S _ _ _ (λ _. Yields-check S _ _ _ (λ _. Yields-with_end S _ _ _ _ (λ end e. Yields-check S _ _ _ (λ _. Yields-check S _ _ _ (λ _.
+  turns (Ripas ipa n) (Some rd) allows at none fit =
+      Yields-with_realm S _ _ (λ d is. Yields-check S _ _ _ (λ _. Yields-check S _ _ _ (λ _. Yields-with_end S _ _ _ _ (λ end e. Yields-check S _ _ _ (λ _. Yields-check S _ _ _ (λ _.
       Yields-Ok S _ (turned rd d _ [] at is (allows d _ refl))))))))
   turns (Data g ipa source) None allows at none fit = Yields-Err S _
-  turns (Data g ipa source) (Some rd) allows at none fit = Yields-with_realm S _ _ (λ d is. Yields-check S _ _ _ (λ _. Yields-check S _ _ _ (λ _. Yields-with_end S _ _ _ _ (λ end e. Yields-check S _ _ _ (λ _. Yields-check S _ _ _ (λ _.
+  turns (Data g ipa source) (Some rd) allows at none fit =
+      Yields-with_realm S _ _ (λ d is. Yields-check S _ _ _ (λ _. Yields-check S _ _ _ (λ _. Yields-with_end S _ _ _ _ (λ end e. Yields-check S _ _ _ (λ _. Yields-check S _ _ _ (λ _.
       Yields-Ok S _ (turned rd d _ (Put g _ ∷ []) at is (allows d _ refl))))))))
   turns (Unknown g ipa) None allows at none fit = Yields-Err S _
-  turns (Unknown g ipa) (Some rd) allows at none fit = Yields-with_realm S _ _ (λ d is. Yields-check S _ _ _ (λ _. Yields-with_end S _ _ _ _ (λ end e. Yields-check S _ _ _ (λ _. Yields-check S _ _ _ (λ _.
+  turns (Unknown g ipa) (Some rd) allows at none fit =
+      Yields-with_realm S _ _ (λ d is. Yields-check S _ _ _ (λ _. Yields-with_end S _ _ _ _ (λ end e. Yields-check S _ _ _ (λ _. Yields-check S _ _ _ (λ _.
       Yields-Ok S _ (turned rd d _ (Put g _ ∷ []) at is (allows d _ refl)))))))
   turns (UnData g ipa) None allows at none fit = Yields-Err S _
-  turns (UnData g ipa) (Some rd) allows at none fit = Yields-with_realm S _ _ (λ d is. Yields-check S _ _ _ (λ _. Yields-with_end S _ _ _ _ (λ end e. Yields-check S _ _ _ (λ _. Yields-check S _ _ _ (λ _. Yields-with_granule S _ _ (λ pa to.
+  turns (UnData g ipa) (Some rd) allows at none fit =
+      Yields-with_realm S _ _ (λ d is. Yields-check S _ _ _ (λ _. Yields-with_end S _ _ _ _ (λ end e. Yields-check S _ _ _ (λ _. Yields-check S _ _ _ (λ _. Yields-with_granule S _ _ (λ pa to.
       Yields-Ok S _ (turned rd d _ (Put pa _ ∷ []) at is (allows d _ refl))))))))
   turns (Rec g aux m) None allows at none fit = Yields-Err S _
   turns (Rec g aux m) (Some rd) allows at none fit = Yields-with_realm S _ _ (λ d is. Yields-check S _ _ _ (λ _. Yields-check S _ _ _ (λ _.
@@ -162,14 +169,17 @@ allowed limits w sound (Exit n) k = λ d rec h there ready. (refl, running-stop 
 allowed limits w sound act k = λ d e same. (ap (λ (x : RealmRow). x.vmid) same, ap (λ (x : RealmRow). running x.recs x.next) same)
 
 -- the realm of a part is there after each act but its end, turned as the act allows
-pub turned_by : (limits : Limits) (b : ℕ) (w v : World) (act : Act) (T : RealmRow → RealmRow → Type 0) → IsSquare w → (sound : IsSoundPart w) → (realm_of b w ≡ None → (k : ℕ) → (cell_at w.machine k).descriptor ≡ None)
-    → Allows limits w sound T act → step limits w (by b act) ≡ Some v → (k : ℕ) (d : RealmRow) → (cell_at w.machine k).descriptor ≡ Some d → (e : RealmRow) × ((cell_at v.machine k).descriptor ≡ Some e) × T d e
+pub turned_by : (limits : Limits) (b : ℕ) (w v : World) (act : Act) (T : RealmRow → RealmRow → Type 0) → IsSquare w → (sound : IsSoundPart w)
+    → (realm_of b w ≡ None → (k : ℕ) → (cell_at w.machine k).descriptor ≡ None)
+    → Allows limits w sound T act → step limits w (by b act) ≡ Some v → (k : ℕ) (d : RealmRow) → (cell_at w.machine k).descriptor ≡ Some d → (e : RealmRow)
+        × ((cell_at v.machine k).descriptor ≡ Some e) × T d e
 turned_by limits b w v act T square sound none allows s k d there =
     let did = done limits b w v act (S limits w sound T) (turns limits w sound T act (realm_of b w) allows (IsAt-realm_of b w) none (asked limits b w v act s).fit) s in
     let turned = did.1 k d there in
     (turned.0, ap (λ (c : Cell). c.descriptor) (cell_put b did.0 w v square did.2 k) ∙ turned.1, turned.2)
 
-pub realm_turned : (limits : Limits) (b : ℕ) (w v : World) (act : Act) → IsSquare w → IsSoundPart w → (realm_of b w ≡ None → (k : ℕ) → (cell_at w.machine k).descriptor ≡ None) → is_realm_destroy act ≡ false
+pub realm_turned : (limits : Limits) (b : ℕ) (w v : World) (act : Act) → IsSquare w → IsSoundPart w → (realm_of b w ≡ None → (k : ℕ) → (cell_at w.machine k).descriptor ≡ None)
+    → is_realm_destroy act ≡ false
     → step limits w (by b act) ≡ Some v → (k : ℕ) (d : RealmRow) → (cell_at w.machine k).descriptor ≡ Some d → (e : RealmRow) × ((cell_at v.machine k).descriptor ≡ Some e) × Turns act d e
 realm_turned limits b w v act square sound none plain = turned_by limits b w v act (Turns act) square sound none (allowed limits w sound act plain)
 
@@ -186,7 +196,8 @@ made_new limits w rd root v realm none =
 
 -- a realm that ends ran no REC, and no realm is left
 destroyed : (limits : Limits) (w : World) (sound : IsSoundPart w) (rd : ℕ) (root : Root) (v : ℕ) (realm : Option Seen)
-    → Yields (λ us. ((k : ℕ) (e : RealmRow) → (put_at us k (cell_at w.machine k)).descriptor ≡ Some e → ⊥) × ((k : ℕ) (d : RealmRow) → (cell_at w.machine k).descriptor ≡ Some d → running d.recs d.next ≡ 0))
+    → Yields (λ us. ((k : ℕ) (e : RealmRow) → (put_at us k (cell_at w.machine k)).descriptor ≡ Some e → ⊥)
+        × ((k : ℕ) (d : RealmRow) → (cell_at w.machine k).descriptor ≡ Some d → running d.recs d.next ≡ 0))
     (outcome_of limits.vmids limits.aux (used_vmids w.machine) (UnRealm rd root v) realm (map (seen w.machine) (named (UnRealm rd root v))))
 unfolding outcome_of named
 destroyed limits w sound rd root v realm = Yields-with_realm P _ _ (λ d is. Yields-check P _ _ _ (λ empty. Yields-Ok P _ (
@@ -201,7 +212,8 @@ destroyed limits w sound rd root v realm = Yields-with_realm P _ _ (λ d is. Yie
     P us = ((k : ℕ) (e : RealmRow) → (put_at us k (cell_at w.machine k)).descriptor ≡ Some e → ⊥) × ((k : ℕ) (d : RealmRow) → (cell_at w.machine k).descriptor ≡ Some d → running d.recs d.next ≡ 0)
 
 -- the same of steps
-pub realm_made_step : (limits : Limits) (b : ℕ) (w v : World) (rd : ℕ) (root : Root) (vmid : ℕ) → IsSquare w → ((k : ℕ) → (cell_at w.machine k).descriptor ≡ None) → step limits w (by b (Realm rd root vmid)) ≡ Some v
+pub realm_made_step : (limits : Limits) (b : ℕ) (w v : World) (rd : ℕ) (root : Root) (vmid : ℕ) → IsSquare w → ((k : ℕ) → (cell_at w.machine k).descriptor ≡ None)
+    → step limits w (by b (Realm rd root vmid)) ≡ Some v
     → (k : ℕ) (e : RealmRow) → (cell_at v.machine k).descriptor ≡ Some e → e ≡ new_realm vmid root
 realm_made_step limits b w v rd root vmid square none s k e is =
     let did = done limits b w v (Realm rd root vmid) (λ us. (k : ℕ) (e : RealmRow) → (put_at us k (cell_at w.machine k)).descriptor ≡ Some e → e ≡ new_realm vmid root)
@@ -211,7 +223,8 @@ realm_made_step limits b w v rd root vmid square none s k e is =
 pub realm_gone_step : (limits : Limits) (b : ℕ) (w v : World) (rd : ℕ) (root : Root) (vmid : ℕ) → IsSquare w → IsSoundPart w → step limits w (by b (UnRealm rd root vmid)) ≡ Some v
     → ((k : ℕ) → (cell_at v.machine k).descriptor ≡ None) × ((k : ℕ) (d : RealmRow) → (cell_at w.machine k).descriptor ≡ Some d → running d.recs d.next ≡ 0)
 realm_gone_step limits b w v rd root vmid square sound s =
-    let did = done limits b w v (UnRealm rd root vmid) (λ us. ((k : ℕ) (e : RealmRow) → (put_at us k (cell_at w.machine k)).descriptor ≡ Some e → ⊥) × ((k : ℕ) (d : RealmRow) → (cell_at w.machine k).descriptor ≡ Some d → running d.recs d.next ≡ 0))
+    let did = done limits b w v (UnRealm rd root vmid) (λ us. ((k : ℕ) (e : RealmRow) → (put_at us k (cell_at w.machine k)).descriptor ≡ Some e → ⊥)
+        × ((k : ℕ) (d : RealmRow) → (cell_at w.machine k).descriptor ≡ Some d → running d.recs d.next ≡ 0))
     (destroyed limits w sound rd root vmid (realm_of b w)) s in
     ((λ k. none_of (cell_at v.machine k).descriptor (λ e is. did.1.0 k e (ap (λ (c : Cell). c.descriptor) (sym (cell_put b did.0 w v square did.2 k)) ∙ is))), did.1.1)
   where

@@ -25,7 +25,8 @@ unfolding realm_from
 IsAt-realm_from b [] front machine = tt
 IsAt-realm_from b (l ∷ leases) front [] = tt
 IsAt-realm_from b (l ∷ leases) front (c ∷ machine) =
-    elim (same_lease l (Some b) && is_some c.descriptor) as (λ t. IsAt (front ++ c ∷ machine) (cond t (Some (record { number = length front; cell = c })) (realm_from b (suc (length front)) leases machine))) [
+    elim (same_lease l (Some b) && is_some c.descriptor) as (λ t. IsAt (front ++ c ∷ machine)
+        (cond t (Some (record { number = length front; cell = c })) (realm_from b (suc (length front)) leases machine))) [
       | true ↦ get_or_at front c machine blank (length front) refl
       | false ↦
           let long : length (front ++ c ∷ []) ≡ suc (length front) = simp length-append (omega arith) in
@@ -49,7 +50,8 @@ unfolding realm_from
 IsHeld-realm_from b front [] machine = tt
 IsHeld-realm_from b front (l ∷ leases) [] = tt
 IsHeld-realm_from b front (l ∷ leases) (c ∷ machine) =
-    elim (same_lease l (Some b) && is_some c.descriptor) as (λ t. (same_lease l (Some b) && is_some c.descriptor) ≡ t → IsHeld b (front ++ l ∷ leases) (cond t (Some (record { number = length front; cell = c })) (realm_from b (suc (length front)) leases machine))) [
+    elim (same_lease l (Some b) && is_some c.descriptor) as (λ t. (same_lease l (Some b) && is_some c.descriptor) ≡ t
+        → IsHeld b (front ++ l ∷ leases) (cond t (Some (record { number = length front; cell = c })) (realm_from b (suc (length front)) leases machine))) [
       | true ↦ λ e. leased_from (Some b) (front ++ l ∷ leases) (length front) (slice_get_at front l leases ∙ ap Some (lease_is l (Some b) (and_parts _ _ e).0))
       | false ↦ λ e.
           let long : length (front ++ l ∷ []) ≡ suc (length front) = simp length-append (omega arith) in
@@ -119,7 +121,8 @@ realm_from_there b n (suc g) (l ∷ leases) (c ∷ machine) leased row alone =
     no_row_first true false h = refl
     no_row_first false t h = refl
 
-pub realm_of_there : (b : ℕ) (w : World) (part : IsSoundPart w) (g : ℕ) (d : RealmRow) → is_leased_to (Some b) w.leases g ≡ true → (cell_at w.machine g).descriptor ≡ Some d → realm_of b w ≡ Some (seen w.machine g)
+pub realm_of_there : (b : ℕ) (w : World) (part : IsSoundPart w) (g : ℕ) (d : RealmRow) → is_leased_to (Some b) w.leases g ≡ true
+    → (cell_at w.machine g).descriptor ≡ Some d → realm_of b w ≡ Some (seen w.machine g)
 realm_of_there b w part g d lease is =
     realm_from_there b 0 g w.leases w.machine (leased (Some b) w.leases g lease) (ap is_some is)
     (λ h some. at_rd h some ∙ sym (at_rd g (ap is_some is)))

@@ -34,7 +34,8 @@ use Rattle.realm_model.proofs.Parts.{IsSoundPart, IsLinked}
 -- a realm that is made where none was is the one
 pub made_row : (w : World) (rd : ℕ) (root : Root) (v : ℕ) → ((k : ℕ) → (cell_at w.machine k).descriptor ≡ None)
     → (k : ℕ) (e : RealmRow) → (put_at (creation rd root v) k (cell_at w.machine k)).descriptor ≡ Some e → (k ≡ rd) × (new_realm v root ≡ e)
-made_row w rd root v none k e h = elim (is_in k (starting_tables root)) as (λ t. (cond t (held InRtt rd) (cond (k == rd) (new_rd rd root v) (cell_at w.machine k))).descriptor ≡ Some e → (k ≡ rd) × (new_realm v root ≡ e)) [
+made_row w rd root v none k e h =
+    elim (is_in k (starting_tables root)) as (λ t. (cond t (held InRtt rd) (cond (k == rd) (new_rd rd root v) (cell_at w.machine k))).descriptor ≡ Some e → (k ≡ rd) × (new_realm v root ≡ e)) [
   | true ↦ λ h. cc
   | false ↦ λ h. elim (k == rd) as (λ t. (k == rd) ≡ t → (cond t (new_rd rd root v) (cell_at w.machine k)).descriptor ≡ Some e → (k ≡ rd) × (new_realm v root ≡ e)) [
     | true ↦ λ here h. (eqb-true k rd here, same_Some _ _ h)

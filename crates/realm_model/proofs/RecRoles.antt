@@ -33,7 +33,9 @@ abbrev rec_role : ℕ → ℕ → List ℕ → ℕ → Option Role
 rec_role m g gs k = cond (k == g) (Some (AsRec m)) (listed_role (AsAux m) gs k)
 
 bare_lefts : (gs : List ℕ) (k : ℕ) (x : Cell) (e : RealmRow) → (put_at (lefts gs) k x).descriptor ≡ Some e → x.descriptor ≡ Some e
-bare_lefts gs k x e h = elim (is_in k gs) as (λ t. (cond t left x).descriptor ≡ Some e → x.descriptor ≡ Some e) [ true ↦ λ h. cc | false ↦ λ h. h ] (sym (ap (λ (y : Cell). y.descriptor) (put_at-each_put left gs k x)) ∙ h)
+bare_lefts gs k x e h =
+    elim (is_in k gs) as (λ t. (cond t left x).descriptor ≡ Some e → x.descriptor ≡ Some e) [ true ↦ λ h. cc | false ↦ λ h. h ]
+    (sym (ap (λ (y : Cell). y.descriptor) (put_at-each_put left gs k x)) ∙ h)
 
 module _ (w : World) (sound : IsSoundPart w) (old : IsLinked (λ k. cell_at w.machine k)) (rd : Seen) (d e1 : RealmRow)
     (at : cell_at w.machine rd.number ≡ rd.cell) (is : rd.cell.descriptor ≡ Some d) (root : e1.root ≡ d.root) (rows : e1.rows ≡ d.rows) where
@@ -91,7 +93,8 @@ module _ (w : World) (sound : IsSoundPart w) (old : IsLinked (λ k. cell_at w.ma
       at_aux : (k : ℕ) → is_in k gs ≡ true → put_at us k (now k) ≡ held RecAux n
       at_aux k i = written k (now k) ∙ ap (λ t. cond t (held RecAux n) (cond (k == g) c (now k))) i
 
-      fresh_rec : (q : ℕ) (to : ℕ × GranuleState) → q ≡ m → (g, InRec) ≡ to → (rec_role m g gs to.0 ≡ Some (AsRec q)) × ((put_at us to.0 (now to.0)).state ≡ to.1) × ((put_at us to.0 (now to.0)).realm ≡ Some n)
+      fresh_rec : (q : ℕ) (to : ℕ × GranuleState) → q ≡ m → (g, InRec) ≡ to → (rec_role m g gs to.0 ≡ Some (AsRec q)) × ((put_at us to.0 (now to.0)).state ≡ to.1)
+          × ((put_at us to.0 (now to.0)).realm ≡ Some n)
       fresh_rec q to qs ts =
           let here : to.0 ≡ g = ap (λ (t : ℕ × GranuleState). t.0) (sym ts) in
           let cell = at_rec to.0 here in (
@@ -169,7 +172,8 @@ module _ (w : World) (sound : IsSoundPart w) (old : IsLinked (λ k. cell_at w.ma
       no_role q f = cc
 
       no_left : (k : ℕ) → is_in k (map granule_of (lefts all)) ≡ true → is_role_state (put_at (lefts all) k (now k)).state ≡ true → ⊥
-      no_left k i role = true_false _ role (ap (λ (y : Cell). is_role_state y.state) (put_at-each_put left all k (now k) ∙ ap (λ t. cond t left (now k)) (sym (ap (is_in k) (granules-each_put left all)) ∙ i)))
+      no_left k i role =
+          true_false _ role (ap (λ (y : Cell). is_role_state y.state) (put_at-each_put left all k (now k) ∙ ap (λ t. cond t left (now k)) (sym (ap (is_in k) (granules-each_put left all)) ∙ i)))
 
       fewer : (p : Role) (to : ℕ × GranuleState) → target e1 p ≡ Some to → target d p ≡ Some to
       fewer (AsStart i) to h = ap (λ r. start_target r i) (sym root) ∙ h
@@ -213,7 +217,8 @@ module _ (w : World) (sound : IsSoundPart w) (old : IsLinked (λ k. cell_at w.ma
 
       -- the granules of another REC stay, those of this one do not
       recs_stay : (q : ℕ) → (recs_of e1 q ≡ recs_of d q) ⊎ (recs_of d q ≡ Some (rec.granule, rec.auxiliaries))
-      recs_stay q = elim (eq_by_cmp nat_cmp q m) as (λ t. eq_by_cmp nat_cmp q m ≡ t → recs_of e1 q ≡ cond t None (recs_of d q) → (recs_of e1 q ≡ recs_of d q) ⊎ (recs_of d q ≡ Some (rec.granule, rec.auxiliaries))) [
+      recs_stay q = elim (eq_by_cmp nat_cmp q m) as (λ t. eq_by_cmp nat_cmp q m ≡ t → recs_of e1 q ≡ cond t None (recs_of d q) → (recs_of e1 q ≡ recs_of d q)
+          ⊎ (recs_of d q ≡ Some (rec.granule, rec.auxiliaries))) [
         | true ↦ λ e is. inr (ap (recs_of d) (nat_place q m e) ∙ was)
         | false ↦ λ e is. inl is
       ] refl (recs q)

@@ -229,7 +229,8 @@ module _ (limits : Limits) (b : ℕ) (u w : World) (su : IsSoundPart u) (sw : Is
   unfolding new_realm
   new_root v root d2 same = (same.root, sym same.vmid)
 
-  undone_realm : (rd : ℕ) (root : Root) (v : ℕ) → list_all is_delegated (map (seen u.machine) (rd ∷ starting_tables root)) ≡ true → AllDistinct (rd ∷ starting_tables root) → is_leased_to (Some b) u.leases rd ≡ true
+  undone_realm : (rd : ℕ) (root : Root) (v : ℕ) → list_all is_delegated (map (seen u.machine) (rd ∷ starting_tables root)) ≡ true
+      → AllDistinct (rd ∷ starting_tables root) → is_leased_to (Some b) u.leases rd ≡ true
       → Leads (creation rd root v) → (act : Act) → Reversal limits b u w act (UnRealm rd root v)
   unfolding outcome_of named fits
   undone_realm rd root v delegated different held_rd leads act =
@@ -254,9 +255,18 @@ module _ (limits : Limits) (b : ℕ) (u w : World) (su : IsSoundPart u) (sw : Is
         ready_if = λ r. refl;
       }
 
+  -- the realm has a row that leads to the granule
+  fits_row : (n level ipa g : ℕ) (d2 : RealmRow) (row : Row) → realm_of b w ≡ Some (seen w.machine n) → (cell_at w.machine n).descriptor ≡ Some d2
+      → row_at d2.rows level ipa ≡ Some row → row.granule ≡ Some g → realm_is (realm_of b w) (λ x y. leads_to (row_at y.rows level ipa) g) ≡ true
+  fits_row n level ipa g d2 row found there at granule =
+      ap (λ o. realm_is o (λ x y. leads_to (row_at y.rows level ipa) g)) found
+      ∙ ap (λ o. elim o [ Some y ↦ leads_to (row_at y.rows level ipa) g | None ↦ false ]) there
+      ∙ ap (λ o. leads_to o g) at ∙ ap (λ o. option_eq nat_eq o (Some g)) granule ∙ eq-eqb g g refl
+
   -- ---- Rtt
 
-  planned_rtt : (used : List ℕ) (d2 : RealmRow) (n ipa g level : ℕ) (row : Row) → (cell_at w.machine n).descriptor ≡ Some d2 → get d2.rows (level - 1, first_covered (level - 1) ipa) ≡ Some row → is_table row ≡ true → row.granule ≡ Some g
+  planned_rtt : (used : List ℕ) (d2 : RealmRow) (n ipa g level : ℕ) (row : Row) → (cell_at w.machine n).descriptor ≡ Some d2
+      → get d2.rows (level - 1, first_covered (level - 1) ipa) ≡ Some row → is_table row ≡ true → row.granule ≡ Some g
       → is_table_place ipa level ≡ true → is_protected d2 ipa ≡ true → 1 ≤ level - 1 → is_table_unused d2.rows level ipa ≡ true → realm_of b w ≡ Some (seen w.machine n)
       → outcome_of limits.vmids limits.aux used (UnRtt g ipa level) (realm_of b w) (map (seen w.machine) (named (UnRtt g ipa level)))
       ≡ check true error_input (Ok (Put g left ∷ Put n (record (cell_at w.machine n) { descriptor = Some (record d2 { rows = without_table d2.rows level ipa }) }) ∷ []))
@@ -294,16 +304,16 @@ module _ (limits : Limits) (b : ℕ) (u w : World) (su : IsSoundPart u) (sw : Is
       let d3 : RealmRow = record d2 { rows = without_table d2.rows level ipa } in
       let tail : List Update = Put n (record (cell_at w.machine n) { descriptor = Some d3 }) ∷ [] in
       let was_free : mapping_of_row above ≡ Vacant = free_above (level - 1) above.state above.granule spot.low.1 (shape_of d.rows up above sound.rows there) plain in
-      let rows_back : (q : ℕ × ℕ) → look d.rows q ≡ look d3.rows q = table_back d.rows d2.rows level ipa g above.ripas above there was_free (none_among d.rows level ipa above sound.rows spot there plain) both.same.rows in
+      let rows_back : (q : ℕ × ℕ) → look d.rows q ≡ look d3.rows q = table_back d.rows d2.rows level ipa g above.ripas above there was_free
+          (none_among d.rows level ipa above sound.rows spot there plain) both.same.rows in
       let granule : row.0.granule ≡ Some g = ap (λ (p : Mapping). p.granule) row.2 in
       record {
         ready = true;
         refusal = error_input;
         updates = lefts (g ∷ []) ++ tail;
-        planned = λ used. planned_rtt used d2 n ipa g level row.0 both.there row.1 (ap (λ (p : Mapping). is_table_state p.state) row.2) granule place (protected_too both ipa protected) spot.low.0 unused both.found;
-        fitting = ap (λ o. realm_is o (λ x y. leads_to (row_at y.rows (level - 1) ipa) g)) both.found
-            ∙ ap (λ o. elim o [ Some y ↦ leads_to (row_at y.rows (level - 1) ipa) g | None ↦ false ]) both.there
-            ∙ ap (λ o. leads_to o g) row.1 ∙ ap (λ o. option_eq nat_eq o (Some g)) granule ∙ eq-eqb g g refl;
+        planned = λ used. planned_rtt used d2 n ipa g level row.0 both.there row.1 (ap (λ (p : Mapping). is_table_state p.state) row.2) granule place
+            (protected_too both ipa protected) spot.low.0 unused both.found;
+        fitting = fits_row n (level - 1) ipa g d2 row.0 both.found both.there row.1 granule;
         back = back_left u w (Put g c ∷ Put n z ∷ []) tail (g ∷ []) refl (in_one g (delegated_leaves su.rd u g (su.cells g) free_g)) (tail_one u n _ (realm_tail rd d d1 d3 at is at_n
             (record { vmid = both.same.vmid; root = both.same.root; recs = both.same.recs; rows = rows_back }))) leads;
         ready_if = λ r. refl;
@@ -311,7 +321,8 @@ module _ (limits : Limits) (b : ℕ) (u w : World) (su : IsSoundPart u) (sw : Is
 
   -- ---- Data
 
-  planned_data : (used : List ℕ) (d2 : RealmRow) (c : Cell) (n ipa g : ℕ) (row : Row) → (cell_at w.machine n).descriptor ≡ Some d2 → get d2.rows (3, first_covered 3 ipa) ≡ Some row → is_assigned row ≡ true → row.granule ≡ Some g
+  planned_data : (used : List ℕ) (d2 : RealmRow) (c : Cell) (n ipa g : ℕ) (row : Row) → (cell_at w.machine n).descriptor ≡ Some d2
+      → get d2.rows (3, first_covered 3 ipa) ≡ Some row → is_assigned row ≡ true → row.granule ≡ Some g
       → is_protected d2 ipa ≡ true → realm_of b w ≡ Some (seen w.machine n)
       → outcome_of limits.vmids limits.aux used (UnData g ipa) (realm_of b w) (map (seen w.machine) (named (UnData g ipa)))
       ≡ check true error_input (Ok (Put g left ∷ Put n (record (cell_at w.machine n) { descriptor = Some (record d2 { rows = put_row d2.rows 3 ipa (unassigned (unmapped_ripas row.ripas)) }) }) ∷ []))
@@ -340,7 +351,8 @@ module _ (limits : Limits) (b : ℕ) (u w : World) (su : IsSoundPart u) (sw : Is
       let both = in_both n z d1 refl held_rd at_n in
       let d2 : RealmRow = both.realm in
       let place : ℕ × ℕ = (3, first_covered 3 ipa) in
-      let now_there : look d1.rows place ≡ Some (mapping Assigned (Some g)) = look-insert d.rows place place (assigned ripas g) ∙ ap (λ t. cond t (Some (mapping_of_row (assigned ripas g))) (look d.rows place)) (place_self place) in
+      let now_there : look d1.rows place ≡ Some (mapping Assigned (Some g)) = look-insert d.rows place place (assigned ripas g)
+          ∙ ap (λ t. cond t (Some (mapping_of_row (assigned ripas g))) (look d.rows place)) (place_self place) in
       let row = look_get (get d2.rows place) (mapping Assigned (Some g)) (sym (both.same.rows place) ∙ now_there) in
       let d3 : RealmRow = record d2 { rows = put_row d2.rows 3 ipa (unassigned (unmapped_ripas row.0.ripas)) } in
       let tail : List Update = Put n (record (cell_at w.machine n) { descriptor = Some d3 }) ∷ [] in
@@ -356,10 +368,9 @@ module _ (limits : Limits) (b : ℕ) (u w : World) (su : IsSoundPart u) (sw : Is
         ready = true;
         refusal = error_input;
         updates = lefts (g ∷ []) ++ tail;
-        planned = λ used. planned_data used d2 (cell_at w.machine n) n ipa g row.0 both.there row.1 (ap (λ (p : Mapping). is_assigned_state p.state) row.2) granule (protected_too both ipa protected) both.found;
-        fitting = ap (λ o. realm_is o (λ x y. leads_to (row_at y.rows 3 ipa) g)) both.found
-            ∙ ap (λ o. elim o [ Some y ↦ leads_to (row_at y.rows 3 ipa) g | None ↦ false ]) both.there
-            ∙ ap (λ o. leads_to o g) row.1 ∙ ap (λ o. option_eq nat_eq o (Some g)) granule ∙ eq-eqb g g refl;
+        planned = λ used. planned_data used d2 (cell_at w.machine n) n ipa g row.0 both.there row.1 (ap (λ (p : Mapping). is_assigned_state p.state) row.2) granule
+            (protected_too both ipa protected) both.found;
+        fitting = fits_row n 3 ipa g d2 row.0 both.found both.there row.1 granule;
         back = back_left u w (Put g c ∷ Put n z ∷ []) tail (g ∷ []) refl (in_one g (delegated_leaves su.rd u g (su.cells g) free_g)) (tail_one u n _ (realm_tail rd d d1 d3 at is at_n
             (record { vmid = both.same.vmid; root = both.same.root; recs = both.same.recs; rows = rows_back }))) leads;
         ready_if = λ r. refl;
@@ -381,7 +392,8 @@ module _ (limits : Limits) (b : ℕ) (u w : World) (su : IsSoundPart u) (sw : Is
   look_rec None p e = cc
   look_rec (Some rec) p e = (rec, refl, same_Some _ _ e)
 
-  planned_rec : (used : List ℕ) (d2 : RealmRow) (k g : ℕ) (aux : ArrayVec ℕ 16 (Unit {0})) (n : ℕ) (rec : RecRow) → (cell_at w.machine k).descriptor ≡ Some d2 → get d2.recs n ≡ Some rec → granules_of_rec rec ≡ (g, aux.items) → realm_of b w ≡ Some (seen w.machine k)
+  planned_rec : (used : List ℕ) (d2 : RealmRow) (k g : ℕ) (aux : ArrayVec ℕ 16 (Unit {0})) (n : ℕ) (rec : RecRow) → (cell_at w.machine k).descriptor ≡ Some d2
+      → get d2.recs n ≡ Some rec → granules_of_rec rec ≡ (g, aux.items) → realm_of b w ≡ Some (seen w.machine k)
       → outcome_of limits.vmids limits.aux used (UnRec g aux n) (realm_of b w) (map (seen w.machine) (named (UnRec g aux n)))
       ≡ check (is_ready rec.state) error_rec (Ok (lefts (g ∷ aux.items) ++ Put k (record (cell_at w.machine k) { descriptor = Some (record d2 { recs = remove d2.recs n }) }) ∷ []))
   unfolding outcome_of named
@@ -389,7 +401,8 @@ module _ (limits : Limits) (b : ℕ) (u w : World) (su : IsSoundPart u) (sw : Is
       ap (λ o. outcome_of limits.vmids limits.aux used (UnRec g aux n) o (map (seen w.machine) (named (UnRec g aux n)))) found
       ∙ realm_there (seen w.machine k) _ d2 there
       ∙ rec_there d2 n _ rec at
-      ∙ ap (λ (p : ℕ × List ℕ). check (is_ready rec.state) error_rec (Ok (lefts (p.0 ∷ p.1) ++ Put k (record (cell_at w.machine k) { descriptor = Some (record d2 { recs = remove d2.recs n }) }) ∷ []))) own
+      ∙ ap (λ (p : ℕ × List ℕ). check (is_ready rec.state) error_rec (Ok (lefts (p.0 ∷ p.1) ++ Put k
+          (record (cell_at w.machine k) { descriptor = Some (record d2 { recs = remove d2.recs n }) }) ∷ []))) own
 
   abbrev runs : Option RecRow → Bool
   runs None = false
@@ -430,7 +443,8 @@ module _ (limits : Limits) (b : ℕ) (u w : World) (su : IsSoundPart u) (sw : Is
       let recs_back : (q : ℕ) → option_map granules_of_rec (get d.recs q) ≡ option_map granules_of_rec (get d3.recs q) = λ q.
       elim (eq_by_cmp nat_cmp q n) as (λ t. eq_by_cmp nat_cmp q n ≡ t → option_map granules_of_rec (get d.recs q) ≡ option_map granules_of_rec (cond t None (get d2.recs q))) [
         | true ↦ λ e. ap (option_map granules_of_rec) (unnumbered d q sound (nat_place q n e ∙ number))
-        | false ↦ λ e. sym (ap (option_map granules_of_rec) (get-insert nat_cmp_total d.recs d.next rec1 q ∙ ap (λ t. cond t (Some rec1) (get d.recs q)) (ap (eq_by_cmp nat_cmp q) (sym number) ∙ e))) ∙ both.same.recs q
+        | false ↦ λ e. sym (ap (option_map granules_of_rec) (get-insert nat_cmp_total d.recs d.next rec1 q
+            ∙ ap (λ t. cond t (Some rec1) (get d.recs q)) (ap (eq_by_cmp nat_cmp q) (sym number) ∙ e))) ∙ both.same.recs q
       ] refl ∙ sym (ap (option_map granules_of_rec) (get-remove nat_cmp_total d2.recs n q)) in
       record {
         ready = is_ready rec.0.state;
@@ -483,7 +497,8 @@ module _ (limits : Limits) (b : ℕ) (u w : World) (su : IsSoundPart u) (sw : Is
       let outer = and_parts _ _ all in
       let inner = and_parts _ _ outer.0 in
       let bytes = (cell_at u.machine source).bytes in
-      Yields-Ok P _ (λ leads. undone_data (Data g ipa source) rd d (measurement_after d.measurement (data_event ipa bytes)) g ipa Ram end.row (record (held_cell InData rd.number) { bytes = bytes }) refl at is held inner.0 outer.1
+      Yields-Ok P _ (λ leads. undone_data (Data g ipa source) rd d (measurement_after d.measurement (data_event ipa bytes)) g ipa Ram end.row
+          (record (held_cell InData rd.number) { bytes = bytes }) refl at is held inner.0 outer.1
       (walk_at d.rows ipa 3 end e (eqb-true end.level 3 last)) free leads)))))))
   undone (Unknown g ipa) None k p h at held fit = Yields-Err (Y (Unknown g ipa)) _
   undone (Unknown g ipa) (Some rd) k p h at held fit =

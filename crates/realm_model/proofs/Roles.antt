@@ -23,23 +23,21 @@ role_no_host Delegated h = cc
 role_no_host Rd h = cc
 role_no_host _ h = refl
 
+-- the host has UNDELEGATED and DELEGATED granules alone
+of_host : (P : GranuleState → Type 0) → P Undelegated → P Delegated → (s : GranuleState) → is_host_state s ≡ true → P s
+of_host P undelegated delegated Undelegated h = undelegated
+of_host P undelegated delegated Delegated h = delegated
+of_host P undelegated delegated Rd h = cc
+of_host P undelegated delegated InRec h = cc
+of_host P undelegated delegated RecAux h = cc
+of_host P undelegated delegated InData h = cc
+of_host P undelegated delegated InRtt h = cc
+
 pub host_no_role : (s : GranuleState) → is_host_state s ≡ true → is_role_state s ≡ false
-host_no_role Undelegated h = refl
-host_no_role Delegated h = refl
-host_no_role Rd h = cc
-host_no_role InRec h = cc
-host_no_role RecAux h = cc
-host_no_role InData h = cc
-host_no_role InRtt h = cc
+host_no_role = of_host (λ s. is_role_state s ≡ false) refl refl
 
 pub host_no_rd : (s : GranuleState) → is_host_state s ≡ true → is_rd_state s ≡ false
-host_no_rd Undelegated h = refl
-host_no_rd Delegated h = refl
-host_no_rd Rd h = cc
-host_no_rd InRec h = cc
-host_no_rd RecAux h = cc
-host_no_rd InData h = cc
-host_no_rd InRtt h = cc
+host_no_rd = of_host (λ s. is_rd_state s ≡ false) refl refl
 
 -- ---- what is named is in the state of a role
 

@@ -55,7 +55,8 @@ module _ (limits : Limits) (b : ℕ) (p : List Event) (base : World) (legal_p : 
   Deep history = length below ≤ length (open_entries b history)
 
   -- one more event
-  both_step : (s : List Event) (y v : World) (e : Event) → replay limits (p ++ s) ≡ Some y → Both s y → IsInTurn (p ++ s) e → step limits y e ≡ Some v → Deep (p ++ (s ++ e ∷ [])) → Both (s ++ e ∷ []) v
+  both_step : (s : List Event) (y v : World) (e : Event) → replay limits (p ++ s) ≡ Some y → Both s y → IsInTurn (p ++ s) e → step limits y e ≡ Some v
+      → Deep (p ++ (s ++ e ∷ [])) → Both (s ++ e ∷ []) v
   both_step s y v e at_y h turn stepped deep =
       let longer : (p ++ s) ++ e ∷ [] ≡ p ++ (s ++ e ∷ []) = append_assoc p s (e ∷ []) in
       let next = kept_step limits b (SameFor b) (IsSound b) (laws limits b) base below h.stack (p ++ s) y v e h.kept turn stepped (subst Deep (sym longer) deep) in
@@ -137,7 +138,8 @@ rolled_back limits history mark w legal at_w stands rest =
     subst (λ es. length (open_entries b p) ≤ length (open_entries b es)) (take_further mark.place n (mark.place + n) history refl)
     (subst (λ k. k ≤ length (open_entries b (take (mark.place + n) history))) (sym stands.depth) (stands.since (mark.place + n) (omega arith)))) in
     let st : List Act = both_there.stack in
-    let kept : Kept limits b (SameFor b) (IsSound b) (laws limits b) parts.base (open_entries b p) st history w = subst (λ es. Kept limits b (SameFor b) (IsSound b) (laws limits b) parts.base (open_entries b p) st es w) whole both_there.kept in
+    let kept : Kept limits b (SameFor b) (IsSound b) (laws limits b) parts.base (open_entries b p) st history w = subst
+        (λ es. Kept limits b (SameFor b) (IsSound b) (laws limits b) parts.base (open_entries b p) st es w) whole both_there.kept in
     let top : above mark history ≡ reverse st = ap (drop mark.depth) kept.open_is ∙ ap (λ n. drop n (open_entries b p ++ reverse st)) (sym stands.depth) ∙ drop_front (open_entries b p) (reverse st) in
     let stack : st ≡ reverse (above mark history) = sym (reverse-reverse st) ∙ ap reverse (sym top) in
     let none_runs : list_any (is_running (realm_of b w)) st ≡ false = any_reverse _ st (ap (list_any (is_running (realm_of b w))) (sym top) ∙ rest) in

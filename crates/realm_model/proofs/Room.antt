@@ -89,17 +89,20 @@ module _ (limits : Limits) (b : ℕ) (w v : World) (kept : IsKept b w) (kept_v :
       let gone = realm_gone_step limits b (part_of w b) V rd root vmid square kept.sound.part s in
       count_none b v kept_v gone.0 ∙ sym (zero_of w kept gone.1)
 
-  count_turned : (act : Act) → makes_realm act ≡ false → is_realm_destroy act ≡ false → step limits (part_of w b) (by b act) ≡ Some V → RunsAfter act (running_count (realm_of b w)) (running_count (realm_of b v))
+  count_turned : (act : Act) → makes_realm act ≡ false → is_realm_destroy act ≡ false → step limits (part_of w b) (by b act) ≡ Some V
+      → RunsAfter act (running_count (realm_of b w)) (running_count (realm_of b v))
   count_turned act plain stays s = elim (part_realm b w kept) [
     | inl none ↦
         let none_v = still_none limits (part_of w b) V b act square plain s (none_there b w kept none) in
         elim (is_of_rec_run act) as (λ t. is_of_rec_run act ≡ t → RunsAfter act (running_count (realm_of b w)) (running_count (realm_of b v))) [
           | true ↦ λ e. absurd (no_realm_refuses limits b (part_of w b) V act e (realm_of-part_of b w ∙ none) (step_is limits (part_of w b) V (by b act) s))
-          | false ↦ λ e. subst (λ x. RunsAfter act x (running_count (realm_of b v))) (sym (count_none b w kept (none_there b w kept none))) (subst (λ y. RunsAfter act 0 y) (sym (count_none b v kept_v none_v)) (none_runs act e))
+          | false ↦ λ e. subst (λ x. RunsAfter act x (running_count (realm_of b v))) (sym (count_none b w kept (none_there b w kept none)))
+              (subst (λ y. RunsAfter act 0 y) (sym (count_none b v kept_v none_v)) (none_runs act e))
         ] refl
     | inr there ↦
         let then = realm_turned limits b (part_of w b) V act square kept.sound.part no_rows stays s there.0 there.1 there.2 in
-        subst (λ x. RunsAfter act x (running_count (realm_of b v))) (sym (count_some b w kept there.0 there.1 there.2)) (subst (λ y. RunsAfter act (running there.1.recs there.1.next) y) (sym (count_some b v kept_v there.0 then.0 then.1)) then.2.1)
+        subst (λ x. RunsAfter act x (running_count (realm_of b v))) (sym (count_some b w kept there.0 there.1 there.2))
+            (subst (λ y. RunsAfter act (running there.1.recs there.1.next) y) (sym (count_some b v kept_v there.0 then.0 then.1)) then.2.1)
   ]
 
   count_step : (act : Act) → step limits w (by b act) ≡ Some v → RunsAfter act (running_count (realm_of b w)) (running_count (realm_of b v))

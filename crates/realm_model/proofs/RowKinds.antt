@@ -35,7 +35,8 @@ shape_of rows place row sound there = subst (IsShaped place.0) (ap (option_map m
 -- ---- tables
 
 pub plain_unassigned : (row : Row) → is_unassigned row ≡ true → is_table_kind (Some (mapping_of_row row)) ≡ false
-plain_unassigned row h = elim row.state as (λ x. is_unassigned_state x ≡ true → is_table_kind (Some (mapping x row.granule)) ≡ false) [ Unassigned ↦ λ h. refl | Assigned ↦ λ h. cc | Table ↦ λ h. cc ] h
+plain_unassigned row h =
+    elim row.state as (λ x. is_unassigned_state x ≡ true → is_table_kind (Some (mapping x row.granule)) ≡ false) [ Unassigned ↦ λ h. refl | Assigned ↦ λ h. cc | Table ↦ λ h. cc ] h
 
 pub plain_assigned : (row : Row) → is_assigned row ≡ true → is_table_kind (Some (mapping_of_row row)) ≡ false
 plain_assigned row h = elim row.state as (λ x. is_assigned_state x ≡ true → is_table_kind (Some (mapping x row.granule)) ≡ false) [ Unassigned ↦ λ h. cc | Assigned ↦ λ h. refl | Table ↦ λ h. cc ] h

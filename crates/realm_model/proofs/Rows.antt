@@ -131,7 +131,8 @@ all_rows_at test rows level first zero k h less = absurd (omega arith)
 all_rows_at test rows level first (suc n) k h less =
     let parts : (elim (get rows (level, first + n * covered_count level)) [ Some row ↦ test row | None ↦ false ] ≡ true) × (all_rows test rows level first n ≡ true) = and_parts _ _ h in
     elim (k == n) as (λ t. (k == n) ≡ t → (row : Row) × (get rows (level, first + k * covered_count level) ≡ Some row) × (test row ≡ true)) [
-      | true ↦ λ e. subst (λ j. (row : Row) × (get rows (level, first + j * covered_count level) ≡ Some row) × (test row ≡ true)) (sym (eqb-true k n e)) (passing (get rows (level, first + n * covered_count level)) parts.0)
+      | true ↦ λ e. subst (λ j. (row : Row) × (get rows (level, first + j * covered_count level) ≡ Some row) × (test row ≡ true)) (sym (eqb-true k n e))
+          (passing (get rows (level, first + n * covered_count level)) parts.0)
       | false ↦ λ e. let apart : k ≢ n = eqb-false k n e in all_rows_at test rows level first n k parts.1 (omega arith)
     ] refl
   where
@@ -141,7 +142,8 @@ all_rows_at test rows level first (suc n) k h less =
 
 -- ---- rows that become RAM
 
-pub same_rows : (rows : Rows) (ipa n : ℕ) → all_rows is_unassigned rows 3 ipa n ≡ true → (q : ℕ × ℕ) → option_map mapping_of_row (get rows q) ≡ option_map mapping_of_row (get (put_rows as_ram rows 3 ipa n) q)
+pub same_rows : (rows : Rows) (ipa n : ℕ) → all_rows is_unassigned rows 3 ipa n ≡ true → (q : ℕ × ℕ)
+    → option_map mapping_of_row (get rows q) ≡ option_map mapping_of_row (get (put_rows as_ram rows 3 ipa n) q)
 unfolding all_rows put_rows
 same_rows rows ipa zero h q = refl
 same_rows rows ipa (suc n) h q =

@@ -55,7 +55,8 @@ module _ (p q : ℕ → Bool) (n : ℕ) (same : (k : ℕ) → k ≢ n → q k �
           ∙ both (p a) rest
         where
           both : (t : Bool) → length (filter q (range_with_len (a + 1) m)) ≡ length (filter p (range_with_len (a + 1) m)) + 1
-              → length (cond t (a ∷ filter q (range_with_len (a + 1) m)) (filter q (range_with_len (a + 1) m))) ≡ length (cond t (a ∷ filter p (range_with_len (a + 1) m)) (filter p (range_with_len (a + 1) m))) + 1
+              → length (cond t (a ∷ filter q (range_with_len (a + 1) m)) (filter q (range_with_len (a + 1) m))) ≡ length
+                  (cond t (a ∷ filter p (range_with_len (a + 1) m)) (filter p (range_with_len (a + 1) m))) + 1
           both true e = omega arith
           both false e = e
 
@@ -100,12 +101,14 @@ abbrev pub running : FinMap nat_cmp RecRow → ℕ → ℕ
 running recs next = length (filter (runs recs) (range_with_len 0 next))
 
 -- one that did not run runs
-pub running-start : (recs : FinMap nat_cmp RecRow) (next n : ℕ) (rec : RecRow) → n < next → runs recs n ≡ false → is_rec_running (Some rec) ≡ true → running (insert recs n rec) next ≡ running recs next + 1
+pub running-start : (recs : FinMap nat_cmp RecRow) (next n : ℕ) (rec : RecRow) → n < next → runs recs n ≡ false → is_rec_running (Some rec) ≡ true
+    → running (insert recs n rec) next ≡ running recs next + 1
 running-start recs next n rec below off on =
     count_more (runs recs) (runs (insert recs n rec)) n (runs-insert_other recs n rec) 0 next (omega arith) (omega arith) off (runs-insert_same recs n rec ∙ on)
 
 -- one that ran does not
-pub running-stop : (recs : FinMap nat_cmp RecRow) (next n : ℕ) (rec : RecRow) → n < next → runs recs n ≡ true → is_rec_running (Some rec) ≡ false → running (insert recs n rec) next + 1 ≡ running recs next
+pub running-stop : (recs : FinMap nat_cmp RecRow) (next n : ℕ) (rec : RecRow) → n < next → runs recs n ≡ true → is_rec_running (Some rec) ≡ false
+    → running (insert recs n rec) next + 1 ≡ running recs next
 running-stop recs next n rec below on off =
     sym (count_more (runs (insert recs n rec)) (runs recs) n (λ k apart. sym (runs-insert_other recs n rec k apart)) 0 next (omega arith) (omega arith) (runs-insert_same recs n rec ∙ off) on)
 

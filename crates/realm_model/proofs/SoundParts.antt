@@ -29,7 +29,8 @@ use Rattle.realm_model.proofs.Parts.{IsSoundCell, IsSoundPart, IsSoundFor}
 
 -- a free granule is blank in a part too
 module _ (p : Option ℕ → Bool) where
-  part_clean : (leases : List (Option ℕ)) (machine : Machine) → each scrubbed leases machine ≡ machine → each scrubbed (map (unleased p) leases) (each (hidden p) leases machine) ≡ each (hidden p) leases machine
+  part_clean : (leases : List (Option ℕ)) (machine : Machine) → each scrubbed leases machine ≡ machine
+      → each scrubbed (map (unleased p) leases) (each (hidden p) leases machine) ≡ each (hidden p) leases machine
   part_clean [] machine h = refl
   part_clean (l ∷ leases) [] h = refl
   part_clean (l ∷ leases) (c ∷ machine) h = λ i. one i ∷ part_clean leases machine (ap tail h) i
@@ -67,7 +68,8 @@ stands : (o : ℕ) (act : Act) → StandsAt (stand o act) act
 stands o (Realm rd root v) = refl
 stands o _ = tt
 
-all_stand : (w : World) (o : ℕ) → AllCells o w → (act : Act) (realm : Option Seen) (gs : List Seen) → (realm ≡ None → (g : ℕ) → (cell_at w.machine g).descriptor ≡ None) → fits act realm gs ≡ true → AllCells (stand o act) w
+all_stand : (w : World) (o : ℕ) → AllCells o w → (act : Act) (realm : Option Seen) (gs : List Seen) → (realm ≡ None → (g : ℕ) → (cell_at w.machine g).descriptor ≡ None)
+    → fits act realm gs ≡ true → AllCells (stand o act) w
 unfolding fits
 all_stand w o all (Realm rd root vmid) realm gs none fit g = sound_anywhere o rd g (cell_at w.machine g) (all g) (none (none_is realm fit) g)
 all_stand w o all _ realm gs none fit g = all g
@@ -129,7 +131,8 @@ IsSound-opening limits b = record {
 pub IsSound-after : (limits : Limits) (b : ℕ) (es : List Event) (w v : World) → IsSound b w → after limits es w ≡ Some v → IsSound b v
 unfolding after
 IsSound-after limits b [] w v sound h = subst (IsSound b) (same_Some _ _ h) sound
-IsSound-after limits b (e ∷ es) w v sound h = option_and_then_some (after limits es) (step limits w e) v h (λ x stepped rest. IsSound-after limits b es x v (IsSound-step limits b w x e sound stepped) rest)
+IsSound-after limits b (e ∷ es) w v sound h =
+    option_and_then_some (after limits es) (step limits w e) v h (λ x stepped rest. IsSound-after limits b es x v (IsSound-step limits b w x e sound stepped) rest)
 
 pub sound_after : (limits : Limits) (b : ℕ) (history : List Event) (w : World) → replay limits history ≡ Some w → IsSound b w
 sound_after limits b history w at_w = IsSound-after limits b history (opening limits) w (IsSound-opening limits b) at_w

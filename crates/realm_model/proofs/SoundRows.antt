@@ -81,7 +81,8 @@ put_sound {width} rows place row sound there no_table shaped = record {
     ] refl
 
     stays : (q : ℕ × ℕ) → has_table (look rows) q ≡ true → has_table (look (insert rows place row)) q ≡ true
-    stays q h = elim (q.0 == 1) as (λ t. (t || is_table_kind (look rows (q.0 - 1, first_covered (q.0 - 1) q.1))) ≡ true → (t || is_table_kind (look (insert rows place row) (q.0 - 1, first_covered (q.0 - 1) q.1))) ≡ true) [
+    stays q h = elim (q.0 == 1) as (λ t. (t || is_table_kind (look rows (q.0 - 1, first_covered (q.0 - 1) q.1))) ≡ true
+        → (t || is_table_kind (look (insert rows place row) (q.0 - 1, first_covered (q.0 - 1) q.1))) ≡ true) [
       | true ↦ λ h. refl
       | false ↦ λ h. table_stays (q.0 - 1, first_covered (q.0 - 1) q.1) h
     ] h
@@ -162,7 +163,8 @@ module _ {width : ℕ} (old : Rows) (level ipa : ℕ) (above : Row) (sound : IsS
     up_table = ap is_table_kind up_look
 
     stays : (q : ℕ × ℕ) → has_table (look old) q ≡ true → has_table (look made) q ≡ true
-    stays q h = elim (q.0 == 1) as (λ t. (t || is_table_kind (look old (q.0 - 1, first_covered (q.0 - 1) q.1))) ≡ true → (t || is_table_kind (look made (q.0 - 1, first_covered (q.0 - 1) q.1))) ≡ true) [
+    stays q h = elim (q.0 == 1) as (λ t. (t || is_table_kind (look old (q.0 - 1, first_covered (q.0 - 1) q.1))) ≡ true
+        → (t || is_table_kind (look made (q.0 - 1, first_covered (q.0 - 1) q.1))) ≡ true) [
       | true ↦ λ h. refl
       | false ↦ λ h. table_stays (q.0 - 1, first_covered (q.0 - 1) q.1) h
     ] h
@@ -211,7 +213,8 @@ module _ {width : ℕ} (old : Rows) (level ipa : ℕ) (above : Row) (sound : IsS
           | true ↦ λ e. inl (
             same_place q up e,
             same ∙ new_up granule ripas plain q e,
-            ap (λ p. row_target (look old p)) (same_place q up e) ∙ ap row_target up_is ∙ above_target (level - 1) above.state above.granule at.low.1 (subst (IsShaped (level - 1)) up_is (sound.shaped up)) plain,
+            ap (λ p. row_target (look old p)) (same_place q up e) ∙ ap row_target up_is
+                ∙ above_target (level - 1) above.state above.granule at.low.1 (subst (IsShaped (level - 1)) up_is (sound.shaped up)) plain,
           )
           | false ↦ λ e. inr (inr (same ∙ not_up granule ripas plain q e))
         ] refl
@@ -257,10 +260,12 @@ module _ {width : ℕ} (old : Rows) (level ipa : ℕ) (above : Row) (sound : IsS
     left_up q e = look-insert dropped up q (unassigned Destroyed) ∙ ap (λ t. cond t (Some (mapping Unassigned None)) (look dropped q)) e
 
     left_under : (q : ℕ × ℕ) → is_place q up ≡ false → under q ≡ true → look left_rows q ≡ None
-    left_under q e u = look-insert dropped up q (unassigned Destroyed) ∙ ap (λ t. cond t (Some (mapping Unassigned None)) (look dropped q)) e ∙ look-dropped q ∙ ap (λ t. cond (not t) (look old q) None) u
+    left_under q e u =
+        look-insert dropped up q (unassigned Destroyed) ∙ ap (λ t. cond t (Some (mapping Unassigned None)) (look dropped q)) e ∙ look-dropped q ∙ ap (λ t. cond (not t) (look old q) None) u
 
     left_other : (q : ℕ × ℕ) → is_place q up ≡ false → under q ≡ false → look left_rows q ≡ look old q
-    left_other q e u = look-insert dropped up q (unassigned Destroyed) ∙ ap (λ t. cond t (Some (mapping Unassigned None)) (look dropped q)) e ∙ look-dropped q ∙ ap (λ t. cond (not t) (look old q) None) u
+    left_other q e u =
+        look-insert dropped up q (unassigned Destroyed) ∙ ap (λ t. cond t (Some (mapping Unassigned None)) (look dropped q)) e ∙ look-dropped q ∙ ap (λ t. cond (not t) (look old q) None) u
 
     under_level : (q : ℕ × ℕ) → under q ≡ true → q.0 ≡ level
     under_level q u = eqb-true q.0 level (and_parts _ _ (and_parts _ _ u).0).0
@@ -307,7 +312,9 @@ module _ {width : ℕ} (old : Rows) (level ipa : ℕ) (above : Row) (sound : IsS
         ] refl
 
     left_below : (q : ℕ × ℕ) → under q ≡ false → is_some (look old q) ≡ true → has_table (look left_rows) q ≡ true
-    left_below q out some = elim (q.0 == 1) as (λ t. (q.0 == 1) ≡ t → (t || is_table_kind (look old (q.0 - 1, first_covered (q.0 - 1) q.1))) ≡ true → (t || is_table_kind (look left_rows (q.0 - 1, first_covered (q.0 - 1) q.1))) ≡ true) [
+    left_below q out some =
+        elim (q.0 == 1) as (λ t. (q.0 == 1) ≡ t → (t || is_table_kind (look old (q.0 - 1, first_covered (q.0 - 1) q.1))) ≡ true
+        → (t || is_table_kind (look left_rows (q.0 - 1, first_covered (q.0 - 1) q.1))) ≡ true) [
       | true ↦ λ e h. refl
       | false ↦ λ e h. parent_stays q.0 q.1 out e h
     ] refl (sound.below q some)

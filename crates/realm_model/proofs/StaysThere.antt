@@ -49,7 +49,8 @@ unfolding reverse_of
 paired_keeps (UnRealm rd root v) p = cc
 paired_keeps _ p = refl
 
-leases_stay : (limits : Limits) (b : ℕ) (w v : World) (act : Act) → is_paired act ≡ true → IsStep limits w (by b act) v → (g : ℕ) → slice_get w.leases g ≡ Some (Some b) → slice_get v.leases g ≡ Some (Some b)
+leases_stay : (limits : Limits) (b : ℕ) (w v : World) (act : Act) → is_paired act ≡ true → IsStep limits w (by b act) v → (g : ℕ) → slice_get w.leases g ≡ Some (Some b)
+    → slice_get v.leases g ≡ Some (Some b)
 unfolding reverse_of named
 leases_stay limits b w v (Take order first) p s g e =
     let gs = block order first in

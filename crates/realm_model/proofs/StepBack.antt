@@ -31,15 +31,18 @@ asked limits b w v act s =
 
 -- what a step did, where its command yields P
 pub done : (limits : Limits) (b : ℕ) (w v : World) (act : Act) (P : List Update → Type 0)
-    → Yields P (outcome_of limits.vmids limits.aux (used_vmids w.machine) act (realm_of b w) (map (seen w.machine) (named act))) → step limits w (by b act) ≡ Some v → (us : List Update) × P us × (updated_all b us w ≡ Some v)
+    → Yields P (outcome_of limits.vmids limits.aux (used_vmids w.machine) act (realm_of b w) (map (seen w.machine) (named act))) → step limits w (by b act) ≡ Some v
+        → (us : List Update) × P us × (updated_all b us w ≡ Some v)
 unfolding step
-done limits b w v act P yields s = of_plan (outcome_of limits.vmids limits.aux (used_vmids w.machine) act (realm_of b w) (map (seen w.machine) (named act))) yields (guarded (is_allowed limits w (by b act)) _ v s).1
+done limits b w v act P yields s =
+    of_plan (outcome_of limits.vmids limits.aux (used_vmids w.machine) act (realm_of b w) (map (seen w.machine) (named act))) yields (guarded (is_allowed limits w (by b act)) _ v s).1
   where
     of_plan : (o : Outcome) → Yields P o → after_outcome b o w ≡ Some v → (us : List Update) × P us × (updated_all b us w ≡ Some v)
     of_plan (Ok us) yields e = (us, yields.where_ok us refl, e)
     of_plan (Err rmi) yields e = cc
 
 -- what a step did, by the list of updates that its outcome_of is
-pub planned : (limits : Limits) (b : ℕ) (w v : World) (act : Act) (us : List Update) → outcome_of limits.vmids limits.aux (used_vmids w.machine) act (realm_of b w) (map (seen w.machine) (named act)) ≡ Ok us → step limits w (by b act) ≡ Some v → updated_all b us w ≡ Some v
+pub planned : (limits : Limits) (b : ℕ) (w v : World) (act : Act) (us : List Update)
+    → outcome_of limits.vmids limits.aux (used_vmids w.machine) act (realm_of b w) (map (seen w.machine) (named act)) ≡ Ok us → step limits w (by b act) ≡ Some v → updated_all b us w ≡ Some v
 unfolding step
 planned limits b w v act us e s = ap (λ o. after_outcome b o w) (sym e) ∙ (guarded (is_allowed limits w (by b act)) _ v s).1

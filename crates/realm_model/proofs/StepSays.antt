@@ -47,7 +47,8 @@ same_Ok : (us vs : List Update) → ◌≡◌ {A = Outcome} (Ok us) (Ok vs) → 
 same_Ok us vs e = cc
 
 -- the leases after the updates of an act
-leases_of : (limits : Limits) (used : List ℕ) (b : ℕ) (w v : World) (act : Act) (realm : Option Seen) (us : List Update) → outcome_of limits.vmids limits.aux used act realm (map (seen w.machine) (named act)) ≡ Ok us → updated_all b us w ≡ Some v
+leases_of : (limits : Limits) (used : List ℕ) (b : ℕ) (w v : World) (act : Act) (realm : Option Seen) (us : List Update)
+    → outcome_of limits.vmids limits.aux used act realm (map (seen w.machine) (named act)) ≡ Ok us → updated_all b us w ≡ Some v
     → v.leases ≡ leases_after b act w.leases
 unfolding outcome_of named
 leases_of limits used b w v (Take order first) realm us e done =
@@ -87,7 +88,8 @@ step_is limits w v event s =
 
 module _ (b : ℕ) (lease next : Option ℕ) (change : ℕ → Update) (granule : (g : ℕ) → granule_of (change g) ≡ g)
     (before : (g : ℕ) → lease_before b (change g) ≡ lease) (then : (g : ℕ) → lease_after b (change g) ≡ next) where
-  rest_leased : (leases : List (Option ℕ)) (first a n : ℕ) → first < a → list_all (is_leased_to lease leases) (range_with_len a n) ≡ true → list_all (is_leased_to lease (set leases first next)) (range_with_len a n) ≡ true
+  rest_leased : (leases : List (Option ℕ)) (first a n : ℕ) → first < a → list_all (is_leased_to lease leases) (range_with_len a n) ≡ true
+      → list_all (is_leased_to lease (set leases first next)) (range_with_len a n) ≡ true
   rest_leased leases first a zero less h = refl
   rest_leased leases first a (suc n) less h =
       let parts : (is_leased_to lease leases a ≡ true) × (list_all (is_leased_to lease leases) (range_with_len (a + 1) n) ≡ true) = and_parts _ _ h in
@@ -105,7 +107,8 @@ module _ (b : ℕ) (lease next : Option ℕ) (change : ℕ → Update) (granule 
       let rest = row_goes (first + 1) n (updated b (change first) w)
       (ap (λ ls. list_all (is_leased_to lease ls) (range_with_len (first + 1) n)) after_is ∙ rest_leased w.leases first (first + 1) n (omega arith) parts.1) in (
         rest.0,
-        ap (λ t. cond t (updated_all b (map change (range_with_len (first + 1) n)) (updated b (change first) w)) None) ((λ i. is_leased_to (before first i) w.leases (granule first i)) ∙ parts.0) ∙ rest.1,
+        ap (λ t. cond t (updated_all b (map change (range_with_len (first + 1) n)) (updated b (change first) w)) None)
+            ((λ i. is_leased_to (before first i) w.leases (granule first i)) ∙ parts.0) ∙ rest.1,
       )
 
 allowed : (limits : Limits) (w v : World) (event : Event) → IsStep limits w event v → is_allowed limits w event ≡ true

@@ -30,69 +30,59 @@ among_from level ipa n i h k = and_from _ _ (and_from _ _ (eq-eqb level level re
 among_to : (level ipa n i : ℕ) → is_among level ipa n (level, i) ≡ true → (ipa ≤ i) × (i < ipa + n)
 among_to level ipa n i h = let both = and_parts _ _ h in (leb-true ipa i (and_parts _ _ both.0).1, ltb-true i (ipa + n) both.1)
 
-place_two : (ipa : ℕ) → (ipa % 262144 == 0) ≡ true → IsTablePlace ipa 2
-place_two ipa e =
-    let whole : ipa % 262144 ≡ 0 = eqb-true (ipa % 262144) 0 e in
-    record {
-      low = (lit≤ tt, lit≤ tt, refl);
-      first = first ipa whole;
-      among = λ i h. among_from 2 ipa 262144 i (inside ipa i whole h).0 (inside ipa i whole h).1;
-      from_among = λ i h. let both = among_to 2 ipa 262144 i h in outside ipa i whole both.0 both.1;
-      below = λ k h. outside ipa (ipa + k * 512) whole (omega arith) (omega arith);
-      aligned = λ i h. index ipa i whole h;
-      places = λ width inside k h. record { least = lit≤ tt; most = lit≤ tt; first = row ipa k whole; inside = below (start_count width) ipa k whole inside h };
-    }
-  where
-    first : (ipa : ℕ) → ipa % 262144 ≡ 0 → ipa / 262144 * 262144 ≡ ipa
-    first ipa whole = omega arith
+-- Arithmetic of a table that covers `big` IPA granules, by 512 entries of `small` each.
+record IsGrid (big small : ℕ) : Type 0 where
+  first : (ipa : ℕ) → ipa % big ≡ 0 → ipa / big * big ≡ ipa
+  inside : (ipa i : ℕ) → ipa % big ≡ 0 → i / big * big ≡ ipa → (ipa ≤ i) × (i < ipa + 512 * small)
+  outside : (ipa i : ℕ) → ipa % big ≡ 0 → ipa ≤ i → i < ipa + 512 * small → i / big * big ≡ ipa
+  entry : (ipa i : ℕ) → ipa % big ≡ 0 → i / small * small / big * big ≡ ipa → (k : ℕ) × (k < 512) × (i / small * small ≡ ipa + k * small)
+  place : (ipa k : ℕ) → ipa % big ≡ 0 → (ipa + k * small) / small * small ≡ ipa + k * small
+  within : (ipa k : ℕ) → k < 512 → (ipa ≤ ipa + k * small) × (ipa + k * small < ipa + 512 * small)
+  below : (tables ipa k : ℕ) → ipa % big ≡ 0 → ipa < tables * 134217728 → k < 512 → ipa + k * small < tables * 134217728
 
-    inside : (ipa i : ℕ) → ipa % 262144 ≡ 0 → i / 262144 * 262144 ≡ ipa → (ipa ≤ i) × (i < ipa + 262144)
-    inside ipa i whole h = (omega arith, omega arith)
+grid_two : IsGrid 262144 512
+grid_two = record {
+  first = λ ipa whole. omega arith;
+  inside = λ ipa i whole at. (omega arith, omega arith);
+  outside = λ ipa i whole low high. omega arith;
+  entry = λ ipa i whole at. (i / 512 - ipa / 512, omega arith, omega arith);
+  place = λ ipa k whole. omega arith;
+  within = λ ipa k few. (omega arith, omega arith);
+  below = λ tables ipa k whole low few. omega arith;
+}
 
-    outside : (ipa i : ℕ) → ipa % 262144 ≡ 0 → ipa ≤ i → i < ipa + 262144 → i / 262144 * 262144 ≡ ipa
-    outside ipa i whole h k = omega arith
+grid_three : IsGrid 512 1
+grid_three = record {
+  first = λ ipa whole. omega arith;
+  inside = λ ipa i whole at. (omega arith, omega arith);
+  outside = λ ipa i whole low high. omega arith;
+  entry = λ ipa i whole at. (i / 1 - ipa, omega arith, omega arith);
+  place = λ ipa k whole. omega arith;
+  within = λ ipa k few. (omega arith, omega arith);
+  below = λ tables ipa k whole low few. omega arith;
+}
 
-    index : (ipa i : ℕ) → ipa % 262144 ≡ 0 → i / 512 * 512 / 262144 * 262144 ≡ ipa → (k : ℕ) × (k < 512) × (i / 512 * 512 ≡ ipa + k * 512)
-    index ipa i whole h = (i / 512 - ipa / 512, omega arith, omega arith)
-
-    row : (ipa k : ℕ) → ipa % 262144 ≡ 0 → (ipa + k * 512) / 512 * 512 ≡ ipa + k * 512
-    row ipa k whole = omega arith
-
-    below : (tables ipa k : ℕ) → ipa % 262144 ≡ 0 → ipa < tables * 134217728 → k < 512 → ipa + k * 512 < tables * 134217728
-    below tables ipa k whole inside h = omega arith
-
-place_three : (ipa : ℕ) → (ipa % 512 == 0) ≡ true → IsTablePlace ipa 3
-place_three ipa e =
-    let whole : ipa % 512 ≡ 0 = eqb-true (ipa % 512) 0 e in
-    record {
-      low = (lit≤ tt, lit≤ tt, refl);
-      first = first ipa whole;
-      among = λ i h. among_from 3 ipa 512 i (inside ipa i whole h).0 (inside ipa i whole h).1;
-      from_among = λ i h. let both = among_to 3 ipa 512 i h in outside ipa i whole both.0 both.1;
-      below = λ k h. outside ipa (ipa + k * 1) whole (omega arith) (omega arith);
-      aligned = λ i h. index ipa i whole h;
-      places = λ width inside k h. record { least = lit≤ tt; most = lit≤ tt; first = row ipa k whole; inside = below (start_count width) ipa k whole inside h };
-    }
-  where
-    first : (ipa : ℕ) → ipa % 512 ≡ 0 → ipa / 512 * 512 ≡ ipa
-    first ipa whole = omega arith
-
-    inside : (ipa i : ℕ) → ipa % 512 ≡ 0 → i / 512 * 512 ≡ ipa → (ipa ≤ i) × (i < ipa + 512)
-    inside ipa i whole h = (omega arith, omega arith)
-
-    outside : (ipa i : ℕ) → ipa % 512 ≡ 0 → ipa ≤ i → i < ipa + 512 → i / 512 * 512 ≡ ipa
-    outside ipa i whole h k = omega arith
-
-    index : (ipa i : ℕ) → ipa % 512 ≡ 0 → i / 1 * 1 / 512 * 512 ≡ ipa → (k : ℕ) × (k < 512) × (i / 1 * 1 ≡ ipa + k * 1)
-    index ipa i whole h = (i / 1 - ipa, omega arith, omega arith)
-
-    row : (ipa k : ℕ) → ipa % 512 ≡ 0 → (ipa + k * 1) / 1 * 1 ≡ ipa + k * 1
-    row ipa k whole = omega arith
-
-    below : (tables ipa k : ℕ) → ipa % 512 ≡ 0 → ipa < tables * 134217728 → k < 512 → ipa + k * 1 < tables * 134217728
-    below tables ipa k whole inside h = omega arith
+placed : (ipa level : ℕ) → (1 ≤ level - 1) × (level - 1 ≤ 2) × (level - 1 + 1 ≡ level) → IsGrid (covered_count (level - 1)) (covered_count level)
+    → ipa % covered_count (level - 1) ≡ 0 → IsTablePlace ipa level
+placed ipa level low grid whole = record {
+  low = low;
+  first = grid.first ipa whole;
+  among = λ i h. let within = grid.inside ipa i whole h in among_from level ipa (512 * covered_count level) i within.0 within.1;
+  from_among = λ i h. let within = among_to level ipa (512 * covered_count level) i h in grid.outside ipa i whole within.0 within.1;
+  below = λ k few. let within = grid.within ipa k few in grid.outside ipa (ipa + k * covered_count level) whole within.0 within.1;
+  aligned = λ i h. grid.entry ipa i whole h;
+  places = λ width inside k few. record {
+    least = omega arith;
+    most = omega arith;
+    first = grid.place ipa k whole;
+    inside = grid.below (start_count width) ipa k whole inside few;
+  };
+}
 
 pub table_place : (ipa level : ℕ) → is_table_place ipa level ≡ true → IsTablePlace ipa level
 table_place ipa level h =
     let both = and_parts _ _ h in
-    by_level (λ l. (ipa % covered_count (l - 1) == 0) ≡ true → IsTablePlace ipa l) level both.0 (place_two ipa) (place_three ipa) both.1
+    placed ipa level
+    (by_level (λ l. (1 ≤ l - 1) × (l - 1 ≤ 2) × (l - 1 + 1 ≡ l)) level both.0 (lit≤ tt, lit≤ tt, refl) (lit≤ tt, lit≤ tt, refl))
+    (by_level (λ l. IsGrid (covered_count (l - 1)) (covered_count l)) level both.0 grid_two grid_three)
+    (eqb-true (ipa % covered_count (level - 1)) 0 both.1)

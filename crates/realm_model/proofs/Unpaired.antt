@@ -48,7 +48,8 @@ module _ (limits : Limits) (w : World) where
     descriptor = subst (λ o. SameDescriptor o (Some s)) (sym (ap (λ (c : Cell). c.descriptor) at ∙ is)) same;
   }
 
-  rec_put : (rd : Seen) (r : RealmRow) (n : ℕ) (rec new : RecRow) → cell_at w.machine rd.number ≡ rd.cell → rd.cell.descriptor ≡ Some r → get r.recs n ≡ Some rec → granules_of_rec rec ≡ granules_of_rec new
+  rec_put : (rd : Seen) (r : RealmRow) (n : ℕ) (rec new : RecRow) → cell_at w.machine rd.number ≡ rd.cell → rd.cell.descriptor ≡ Some r → get r.recs n ≡ Some rec
+      → granules_of_rec rec ≡ granules_of_rec new
       → SameCell (cell_at w.machine rd.number) (record rd.cell { descriptor = Some (record r { recs = insert r.recs n new }) })
   rec_put rd r n rec new at is there alike =
       realm_put rd r (record r { recs = insert r.recs n new }) at is
@@ -60,7 +61,8 @@ module _ (limits : Limits) (w : World) where
   abbrev P : List Update → Type 0
   P = AreMild w
 
-  pub mild : (act : Act) (realm : Option Seen) → is_paired act ≡ false → is_reverse act ≡ false → IsAt w.machine realm → Yields P (outcome_of limits.vmids limits.aux (used_vmids w.machine) act realm (map (seen w.machine) (named act)))
+  pub mild : (act : Act) (realm : Option Seen) → is_paired act ≡ false → is_reverse act ≡ false → IsAt w.machine realm
+      → Yields P (outcome_of limits.vmids limits.aux (used_vmids w.machine) act realm (map (seen w.machine) (named act)))
   unfolding outcome_of named reverse_of is_reverse with_ram
   mild (Fill g v) realm p r at = Yields-check P _ _ _ (λ _. Yields-Ok P _ (bytes_put (cell_at w.machine g) (page_of v)))
   mild (Peek g o v) realm p r at = Yields-check P _ _ _ (λ _. Yields-Ok P _ tt)
@@ -70,11 +72,15 @@ module _ (limits : Limits) (w : World) where
   mild (Ripas ipa n) None p r at = Yields-Err P _
   mild (Ripas ipa n) (Some rd) p r at = Yields-with_realm P _ _ (λ d is. Yields-check P _ _ _ (λ _. Yields-check P _ _ _ (λ _.
       Yields-with_end P _ _ _ _ (λ end e. Yields-check P _ _ _ (λ _. Yields-check P _ _ _ (λ all. Yields-Ok P _
-      (realm_put rd d (record d { rows = with_ram d.rows ipa n; measurement = measurement_after d.measurement (ripas_event ipa n) }) at is (record { vmid = refl; root = refl; recs = λ n. refl; rows = same_rows d.rows ipa n all }))))))))
+      (realm_put rd d (record d { rows = with_ram d.rows ipa n; measurement = measurement_after d.measurement (ripas_event ipa n) }) at is
+          (record { vmid = refl; root = refl; recs = λ n. refl; rows = same_rows d.rows ipa n all }))))))))
   mild (Enter n) None p r at = Yields-Err P _
-  mild (Enter n) (Some rd) p r at = Yields-with_realm P _ _ (λ d is. Yields-with_rec P _ _ _ (λ rec there. Yields-check P _ _ _ (λ _. Yields-check P _ _ _ (λ _. Yields-Ok P _ (rec_put rd d n rec (record rec { state = Running }) at is there refl)))))
+  mild (Enter n) (Some rd) p r at =
+      Yields-with_realm P _ _ (λ d is. Yields-with_rec P _ _ _ (λ rec there. Yields-check P _ _ _
+      (λ _. Yields-check P _ _ _ (λ _. Yields-Ok P _ (rec_put rd d n rec (record rec { state = Running }) at is there refl)))))
   mild (Exit n) None p r at = Yields-Err P _
-  mild (Exit n) (Some rd) p r at = Yields-with_realm P _ _ (λ d is. Yields-with_rec P _ _ _ (λ rec there. Yields-check P _ _ _ (λ _. Yields-Ok P _ (rec_put rd d n rec (record rec { state = Ready }) at is there refl))))
+  mild (Exit n) (Some rd) p r at =
+      Yields-with_realm P _ _ (λ d is. Yields-with_rec P _ _ _ (λ rec there. Yields-check P _ _ _ (λ _. Yields-Ok P _ (rec_put rd d n rec (record rec { state = Ready }) at is there refl))))
   mild (Poke n ipa o v) None p r at = Yields-Err P _
   mild (Poke n ipa o v) (Some rd) p r at = Yields-with_realm P _ _ (λ d is. Yields-with_rec P _ _ _ (λ rec there. Yields-check P _ _ _ (λ _. Yields-check P _ _ _ (λ _.
       Yields-with_end P _ _ _ _ (λ end e. Yields-check P _ _ _ (λ _. Yields-with_granule P _ _ (λ g there. Yields-Ok P _ tt)))))))

@@ -52,7 +52,8 @@ used_by v (c ∷ machine) e = of_row c.descriptor refl (used_by v machine) e
     ] refl e
 
 -- a realm that is seen with some builds hidden is there
-row_shown : (p : Option ℕ → Bool) (leases : List (Option ℕ)) (machine : Machine) (k : ℕ) (d : RealmRow) → (cell_at (each (hidden p) leases machine) k).descriptor ≡ Some d → (cell_at machine k).descriptor ≡ Some d
+row_shown : (p : Option ℕ → Bool) (leases : List (Option ℕ)) (machine : Machine) (k : ℕ) (d : RealmRow) → (cell_at (each (hidden p) leases machine) k).descriptor ≡ Some d
+    → (cell_at machine k).descriptor ≡ Some d
 row_shown p [] machine k d is = cc
 row_shown p (l ∷ leases) [] k d is = cc
 row_shown p (l ∷ leases) (c ∷ machine) zero d is = elim (p l) as (λ t. (cond t blank c).descriptor ≡ Some d → c.descriptor ≡ Some d) [ true ↦ λ is. cc | false ↦ λ is. is ] is

@@ -21,13 +21,15 @@ pub IsSquare-updated_all : (b : ℕ) (us : List Update) (w v : World) → IsSqua
 unfolding updated_all
 IsSquare-updated_all b [] w v h e = subst IsSquare (same_Some _ _ e) h
 IsSquare-updated_all b (u ∷ us) w v h e =
-    IsSquare-updated_all b us (updated b u w) v (length-set w.leases (granule_of u) (lease_after b u) ∙ h ∙ sym (length-set w.machine (granule_of u) (cell_after u (cell_at w.machine (granule_of u))))) (guarded _ _ _ e).1
+    IsSquare-updated_all b us (updated b u w) v (length-set w.leases (granule_of u) (lease_after b u) ∙ h
+        ∙ sym (length-set w.machine (granule_of u) (cell_after u (cell_at w.machine (granule_of u))))) (guarded _ _ _ e).1
 
 abbrev pub put_at : List Update → ℕ → Cell → Cell
 put_at [] k c = c
 put_at (u ∷ us) k c = put_at us k (cond (k == granule_of u) (cell_after u c) c)
 
-cell_set : (u : Update) (m : Machine) (k : ℕ) → granule_of u < length m → cell_at (set m (granule_of u) (cell_after u (cell_at m (granule_of u)))) k ≡ cond (k == granule_of u) (cell_after u (cell_at m k)) (cell_at m k)
+cell_set : (u : Update) (m : Machine) (k : ℕ) → granule_of u < length m → cell_at (set m (granule_of u) (cell_after u (cell_at m (granule_of u)))) k ≡ cond
+    (k == granule_of u) (cell_after u (cell_at m k)) (cell_at m k)
 cell_set u m k within =
     let g = granule_of u in
     elim (k == g) as (λ t. (k == g) ≡ t → cell_at (set m g (cell_after u (cell_at m g))) k ≡ cond t (cell_after u (cell_at m k)) (cell_at m k)) [

@@ -100,7 +100,8 @@ module _ (limits : Limits) (w : World) (linked : IsLinked (λ k. cell_at w.machi
   abbrev K : List Update → Type 0
   K = AllKeepZero
 
-  keeps : (act : Act) (realm : Option Seen) → is_guest_write act ≡ false → IsAt w.machine realm → Yields K (outcome_of limits.vmids limits.aux (used_vmids w.machine) act realm (map (seen w.machine) (named act)))
+  keeps : (act : Act) (realm : Option Seen) → is_guest_write act ≡ false → IsAt w.machine realm
+      → Yields K (outcome_of limits.vmids limits.aux (used_vmids w.machine) act realm (map (seen w.machine) (named act)))
   unfolding outcome_of named
   keeps (Take order first) realm plain at = Yields-Ok K _ (zero_takes _)
   keeps (UnTake order first) realm plain at = Yields-Ok K _ (zero_frees _)
@@ -108,27 +109,34 @@ module _ (limits : Limits) (w : World) (linked : IsLinked (λ k. cell_at w.machi
   keeps (Peek g o v) realm plain at = Yields-check K _ _ _ (λ _. Yields-Ok K _ tt)
   keeps (Delegate g) realm plain at = Yields-check K _ _ _ (λ _. Yields-Ok K _ (λ s. refl, tt))
   keeps (Undelegate g) realm plain at = Yields-check K _ _ _ (λ _. Yields-Ok K _ (λ s. cc, tt))
-  keeps (Realm rd root v) realm plain at = Yields-check K _ _ _ (λ _. Yields-Ok K _ (λ s. refl, each_alone K (put_seen (held InRtt rd)) (λ a us h. (λ s. refl, h)) (map (seen w.machine) (starting_tables root)) tt))
-  keeps (UnRealm rd root v) realm plain at = Yields-with_realm K _ _ (λ d is. Yields-check K _ _ _ (λ _. Yields-Ok K _ (λ s. refl, each_alone K (λ g. Put g left) (λ g us h. (λ s. refl, h)) (starting_tables d.root) tt)))
+  keeps (Realm rd root v) realm plain at =
+      Yields-check K _ _ _ (λ _. Yields-Ok K _ (λ s. refl, each_alone K (put_seen (held InRtt rd)) (λ a us h. (λ s. refl, h)) (map (seen w.machine) (starting_tables root)) tt))
+  keeps (UnRealm rd root v) realm plain at =
+      Yields-with_realm K _ _ (λ d is. Yields-check K _ _ _ (λ _. Yields-Ok K _ (λ s. refl, each_alone K (λ g. Put g left) (λ g us h. (λ s. refl, h)) (starting_tables d.root) tt)))
   keeps Activate None plain at = Yields-Err K _
   keeps Activate (Some rd) plain at = Yields-with_realm K _ _ (λ d is. Yields-check K _ _ _ (λ _. Yields-Ok K _ (realm_zero rd at, tt)))
   keeps (Rtt g ipa level) None plain at = Yields-Err K _
   keeps (Rtt g ipa level) (Some rd) plain at = Yields-with_realm K _ _ (λ d is. Yields-check K _ _ _ (λ _. Yields-with_end K _ _ _ _ (λ end e. Yields-check K _ _ _ (λ _. Yields-check K _ _ _ (λ _.
       Yields-Ok K _ (λ s. refl, (realm_zero rd at, tt)))))))
   keeps (UnRtt g ipa level) None plain at = Yields-Err K _
-  keeps (UnRtt g ipa level) (Some rd) plain at = Yields-with_realm K _ _ (λ d is. Yields-check K _ _ _ (λ _. Yields-with_end K _ _ _ _ (λ end e. Yields-check K _ _ _ (λ _. Yields-check K _ _ _ (λ _. Yields-check K _ _ _ (λ _. Yields-with_granule K _ _ (λ pa to.
+  keeps (UnRtt g ipa level) (Some rd) plain at =
+      Yields-with_realm K _ _ (λ d is. Yields-check K _ _ _ (λ _. Yields-with_end K _ _ _ _
+      (λ end e. Yields-check K _ _ _ (λ _. Yields-check K _ _ _ (λ _. Yields-check K _ _ _ (λ _. Yields-with_granule K _ _ (λ pa to.
       Yields-Ok K _ (λ s. refl, (realm_zero rd at, tt)))))))))
   keeps (Ripas ipa n) None plain at = Yields-Err K _
-  keeps (Ripas ipa n) (Some rd) plain at = Yields-with_realm K _ _ (λ d is. Yields-check K _ _ _ (λ _. Yields-check K _ _ _ (λ _. Yields-with_end K _ _ _ _ (λ end e. Yields-check K _ _ _ (λ _. Yields-check K _ _ _ (λ _.
+  keeps (Ripas ipa n) (Some rd) plain at =
+      Yields-with_realm K _ _ (λ d is. Yields-check K _ _ _ (λ _. Yields-check K _ _ _ (λ _. Yields-with_end K _ _ _ _ (λ end e. Yields-check K _ _ _ (λ _. Yields-check K _ _ _ (λ _.
       Yields-Ok K _ (realm_zero rd at, tt)))))))
   keeps (Data g ipa source) None plain at = Yields-Err K _
-  keeps (Data g ipa source) (Some rd) plain at = Yields-with_realm K _ _ (λ d is. Yields-check K _ _ _ (λ _. Yields-check K _ _ _ (λ _. Yields-with_end K _ _ _ _ (λ end e. Yields-check K _ _ _ (λ _. Yields-check K _ _ _ (λ _.
+  keeps (Data g ipa source) (Some rd) plain at =
+      Yields-with_realm K _ _ (λ d is. Yields-check K _ _ _ (λ _. Yields-check K _ _ _ (λ _. Yields-with_end K _ _ _ _ (λ end e. Yields-check K _ _ _ (λ _. Yields-check K _ _ _ (λ _.
       Yields-Ok K _ (λ s. cc, (realm_zero rd at, tt))))))))
   keeps (Unknown g ipa) None plain at = Yields-Err K _
   keeps (Unknown g ipa) (Some rd) plain at = Yields-with_realm K _ _ (λ d is. Yields-check K _ _ _ (λ _. Yields-with_end K _ _ _ _ (λ end e. Yields-check K _ _ _ (λ _. Yields-check K _ _ _ (λ _.
       Yields-Ok K _ (λ s. refl, (realm_zero rd at, tt)))))))
   keeps (UnData g ipa) None plain at = Yields-Err K _
-  keeps (UnData g ipa) (Some rd) plain at = Yields-with_realm K _ _ (λ d is. Yields-check K _ _ _ (λ _. Yields-with_end K _ _ _ _ (λ end e. Yields-check K _ _ _ (λ _. Yields-check K _ _ _ (λ _. Yields-with_granule K _ _ (λ pa to.
+  keeps (UnData g ipa) (Some rd) plain at =
+      Yields-with_realm K _ _ (λ d is. Yields-check K _ _ _ (λ _. Yields-with_end K _ _ _ _ (λ end e. Yields-check K _ _ _ (λ _. Yields-check K _ _ _ (λ _. Yields-with_granule K _ _ (λ pa to.
       Yields-Ok K _ (λ s. refl, (realm_zero rd at, tt))))))))
   keeps (Rec g aux m) None plain at = Yields-Err K _
   keeps (Rec g aux m) (Some rd) plain at = Yields-with_realm K _ _ (λ d is. Yields-check K _ _ _ (λ _. Yields-check K _ _ _ (λ _.
@@ -137,7 +145,8 @@ module _ (limits : Limits) (w : World) (linked : IsLinked (λ k. cell_at w.machi
   keeps (UnRec g aux m) (Some rd) plain at = Yields-with_realm K _ _ (λ d is. Yields-with_rec K _ _ _ (λ rec there. Yields-check K _ _ _ (λ _.
       Yields-Ok K _ (λ s. refl, each_in_front K (λ g. Put g left) (λ g us h. (λ s. refl, h)) rec.auxiliaries _ (realm_zero rd at, tt)))))
   keeps (Enter m) None plain at = Yields-Err K _
-  keeps (Enter m) (Some rd) plain at = Yields-with_realm K _ _ (λ d is. Yields-with_rec K _ _ _ (λ rec there. Yields-check K _ _ _ (λ _. Yields-check K _ _ _ (λ _. Yields-Ok K _ (realm_zero rd at, tt)))))
+  keeps (Enter m) (Some rd) plain at =
+      Yields-with_realm K _ _ (λ d is. Yields-with_rec K _ _ _ (λ rec there. Yields-check K _ _ _ (λ _. Yields-check K _ _ _ (λ _. Yields-Ok K _ (realm_zero rd at, tt)))))
   keeps (Exit m) None plain at = Yields-Err K _
   keeps (Exit m) (Some rd) plain at = Yields-with_realm K _ _ (λ d is. Yields-with_rec K _ _ _ (λ rec there. Yields-check K _ _ _ (λ _. Yields-Ok K _ (realm_zero rd at, tt))))
   keeps (Poke m ipa o v) realm plain at = cc
@@ -183,7 +192,8 @@ pub record IsKept (b : ℕ) (w : World) : Type 0 where
   pub zero : IsZeroedFor b w
 
 pub kept_step : (limits : Limits) (b : ℕ) (w v : World) (e : Event) → IsKept b w → step limits w e ≡ Some v → IsKept b v
-kept_step limits b w v e h s = record { sound = IsSound-step limits b w v e h.sound s; linked = linked_step limits b w v e h.sound h.linked s; zero = zero_step limits b w v e h.sound h.linked h.zero s }
+kept_step limits b w v e h s =
+    record { sound = IsSound-step limits b w v e h.sound s; linked = linked_step limits b w v e h.sound h.linked s; zero = zero_step limits b w v e h.sound h.linked h.zero s }
 
 pub kept_reached : (limits : Limits) (b : ℕ) (history : List Event) (w : World) → replay limits history ≡ Some w → IsKept b w
 kept_reached limits b = of_reached limits (IsKept b) (λ w v e h s. kept_step limits b w v e h s)

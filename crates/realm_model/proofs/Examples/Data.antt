@@ -126,7 +126,8 @@ m3 = measurement_after m2 (rec_event 0)
 rammed : step eight (early (record second { rows = mapped }) table_page table_page) (by 0 (Ripas 8 4)) ≡ Some (early (record second { rows = ram; measurement = m1 }) table_page table_page)
 unfolding named outcome_of fits updated_all realm_from with_realm starting_tables
 rammed = step_by eight _ _ (by 0 (Ripas 8 4)) _ refl
-    (check_true _ _ _ refl ∙ check_true _ _ _ refl ∙ end_there mapped 8 3 _ _ (walk_there mapped 8 3 (vacant Empty) (lit≤ tt) (mapped-row 8 (lit≤ tt))) ∙ check_true _ _ _ refl ∙ check_true _ _ _ all_free)
+    (check_true _ _ _ refl ∙ check_true _ _ _ refl ∙ end_there mapped 8 3 _ _ (walk_there mapped 8 3 (vacant Empty) (lit≤ tt) (mapped-row 8 (lit≤ tt)))
+        ∙ check_true _ _ _ refl ∙ check_true _ _ _ all_free)
     refl
 
 -- the worlds from then on, by the realm, and granules 4, 6 and 7
@@ -197,7 +198,8 @@ exited = step_by eight _ _ (by 0 (Exit 0)) _ refl (rec_there (active with_data r
 
 -- ---- and what was made last goes first
 
-unmade : step eight (with_rec_pages (active with_data stopped) written) (by 0 (UnRec 6 (record { items = 7 ∷ [] }) 0)) ≡ Some (late (active with_data gone) (of_realm InData written) delegated delegated)
+unmade : step eight (with_rec_pages (active with_data stopped) written) (by 0 (UnRec 6 (record { items = 7 ∷ [] }) 0)) ≡ Some
+    (late (active with_data gone) (of_realm InData written) delegated delegated)
 unfolding named outcome_of fits updated_all check realm_from with_realm starting_tables
 unmade = step_by eight _ _ (by 0 (UnRec 6 (record { items = 7 ∷ [] }) 0)) _
     (ap (λ o. elim o [ Some r ↦ r.granule == 6 && bytes_eq r.auxiliaries (7 ∷ []) | None ↦ false ]) (latest running (rec Ready)))

@@ -107,7 +107,8 @@ in_turn-world : replay (machine_of 2) (by 0 (Take 0 1) ∷ by 0 (Fill 1 255) ∷
 unfolding step named outcome_of fits updated_all check
 in_turn-world =
     and_then (machine_of 2) _ bare _ _ _ refl (and_then (machine_of 2) _ _ _ _ _ filled-world (and_then (machine_of 2) _ _ _ _ _ peeked-world
-    (and_then (machine_of 2) _ _ _ _ _ delegated-world (and_then (machine_of 2) _ _ _ _ _ undelegated-world (and_then (machine_of 2) _ (opening (machine_of 2)) _ _ _ refl (at_end (machine_of 2) _))))))
+    (and_then (machine_of 2) _ _ _ _ _ delegated-world (and_then (machine_of 2) _ _ _ _ _ undelegated-world
+        (and_then (machine_of 2) _ (opening (machine_of 2)) _ _ _ refl (at_end (machine_of 2) _))))))
 
 -- ---- two blocks of two pages, undone, and then one of four
 

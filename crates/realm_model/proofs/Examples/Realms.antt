@@ -71,6 +71,7 @@ unfolding after step named outcome_of fits updated_all check realm_from with_rea
 other_number = refl
 
 -- a second realm of the build is refused
-second_realm : is_some (replay (machine_of 4) (by 0 (Take 2 0) ∷ by 0 (Delegate 0) ∷ by 0 (Delegate 1) ∷ by 0 (Delegate 2) ∷ by 0 (Delegate 3) ∷ by 0 (Realm 0 start 1) ∷ by 0 (Realm 2 (record { first = 3; width = 39 }) 2) ∷ [])) ≡ false
+second_realm : is_some (replay (machine_of 4) (by 0 (Take 2 0) ∷ by 0 (Delegate 0) ∷ by 0 (Delegate 1) ∷ by 0 (Delegate 2) ∷ by 0 (Delegate 3) ∷ by 0
+    (Realm 0 start 1) ∷ by 0 (Realm 2 (record { first = 3; width = 39 }) 2) ∷ [])) ≡ false
 unfolding after step named outcome_of fits updated_all check realm_from new_realm starting_tables
 second_realm = refl

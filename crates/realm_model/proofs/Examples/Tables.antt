@@ -1,8 +1,10 @@
 -- A table is made and is gone, and its rows with it.
-use Rattle.std.proofs.Common.{◌≡◌, ℕ, ◌+◌, ◌*◌, true, false, Some, None, Err, List, [], ◌∷◌, ◌++◌, refl, ap, ◌∙◌, arith, lit≤}
+use Rattle.std.proofs.Common.{◌≡◌, ℕ, ◌+◌, ◌-◌, ◌*◌, ◌<◌, true, false, cond, not, Some, None, Err, List, [], ◌∷◌, ◌++◌, refl, ap, ◌∙◌, arith, lit≤}
 use Rattle.std.specs.FinMap.{get, empty, get-insert, get-empty}
 use Rattle.std.specs.Option.{option_eq}
+use Rattle.std.specs.Ordering.{eq_by_cmp}
 use Rattle.std.specs.Prelude.{nat_eq, is_some, option_and_then}
+use Rattle.granule_addr.specs.Ipa.{covered_count, first_covered}
 use Rattle.granule_addr.specs.Page.{zero_page}
 use Rattle.realm_model.specs.declared.act.Act.TheVariants.{Rtt, UnRtt, Data}
 use Rattle.realm_model.specs.declared.rmi.Status.TheVariants.{Rtt as OfRtt}
@@ -25,7 +27,7 @@ use Rattle.realm_model.proofs.HistoryParts.{after_append}
 use Rattle.realm_model.proofs.Maps.{place_total, same_place}
 use Rattle.realm_model.proofs.Outcomes.{check_true, end_there}
 use Rattle.realm_model.proofs.RowKinds.{Vacant}
-use Rattle.realm_model.proofs.Rows.{differs, get-put_rows, get-put_rows_other, get-drop_rows, put_there, all_rows_from}
+use Rattle.realm_model.proofs.Rows.{differs, is_among, get-put_rows, get-put_rows_other, get-drop_rows, put_there, all_rows_from}
 use Rattle.realm_model.proofs.Walks.{walk_there, walk_above}
 use Rattle.realm_model.proofs.Examples.Worlds.{machine_of, page, delegated, rd, table_page, start_rows, fresh, world_of, step_by, and_then, at_end, forward, joined}
 use Rattle.realm_model.proofs.Examples.Realms.{on_four, on_four-world}
@@ -40,6 +42,30 @@ leads granule = record { state = Table; ripas = Empty; granule = Some granule }
 -- places of one level with other IPA granules
 pub apart : (level i k : ℕ) → (i ≡ k → ⊥) → differs (level, i) (level, k)
 apart level i k other = false_from _ (λ e. other (ap (λ (p : ℕ × ℕ). p.1) (same_place (level, i) (level, k) e)))
+
+-- ---- rows with a table, and without it, place by place
+
+module _ (rows : Rows) (level ipa : ℕ) where
+  -- the place of the row that leads to the table
+  abbrev up : ℕ × ℕ
+  up = (level - 1, first_covered (level - 1) ipa)
+
+  pub within_table : (granule : ℕ) (ripas : Ripas) (k : ℕ) → k < 512 → get (with_table rows level ipa granule ripas) (level, ipa + k * covered_count level) ≡ Some (unassigned ripas)
+  unfolding with_table
+  within_table granule ripas k few = get-put_rows (λ _. unassigned ripas) (put_row rows (level - 1) ipa (table granule)) level ipa 512 k few
+
+  pub beside_table : (granule : ℕ) (ripas : Ripas) (q : ℕ × ℕ) → ((k : ℕ) → k < 512 → differs q (level, ipa + k * covered_count level))
+      → get (with_table rows level ipa granule ripas) q ≡ cond (eq_by_cmp place_cmp q up) (Some (table granule)) (get rows q)
+  unfolding with_table
+  beside_table granule ripas q apart =
+      get-put_rows_other (λ _. unassigned ripas) (put_row rows (level - 1) ipa (table granule)) level ipa 512 q apart ∙ get-insert place_total rows up (table granule) q
+
+  pub without : (q : ℕ × ℕ) → get (without_table rows level ipa) q
+      ≡ cond (eq_by_cmp place_cmp q up) (Some (unassigned Destroyed)) (cond (not (is_among level ipa (512 * covered_count level) q)) (get rows q) None)
+  unfolding without_table
+  without q =
+      get-insert place_total (drop_rows rows level ipa (512 * covered_count level)) up (unassigned Destroyed) q
+      ∙ ap (cond (eq_by_cmp place_cmp q up) (Some (unassigned Destroyed))) (get-drop_rows rows level ipa (512 * covered_count level) q)
 
 -- ---- the rows of a new realm: 512 of level 1
 
@@ -89,30 +115,21 @@ abbrev pub tabled : Rows
 tabled = with_table start_rows 2 0 2 Empty
 
 pub tabled-above : get tabled (1, 0) ≡ Some (leads 2)
-unfolding with_table
-tabled-above =
-    get-put_rows_other (λ _. unassigned Empty) (put_row start_rows 1 0 (table 2)) 2 0 512 (1, 0) (λ k less. refl)
-    ∙ get-insert place_total start_rows (1, 0) (table 2) (1, 0)
+tabled-above = beside_table start_rows 2 0 2 Empty (1, 0) (λ k less. refl)
 
 pub tabled-beside : get tabled (1, 262144) ≡ Some (vacant Empty)
-unfolding with_table
-tabled-beside =
-    get-put_rows_other (λ _. unassigned Empty) (put_row start_rows 1 0 (table 2)) 2 0 512 (1, 262144) (λ k less. refl)
-    ∙ get-insert place_total start_rows (1, 0) (table 2) (1, 262144) ∙ root-second
+tabled-beside = beside_table start_rows 2 0 2 Empty (1, 262144) (λ k less. refl) ∙ root-second
 
 pub tabled-first : get tabled (2, 0) ≡ Some (vacant Empty)
-unfolding with_table
-tabled-first = get-put_rows (λ _. unassigned Empty) (put_row start_rows 1 0 (table 2)) 2 0 512 0 (lit≤ tt)
+tabled-first = within_table start_rows 2 0 2 Empty 0 (lit≤ tt)
 
 pub tabled-last : get tabled (2, 261632) ≡ Some (vacant Empty)
-unfolding with_table
-tabled-last = get-put_rows (λ _. unassigned Empty) (put_row start_rows 1 0 (table 2)) 2 0 512 511 (lit≤ tt)
+tabled-last = within_table start_rows 2 0 2 Empty 511 (lit≤ tt)
 
 tabled-past : get tabled (2, 262144) ≡ None
-unfolding with_table root_rows
+unfolding root_rows
 tabled-past =
-    get-put_rows_other (λ _. unassigned Empty) (put_row start_rows 1 0 (table 2)) 2 0 512 (2, 262144) (λ k less. apart 2 262144 (0 + k * 512) (λ e. omega arith))
-    ∙ get-insert place_total start_rows (1, 0) (table 2) (2, 262144)
+    beside_table start_rows 2 0 2 Empty (2, 262144) (λ k less. apart 2 262144 (0 + k * 512) (λ e. omega arith))
     ∙ get-put_rows_other (λ _. unassigned Empty) empty 1 0 512 (2, 262144) (λ k less. refl) ∙ get-empty place_cmp (2, 262144)
 
 made : step (machine_of 4) (world start_rows delegated) (by 0 (Rtt 2 0 2)) ≡ Some (world tabled table_page)
@@ -125,22 +142,16 @@ abbrev untabled : Rows
 untabled = without_table tabled 2 0
 
 untabled-above : get untabled (1, 0) ≡ Some (vacant Destroyed)
-unfolding without_table
-untabled-above = get-insert place_total (drop_rows tabled 2 0 262144) (1, 0) (unassigned Destroyed) (1, 0)
+untabled-above = without tabled 2 0 (1, 0)
 
 untabled-beside : get untabled (1, 262144) ≡ Some (vacant Empty)
-unfolding without_table
-untabled-beside =
-    get-insert place_total (drop_rows tabled 2 0 262144) (1, 0) (unassigned Destroyed) (1, 262144)
-    ∙ get-drop_rows tabled 2 0 262144 (1, 262144) ∙ tabled-beside
+untabled-beside = without tabled 2 0 (1, 262144) ∙ tabled-beside
 
 untabled-first : get untabled (2, 0) ≡ None
-unfolding without_table
-untabled-first = get-insert place_total (drop_rows tabled 2 0 262144) (1, 0) (unassigned Destroyed) (2, 0) ∙ get-drop_rows tabled 2 0 262144 (2, 0)
+untabled-first = without tabled 2 0 (2, 0)
 
 untabled-last : get untabled (2, 261632) ≡ None
-unfolding without_table
-untabled-last = get-insert place_total (drop_rows tabled 2 0 262144) (1, 0) (unassigned Destroyed) (2, 261632) ∙ get-drop_rows tabled 2 0 262144 (2, 261632)
+untabled-last = without tabled 2 0 (2, 261632)
 
 unused : is_table_unused tabled 2 0 ≡ true
 unfolding is_table_unused with_table
@@ -163,14 +174,10 @@ unfolding named outcome_of fits updated_all check realm_from with_realm
 again = step_by (machine_of 4) _ _ (by 0 (Rtt 2 0 2)) _ refl (end_there untabled 0 1 _ _ (walk_there untabled 0 1 (vacant Destroyed) (lit≤ tt) untabled-above)) refl
 
 again-above : get (with_table untabled 2 0 2 Destroyed) (1, 0) ≡ Some (leads 2)
-unfolding with_table
-again-above =
-    get-put_rows_other (λ _. unassigned Destroyed) (put_row untabled 1 0 (table 2)) 2 0 512 (1, 0) (λ k less. refl)
-    ∙ get-insert place_total untabled (1, 0) (table 2) (1, 0)
+again-above = beside_table untabled 2 0 2 Destroyed (1, 0) (λ k less. refl)
 
 again-first : get (with_table untabled 2 0 2 Destroyed) (2, 0) ≡ Some (vacant Destroyed)
-unfolding with_table
-again-first = get-put_rows (λ _. unassigned Destroyed) (put_row untabled 1 0 (table 2)) 2 0 512 0 (lit≤ tt)
+again-first = within_table untabled 2 0 2 Destroyed 0 (lit≤ tt)
 
 abbrev then : List Event
 then = by 0 (Rtt 2 0 2) ∷ by 0 (UnRtt 2 0 2) ∷ by 0 (Rtt 2 0 2) ∷ []

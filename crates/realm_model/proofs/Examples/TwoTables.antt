@@ -1,11 +1,11 @@
 -- Two tables of one level: one is gone, and the rows of the other stay.
 use Rattle.std.proofs.Common.{◌≡◌, ◌+◌, ◌*◌, true, false, Some, None, [], ◌∷◌, refl, ap, ◌∙◌, arith, lit≤}
-use Rattle.std.specs.FinMap.{get, get-insert}
+use Rattle.std.specs.FinMap.{get}
 use Rattle.std.specs.Option.{option_eq}
 use Rattle.std.specs.Prelude.{nat_eq, option_map}
 use Rattle.realm_model.specs.declared.act.Act.TheVariants.{Rtt, UnRtt}
 use Rattle.realm_model.specs.declared.states.Ripas.TheVariants.{Empty, Destroyed}
-use Rattle.realm_model.specs.Rows.{Row, Rows, put_row, drop_rows, with_table, without_table, is_unassigned, is_table_unused, unassigned, table, is_unassigned_state}
+use Rattle.realm_model.specs.Rows.{Row, Rows, put_row, with_table, without_table, is_unassigned, is_table_unused, unassigned, table, is_unassigned_state}
 use Rattle.realm_model.specs.Ownership.{mapping_of_row, Mapping}
 use Rattle.realm_model.specs.Machine.{Cell}
 use Rattle.realm_model.specs.Act.{named}
@@ -14,13 +14,12 @@ use Rattle.realm_model.specs.Outcome.{outcome_of, fits}
 use Rattle.realm_model.specs.World.{World, realm_from, updated_all}
 use Rattle.realm_model.specs.Step.{step}
 use Rattle.realm_model.specs.Undoing.{by}
-use Rattle.realm_model.proofs.Maps.{place_total}
 use Rattle.realm_model.proofs.Outcomes.{check_true, end_there}
 use Rattle.realm_model.proofs.RowKinds.{Vacant}
-use Rattle.realm_model.proofs.Rows.{get-put_rows, get-put_rows_other, get-drop_rows, put_there, all_rows_from}
+use Rattle.realm_model.proofs.Rows.{put_there, all_rows_from}
 use Rattle.realm_model.proofs.Walks.{walk_there}
 use Rattle.realm_model.proofs.Examples.Worlds.{machine_of, delegated, rd, table_page, start_rows, fresh, world_of, step_by}
-use Rattle.realm_model.proofs.Examples.Tables.{vacant, leads, apart, tabled, tabled-above, tabled-beside, tabled-first, tabled-last}
+use Rattle.realm_model.proofs.Examples.Tables.{vacant, leads, apart, within_table, beside_table, without, tabled, tabled-above, tabled-beside, tabled-first, tabled-last}
 
 -- a realm of four pages whose third is a table, and the fourth a table too, or DELEGATED
 abbrev world : Rows → Cell → Cell → World
@@ -31,36 +30,22 @@ abbrev two : Rows
 two = with_table tabled 2 262144 3 Empty
 
 two-above : get two (1, 0) ≡ Some (leads 2)
-unfolding with_table
-two-above =
-    get-put_rows_other (λ _. unassigned Empty) (put_row tabled 1 262144 (table 3)) 2 262144 512 (1, 0) (λ k less. refl)
-    ∙ get-insert place_total tabled (1, 262144) (table 3) (1, 0) ∙ tabled-above
+two-above = beside_table tabled 2 262144 3 Empty (1, 0) (λ k less. refl) ∙ tabled-above
 
 two-beside : get two (1, 262144) ≡ Some (leads 3)
-unfolding with_table
-two-beside =
-    get-put_rows_other (λ _. unassigned Empty) (put_row tabled 1 262144 (table 3)) 2 262144 512 (1, 262144) (λ k less. refl)
-    ∙ get-insert place_total tabled (1, 262144) (table 3) (1, 262144)
+two-beside = beside_table tabled 2 262144 3 Empty (1, 262144) (λ k less. refl)
 
 two-first : get two (2, 0) ≡ Some (vacant Empty)
-unfolding with_table
-two-first =
-    get-put_rows_other (λ _. unassigned Empty) (put_row tabled 1 262144 (table 3)) 2 262144 512 (2, 0) (λ k less. apart 2 0 (262144 + k * 512) (λ e. omega arith))
-    ∙ get-insert place_total tabled (1, 262144) (table 3) (2, 0) ∙ tabled-first
+two-first = beside_table tabled 2 262144 3 Empty (2, 0) (λ k less. apart 2 0 (262144 + k * 512) (λ e. omega arith)) ∙ tabled-first
 
 two-last : get two (2, 261632) ≡ Some (vacant Empty)
-unfolding with_table
-two-last =
-    get-put_rows_other (λ _. unassigned Empty) (put_row tabled 1 262144 (table 3)) 2 262144 512 (2, 261632) (λ k less. apart 2 261632 (262144 + k * 512) (λ e. omega arith))
-    ∙ get-insert place_total tabled (1, 262144) (table 3) (2, 261632) ∙ tabled-last
+two-last = beside_table tabled 2 262144 3 Empty (2, 261632) (λ k less. apart 2 261632 (262144 + k * 512) (λ e. omega arith)) ∙ tabled-last
 
 other-first : get two (2, 262144) ≡ Some (vacant Empty)
-unfolding with_table
-other-first = get-put_rows (λ _. unassigned Empty) (put_row tabled 1 262144 (table 3)) 2 262144 512 0 (lit≤ tt)
+other-first = within_table tabled 2 262144 3 Empty 0 (lit≤ tt)
 
 other-last : get two (2, 523776) ≡ Some (vacant Empty)
-unfolding with_table
-other-last = get-put_rows (λ _. unassigned Empty) (put_row tabled 1 262144 (table 3)) 2 262144 512 511 (lit≤ tt)
+other-last = within_table tabled 2 262144 3 Empty 511 (lit≤ tt)
 
 made : step (machine_of 4) (world tabled table_page delegated) (by 0 (Rtt 3 262144 2)) ≡ Some (world two table_page table_page)
 unfolding named outcome_of fits updated_all check realm_from with_realm
@@ -72,34 +57,25 @@ abbrev second_left : Rows
 second_left = without_table two 2 0
 
 second_left-above : get second_left (1, 0) ≡ Some (vacant Destroyed)
-unfolding without_table
-second_left-above = get-insert place_total (drop_rows two 2 0 262144) (1, 0) (unassigned Destroyed) (1, 0)
+second_left-above = without two 2 0 (1, 0)
 
 second_left-beside : get second_left (1, 262144) ≡ Some (leads 3)
-unfolding without_table
-second_left-beside =
-    get-insert place_total (drop_rows two 2 0 262144) (1, 0) (unassigned Destroyed) (1, 262144) ∙ get-drop_rows two 2 0 262144 (1, 262144) ∙ two-beside
+second_left-beside = without two 2 0 (1, 262144) ∙ two-beside
 
 second_left-gone : get second_left (2, 0) ≡ None
-unfolding without_table
-second_left-gone = get-insert place_total (drop_rows two 2 0 262144) (1, 0) (unassigned Destroyed) (2, 0) ∙ get-drop_rows two 2 0 262144 (2, 0)
+second_left-gone = without two 2 0 (2, 0)
 
 second_left-first : get second_left (2, 262144) ≡ Some (vacant Empty)
-unfolding without_table
-second_left-first =
-    get-insert place_total (drop_rows two 2 0 262144) (1, 0) (unassigned Destroyed) (2, 262144) ∙ get-drop_rows two 2 0 262144 (2, 262144) ∙ other-first
+second_left-first = without two 2 0 (2, 262144) ∙ other-first
 
 second_left-last : get second_left (2, 523776) ≡ Some (vacant Empty)
-unfolding without_table
-second_left-last =
-    get-insert place_total (drop_rows two 2 0 262144) (1, 0) (unassigned Destroyed) (2, 523776) ∙ get-drop_rows two 2 0 262144 (2, 523776) ∙ other-last
+second_left-last = without two 2 0 (2, 523776) ∙ other-last
 
 unused : is_table_unused two 2 0 ≡ true
 unfolding is_table_unused with_table
 unused = all_rows_from is_unassigned passes two 2 0 512 (λ k less.
     ap (option_map mapping_of_row)
-    (get-put_rows_other (λ _. unassigned Empty) (put_row tabled 1 262144 (table 3)) 2 262144 512 (2, 0 + k * 512) (λ j below. apart 2 (0 + k * 512) (262144 + j * 512) (λ e. omega (arith, less)))
-    ∙ get-insert place_total tabled (1, 262144) (table 3) (2, 0 + k * 512))
+    (beside_table tabled 2 262144 3 Empty (2, 0 + k * 512) (λ j below. apart 2 (0 + k * 512) (262144 + j * 512) (λ e. omega (arith, less))))
     ∙ put_there (unassigned Empty) (put_row start_rows 1 0 (table 2)) 2 0 512 k less)
   where
     passes : (row : Row) → mapping_of_row row ≡ Vacant → is_unassigned row ≡ true
@@ -118,21 +94,14 @@ abbrev first_left : Rows
 first_left = without_table two 2 262144
 
 first_left-above : get first_left (1, 0) ≡ Some (leads 2)
-unfolding without_table
-first_left-above =
-    get-insert place_total (drop_rows two 2 262144 262144) (1, 262144) (unassigned Destroyed) (1, 0) ∙ get-drop_rows two 2 262144 262144 (1, 0) ∙ two-above
+first_left-above = without two 2 262144 (1, 0) ∙ two-above
 
 first_left-first : get first_left (2, 0) ≡ Some (vacant Empty)
-unfolding without_table
-first_left-first =
-    get-insert place_total (drop_rows two 2 262144 262144) (1, 262144) (unassigned Destroyed) (2, 0) ∙ get-drop_rows two 2 262144 262144 (2, 0) ∙ two-first
+first_left-first = without two 2 262144 (2, 0) ∙ two-first
 
 first_left-last : get first_left (2, 261632) ≡ Some (vacant Empty)
-unfolding without_table
-first_left-last =
-    get-insert place_total (drop_rows two 2 262144 262144) (1, 262144) (unassigned Destroyed) (2, 261632) ∙ get-drop_rows two 2 262144 262144 (2, 261632) ∙ two-last
+first_left-last = without two 2 262144 (2, 261632) ∙ two-last
 
 first_left-gone : get first_left (2, 262144) ≡ None
-unfolding without_table
 first_left-gone =
-    get-insert place_total (drop_rows two 2 262144 262144) (1, 262144) (unassigned Destroyed) (2, 262144) ∙ get-drop_rows two 2 262144 262144 (2, 262144)
+    without two 2 262144 (2, 262144)

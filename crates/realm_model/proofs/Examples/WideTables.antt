@@ -16,7 +16,7 @@ use Rattle.realm_model.specs.declared.rmi.Status.TheVariants.{Input, Realm as Of
 use Rattle.realm_model.specs.declared.states.GranuleState.TheVariants.{Data as InData}
 use Rattle.realm_model.specs.declared.states.EntryState.TheVariants.{Assigned}
 use Rattle.realm_model.specs.declared.states.Ripas.TheVariants.{Empty, Destroyed}
-use Rattle.realm_model.specs.Rows.{Row, Rows, place_cmp, root_rows, put_row, drop_rows, with_table, without_table, is_unassigned, is_table, is_table_unused, all_rows, unassigned, table, is_unassigned_state, is_table_state}
+use Rattle.realm_model.specs.Rows.{Row, Rows, place_cmp, root_rows, put_row, with_table, without_table, is_unassigned, is_table, is_table_unused, all_rows, unassigned, table, is_unassigned_state, is_table_state}
 use Rattle.realm_model.specs.Ownership.{mapping_of_row, Mapping}
 use Rattle.realm_model.specs.Sound.{look, IsSoundRows}
 use Rattle.realm_model.specs.Machine.{Limits, RecRow, Cell}
@@ -34,13 +34,13 @@ use Rattle.realm_model.proofs.HistoryParts.{after_append}
 use Rattle.realm_model.proofs.Maps.{place_total, same_place}
 use Rattle.realm_model.proofs.Outcomes.{check_true, end_there}
 use Rattle.realm_model.proofs.RowKinds.{Vacant}
-use Rattle.realm_model.proofs.Rows.{is_place, get-put_rows, get-put_rows_other, get-drop_rows, look-insert, put_there, all_rows_from, all_rows_at}
+use Rattle.realm_model.proofs.Rows.{is_place, get-put_rows, get-put_rows_other, look-insert, put_there, all_rows_from, all_rows_at}
 use Rattle.realm_model.proofs.SoundRows.{root_sound, with_table_sound, none_among}
 use Rattle.realm_model.proofs.TableBack.{table_back}
 use Rattle.realm_model.proofs.TablePlaces.{table_place}
 use Rattle.realm_model.proofs.Walks.{walk_there, walk_above}
 use Rattle.realm_model.proofs.Examples.Worlds.{machine_of, delegated, rd, table_page, of_realm, fresh, world_of, Recs, step_by, and_then, forward, joined}
-use Rattle.realm_model.proofs.Examples.Tables.{vacant, leads, apart}
+use Rattle.realm_model.proofs.Examples.Tables.{vacant, leads, apart, within_table, beside_table, without}
 
 abbrev eight : Limits
 eight = machine_of 8
@@ -79,60 +79,43 @@ abbrev upper : Rows
 upper = with_table wide 2 second 1 Empty
 
 upper-above : get upper (1, second) ≡ Some (leads 1)
-unfolding with_table
-upper-above =
-    get-put_rows_other (λ _. unassigned Empty) (put_row wide 1 second (table 1)) 2 second 512 (1, second) (λ k less. refl)
-    ∙ get-insert place_total wide (1, second) (table 1) (1, second)
+upper-above = beside_table wide 2 second 1 Empty (1, second) (λ k less. refl)
 
 upper-first : get upper (2, second) ≡ Some (vacant Empty)
-unfolding with_table
-upper-first = get-put_rows (λ _. unassigned Empty) (put_row wide 1 second (table 1)) 2 second 512 0 (lit≤ tt)
+upper-first = within_table wide 2 second 1 Empty 0 (lit≤ tt)
 
 abbrev lower : Rows
 lower = with_table upper 3 second 2 Empty
 
 lower-above : get lower (2, second) ≡ Some (leads 2)
-unfolding with_table
-lower-above =
-    get-put_rows_other (λ _. unassigned Empty) (put_row upper 2 second (table 2)) 3 second 512 (2, second) (λ k less. refl)
-    ∙ get-insert place_total upper (2, second) (table 2) (2, second)
+lower-above = beside_table upper 3 second 2 Empty (2, second) (λ k less. refl)
 
 lower-start : get lower (1, second) ≡ Some (leads 1)
-unfolding with_table
-lower-start =
-    get-put_rows_other (λ _. unassigned Empty) (put_row upper 2 second (table 2)) 3 second 512 (1, second) (λ k less. refl)
-    ∙ get-insert place_total upper (2, second) (table 2) (1, second) ∙ upper-above
+lower-start = beside_table upper 3 second 2 Empty (1, second) (λ k less. refl) ∙ upper-above
 
 lower-first : get lower (3, second) ≡ Some (vacant Empty)
-unfolding with_table
-lower-first = get-put_rows (λ _. unassigned Empty) (put_row upper 2 second (table 2)) 3 second 512 0 (lit≤ tt)
+lower-first = within_table upper 3 second 2 Empty 0 (lit≤ tt)
 
 -- no table covers the last protected IPA granule
 lower-three : get lower (3, 268435455) ≡ None
-unfolding with_table root_rows
+unfolding root_rows
 lower-three =
-    get-put_rows_other (λ _. unassigned Empty) (put_row upper 2 second (table 2)) 3 second 512 (3, 268435455) (λ k less. apart 3 268435455 (second + k * 1) (λ e. omega arith))
-    ∙ get-insert place_total upper (2, second) (table 2) (3, 268435455)
-    ∙ get-put_rows_other (λ _. unassigned Empty) (put_row wide 1 second (table 1)) 2 second 512 (3, 268435455) (λ k less. refl)
-    ∙ get-insert place_total wide (1, second) (table 1) (3, 268435455)
+    beside_table upper 3 second 2 Empty (3, 268435455) (λ k less. apart 3 268435455 (second + k * 1) (λ e. omega arith))
+    ∙ beside_table wide 2 second 1 Empty (3, 268435455) (λ k less. refl)
     ∙ get-put_rows_other (λ _. unassigned Empty) empty 1 0 2048 (3, 268435455) (λ k less. refl) ∙ get-empty place_cmp (3, 268435455)
 
 lower-two : get lower (2, 268434944) ≡ None
-unfolding with_table root_rows
+unfolding root_rows
 lower-two =
-    get-put_rows_other (λ _. unassigned Empty) (put_row upper 2 second (table 2)) 3 second 512 (2, 268434944) (λ k less. refl)
-    ∙ get-insert place_total upper (2, second) (table 2) (2, 268434944)
-    ∙ get-put_rows_other (λ _. unassigned Empty) (put_row wide 1 second (table 1)) 2 second 512 (2, 268434944) (λ k less. apart 2 268434944 (second + k * 512) (λ e. omega arith))
-    ∙ get-insert place_total wide (1, second) (table 1) (2, 268434944)
+    beside_table upper 3 second 2 Empty (2, 268434944) (λ k less. refl)
+    ∙ beside_table wide 2 second 1 Empty (2, 268434944) (λ k less. apart 2 268434944 (second + k * 512) (λ e. omega arith))
     ∙ get-put_rows_other (λ _. unassigned Empty) empty 1 0 2048 (2, 268434944) (λ k less. refl) ∙ get-empty place_cmp (2, 268434944)
 
 lower-one : get lower (1, 268173312) ≡ Some (vacant Empty)
-unfolding with_table root_rows
+unfolding root_rows
 lower-one =
-    get-put_rows_other (λ _. unassigned Empty) (put_row upper 2 second (table 2)) 3 second 512 (1, 268173312) (λ k less. refl)
-    ∙ get-insert place_total upper (2, second) (table 2) (1, 268173312)
-    ∙ get-put_rows_other (λ _. unassigned Empty) (put_row wide 1 second (table 1)) 2 second 512 (1, 268173312) (λ k less. refl)
-    ∙ get-insert place_total wide (1, second) (table 1) (1, 268173312)
+    beside_table upper 3 second 2 Empty (1, 268173312) (λ k less. refl)
+    ∙ beside_table wide 2 second 1 Empty (1, 268173312) (λ k less. refl)
     ∙ get-put_rows (λ _. unassigned Empty) empty 1 0 2048 1023 (lit≤ tt)
 
 abbrev page_row : Row
@@ -168,19 +151,15 @@ closed-same : (q : ℕ × ℕ) → look upper q ≡ look closed q
 closed-same = table_back upper emptied 3 second 2 Empty (vacant Empty) upper-first refl (none_among upper 3 second (vacant Empty) upper_sound (table_place second 3 refl) upper-first refl) emptied-same
 
 closed-above : get closed (1, second) ≡ Some (leads 1)
-unfolding without_table
 closed-above =
-    get-insert place_total (drop_rows emptied 3 second 512) (2, second) (unassigned Destroyed) (1, second)
-    ∙ get-drop_rows emptied 3 second 512 (1, second)
+    without emptied 3 second (1, second)
     ∙ get-insert place_total filled (3, second) (vacant Empty) (1, second) ∙ get-insert place_total lower (3, second) page_row (1, second) ∙ lower-start
 
 closed-parent : get closed (2, second) ≡ Some (vacant Destroyed)
-unfolding without_table
-closed-parent = get-insert place_total (drop_rows emptied 3 second 512) (2, second) (unassigned Destroyed) (2, second)
+closed-parent = without emptied 3 second (2, second)
 
 closed-first : get closed (3, second) ≡ None
-unfolding without_table
-closed-first = get-insert place_total (drop_rows emptied 3 second 512) (2, second) (unassigned Destroyed) (3, second) ∙ get-drop_rows emptied 3 second 512 (3, second)
+closed-first = without emptied 3 second (3, second)
 
 abbrev bare : Rows
 bare = without_table closed 2 second
@@ -269,14 +248,16 @@ unlowered : step eight (world emptied table_page table_page delegated) (by 0 (Un
 unfolding named outcome_of fits updated_all realm_from with_realm with_granule
 unlowered = step_by eight _ _ (by 0 (UnRtt 2 second 3)) _
     (ap (λ o. elim o [ Some r ↦ option_eq nat_eq r.granule (Some 2) | None ↦ false ]) emptied-above)
-    (check_true _ _ _ refl ∙ end_there emptied second 2 _ _ (walk_there emptied second 2 (leads 2) (lit≤ tt) emptied-above) ∙ check_true _ _ _ refl ∙ check_true _ _ _ refl ∙ check_true _ _ _ emptied-unused)
+    (check_true _ _ _ refl ∙ end_there emptied second 2 _ _ (walk_there emptied second 2 (leads 2) (lit≤ tt) emptied-above) ∙ check_true _ _ _ refl
+        ∙ check_true _ _ _ refl ∙ check_true _ _ _ emptied-unused)
     refl
 
 unraised : step eight (world closed table_page delegated delegated) (by 0 (UnRtt 1 second 2)) ≡ Some (world bare delegated delegated delegated)
 unfolding named outcome_of fits updated_all realm_from with_realm with_granule
 unraised = step_by eight _ _ (by 0 (UnRtt 1 second 2)) _
     (ap (λ o. elim o [ Some r ↦ option_eq nat_eq r.granule (Some 1) | None ↦ false ]) closed-above)
-    (check_true _ _ _ refl ∙ end_there closed second 1 _ _ (walk_there closed second 1 (leads 1) (lit≤ tt) closed-above) ∙ check_true _ _ _ refl ∙ check_true _ _ _ refl ∙ check_true _ _ _ closed-unused)
+    (check_true _ _ _ refl ∙ end_there closed second 1 _ _ (walk_there closed second 1 (leads 1) (lit≤ tt) closed-above) ∙ check_true _ _ _ refl
+        ∙ check_true _ _ _ refl ∙ check_true _ _ _ closed-unused)
     refl
 
 -- the RD and all starting tables are DELEGATED and zero
