@@ -1,9 +1,11 @@
+pub mod Sentence
 pub mod Words
 pub mod Unfinished
 pub mod Lines
 pub mod Pages
 pub mod OfBuild
 pub mod OfBlock
+pub mod Looks
 pub mod OfInput
 pub mod OfRealm
 pub mod OfRec

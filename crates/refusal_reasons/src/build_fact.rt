@@ -1,4 +1,5 @@
 //! What is asked of a build, before the store or the monitor is.
+use crate::words::build_words;
 use granule_addr::Gran;
 use std::fmt;
 
@@ -26,32 +27,6 @@ impl fmt::Display for BuildFact {
     ghost output = { λ fact. Some (build_words fact) };
 
     fn fmt<W: fmt::Write>(&self, f: &mut fmt::Formatter<W>) -> fmt::Result {
-        match *self {
-            BuildFact::There(builds) => write!(f, "the build is one of {builds}"),
-            BuildFact::NotAborting => f.write_str("the build is not in abort"),
-            BuildFact::Order(order) => write!(f, "the order is at most 9: {order}"),
-            BuildFact::Page(page, Some(granule), _) => {
-                write!(f, "the build has page {page}: granule {}", granule.number())
-            }
-            BuildFact::Page(page, None, count) => {
-                write!(f, "the build has page {page}: it has {count} pages")
-            }
-            BuildFact::Realm(Some(rd)) => {
-                write!(
-                    f,
-                    "the build has a realm: its RD is granule {}",
-                    rd.number()
-                )
-            }
-            BuildFact::Realm(None) => f.write_str("the build has a realm"),
-            BuildFact::NoRealm(Some(rd)) => {
-                write!(
-                    f,
-                    "the build has no realm: the RD of one is granule {}",
-                    rd.number()
-                )
-            }
-            BuildFact::NoRealm(None) => f.write_str("the build has no realm"),
-        }
+        fmt::Display::fmt(&build_words(*self), f)
     }
 }

@@ -1,5 +1,5 @@
 //! What the input checks of pages and of IPAs ask. RMM 1.0, RMI command conditions.
-use crate::names::StateName;
+use crate::words::input_words;
 use realm_model::GranuleState;
 use std::fmt;
 
@@ -27,34 +27,6 @@ impl fmt::Display for InputFact {
     ghost output = { λ fact. Some (input_words fact) };
 
     fn fmt<W: fmt::Write>(&self, f: &mut fmt::Formatter<W>) -> fmt::Result {
-        match *self {
-            InputFact::Page(page, wanted, Some(found)) => {
-                write!(
-                    f,
-                    "page {page} is {}: {}",
-                    StateName(wanted),
-                    StateName(found)
-                )
-            }
-            InputFact::Page(page, wanted, None) => write!(
-                f,
-                "page {page} is {}",
-                StateName(wanted)
-            ),
-            InputFact::Protected(ipa, width) => {
-                write!(f, "IPA granule {ipa} is protected: width {width}")
-            }
-            InputFact::Level(level) => write!(f, "the level is 2 or 3: {level}"),
-            InputFact::Start(ipa, level) => {
-                write!(f, "a table of level {level} may begin at IPA granule {ipa}")
-            }
-            InputFact::Count(count) => write!(f, "the count is 1 to 512: {count}"),
-            InputFact::OneTable(ipa, count) => {
-                write!(
-                    f,
-                    "{count} pages from IPA granule {ipa} on lie in one table"
-                )
-            }
-        }
+        fmt::Display::fmt(&input_words(*self), f)
     }
 }

@@ -25,9 +25,11 @@ mod operands;
 mod realm_fact;
 mod rec_fact;
 mod room_fact;
+mod sentence;
 mod undo_fact;
 mod unfinished;
 mod walk_fact;
+mod words;
 
 pub use build_fact::BuildFact;
 pub use explaining::explain_turns;

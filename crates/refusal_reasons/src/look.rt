@@ -1,5 +1,7 @@
 //! A check, with what it looks at.
 ghost use Rattle.std.specs.Prelude.{◌≡◌, ◌∷◌, ◌++◌, [], OnOk};
+ghost use Rattle.std.specs.List.{cons_option};
+ghost use Rattle.refusal_reasons.specs.Looks.{rmi_look};
 
 use crate::build_fact::BuildFact;
 use crate::input_fact::InputFact;
@@ -8,7 +10,8 @@ use crate::rec_fact::RecFact;
 use crate::room_fact::RoomFact;
 use crate::undo_fact::UndoFact;
 use crate::walk_fact::WalkFact;
-use realm_host::Refusal;
+use crate::words::fact_words;
+use realm_host::{Refusal, Rmi};
 use std::alloc::AllocError;
 use std::fmt;
 
@@ -31,15 +34,7 @@ impl fmt::Display for Fact {
     ghost output = { λ fact. Some (fact_words fact) };
 
     fn fmt<W: fmt::Write>(&self, f: &mut fmt::Formatter<W>) -> fmt::Result {
-        match *self {
-            Fact::Build(fact) => write!(f, "{fact}"),
-            Fact::Room(fact) => write!(f, "{fact}"),
-            Fact::Undo(fact) => write!(f, "{fact}"),
-            Fact::Input(fact) => write!(f, "{fact}"),
-            Fact::Realm(fact) => write!(f, "{fact}"),
-            Fact::Rec(fact) => write!(f, "{fact}"),
-            Fact::Walk(fact) => write!(f, "{fact}"),
-        }
+        fmt::Display::fmt(&fact_words(*self), f)
     }
 }
 
@@ -51,9 +46,30 @@ pub struct Look {
     pub refusal: Refusal,
 }
 
+/// A check of the monitor, and what it answers where that fails.
+pub(crate) fn rmi_look(fact: Fact, fails: bool, rmi: Rmi) -> Look
+    ensures { result ≡ rmi_look fact fails rmi }
+{
+    Look {
+        fact,
+        fails,
+        refusal: Refusal::Rmi(rmi),
+    }
+}
+
 /// Adds a check to others.
 pub(crate) fn add(looks: &mut Vec<Look>, look: Look) -> Result<(), AllocError>
     ensures { OnOk result (looks.new.items ≡ looks.old.items ++ look ∷ []) }
 {
     looks.extend_from_slice(&[look])
+}
+
+/// Adds a check to others, if there is one.
+pub(crate) fn add_some(looks: &mut Vec<Look>, look: Option<Look>) -> Result<(), AllocError>
+    ensures { OnOk result (looks.new.items ≡ looks.old.items ++ cons_option look []) }
+{
+    match look {
+        Some(look) => add(looks, look),
+        None => Ok(()),
+    }
 }

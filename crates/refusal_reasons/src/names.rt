@@ -5,7 +5,7 @@ ghost use Rattle.refusal_reasons.specs.Words.{state_name, realm_name, rec_name, 
 use realm_model::{EntryState, GranuleState, RealmState, RecState};
 use std::fmt;
 
-fn state_name(state: GranuleState) -> &'static str
+pub(crate) fn state_name(state: GranuleState) -> &'static str
     ensures { result.now ≡ state_name state }
 {
     match state {
@@ -19,7 +19,7 @@ fn state_name(state: GranuleState) -> &'static str
     }
 }
 
-fn realm_name(state: RealmState) -> &'static str
+pub(crate) fn realm_name(state: RealmState) -> &'static str
     ensures { result.now ≡ realm_name state }
 {
     match state {
@@ -28,7 +28,7 @@ fn realm_name(state: RealmState) -> &'static str
     }
 }
 
-fn rec_name(state: RecState) -> &'static str
+pub(crate) fn rec_name(state: RecState) -> &'static str
     ensures { result.now ≡ rec_name state }
 {
     match state {
@@ -37,7 +37,7 @@ fn rec_name(state: RecState) -> &'static str
     }
 }
 
-fn entry_name(state: EntryState) -> &'static str
+pub(crate) fn entry_name(state: EntryState) -> &'static str
     ensures { result.now ≡ entry_name state }
 {
     match state {

@@ -1,9 +1,10 @@
 //! The checks that the host makes of a build: refusals 1 to 10 and 12, as far as they apply to a command.
-ghost use Rattle.std.specs.Prelude.{◌≡◌, ◌++◌, OnOk, map};
+ghost use Rattle.std.specs.Prelude.{◌≡◌, ◌++◌, [], OnOk, map};
+ghost use Rattle.std.specs.List.{cons_option};
 ghost use Rattle.refusal_reasons.specs.OfBuild.{build_there, not_aborting, build_looks, order_looks, page_there, realm_looks, journal_looks, room_left, room_look, vmid_looks, needs_looks};
 
 use crate::build_fact::BuildFact;
-use crate::look::{Fact, Look, add};
+use crate::look::{Fact, Look, add, add_some};
 use crate::room_fact::RoomFact;
 use build_commands::{Desk, Needs, Wants};
 use granule_addr::BuildId;
@@ -11,7 +12,7 @@ use page_arena::PageStore;
 use realm_host::{Cmd, Host, Refusal};
 use std::alloc::AllocError;
 
-// 1: there is such a build.
+/// 1: there is such a build.
 pub(crate) fn build_there<S: PageStore>(host: &Host<S>, build: BuildId) -> Look
     ensures { result ≡ build_there host.now build }
 {
@@ -23,8 +24,8 @@ pub(crate) fn build_there<S: PageStore>(host: &Host<S>, build: BuildId) -> Look
     }
 }
 
-// 2: it is not in abort.
-fn not_aborting<S: PageStore>(host: &Host<S>, build: BuildId) -> Look
+/// 2: it is not in abort.
+pub(crate) fn not_aborting<S: PageStore>(host: &Host<S>, build: BuildId) -> Look
     ensures { result ≡ not_aborting host.now build }
 {
     Look {
@@ -34,32 +35,25 @@ fn not_aborting<S: PageStore>(host: &Host<S>, build: BuildId) -> Look
     }
 }
 
-/// Adds 1 and 2: the build is there, and it is not in abort.
-pub(crate) fn add_build<S: PageStore>(
-    host: &Host<S>,
-    build: BuildId,
-    looks: &mut Vec<Look>,
-) -> Result<(), AllocError>
-    ensures { OnOk result (looks.new.items ≡ looks.old.items ++ build_looks host.now build) }
+/// 1 and 2: the build is there, and it is not in abort.
+pub(crate) fn build_looks<S: PageStore>(host: &Host<S>, build: BuildId) -> [Look; 2]
+    ensures { result ≡ build_looks host.now build }
 {
-    looks.extend_from_slice(&[build_there(host, build), not_aborting(host, build)])
+    [build_there(host, build), not_aborting(host, build)]
 }
 
-// Adds 3: a block is not too large.
-fn add_order(cmd: &Cmd, looks: &mut Vec<Look>) -> Result<(), AllocError>
-    ensures { OnOk result (looks.new.items ≡ looks.old.items ++ order_looks cmd.now) }
+// 3: a block is not too large.
+fn order_look(cmd: &Cmd) -> Option<Look>
+    ensures { cons_option result [] ≡ order_looks cmd.now }
 {
-    let Cmd::Take { order } = cmd else {
-        return Ok(());
-    };
-    add(
-        looks,
-        Look {
+    match cmd {
+        Cmd::Take { order } => Some(Look {
             fact: Fact::Build(BuildFact::Order(*order)),
             fails: *order > 9,
             refusal: Refusal::BadOrder,
-        },
-    )
+        }),
+        _ => None,
+    }
 }
 
 // 4: the build has the page.
@@ -89,58 +83,39 @@ fn add_pages<S: PageStore>(
     Ok(())
 }
 
-// Adds 5 and 6: the build has a realm, or none.
-fn add_realm<S: PageStore>(
-    host: &Host<S>,
-    build: BuildId,
-    wants: Wants,
-    looks: &mut Vec<Look>,
-) -> Result<(), AllocError>
-    ensures { OnOk result (looks.new.items ≡ looks.old.items ++ realm_looks host.now build wants) }
+// 5 and 6: the build has a realm, or none.
+fn realm_look<S: PageStore>(host: &Host<S>, build: BuildId, wants: Wants) -> Option<Look>
+    ensures { cons_option result [] ≡ realm_looks host.now build wants }
 {
     let rd = host.rd(build);
     match wants {
-        Wants::Either => Ok(()),
-        Wants::NoRealm => add(
-            looks,
-            Look {
-                fact: Fact::Build(BuildFact::NoRealm(rd)),
-                fails: rd.is_some(),
-                refusal: Refusal::RealmThere,
-            },
-        ),
-        Wants::Realm => add(
-            looks,
-            Look {
-                fact: Fact::Build(BuildFact::Realm(rd)),
-                fails: !rd.is_some(),
-                refusal: Refusal::NoRealm,
-            },
-        ),
+        Wants::Either => None,
+        Wants::NoRealm => Some(Look {
+            fact: Fact::Build(BuildFact::NoRealm(rd)),
+            fails: rd.is_some(),
+            refusal: Refusal::RealmThere,
+        }),
+        Wants::Realm => Some(Look {
+            fact: Fact::Build(BuildFact::Realm(rd)),
+            fails: !rd.is_some(),
+            refusal: Refusal::NoRealm,
+        }),
     }
 }
 
-// Adds 9: one more act may be open.
-fn add_journal<S: PageStore>(
-    host: &Host<S>,
-    build: BuildId,
-    paired: bool,
-    looks: &mut Vec<Look>,
-) -> Result<(), AllocError>
-    ensures { OnOk result (looks.new.items ≡ looks.old.items ++ journal_looks host.now build paired) }
+// 9: one more act may be open.
+fn journal_look<S: PageStore>(host: &Host<S>, build: BuildId, paired: bool) -> Option<Look>
+    ensures { cons_option result [] ≡ journal_looks host.now build paired }
 {
     if !paired {
-        return Ok(());
+        return None;
     }
     let open = host.open_acts(build).len();
-    add(
-        looks,
-        Look {
-            fact: Fact::Room(RoomFact::Journal(open)),
-            fails: open >= 512,
-            refusal: Refusal::JournalFull,
-        },
-    )
+    Some(Look {
+        fact: Fact::Room(RoomFact::Journal(open)),
+        fails: open >= 512,
+        refusal: Refusal::JournalFull,
+    })
 }
 
 // How much of its room a build has left; nothing where there is no such build.
@@ -166,26 +141,19 @@ fn room_look<S: PageStore>(host: &Host<S>, build: BuildId, needed: u16) -> Look
     }
 }
 
-// Adds 12: a VMID is free.
-fn add_vmid<S: PageStore>(
-    host: &Host<S>,
-    wanted: bool,
-    looks: &mut Vec<Look>,
-) -> Result<(), AllocError>
-    ensures { OnOk result (looks.new.items ≡ looks.old.items ++ vmid_looks host.now wanted) }
+// 12: a VMID is free.
+fn vmid_look<S: PageStore>(host: &Host<S>, wanted: bool) -> Option<Look>
+    ensures { cons_option result [] ≡ vmid_looks host.now wanted }
 {
     if !wanted {
-        return Ok(());
+        return None;
     }
     let lowest = host.books().lowest_vmid();
-    add(
-        looks,
-        Look {
-            fact: Fact::Room(RoomFact::Vmid(lowest)),
-            fails: !lowest.is_some(),
-            refusal: Refusal::NoVmid,
-        },
-    )
+    Some(Look {
+        fact: Fact::Room(RoomFact::Vmid(lowest)),
+        fails: !lowest.is_some(),
+        refusal: Refusal::NoVmid,
+    })
 }
 
 /// Adds the checks of a command by its needs: 1 to 6, 9, 10 and 12, as far as they apply to it.
@@ -199,11 +167,11 @@ pub(crate) fn add_needs<S: PageStore>(
     ensures { OnOk result (looks.new.items ≡ looks.old.items ++ needs_looks host.now build cmd.now pages.now) }
 {
     let needs = cmd.needs();
-    add_build(host, build, looks)?;
-    add_order(cmd, looks)?;
+    looks.extend_from_slice(&build_looks(host, build))?;
+    add_some(looks, order_look(cmd))?;
     add_pages(host, build, pages, looks)?;
-    add_realm(host, build, needs.realm, looks)?;
-    add_journal(host, build, needs.paired, looks)?;
+    add_some(looks, realm_look(host, build, needs.realm))?;
+    add_some(looks, journal_look(host, build, needs.paired))?;
     add(looks, room_look(host, build, needs.room))?;
-    add_vmid(host, needs.vmid, looks)
+    add_some(looks, vmid_look(host, needs.vmid))
 }

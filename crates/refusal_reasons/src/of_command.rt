@@ -1,6 +1,6 @@
 //! The checks of the commands, each in its order. RMM 1.0, RMI commands.
 ghost use Rattle.std.specs.Prelude.{◌≡◌, ◌++◌, ◌≤◌, OnOk, length};
-ghost use Rattle.refusal_reasons.specs.Commands.{above_of, take_looks, rtt_create_looks, init_ripas_looks, data_create_looks, unknown_looks, guest_write_looks, enter_looks, exit_looks, tables_looks, recs_looks, monitor_looks, command_looks};
+ghost use Rattle.refusal_reasons.specs.Commands.{above_of, take_looks, rtt_create_looks, init_ripas_looks, data_create_looks, unknown_looks, guest_write_looks, enter_looks, tables_looks, monitor_looks, command_looks};
 
 use crate::look::{Look, add};
 use crate::of_block::block_look;
@@ -45,155 +45,98 @@ fn above_of(level: u8) -> Level
 }
 
 // RMI_RTT_CREATE.
-fn add_rtt_create<S: PageStore>(
+fn rtt_create<S: PageStore>(
     host: &Host<S>,
     build: BuildId,
     page: u16,
     ipa: u32,
     level: u8,
-    looks: &mut Vec<Look>,
-) -> Result<(), AllocError>
-    ensures { OnOk result (looks.new.items ≡ looks.old.items ++ rtt_create_looks host.now build page ipa level) }
+) -> [Look; 6]
+    ensures { result ≡ rtt_create_looks host.now build page ipa level }
 {
     let above = above_of(level);
-    looks.extend_from_slice(&[
+    [
         page_delegated(host, build, page),
         table_level(level),
         table_start(ipa, level),
         protected(host, build, ipa),
         walk_ends(host, build, ipa, above),
         entry_no_table(host, build, ipa, above),
-    ])
+    ]
 }
 
 // RMI_RTT_INIT_RIPAS.
-fn add_init_ripas<S: PageStore>(
-    host: &Host<S>,
-    build: BuildId,
-    ipa: u32,
-    count: u16,
-    looks: &mut Vec<Look>,
-) -> Result<(), AllocError>
-    ensures { OnOk result (looks.new.items ≡ looks.old.items ++ init_ripas_looks host.now build ipa count) }
+fn init_ripas<S: PageStore>(host: &Host<S>, build: BuildId, ipa: u32, count: u16) -> [Look; 6]
+    ensures { result ≡ init_ripas_looks host.now build ipa count }
 {
-    looks.extend_from_slice(&[
+    [
         run_count(count),
         one_table(ipa, count),
         protected(host, build, ipa),
         realm_new(host, build),
         walk_ends(host, build, ipa, Level::last()),
         entries_free(host, build, ipa, count),
-    ])
+    ]
 }
 
 // RMI_DATA_CREATE.
-fn add_data_create<S: PageStore>(
+fn data_create<S: PageStore>(
     host: &Host<S>,
     build: BuildId,
     page: u16,
     ipa: u32,
     source: u16,
-    looks: &mut Vec<Look>,
-) -> Result<(), AllocError>
-    ensures { OnOk result (looks.new.items ≡ looks.old.items ++ data_create_looks host.now build page ipa source) }
+) -> [Look; 6]
+    ensures { result ≡ data_create_looks host.now build page ipa source }
 {
-    looks.extend_from_slice(&[
+    [
         page_delegated(host, build, page),
         page_undelegated(host, build, source),
         protected(host, build, ipa),
         realm_new(host, build),
         walk_ends(host, build, ipa, Level::last()),
         entry_unassigned(host, build, ipa),
-    ])
+    ]
 }
 
 // RMI_DATA_CREATE_UNKNOWN.
-fn add_unknown<S: PageStore>(
-    host: &Host<S>,
-    build: BuildId,
-    page: u16,
-    ipa: u32,
-    looks: &mut Vec<Look>,
-) -> Result<(), AllocError>
-    ensures { OnOk result (looks.new.items ≡ looks.old.items ++ unknown_looks host.now build page ipa) }
+fn unknown<S: PageStore>(host: &Host<S>, build: BuildId, page: u16, ipa: u32) -> [Look; 4]
+    ensures { result ≡ unknown_looks host.now build page ipa }
 {
-    looks.extend_from_slice(&[
+    [
         page_delegated(host, build, page),
         protected(host, build, ipa),
         walk_ends(host, build, ipa, Level::last()),
         entry_unassigned(host, build, ipa),
-    ])
+    ]
 }
 
 // A REC that runs writes. This profile's own.
-fn add_guest_write<S: PageStore>(
-    host: &Host<S>,
-    build: BuildId,
-    number: RecNo,
-    ipa: u32,
-    looks: &mut Vec<Look>,
-) -> Result<(), AllocError>
-    ensures { OnOk result (looks.new.items ≡ looks.old.items ++ guest_write_looks host.now build number ipa) }
+fn guest_write<S: PageStore>(host: &Host<S>, build: BuildId, rec: RecNo, ipa: u32) -> [Look; 5]
+    ensures { result ≡ guest_write_looks host.now build rec ipa }
 {
-    looks.extend_from_slice(&[
-        rec_there(host, build, number),
+    [
+        rec_there(host, build, rec),
         protected(host, build, ipa),
-        rec_is_running(host, build, number),
+        rec_is_running(host, build, rec),
         entry_assigned(host, build, ipa),
         entry_leads(host, build, ipa),
-    ])
+    ]
 }
 
 // RMI_REC_ENTER.
-fn add_enter<S: PageStore>(
-    host: &Host<S>,
-    build: BuildId,
-    number: RecNo,
-    looks: &mut Vec<Look>,
-) -> Result<(), AllocError>
-    ensures { OnOk result (looks.new.items ≡ looks.old.items ++ enter_looks host.now build number) }
+fn enter<S: PageStore>(host: &Host<S>, build: BuildId, number: RecNo) -> [Look; 3]
+    ensures { result ≡ enter_looks host.now build number }
 {
-    looks.extend_from_slice(&[
+    [
         rec_there(host, build, number),
         realm_active(host, build),
         rec_ready(host, build, number),
-    ])
+    ]
 }
 
-// REC exit.
-fn add_exit<S: PageStore>(
-    host: &Host<S>,
-    build: BuildId,
-    number: RecNo,
-    looks: &mut Vec<Look>,
-) -> Result<(), AllocError>
-    ensures { OnOk result (looks.new.items ≡ looks.old.items ++ exit_looks host.now build number) }
-{
-    looks.extend_from_slice(&[
-        rec_there(host, build, number),
-        rec_is_running(host, build, number),
-    ])
-}
-
-// The commands on RECs that are there.
-fn add_recs<S: PageStore>(
-    host: &Host<S>,
-    build: BuildId,
-    cmd: &Cmd,
-    looks: &mut Vec<Look>,
-) -> Result<(), AllocError>
-    ensures { OnOk result (looks.new.items ≡ looks.old.items ++ recs_looks host.now build cmd.now) }
-{
-    match cmd {
-        Cmd::Enter { number } => add_enter(host, build, *number, looks),
-        Cmd::Exit { number } => add_exit(host, build, *number, looks),
-        Cmd::Poke { number, ipa, .. } => add_guest_write(host, build, *number, *ipa, looks),
-        _ => Ok(()),
-    }
-}
-
-// The commands on the tables and pages of a realm that is there, and on its state.
-fn add_tables<S: PageStore>(
+// The commands on a realm that is there: on its tables, its pages, its state and its RECs.
+fn add_there<S: PageStore>(
     host: &Host<S>,
     build: BuildId,
     cmd: &Cmd,
@@ -202,14 +145,26 @@ fn add_tables<S: PageStore>(
     ensures { OnOk result (looks.new.items ≡ looks.old.items ++ tables_looks host.now build cmd.now) }
 {
     match cmd {
-        Cmd::Rtt { page, ipa, level } => add_rtt_create(host, build, *page, *ipa, *level, looks),
-        Cmd::Ripas { ipa, count } => add_init_ripas(host, build, *ipa, *count, looks),
-        Cmd::Data { page, ipa, source } => {
-            add_data_create(host, build, *page, *ipa, *source, looks)
+        Cmd::Rtt { page, ipa, level } => {
+            looks.extend_from_slice(&rtt_create(host, build, *page, *ipa, *level))
         }
-        Cmd::Unknown { page, ipa } => add_unknown(host, build, *page, *ipa, looks),
+        Cmd::Ripas { ipa, count } => {
+            looks.extend_from_slice(&init_ripas(host, build, *ipa, *count))
+        }
+        Cmd::Data { page, ipa, source } => {
+            looks.extend_from_slice(&data_create(host, build, *page, *ipa, *source))
+        }
+        Cmd::Unknown { page, ipa } => looks.extend_from_slice(&unknown(host, build, *page, *ipa)),
         Cmd::Activate => add(looks, realm_new(host, build)),
-        _ => add_recs(host, build, cmd, looks),
+        Cmd::Enter { number } => looks.extend_from_slice(&enter(host, build, *number)),
+        Cmd::Exit { number } => looks.extend_from_slice(&[
+            rec_there(host, build, *number),
+            rec_is_running(host, build, *number),
+        ]),
+        Cmd::Poke { number, ipa, .. } => {
+            looks.extend_from_slice(&guest_write(host, build, *number, *ipa))
+        }
+        _ => Ok(()),
     }
 }
 
@@ -233,7 +188,7 @@ fn add_monitor<S: PageStore>(
             add_realm_create(host, build, *width, pages, granules, looks)
         }
         Cmd::Rec { .. } => add_rec_create(host, build, pages, granules, looks),
-        _ => add_tables(host, build, cmd, looks),
+        _ => add_there(host, build, cmd, looks),
     }
 }
 

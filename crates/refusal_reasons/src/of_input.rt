@@ -26,23 +26,8 @@ pub(crate) fn page_delegated<S: PageStore>(host: &Host<S>, build: BuildId, page:
     ensures { result ≡ page_delegated host.now build page }
 {
     let found = host.page_state(build, page);
-    let fact = InputFact::Page(page, GranuleState::Delegated, found);
-    input_look(
-        Fact::Input(fact),
-        !matches!(found, Some(GranuleState::Delegated)),
-    )
-}
-
-/// The granule of a build's page is UNDELEGATED.
-pub(crate) fn page_undelegated<S: PageStore>(host: &Host<S>, build: BuildId, page: u16) -> Look
-    ensures { result ≡ page_undelegated host.now build page }
-{
-    let found = host.page_state(build, page);
-    let fact = InputFact::Page(page, GranuleState::Undelegated, found);
-    input_look(
-        Fact::Input(fact),
-        !matches!(found, Some(GranuleState::Undelegated)),
-    )
+    let fact = Fact::Input(InputFact::Page(page, GranuleState::Delegated, found));
+    input_look(fact, !matches!(found, Some(GranuleState::Delegated)))
 }
 
 /// Adds that the granules of a build's pages are DELEGATED.
@@ -58,6 +43,15 @@ pub(crate) fn add_delegated<S: PageStore>(
         add(looks, page_delegated(host, build, *page))?;
     }
     Ok(())
+}
+
+/// The granule of a build's page is UNDELEGATED.
+pub(crate) fn page_undelegated<S: PageStore>(host: &Host<S>, build: BuildId, page: u16) -> Look
+    ensures { result ≡ page_undelegated host.now build page }
+{
+    let found = host.page_state(build, page);
+    let fact = Fact::Input(InputFact::Page(page, GranuleState::Undelegated, found));
+    input_look(fact, !matches!(found, Some(GranuleState::Undelegated)))
 }
 
 // The IPA width of a build's realm; 0 where it has none.

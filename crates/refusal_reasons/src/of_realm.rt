@@ -2,12 +2,12 @@
 ghost use Rattle.std.specs.Prelude.{◌≡◌, ◌++◌, ◌∷◌, ◌≤◌, OnOk, length};
 ghost use Rattle.refusal_reasons.specs.OfRealm.{state_of_realm, realm_new, realm_active, follow, are_adjacent, begins_right, width_look, apart_look, start_looks, realm_create_looks};
 
-use crate::look::{Fact, Look, add};
+use crate::look::{Fact, Look, add, rmi_look};
 use crate::of_input::{add_delegated, input_look};
 use crate::realm_fact::RealmFact;
 use granule_addr::{BuildId, Gran, IpaWidth};
 use page_arena::PageStore;
-use realm_host::{Host, RealmState, Refusal, Rmi};
+use realm_host::{Host, RealmState, Rmi};
 use std::alloc::AllocError;
 
 // The state of a build's realm.
@@ -25,11 +25,8 @@ pub(crate) fn realm_new<S: PageStore>(host: &Host<S>, build: BuildId) -> Look
     ensures { result ≡ realm_new host.now build }
 {
     let found = state_of_realm(host, build);
-    Look {
-        fact: Fact::Realm(RealmFact::State(RealmState::New, found)),
-        fails: !matches!(found, Some(RealmState::New)),
-        refusal: Refusal::Rmi(Rmi::REALM),
-    }
+    let fact = Fact::Realm(RealmFact::State(RealmState::New, found));
+    rmi_look(fact, !matches!(found, Some(RealmState::New)), Rmi::REALM)
 }
 
 /// The realm of a build is ACTIVE.
@@ -37,11 +34,8 @@ pub(crate) fn realm_active<S: PageStore>(host: &Host<S>, build: BuildId) -> Look
     ensures { result ≡ realm_active host.now build }
 {
     let found = state_of_realm(host, build);
-    Look {
-        fact: Fact::Realm(RealmFact::State(RealmState::Active, found)),
-        fails: !matches!(found, Some(RealmState::Active)),
-        refusal: Refusal::Rmi(Rmi::REALM),
-    }
+    let fact = Fact::Realm(RealmFact::State(RealmState::Active, found));
+    rmi_look(fact, !matches!(found, Some(RealmState::Active)), Rmi::REALM)
 }
 
 // Whether the granules are that of a number and those behind it, in their order.

@@ -3,13 +3,13 @@ ghost use Rattle.std.specs.Prelude.{◌≡◌, ◌++◌, ◌∷◌, ◌≤◌, O
 ghost use Rattle.realm_model.specs.Command.Check.{are_distinct};
 ghost use Rattle.refusal_reasons.specs.OfRec.{state_of_rec, rec_there, rec_ready, rec_is_running, rec_create_looks};
 
-use crate::look::{Fact, Look};
+use crate::look::{Fact, Look, rmi_look};
 use crate::of_input::{add_delegated, input_look};
 use crate::of_realm::realm_new;
 use crate::rec_fact::RecFact;
 use granule_addr::{BuildId, Gran, RecNo};
 use page_arena::PageStore;
-use realm_host::{Host, RecState, Refusal, Rmi};
+use realm_host::{Host, RecState, Rmi};
 use std::alloc::AllocError;
 
 // Whether no granule stands twice in a list.
@@ -73,11 +73,8 @@ pub(crate) fn rec_ready<S: PageStore>(host: &Host<S>, build: BuildId, number: Re
     ensures { result ≡ rec_ready host.now build number }
 {
     let found = state_of_rec(host, build, number);
-    Look {
-        fact: Fact::Rec(RecFact::State(number, RecState::Ready, found)),
-        fails: !matches!(found, Some(RecState::Ready)),
-        refusal: Refusal::Rmi(Rmi::REC),
-    }
+    let fact = Fact::Rec(RecFact::State(number, RecState::Ready, found));
+    rmi_look(fact, !matches!(found, Some(RecState::Ready)), Rmi::REC)
 }
 
 /// The REC is RUNNING.
@@ -85,9 +82,6 @@ pub(crate) fn rec_is_running<S: PageStore>(host: &Host<S>, build: BuildId, numbe
     ensures { result ≡ rec_is_running host.now build number }
 {
     let found = state_of_rec(host, build, number);
-    Look {
-        fact: Fact::Rec(RecFact::State(number, RecState::Running, found)),
-        fails: !matches!(found, Some(RecState::Running)),
-        refusal: Refusal::Rmi(Rmi::REC),
-    }
+    let fact = Fact::Rec(RecFact::State(number, RecState::Running, found));
+    rmi_look(fact, !matches!(found, Some(RecState::Running)), Rmi::REC)
 }

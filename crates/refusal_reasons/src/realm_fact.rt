@@ -1,5 +1,5 @@
 //! What is asked of a realm that is to be made, and of one that is there. RMM 1.0, RMI_REALM_CREATE, Realm attributes.
-use crate::names::RealmName;
+use crate::words::realm_words;
 use realm_model::RealmState;
 use std::fmt;
 
@@ -25,22 +25,6 @@ impl fmt::Display for RealmFact {
     ghost output = { λ fact. Some (realm_words fact) };
 
     fn fmt<W: fmt::Write>(&self, f: &mut fmt::Formatter<W>) -> fmt::Result {
-        match *self {
-            RealmFact::Width(width) => write!(f, "the IPA width is 39 to 43: {width}"),
-            RealmFact::Adjacent => f.write_str("the starting tables are adjacent granules"),
-            RealmFact::Multiple(count) => {
-                write!(f, "the first starting table is a multiple of {count}")
-            }
-            RealmFact::Apart => f.write_str("the RD is no starting table"),
-            RealmFact::State(wanted, Some(found)) => {
-                write!(
-                    f,
-                    "the realm is {}: {}",
-                    RealmName(wanted),
-                    RealmName(found)
-                )
-            }
-            RealmFact::State(wanted, None) => write!(f, "the realm is {}", RealmName(wanted)),
-        }
+        fmt::Display::fmt(&realm_words(*self), f)
     }
 }

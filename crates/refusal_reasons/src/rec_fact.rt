@@ -1,5 +1,5 @@
 //! What is asked of a REC that is to be made, and of one that is there. RMM 1.0, RMI_REC_CREATE, REC attributes.
-use crate::names::RecName;
+use crate::words::rec_words;
 use granule_addr::RecNo;
 use realm_model::RecState;
 use std::fmt;
@@ -24,22 +24,6 @@ impl fmt::Display for RecFact {
     ghost output = { λ fact. Some (rec_words fact) };
 
     fn fmt<W: fmt::Write>(&self, f: &mut fmt::Formatter<W>) -> fmt::Result {
-        match *self {
-            RecFact::Distinct => f.write_str("no granule is named twice"),
-            RecFact::Auxiliaries(given, wanted) => {
-                write!(f, "a REC has {wanted} auxiliary granules: {given}")
-            }
-            RecFact::There(number) => write!(f, "the realm has REC {}", number.number()),
-            RecFact::State(number, wanted, Some(found)) => write!(
-                f,
-                "REC {} is {}: {}",
-                number.number(),
-                RecName(wanted),
-                RecName(found)
-            ),
-            RecFact::State(number, wanted, None) => {
-                write!(f, "REC {} is {}", number.number(), RecName(wanted))
-            }
-        }
+        fmt::Display::fmt(&rec_words(self), f)
     }
 }

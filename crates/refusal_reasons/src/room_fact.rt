@@ -1,4 +1,5 @@
 //! What is asked of the room of a build, and of what all builds share.
+use crate::words::room_words;
 use granule_addr::Vmid;
 use std::fmt;
 
@@ -22,21 +23,6 @@ impl fmt::Display for RoomFact {
     ghost output = { λ fact. Some (room_words fact) };
 
     fn fmt<W: fmt::Write>(&self, f: &mut fmt::Formatter<W>) -> fmt::Result {
-        match *self {
-            RoomFact::Journal(open) => write!(f, "fewer than 512 acts are open: {open}"),
-            RoomFact::History(left, needed) => {
-                write!(f, "the history has room for {needed} more: for {left}")
-            }
-            RoomFact::Vmid(Some(lowest)) => {
-                write!(f, "a VMID is free: the lowest is {}", lowest.number())
-            }
-            RoomFact::Vmid(None) => f.write_str("a VMID is free: all are in use"),
-            RoomFact::Block(order, free) => {
-                write!(
-                    f,
-                    "an aligned block of order {order} is free: {free} pages are"
-                )
-            }
-        }
+        fmt::Display::fmt(&room_words(*self), f)
     }
 }

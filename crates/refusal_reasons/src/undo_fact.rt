@@ -1,4 +1,5 @@
 //! What is asked of what a build has open.
+use crate::words::undo_words;
 use std::fmt;
 
 /// What refusals 7 and 8 ask.
@@ -23,15 +24,6 @@ impl fmt::Display for UndoFact {
     ghost output = { λ fact. Some (undo_words fact) };
 
     fn fmt<W: fmt::Write>(&self, f: &mut fmt::Formatter<W>) -> fmt::Result {
-        match *self {
-            UndoFact::Open(open) => write!(f, "the build has an act open: {open}"),
-            UndoFact::NewestRests => f.write_str("the newest open act made no REC that runs"),
-            UndoFact::AllRest(running) => write!(
-                f,
-                "the RECs of the build are READY: all but {running}"
-            ),
-            UndoFact::Mark => f.write_str("the build has a mark"),
-            UndoFact::AboveRests => f.write_str("no act above the mark made a REC that runs"),
-        }
+        fmt::Display::fmt(&undo_words(*self), f)
     }
 }

@@ -1,5 +1,5 @@
 //! What is asked of the translation of a realm. RMM 1.0, RTT walk, RTT entry.
-use crate::names::EntryName;
+use crate::words::walk_words;
 use granule_addr::Gran;
 use realm_model::EntryState;
 use std::fmt;
@@ -26,40 +26,6 @@ impl fmt::Display for WalkFact {
     ghost output = { λ fact. Some (walk_words fact) };
 
     fn fmt<W: fmt::Write>(&self, f: &mut fmt::Formatter<W>) -> fmt::Result {
-        match *self {
-            WalkFact::Walk(ipa, to, ended) => {
-                write!(
-                    f,
-                    "the walk of IPA granule {ipa} ends at level {to}: it ends at {ended}"
-                )
-            }
-            WalkFact::Entry(level, wanted, Some(found)) => write!(
-                f,
-                "the entry at level {level} is {}: {}",
-                EntryName(wanted),
-                EntryName(found)
-            ),
-            WalkFact::Entry(level, wanted, None) => {
-                write!(f, "the entry at level {level} is {}", EntryName(wanted))
-            }
-            WalkFact::NoTable(level, Some(found)) => {
-                write!(
-                    f,
-                    "the entry at level {level} is not TABLE: {}",
-                    EntryName(found)
-                )
-            }
-            WalkFact::NoTable(level, None) => write!(f, "the entry at level {level} is not TABLE"),
-            WalkFact::Leads(Some(granule)) => {
-                write!(f, "the entry leads to a page: granule {}", granule.number())
-            }
-            WalkFact::Leads(None) => f.write_str("the entry leads to a page"),
-            WalkFact::Free(ipa, count) => {
-                write!(
-                    f,
-                    "{count} entries from IPA granule {ipa} on are UNASSIGNED"
-                )
-            }
-        }
+        fmt::Display::fmt(&walk_words(*self), f)
     }
 }
