@@ -32,7 +32,7 @@ impl fmt::Display for TurnAnswer {
             TurnAnswer::Marked(length) => write!(f, "ok {length}"),
             TurnAnswer::Undone(kind) => write!(f, "ok {}", KindWord(kind)),
             TurnAnswer::Ended(kind) => write!(f, "done {}", KindWord(kind)),
-            TurnAnswer::Nothing => write!(f, "done"),
+            TurnAnswer::Nothing => f.write_str("done"),
             TurnAnswer::Refused(refusal) => write!(f, "no {}", RefusalText(refusal)),
         }
     }
