@@ -1,16 +1,13 @@
 -- A guest's write, over the fields of a monitor: what it is refused for, and what it does.
-use Rattle.std.proofs.Common.{◌≡◌, ℕ, ◌<◌, Bool, true, false, List, [], ◌∷◌, length, Result, Ok, Err, Some, None, refl, sym, ap, ◌∙◌, subst}
+use Rattle.std.proofs.Common.{◌≡◌, ℕ, Bool, true, false, List, [], ◌∷◌, Ok, Err, Some, None, refl, sym, ap, ◌∙◌, subst}
 use Rattle.std.specs.Prelude.{not}
-use Rattle.std.specs.Result.{IsErrAnd}
-use Rattle.std.proofs.lemmas.Result.{err_from_is_err_and}
 use Rattle.granule_addr.specs.Ipa.{is_protected_at}
 use Rattle.granule_table.specs.Granules.{IsIn}
-use Rattle.granule_table.specs.declared.granule.Granule.{Granule}
-use Rattle.page_arena.specs.Page.{is_free, with_byte}
+use Rattle.page_arena.specs.Page.{with_byte}
 use Rattle.realm_model.specs.declared.rmi.Rmi.{Rmi}
 use Rattle.realm_model.specs.declared.states.GranuleState.TheVariants.{Data as InData}
 use Rattle.realm_model.specs.Rows.{Row, Walk, walk, is_assigned, data_of}
-use Rattle.realm_model.specs.Machine.{Cell, RealmRow, RecRow, Seen}
+use Rattle.realm_model.specs.Machine.{RealmRow, RecRow, Seen}
 use Rattle.realm_model.specs.Update.{Outcome, PutByte}
 use Rattle.realm_model.specs.Command.Check.{check, error_input, error_rec, error_rtt, is_ready, with_end, with_granule}
 use Rattle.realm_model.specs.Command.Rec.{guest_write}
@@ -25,10 +22,8 @@ use Rattle.rtt.proofs.RowWords.{rows_said}
 use Rattle.rmi_monitor.specs.View.{MonitorView, IsOnRec, seen_in}
 use Rattle.rmi_monitor.specs.Inside.{Fields, seen_as, IsWhole}
 use Rattle.rmi_monitor.specs.Located.{IsLocated}
-use Rattle.rmi_monitor.specs.GuestPages.{IsGuestPage}
-use Rattle.rmi_monitor.proofs.DataBytes.{page_inside, page_taken, whole_written, byte_put}
-use Rattle.rmi_monitor.proofs.Granules.{HasFields, as_many_granules, in_machine, cell_is}
-use Rattle.rmi_monitor.proofs.RecFound.{IsKept, rec_found, outcome_there, is_rec, on_rec}
+use Rattle.rmi_monitor.proofs.DataBytes.{byte_put}
+use Rattle.rmi_monitor.proofs.RecFound.{IsKept, outcome_there, on_rec}
 use Rattle.rmi_monitor.proofs.RealmFound.{row_of}
 
 module _ (monitor : MonitorView) (fields : Fields) (view_is : seen_as fields ≡ monitor) (whole : IsWhole fields) (granule : ℕ)
@@ -85,59 +80,13 @@ module _ (monitor : MonitorView) (fields : Fields) (view_is : seen_as fields ≡
           refused rmi
           (write_walks ∙ check_false (is_assigned end.row) (error_rtt end.level) _ (data_of-none end.row said none) ∙ ap (λ (r : Rmi). Err r) (sym is))
 
-      pub page_writes : (page : ℕ) → data_of end.row ≡ Some page → guest_write (seen_in monitor rd) rec.number ipa offset value ≡ Ok (PutByte page offset value ∷ [])
-      page_writes page leads =
+      pub write_done : (page : ℕ) → data_of end.row ≡ Some page → IsIn fields.granules page InData (Some at.0.rd)
+          → (pages : List (List ℕ)) (free : List Bool) → pages ≡ with_byte fields.pages page offset value → free ≡ fields.free
+          → IsOnRec (λ seen number. guest_write seen number ipa offset value) monitor granule (Ok (tt {0})) (seen_as (record fields { pages = pages; free = free }))
+      write_done page leads is pages free written same =
           let row = data_of-leads end.row page leads in
-          write_walks ∙ check_true (is_assigned end.row) (error_rtt end.level) _ (ap is_assigned row)
-          ∙ granule_there end.row (λ g. Ok (PutByte g offset value ∷ [])) page (ap (λ (r : Row). r.granule) row)
-
--- the page where the walk ends
-module _ (monitor : MonitorView) (fields : Fields) (view_is : seen_as fields ≡ monitor) (whole : IsWhole fields) (granule : ℕ)
-    (rec : RecAttributes) (rd : ℕ) (realm : RealmAttributes) (kept : IsKept fields granule rec rd realm) (ipa : ℕ)
-    {at : Tables × ℕ} (located : IsLocated realm rd ipa at) (running : is_ready rec.state ≡ false) {to : ℕ} (last : to ≡ 3)
-    (end : Walk) (given_ends : walk (rows fields.pages at.0.root) at.1 to ≡ Some end) where
-  pub page_found : (page : ℕ) → data_of end.row ≡ Some page → IsIn fields.granules page InData (Some at.0.rd) → IsGuestPage monitor granule ipa page
-  page_found page leads is =
-      let inside = in_machine monitor fields view_is whole page is.inside in
-      let there = cell_is monitor fields view_is whole page inside in
-      record {
-        rd = rd;
-        number = rec.number;
-        is = is_rec monitor fields view_is whole (λ seen number. guest_write seen number ipa 0 0) granule rec rd realm kept;
-        inside = inside;
-        state = ap (λ (c : Cell). c.state) there ∙ ap (λ (x : Granule). x.state) is.is;
-        of = ap (λ (c : Cell). c.realm) there ∙ ap (λ (x : Granule). x.realm) is.is ∙ ap (λ (t : Tables). Some t.rd) located.tables;
-        writes = λ offset value. page_writes monitor fields view_is whole granule rec rd realm kept ipa offset value located running last end given_ends page leads;
-      }
-
--- ---- the byte that is put there
-
-module _ {monitor : MonitorView} {fields : Fields} (has : HasFields monitor fields) {granule ipa page : ℕ} (there : IsGuestPage monitor granule ipa page) (offset value : ℕ) where
-  in_data : IsIn fields.granules page InData (Some there.rd)
-  in_data =
-      let cell = sym (cell_is monitor fields has.view_is has.whole page there.inside) in
-      record {
-        inside = subst (λ n. page < n) (as_many_granules monitor fields has.view_is has.whole) there.inside;
-        is = λ i. record { state = (ap (λ (c : Cell). c.state) cell ∙ there.state) i; realm = (ap (λ (c : Cell). c.realm) cell ∙ there.of) i };
-      }
-
-  pub page_asks : (page < length fields.pages) × (is_free fields.free page ≡ false)
-  page_asks = (page_inside fields has.whole there.rd page offset value in_data, page_taken fields has.whole there.rd page offset value in_data)
-
-  module _ {pages : List (List ℕ)} {free : List Bool} (written : pages ≡ with_byte fields.pages page offset value) (same : free ≡ fields.free) where
-    pub write_whole : IsWhole (record fields { pages = pages; free = free })
-    write_whole = whole_written fields has.whole there.rd page offset value in_data pages free written same
-
-    pub write_done : IsOnRec (λ seen number. guest_write seen number ipa offset value) monitor granule (Ok (tt {0})) (seen_as (record fields { pages = pages; free = free }))
-    write_done =
-        let found = rec_found monitor fields has.view_is has.whole there.rd there.number granule there.is in
-        on_rec monitor fields has.view_is has.whole (λ seen number. guest_write seen number ipa offset value) granule found.0 there.rd found.1 found.2 (Ok tt)
-        (Ok (PutByte page offset value ∷ [])) _ (ap (λ n. guest_write (seen_in monitor there.rd) n ipa offset value) found.3 ∙ there.writes offset value) tt
-        (byte_put fields has.whole there.rd page offset value in_data pages free written same monitor has.view_is)
-
--- a refusal that comes of a call's
-pub refused_write : {command : Seen → ℕ → Outcome} {old new : MonitorView} {granule : ℕ} {rmi : Rmi} (answer : Result (Unit {0}) Rmi) → IsErrAnd answer (λ e. e ≡ rmi)
-    → IsOnRec {A = Unit {0}} command old granule (Err rmi) new → IsOnRec command old granule answer new
-refused_write {command} {old} {new} {granule} answer said is =
-    let told = err_from_is_err_and answer said in
-    subst (λ (r : Result (Unit {0}) Rmi). IsOnRec command old granule r new) (sym (told.1 ∙ ap Err told.2)) is
+          on_rec monitor fields view_is whole command granule rec rd realm kept (Ok tt) (Ok (PutByte page offset value ∷ [])) _
+          (write_walks ∙ check_true (is_assigned end.row) (error_rtt end.level) _ (ap is_assigned row)
+          ∙ granule_there end.row (λ g. Ok (PutByte g offset value ∷ [])) page (ap (λ (r : Row). r.granule) row))
+          tt
+          (byte_put fields whole rd page offset value (subst (λ (t : Tables). IsIn fields.granules page InData (Some t.rd)) located.tables is) pages free written same monitor view_is)

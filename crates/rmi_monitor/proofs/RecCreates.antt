@@ -26,11 +26,11 @@ use Rattle.realm_objects.specs.Attributes.{RealmAttributes, RecAttributes, realm
 use Rattle.rtt.specs.Tables.{rows}
 use Rattle.rmi_monitor.specs.View.{MonitorView, IsTaken, Answers, seen_in, after_command}
 use Rattle.rmi_monitor.specs.Inside.{Fields, realm_at, rec_count_at, recs_of, seen_as, IsWhole}
-use Rattle.rmi_monitor.specs.Places.{is_delegated_at, are_fit_for_rec, IsInState}
+use Rattle.rmi_monitor.specs.Places.{is_delegated_at, are_fit_for_rec, IsInState, with_rec_more}
 use Rattle.rmi_monitor.proofs.Checks.{delegated_state}
 use Rattle.rmi_monitor.proofs.Granules.{HasFields, machine_is, cell_is, in_granules, seen_delegated, after_done}
 use Rattle.rmi_monitor.proofs.Listed.{once_from_distinct, holds_in}
-use Rattle.rmi_monitor.proofs.RecMade.{CanMake, made, new_rec, with_rec_more}
+use Rattle.rmi_monitor.proofs.RecMade.{CanMake, made, new_rec}
 use Rattle.rmi_monitor.proofs.RecMadeAfter.{whole_made, machine_made}
 use Rattle.rmi_monitor.proofs.Outcomes.{answers_ok, answers_err}
 use Rattle.rmi_monitor.proofs.RealmCommands.{refused_back}

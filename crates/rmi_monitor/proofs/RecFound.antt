@@ -92,7 +92,7 @@ module _ (monitor : MonitorView) (fields : Fields) (view_is : seen_as fields ≡
           let number_same : rec.number ≡ number = ap (λ (r : RecAttributes). r.number) rec_same ∙ found.3 in
           λ i. command (seen_in monitor (realm_same i)) (number_same i)
 
-      pub is_rec : IsRec monitor.machine rd rec.number granule
+      is_rec : IsRec monitor.machine rd rec.number granule
       is_rec = record {
         realm = row_of fields rd realm;
         there = descriptor_there monitor fields view_is whole rd realm kept.there;

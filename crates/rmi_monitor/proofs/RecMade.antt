@@ -10,13 +10,13 @@ use Rattle.page_arena.specs.Page.{page_at}
 use Rattle.realm_model.specs.declared.states.GranuleState.{GranuleState}
 use Rattle.realm_model.specs.declared.states.GranuleState.TheVariants.{Delegated, Rec as InRec, RecAux as InRecAux}
 use Rattle.realm_model.specs.declared.states.RecState.TheVariants.{Ready}
-use Rattle.realm_model.specs.Measurement.{measurement_after, rec_event}
 use Rattle.realm_model.specs.Sound.{is_host_state, is_rd_state}
 use Rattle.realm_model.proofs.Booleans.{true_false, none_from}
 use Rattle.realm_model.specs.Command.Check.{is_in}
 use Rattle.realm_model.proofs.Lists.{is_in_more}
 use Rattle.realm_objects.specs.Attributes.{RealmAttributes, RecAttributes}
 use Rattle.rmi_monitor.specs.Inside.{Fields, realm_at, rec_count_at, rec_at, is_rec_state, IsSoundAt, IsWhole}
+use Rattle.rmi_monitor.specs.Places.{with_rec_more}
 use Rattle.rmi_monitor.proofs.Puts.{put_all}
 use Rattle.rmi_monitor.proofs.RealmPlaces.{realm_inside}
 use Rattle.rmi_monitor.proofs.RecMoves.{RecMove, is_moved_state, granule_first, granule_rest, rec_first, rec_out, no_realm, no_rec}
@@ -25,10 +25,6 @@ use Rattle.rmi_monitor.proofs.Comparisons.{either}
 -- a REC that has just been made
 abbrev pub new_rec : ℕ → List ℕ → RecAttributes
 new_rec number auxiliaries = record { number = number; state = Ready; auxiliaries = auxiliaries }
-
--- the attributes of a realm that gets one more REC
-abbrev pub with_rec_more : RealmAttributes → RealmAttributes
-with_rec_more realm = record realm { next = realm.next + 1; measurement = measurement_after realm.measurement (rec_event realm.next) }
 
 abbrev pub made : Fields → ℕ → ℕ → List ℕ → RealmAttributes → Fields
 made old rd g others realm = record old {

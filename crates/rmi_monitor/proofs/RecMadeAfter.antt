@@ -24,7 +24,8 @@ use Rattle.rmi_monitor.proofs.RecMoves.{RecMove, granule_count, granule_first, g
 use Rattle.rmi_monitor.proofs.RecMoves.{count_rd, count_out, no_realm, rec_of_stays, recs_of_stays, translation, changes, zero_cell}
 use Rattle.rmi_monitor.proofs.RealmRecs.{recs_of-without}
 use Rattle.rmi_monitor.proofs.RecEntries.{IsEntry, entry_at, of_realm, of_other, numbered_recs, rec_of-none, rec_of-other, rec_of-some}
-use Rattle.rmi_monitor.proofs.RecMade.{CanMake, made, making, new_rec, with_rec_more, was_none, zero_after, sound_made}
+use Rattle.rmi_monitor.specs.Places.{with_rec_more}
+use Rattle.rmi_monitor.proofs.RecMade.{CanMake, made, making, new_rec, was_none, zero_after, sound_made}
 
 module _ (old : Fields) (whole : IsWhole old) (rd g : ℕ) (others : List ℕ) (realm : RealmAttributes) (can : CanMake old rd g others realm) where
   abbrev new : Fields

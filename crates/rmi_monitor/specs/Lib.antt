@@ -6,4 +6,3 @@ pub mod Located
 pub mod Places
 pub mod Named
 pub mod Walked
-pub mod GuestPages

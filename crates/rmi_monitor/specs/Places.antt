@@ -1,12 +1,12 @@
 -- Tests of what stands at the places of a monitor.
-use Rattle.std.specs.Prelude.{◌≡◌, ℕ, ◌%◌, ◌==◌, ◌<◌, List, ◌∷◌, length, Bool, true, false, not, ◌&&◌, nat_le, Option, Some, None}
+use Rattle.std.specs.Prelude.{◌≡◌, ℕ, ◌+◌, ◌%◌, ◌==◌, ◌<◌, List, ◌∷◌, length, Bool, true, false, not, ◌&&◌, nat_le, Option, Some, None}
 use Rattle.std.specs.List.{list_all}
 use Rattle.granule_addr.specs.Root.{start_count, starting_tables}
 use Rattle.granule_addr.specs.declared.root.Root.{Root}
 use Rattle.page_arena.specs.Page.{is_free}
 use Rattle.granule_table.specs.Granules.{granule_at}
 use Rattle.granule_table.specs.declared.granule.Granule.{Granule}
-use Rattle.realm_model.specs.Measurement.{measurement_after}
+use Rattle.realm_model.specs.Measurement.{measurement_after, rec_event}
 use Rattle.realm_model.specs.Command.Check.{are_distinct}
 use Rattle.realm_model.specs.declared.states.GranuleState.{GranuleState}
 use Rattle.realm_model.specs.declared.states.GranuleState.TheVariants.{Undelegated, Delegated}
@@ -15,6 +15,10 @@ use Rattle.realm_objects.specs.Attributes.{RealmAttributes}
 -- a realm's attributes with the measurement extended by an event
 abbrev pub measured_by : List ℕ → RealmAttributes → RealmAttributes
 measured_by event realm = record realm { measurement = measurement_after realm.measurement event }
+
+-- and with one more REC, by whose number it is extended
+abbrev pub with_rec_more : RealmAttributes → RealmAttributes
+with_rec_more realm = record realm { next = realm.next + 1; measurement = measurement_after realm.measurement (rec_event realm.next) }
 
 abbrev pub is_delegated_at : List Granule → ℕ → Bool
 is_delegated_at granules granule = elim (granule_at granules granule).state [ Delegated ↦ true | _ ↦ false ]

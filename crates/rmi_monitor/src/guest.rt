@@ -1,8 +1,6 @@
 //! What guests do.
-ghost use Rattle.std.specs.Prelude.{ℕ, Err, IfOk, IfErr};
 ghost use Rattle.realm_model.specs.Command.Rec as command;
 ghost use Rattle.rmi_monitor.specs.View.{IsTaken, IsOnRec};
-ghost use Rattle.rmi_monitor.specs.GuestPages.{IsGuestPage};
 
 use crate::Monitor;
 use crate::locate::located;
@@ -27,18 +25,6 @@ impl<S: PageStore> Monitor<S> {
         requires { IsTaken self.old rec }
         ensures { IsOnRec (λ rd number. command.guest_write rd number ipa offset value) self.old rec result self.new }
     {
-        let page = self.guest_page(rec, ipa)?;
-        self.store.set(page, offset, value);
-        Ok(())
-    }
-
-    // The page of a RUNNING REC's realm at that IPA granule.
-    fn guest_page(&self, rec: Gran, ipa: u32) -> Result<Gran, Rmi>
-        requires { IsTaken self.now rec }
-        ensures ok { IfOk result (IsGuestPage self.now rec ipa) }
-        ensures err { IfErr result (λ e. (offset value : ℕ)
-            → IsOnRec {A = Unit {0}} (λ rd number. command.guest_write rd number ipa offset value) self.now rec (Err e) self.now) }
-    {
         let Some(kept) = &self.recs[rec.number() as usize] else {
             return Err(Rmi::INPUT);
         };
@@ -58,6 +44,7 @@ impl<S: PageStore> Monitor<S> {
         let Some(page) = walk.entry.page() else {
             return Err(Rmi::from(Rtt { level: walk.level }));
         };
-        Ok(page)
+        self.store.set(page, offset, value);
+        Ok(())
     }
 }

@@ -4,6 +4,7 @@ ghost use Rattle.std.specs.List.{All};
 ghost use Rattle.realm_model.specs.Machine.{RealmRow, cell_at};
 ghost use Rattle.realm_model.specs.Command.Rec as command;
 ghost use Rattle.realm_objects.specs.Attributes.{rec_row};
+ghost use Rattle.rmi_monitor.specs.Places.{with_rec_more};
 ghost use Rattle.rmi_monitor.specs.View.{IsTaken, Answers, IsOnRec, seen_in, after_command, rec_in};
 
 use crate::Monitor;
@@ -13,7 +14,18 @@ use arrayvec::ArrayVec;
 use granule_addr::{Gran, RecNo};
 use page_arena::PageStore;
 use realm_model::{GranuleState, Rmi};
-use realm_objects::{Rec, rec_event};
+use realm_objects::{RealmDesc, Rec, rec_event};
+
+// Gives the realm's next number to a REC, and extends the realm's measurement by it.
+fn number_rec(realm: &mut RealmDesc) -> RecNo
+    requires { realm.old.next < 65535 }
+    ensures number { result ≡ realm.old.next }
+    ensures counted { realm.new ≡ with_rec_more realm.old }
+{
+    let number = realm.next_rec();
+    realm.measure(&rec_event(number));
+    number
+}
 
 impl<S: PageStore> Monitor<S> {
     /// How many auxiliary granules a REC has. RMM 1.0, RMI_REC_AUX_COUNT; that it is the same for each realm is this
@@ -63,8 +75,7 @@ impl<S: PageStore> Monitor<S> {
             GranuleState::RecAux,
             rd,
         );
-        let number = realm.next_rec();
-        realm.measure(&rec_event(number));
+        let number = number_rec(realm);
         self.recs[rec.number() as usize] = Some(Rec::new(number, auxiliaries));
         self.rec_counts[rd.number() as usize] += 1;
         Ok(number)

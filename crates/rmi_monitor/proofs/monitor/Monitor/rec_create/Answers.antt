@@ -3,7 +3,7 @@ use Rattle.realm_model.specs.Command.Check.{are_distinct}
 use Rattle.rmi_monitor.specs.Inside.{fields_of}
 use Rattle.rmi_monitor.proofs.Granules.{has_fields, in_granules}
 use Rattle.rmi_monitor.proofs.RecCreates.{inside_by, fit_by, shifted_by, refused_create, refuses_no_realm, refuses_unfit, refuses_active, row_is}
-use Rattle.rmi_monitor.proofs.RecCreates.{others_distinct, others_stand, more_by, Created, create_done}
+use Rattle.rmi_monitor.proofs.RecCreates.{others_distinct, others_stand, Created, create_done}
 use Rattle.rmi_monitor.proofs.RecReads.{rec_place, count_place, count_read, one_more_fits}
 use Rattle.rmi_monitor.proofs.RealmFound.{realm_place, realm_read}
 use Rattle.rmi_monitor.proofs.RealmCommands.{whole_back}
@@ -75,8 +75,8 @@ shift_all-requires g c =
 
 -- ---- the REC and its number
 
-pub next_rec-number-requires : goal.next_rec-number-requires
-next_rec-number-requires g c =
+pub number_rec-number-requires : goal.number_rec-number-requires
+number_rec-number-requires g c =
     let has = has_fields c.self.view_is c.self.invariant in
     c.requires.numbers _ (row_is has c.args.rd c.args.rec c.args.auxiliaries.items c.requires
     (realm_read has c.requires.rd_taken.inside c.number.ensures.value c.index_mut.ensures.value c.in-Some.is))
@@ -98,21 +98,20 @@ overflow_add-index_mut g c =
     let fits = one_more_fits c.args.rd c.self.invariant read refl (g.met.S.PageStore.sized c.self.inside.store).few_pages in
     omega (arith, fits)
 
-done : (g : Over) (c : goal.After-self-4-1 g) → Created c.args.self.now c.args.rd c.args.rec c.args.auxiliaries.items c.next_rec-number.result
+done : (g : Over) (c : goal.After-self-4-1 g) → Created c.args.self.now c.args.rd c.args.rec c.args.auxiliaries.items c.number_rec-number.result
     (fields_of c.self.inside.vmids c.self.inside.aux c.self.inside.used c.shift_all.new.granules (g.S.PageStore.page_bytes c.self.inside.store)
-    (g.S.PageStore.free_flags c.self.inside.store) (set c.self.inside.realms.items c.number.result (Some c.measure.new.self))
+    (g.S.PageStore.free_flags c.self.inside.store) (set c.self.inside.realms.items c.number.result (Some c.number_rec-number.new.realm))
     (set c.self.inside.rec_counts.items c.number-3.result (c.index_mut-3.result.now + 1)) (set c.self.inside.recs.items c.number-2.result (Some c.new.result)))
 done g c =
     let has = has_fields c.self.view_is c.self.invariant in
     let there = realm_read has c.requires.rd_taken.inside c.number.ensures.value c.index_mut.ensures.value c.in-Some.is in
     let fit = fit_by has c.args.rd c.args.rec c.args.auxiliaries.items c.requires c.as_slice.ensures.value c.can_be_rec.ensures c.if-not-can_be_rec.false in
     let inside = in_granules c.args.self.now _ c.self.view_is c.self.invariant c.args.rd c.requires.rd_taken in
-    let counted = c.next_rec-number.ensures in
     create_done has c.args.rd c.args.rec c.args.auxiliaries.items c.requires there fit (sym c.is_new.ensures ∙ c.if-not-is_new.false)
     (shifted_by has c.args.rd c.args.rec c.args.auxiliaries.items c.requires there fit c.shift.result _ c.shift.ensures.answer.1 c.shift.ensures.shifted)
     c.shift_all.ensures c.as_slice-2.ensures.value c.number.ensures.value c.number-2.ensures.value c.number-3.ensures.value
     (count_read _ c.self.invariant c.args.rd inside c.number-3.result c.number-3.ensures.value c.index_mut-3.result.now c.index_mut-3.ensures.value)
-    (more_by counted.number counted.raised c.rec_event.ensures c.measure.ensures) counted.number c.new.ensures
+    c.number_rec-number.ensures.counted c.number_rec-number.ensures.number c.new.ensures
 
 pub invariant_of-self-2 : goal.invariant_of-self-2
 invariant_of-self-2 g c = (done g c).whole
