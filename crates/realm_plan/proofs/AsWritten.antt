@@ -26,7 +26,8 @@ or_fault_ok : {A : Type 0} (k : PlanFault) (o : Option A) (x : A) → or_fault k
 or_fault_ok k None x e = absurd (cc)
 or_fault_ok k (Some y) x e = cc
 
-spelled_first : (text : List ℕ) (texts : List (List ℕ)) (step : PlanStep) (more steps : List PlanStep) → text ≡ spelling step → map spelling more ≡ texts → step ∷ more ≡ steps → map spelling steps ≡ text ∷ texts
+spelled_first : (text : List ℕ) (texts : List (List ℕ)) (step : PlanStep) (more steps : List PlanStep) → text ≡ spelling step → map spelling more ≡ texts
+    → step ∷ more ≡ steps → map spelling steps ≡ text ∷ texts
 spelled_first text texts step more steps here go_on same = rw (← same, here, ← go_on) refl
 
 steps_as_written : (b k : ℕ) (texts : List (List ℕ)) (steps : List PlanStep) → steps_of b k texts ≡ Ok steps → map spelling steps ≡ texts
@@ -37,7 +38,8 @@ steps_as_written b k (text ∷ texts) steps e =
     let step : step_of text ≡ Some found.0 = or_fault_ok (fault.Step b k) (step_of text) found.0 found.1 in
     spelled_first text texts found.0 more.0 steps (text_of_step text found.0 step).is_spelled (steps_as_written b (k + 1) texts more.0 more.1) (cc)
 
-builds_first : (texts : List (List ℕ)) (others : List (List (List ℕ))) (steps : List PlanStep) (more builds : List (List PlanStep)) → map spelling steps ≡ texts → map (map spelling) more ≡ others → steps ∷ more ≡ builds → map (map spelling) builds ≡ texts ∷ others
+builds_first : (texts : List (List ℕ)) (others : List (List (List ℕ))) (steps : List PlanStep) (more builds : List (List PlanStep)) → map spelling steps ≡ texts
+    → map (map spelling) more ≡ others → steps ∷ more ≡ builds → map (map spelling) builds ≡ texts ∷ others
 builds_first texts others steps more builds here go_on same = rw (← same, ← here, ← go_on) refl
 
 builds_as_written : (b : ℕ) (texts : List (List (List ℕ))) (builds : List (List PlanStep)) → builds_of b texts ≡ Ok builds → map (map spelling) builds ≡ texts

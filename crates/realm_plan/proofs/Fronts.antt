@@ -1,5 +1,6 @@
 -- A list that is read item after item.
-use Rattle.std.proofs.Common.{◌≡◌, ℕ, ◌+◌, ◌<◌, ◌≤◌, List, [], ◌∷◌, ◌++◌, length, get_or, drop, Bool, true, ◌&&◌, Option, Some, None, String, Global, string_bytes, Result, Ok, Err, option_map, refl, sym, ap, ◌∙◌, append_assoc}
+use Rattle.std.proofs.Common.{◌≡◌, ℕ, ◌+◌, ◌<◌, ◌≤◌, List, [], ◌∷◌, ◌++◌, length, get_or, drop, Bool, true, ◌&&◌}
+use Rattle.std.proofs.Common.{Option, Some, None, String, Global, string_bytes, Result, Ok, Err, option_map, refl, sym, ap, ◌∙◌, append_assoc}
 use Rattle.std.specs.Prelude.{option_and_then}
 use mathlib.Core.List.{append-nil}
 use Rattle.std.proofs.Math.ListN.{drop_of_length-le}

@@ -1,8 +1,8 @@
 //! What the keys of a plan hold, before any limit is looked at.
-ghost use Rattle.std.specs.Prelude.{◌≡◌, List, map, Some, None, IfOk, option_map};
+ghost use Rattle.std.specs.Prelude.{◌≡◌, List, map, Some, None, IfOk, option_map, option_and_then};
 ghost use Rattle.std.specs.List.{list_any};
 ghost use Rattle.std.specs.Str.{bytes_eq};
-ghost use Rattle.toml.specs.Data.{get_member};
+ghost use Rattle.toml.specs.Data.{get_member, as_array};
 ghost use Rattle.toml.specs.View.{view, array_view, table_view};
 ghost use Rattle.realm_plan.specs.Contents.{has_only, whole_of, wholes_at, wholes_of, texts_of, step_texts_of, build_texts_of, builds_at, order_numbers_of};
 
@@ -15,6 +15,14 @@ fn value_at<'a>(table: &'a Table, key: &str) -> Option<&'a Value>
     ensures { option_map (λ v. view v.now) result ≡ get_member key.now (table_view table.now) }
 {
     table.get(key)
+}
+
+/// The array at a key.
+fn array_at<'a>(table: &'a Table, key: &str) -> Option<&'a Array>
+    ensures { option_map (λ a. array_view a.now) result
+        ≡ option_and_then as_array (get_member key.now (table_view table.now)) }
+{
+    value_at(table, key)?.as_array()
 }
 
 /// The whole number at the key, or the default where the key is missing.
@@ -114,10 +122,7 @@ fn steps_of<'a>(alloc: Global, value: &'a Value) -> Result<Option<Vec<&'a str>>,
     if !has_only_keys(table, &["steps"]) {
         return Ok(None);
     }
-    let Some(steps) = value_at(table, "steps") else {
-        return Ok(None);
-    };
-    let Some(array) = steps.as_array() else {
+    let Some(array) = array_at(table, "steps") else {
         return Ok(None);
     };
     texts_of(alloc, array)
@@ -143,10 +148,7 @@ fn builds_at<'a>(alloc: Global, table: &'a Table) -> Result<Option<Vec<Vec<&'a s
     ensures { IfOk result (λ r. option_map (λ v. map (λ b. map (λ t. t.now) b.items) v.items) r
         ≡ builds_at (table_view table.now)) }
 {
-    let Some(build) = value_at(table, "build") else {
-        return Ok(None);
-    };
-    let Some(array) = build.as_array() else {
+    let Some(array) = array_at(table, "build") else {
         return Ok(None);
     };
     builds_of(alloc, array)

@@ -19,7 +19,8 @@ loop-value-init c =
 
 pub loop-value-preserved : goal.loop-value-preserved
 loop-value-preserved c =
-    item_read step_texts_of build_texts_of reads c.deref-value-items.result.now c.loop-value.value-index c.value-item.result (map texts c.loop-value.found.items) (map texts c.push.new.self.items) (texts c.in-Some.steps)
+    item_read step_texts_of build_texts_of reads c.deref-value-items.result.now c.loop-value.value-index c.value-item.result (map texts c.loop-value.found.items)
+    (map texts c.push.new.self.items) (texts c.in-Some.steps)
     c.loop-value-test.true c.value-item.is (rw c.in-Some.is at c.in_ok-steps.ensures) (ap (map texts) c.in_ok-push.ensures.items ∙ map-append texts c.loop-value.found.items (c.in-Some.steps ∷ []))
     ∙ c.loop-value.invariant
 
@@ -30,4 +31,5 @@ returns-in_default c =
     ∙ c.loop-value.invariant
 
 pub returns : goal.returns
-returns c = sym (items_read step_texts_of build_texts_of reads c.deref-value-items.result.now c.loop-value.value-index (map texts c.loop-value.found.items) c.loop-value-test.false) ∙ c.loop-value.invariant
+returns c = sym (items_read step_texts_of build_texts_of reads c.deref-value-items.result.now c.loop-value.value-index (map texts c.loop-value.found.items) c.loop-value-test.false)
+    ∙ c.loop-value.invariant

@@ -30,7 +30,8 @@ loop-place-preserved c =
     record {
       read =
           entry_read (one count) (order_of count) (reads count) c.args.entries.now c.loop-place.place (pos 0) c.loop-place.found.items c.push.new.self.items c.in-Some.build
-          c.loop-place-test.true (ap (λ z. one count c.loop-place.place z) (sym (to_z-of_z w64 entry fits)) ∙ ap (or_fault (fault.Order c.loop-place.place)) (sym c.in-Some.ensures.value)) c.in_ok-push.ensures.items
+          c.loop-place-test.true (ap (λ z. one count c.loop-place.place z) (sym (to_z-of_z w64 entry fits))
+          ∙ ap (or_fault (fault.Order c.loop-place.place)) (sym c.in-Some.ensures.value)) c.in_ok-push.ensures.items
           ∙ c.loop-place.invariant.read;
       below = rw c.in_ok-push.ensures.items (All-push (λ build. build < count) c.loop-place.found.items c.in-Some.build c.loop-place.invariant.below c.in-Some.ensures.below);
     }
