@@ -11,15 +11,24 @@ use Rattle.clap.specs.Facts.{parser_of_value, unwrap_or_range}
 use Rattle.clap.specs.Values.{Accepts, read_as, refused_kind, is_request}
 use Rattle.clap.specs.ValueTests.{accepts}
 use Rattle.clap.proofs.ValueTestLemmas.{accepts-Accepts}
+use Rattle.command_line.specs.Options.{Each, IsPassed}
 use Rattle.clap.specs.declared.builder.value_parser.Reading.{Reading}
 use Rattle.clap.specs.declared.builder.value_parser.ValueParser.{ValueParser}
 use Rattle.clap.specs.declared.error.kind.ErrorKind.{ErrorKind}
 use Rattle.clap.specs.Kinds.{Kinds, or_else, value_kinds, range_kinds, request_kinds}
 use Rattle.clap.specs.Simple.{App, Shape, entered, rows_at, label_of}
 use Rattle.clap.specs.Walk.{Held, Names, Row, Rule, Step, Text, Waiting, Walk, Outcome, idle, option, positional, next, trailing, subcommand, value, done, waits, plain, refused}
-use Rattle.clap.specs.Walk.{action_of, reading_by, most_values, takes_values, takes_several, used_by_id, arg_by_id, arg_by_long, arg_by_short, arg_by_index, at_row, more_values, with_values, without, one_of, row_text, values_or_missing, used, used_as, settled, settled_rows, reacted, option_met, flag_met, long_met, attached_value, short_met, bundle_step, bundle_met, bundle, option_word, plain_word, after_flag, long_or_other, short_or_plain, subcommand_met, subcommand_or_other, word_met, is_pending, to_positional, after_step, walked_from, walked, walk_from, walk, default_rows, has_row, is_empty, with_default, finished, nothing_held, rows_after, answers_to}
+use Rattle.clap.specs.Walk.{action_of, reading_by, most_values, takes_values, takes_several, used_by_id, arg_by_id, arg_by_long, arg_by_short}
+use Rattle.clap.specs.Walk.{arg_by_index, at_row, more_values, with_values, without, one_of, row_text, values_or_missing, used, used_as, settled}
+use Rattle.clap.specs.Walk.{settled_rows, reacted, option_met, flag_met, long_met, attached_value, short_met, bundle_step, bundle_met, bundle}
+use Rattle.clap.specs.Walk.{option_word, plain_word, after_flag, long_or_other, short_or_plain, subcommand_met, subcommand_or_other, word_met}
+use Rattle.clap.specs.Walk.{is_pending, to_positional, after_step, walked_from, walked, walk_from, walk, default_rows, has_row, is_empty}
+use Rattle.clap.specs.Walk.{with_default, finished, nothing_held, rows_after, answers_to}
 use Rattle.clap.specs.Lexer.{long_of, short_of}
-use Rattle.clap.specs.Faults.{values_fault, repeat_fault, use_fault, action_fault, settle_fault, react_fault, option_fault, long_fault, short_fault, bundle_step_fault, flags_fault, bundle_fault, flag_word_fault, other_fault, word_fault, positional_fault, stray_fault, step_fault, turn_fault, walk_fault, default_fault, given_default_fault, defaults_fault, check_fault, level_fault, entered_fault}
+use Rattle.clap.specs.Faults.{values_fault, repeat_fault, use_fault, action_fault, settle_fault, react_fault, option_fault, long_fault, short_fault}
+use Rattle.clap.specs.Faults.{bundle_step_fault, flags_fault, bundle_fault, flag_word_fault, other_fault, word_fault, positional_fault, stray_fault}
+use Rattle.clap.specs.Faults.{step_fault, turn_fault, walk_fault, default_fault, given_default_fault, defaults_fault, check_fault, level_fault}
+use Rattle.clap.specs.Faults.{entered_fault}
 use Rattle.clap.specs.declared.builder.action.ArgAction.{ArgAction}
 use Rattle.clap.specs.declared.builder.action.ArgAction.TheVariants as action
 use Rattle.clap.specs.declared.error.kind.ErrorKind.TheVariants as kind
@@ -29,18 +38,9 @@ pub none_of_both : (a b : Kinds) → or_else a b ≡ [] → (a ≡ []) × (b ≡
 none_of_both [] b e = (refl, e)
 none_of_both (k ∷ ks) b e = absurd (cc)
 
--- each row of a list
-abbrev pub Each : (Row → Type 0) → List Row → Type 0
-Each P [] = Unit {0}
-Each P (r ∷ rs) = P r × Each P rs
-
 each_append : (P : Row → Type 0) (xs ys : List Row) → Each P xs → Each P ys → Each P (xs ++ ys)
 each_append P [] ys h k = k
 each_append P (r ∷ rs) ys h k = (h.0, each_append P rs ys h.1 k)
-
--- where the row is the rule's, its values passed the rule's parser, and are read as it says
-abbrev pub IsPassed : Rule → Row → Type 0
-IsPassed a r = bytes_eq r.id a.id ≡ true → (values_fault a r.values ≡ []) × (r.reading ≡ reading_by a)
 
 -- another rule that is set by a value
 abbrev pub IsOtherSet : Rule → Rule → Type 0

@@ -1,5 +1,5 @@
 -- What clap's definition says of the subcommand of a program that requires one, whatever the words.
-use Rattle.std.proofs.Common.{◌≡◌, ◌∙◌, List, [], ◌∷◌, Bool, true, false, refl, sym, ap, subst, ◌⊎◌, inl, inr}
+use Rattle.std.proofs.Common.{◌≡◌, ◌∙◌, List, [], ◌∷◌, Bool, true, false, refl, sym, ap, ap₂, subst, ◌⊎◌, inl, inr}
 use Rattle.std.specs.Prelude.{not, ◌&&◌, find, Option, Some, None, option_map, is_some, Box}
 use Rattle.std.specs.Box.{box_value}
 use Rattle.std.proofs.lemmas.Bool.{false≢true, cases_Bool}
@@ -8,12 +8,13 @@ use Rattle.clap.specs.Kinds.{or_else, check_kinds}
 use Rattle.clap.specs.Simple.{rows_at, entered, built, argument_words, names_of, label_of}
 use Rattle.clap.specs.Walk.{Held, Names, Rule, action_of, walk, walk_from, nothing_held, finished, settled, stop_after, answers_to}
 use Rattle.clap.specs.Faults.{level_fault, check_fault, defaults_fault, settle_fault, walk_fault, entered_fault}
-use Rattle.clap.specs.Words.{App, Kinds, Row, Shape, Text, fault_of, subcommand_name_of, subcommand_of, subcommand_rows, subcommand_rows_of}
+use Rattle.clap.specs.Words.{App, Kinds, Row, Shape, Text, fault_of, is_simple_and_free, subcommand_name_of, subcommand_of, subcommand_rows, subcommand_rows_of}
 use Rattle.clap.specs.declared.builder.action.ArgAction.TheVariants as action
 use Rattle.clap.specs.declared.parser.matches.ArgMatches.{ArgMatches}
 use Rattle.clap.specs.declared.parser.matches.ArgMatches.TheViews.{out-ArgMatches, out-SubCommand}
 use Rattle.clap.specs.declared.parser.matches.SubCommand.{SubCommand}
-use Rattle.command_line.proofs.Passed.{Each, IsPassed, AllAreOrAsk, none_of_both, entered_passed}
+use Rattle.command_line.specs.Options.{Each, IsPassed}
+use Rattle.command_line.proofs.Passed.{AllAreOrAsk, none_of_both, entered_passed}
 
 -- ---- a level that has no fault
 
@@ -94,3 +95,30 @@ rows_name (Some b) = refl
 -- the name that a parse gives is that of the words' subcommand
 pub name_of_rows : (m : ArgMatches) (sub : Option (Text × List Row)) → subcommand_rows_of m ≡ sub → subcommand_name_of m ≡ name_in sub
 name_of_rows m sub is = rows_name (out-ArgMatches m).subcommand ∙ ap name_in is
+
+-- the subcommand of which a name and the rows are known
+pub is_named : (sub : Option (Text × List Row)) (name : Text) (rows : List Row)
+    → name_in sub ≡ Some name → option_map (λ p. p.1) sub ≡ Some rows → sub ≡ Some (name, rows)
+is_named None name rows named found = absurd (cc)
+is_named (Some s) name rows named found = ap₂ (λ (n : Text) (r : List Row). Some (n, r)) (same_Some _ _ named) (same_Some _ _ found)
+
+-- ---- a program
+
+-- what is found by computing it: how its words are read is known, and it requires a subcommand
+pub record IsKnown (a : App) : Type 0 where
+  pub is_free : is_simple_and_free a ≡ true
+  pub required : (built a).top.subcommand_required ≡ true
+
+other_from : (first second : Text) (sub : Option (Text × List Row)) → is_some sub ≡ true
+    → ((r : Text × List Row) → sub ≡ Some r → (r.0 ≡ first) ⊎ (r.0 ≡ second)) → ¬ (name_in sub ≡ Some first) → name_in sub ≡ Some second
+other_from first second None has names other = absurd (false≢true has)
+other_from first second (Some r) has names other = elim (names r refl) [
+  | inl is ↦ absurd (other (ap Some is))
+  | inr is ↦ ap Some is
+]
+
+-- words that have no fault, and do not ask for the one of two subcommands, ask for the other
+pub other_is_asked : (a : App) → IsKnown a → (first second : Text) → ((t : Text) → NamesOne t (built a).subs → (t ≡ first) ⊎ (t ≡ second))
+    → (words : List Text) → fault_of a words ≡ [] → ¬ (name_in (subcommand_of a words) ≡ Some first) → name_in (subcommand_of a words) ≡ Some second
+other_is_asked a known first second named words e other =
+    other_from first second (subcommand_of a words) (is_entered a words e known.required) (λ r is. named r.0 (is_one a words r is)) other

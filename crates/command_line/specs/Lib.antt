@@ -1,1 +1,5 @@
 pub mod Stop
+pub mod Options
+pub mod Realmhost
+pub mod Rmitrace
+pub mod Realmview

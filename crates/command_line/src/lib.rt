@@ -1,10 +1,15 @@
-//! What programs with a command line have in common: the words that they are called with, why they stop, and how they end.
+//! What programs with a command line have in common: the words that they are called with, why they stop, and how they end; and
+//! the command line of each.
 //!
 //! A program has its own faults, each a `Reason` with its exit status and its line; `Stop` adds that the words are not
 //! taken. What `clap`'s definition says of a program with subcommands, whatever the words, stands in `proofs`.
 #![tactic(auto)]
 
+mod options;
 mod process;
+pub mod realmhost;
+pub mod realmview;
+pub mod rmitrace;
 mod stop;
 
 pub use process::arguments;

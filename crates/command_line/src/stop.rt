@@ -25,7 +25,7 @@ pub trait Reason: Display + Drop {
 }
 
 /// Why a program stops: each reason has an exit status, and a line or more for standard error.
-#[derive(Debug, Drop)]
+#[derive(Drop)]
 pub enum Stop<F> {
     /// The command line is refused, or asks for help or for the version: `clap` says which.
     Usage(Error),

@@ -34,7 +34,8 @@ pub plan_from_kept : (known : Option (List ℕ)) (bytes : List ℕ) (read : Resu
 plan_from_kept None bytes read kept is = tt
 plan_from_kept (Some xs) bytes read kept is = sym (plan_of-kept_of xs) ∙ ap plan_of (sym kept) ∙ is
 
-pub fault_from_kept : (known : Option (List ℕ)) (bytes : List ℕ) (error : PlanError) (fault : PlanFault) → IfSome known (λ xs. bytes ≡ kept_of xs) → Fails error (plan_of bytes) → fault_of_plan error ≡ told.Plan fault → IfSome known (λ xs. plan_of xs ≡ Err fault)
+pub fault_from_kept : (known : Option (List ℕ)) (bytes : List ℕ) (error : PlanError) (fault : PlanFault) → IfSome known (λ xs. bytes ≡ kept_of xs)
+    → Fails error (plan_of bytes) → fault_of_plan error ≡ told.Plan fault → IfSome known (λ xs. plan_of xs ≡ Err fault)
 fault_from_kept known bytes errors.Memory fault kept fails same = absurd (cc)
 fault_from_kept known bytes (errors.Fault found) fault kept fails same =
     let is : found ≡ fault = cc in

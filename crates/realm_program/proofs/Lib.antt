@@ -1,4 +1,3 @@
 pub mod Kept
 pub mod KeptPlan
 pub mod Ends
-pub mod Words

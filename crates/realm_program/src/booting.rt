@@ -1,5 +1,6 @@
-//! The host of a plan.
-ghost use Rattle.std.specs.Prelude.{◌≡◌, IfOk};
+//! Hosts over pages that are all free.
+ghost use Rattle.std.specs.Prelude.{◌≡◌, ◌≤◌, IfOk};
+ghost use Rattle.realm_host.specs.Host.{booted_by};
 ghost use Rattle.realm_plan.specs.PlanView.{plan_view};
 ghost use Rattle.realm_program.specs.Replay.{opening_host};
 
@@ -8,6 +9,27 @@ use page_arena::BuildError;
 use realm_host::{Host, Settings};
 use realm_plan::Plan;
 use std::alloc::{AllocError, Global};
+
+/// A host with these settings, over so many pages that are all free.
+pub fn boot_by<S: Built>(
+    alloc: Global,
+    settings: Settings,
+    pages: u16,
+) -> Result<Host<S>, AllocError>
+    requires some { 1 ≤ pages }
+    requires few { pages ≤ 4096 }
+    ensures { IfOk result (λ host. host ≡ booted_by settings pages) }
+{
+    let store = match S::built(alloc, pages) {
+        Ok(store) => store,
+        Err(BuildError::Memory(error)) => return Err(error),
+        Err(BuildError::BadSize) => unreachable!(),
+    };
+    match Host::boot(alloc, settings, store) {
+        Ok(host) => Ok(host),
+        Err((error, _store)) => Err(error),
+    }
+}
 
 /// A host of the plan's size, over pages that are all free.
 pub fn boot<S: Built>(alloc: Global, plan: &Plan) -> Result<Host<S>, AllocError>
@@ -19,13 +41,5 @@ pub fn boot<S: Built>(alloc: Global, plan: &Plan) -> Result<Host<S>, AllocError>
         plan.history,
         plan.builds.len() as u8,
     ).unwrap();
-    let store = match S::built(alloc, plan.pages) {
-        Ok(store) => store,
-        Err(BuildError::Memory(error)) => return Err(error),
-        Err(BuildError::BadSize) => unreachable!(),
-    };
-    match Host::boot(alloc, settings, store) {
-        Ok(host) => Ok(host),
-        Err((error, _store)) => Err(error),
-    }
+    boot_by(alloc, settings, plan.pages)
 }

@@ -14,7 +14,7 @@ pub const KEPT: usize = 1_048_577;
 pub const MOST_READS: usize = 1_048_578;
 
 /// Why an input is not given.
-#[derive(Clone, Copy, Debug, PartialEq, Eq)]
+#[derive(Clone, Copy)]
 pub enum ReadError {
     /// Allocation failed.
     Memory,

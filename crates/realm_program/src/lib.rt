@@ -9,16 +9,15 @@ mod booting;
 mod built;
 mod fault;
 mod input;
-mod line;
 mod printing;
 mod source;
 mod text;
 
-pub use booting::boot;
+pub use booting::{boot, boot_by};
 pub use built::Built;
+pub use command_line::realmhost::Line;
 pub use fault::Fault;
 pub use input::{ReadError, read_whole};
-pub use line::Line;
 pub use printing::{PlanText, print};
 pub use source::plan_in;
 pub use text::{map_without, replay, text_of};

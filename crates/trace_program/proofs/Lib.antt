@@ -8,5 +8,4 @@ pub mod Underway
 pub mod Found
 pub mod Agreed
 pub mod Judged
-pub mod Words
 pub mod Stated

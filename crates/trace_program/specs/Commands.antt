@@ -14,7 +14,9 @@ use Rattle.rmi_bench.specs.Calls.{naming, on_rec, numbered}
 use Rattle.rmi_trace.specs.declared.answer.Answer.{Answer}
 use Rattle.rmi_trace.specs.declared.answer.Answer.TheVariants as answer
 use Rattle.rmi_trace.specs.declared.request.Command.{Command}
-use Rattle.rmi_trace.specs.declared.request.Command.TheVariants.{GranuleDelegate, GranuleUndelegate, HostFill, HostPeek, RealmCreate, RealmActivate, RealmDestroy, RttCreate, RttDestroy, RttInitRipas, DataCreate, DataCreateUnknown, DataDestroy, RecCreate, RecEnter, RecExit, RecDestroy, GuestWrite}
+use Rattle.rmi_trace.specs.declared.request.Command.TheVariants.{GranuleDelegate, GranuleUndelegate, HostFill, HostPeek, RealmCreate, RealmActivate}
+use Rattle.rmi_trace.specs.declared.request.Command.TheVariants.{RealmDestroy, RttCreate, RttDestroy, RttInitRipas, DataCreate, DataCreateUnknown}
+use Rattle.rmi_trace.specs.declared.request.Command.TheVariants.{DataDestroy, RecCreate, RecEnter, RecExit, RecDestroy, GuestWrite}
 
 -- What comes of a command: its definition on the granules that it names. An offset above 4,095 is an input error.
 abbrev pub command_outcome : Command → MonitorView → Outcome

@@ -5,5 +5,4 @@ pub mod Input
 pub mod Answering
 pub mod Verdict
 pub mod Checking
-pub mod Program
 pub mod Stop

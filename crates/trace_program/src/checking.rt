@@ -19,7 +19,7 @@ use told_device::Told;
 
 /// Whether the lines of a trace are right: each has the answer of the rules, where it has one, and one that is answered
 /// `no command` says so.
-#[derive(Clone, Copy, Debug, PartialEq, Eq)]
+#[derive(Clone, Copy)]
 pub enum Verdict {
     /// All are, and there is an answer among them.
     Agree,

@@ -8,7 +8,7 @@ use thiserror::Error;
 use told_device::DeviceFailed;
 
 /// Why a trace is not taken to its end. Its line goes to standard error.
-#[derive(Clone, Copy, Debug, PartialEq, Eq, Error)]
+#[derive(Clone, Copy, Debug, Error)]
 pub enum Fault {
     /// Allocation failed.
     #[error("memory")]

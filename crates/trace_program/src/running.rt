@@ -4,7 +4,7 @@ ghost use Rattle.trace_program.specs.Input.{AreLinesAnswered};
 ghost use Rattle.trace_program.specs.Verdict.{IsChecked};
 ghost use Rattle.trace_program.specs.declared.checking.Verdict.TheVariants.{Agree};
 ghost use Rattle.trace_program.specs.declared.fault.Fault.TheVariants.{Device};
-ghost use Rattle.trace_program.specs.declared.line.Asked.TheVariants.{Answer, Check};
+ghost use Rattle.command_line.specs.declared.rmitrace.Asked.TheVariants.{Answer, Check};
 
 use crate::{Asked, Fault, Verdict, answer, check};
 use std::alloc::Global;

@@ -1,8 +1,7 @@
 -- How the application of a history ends.
-use Rattle.std.proofs.Common.{◌≡◌, ◌↔◌, ℕ, List, [], ◌∷◌, Option, Some, None, IfSome, Ok, Err, Bool, true, false, refl, ap, ◌∙◌, arith}
+use Rattle.std.proofs.Common.{◌≡◌, ◌↔◌, ◌+◌, ℕ, length, List, [], ◌∷◌, Option, Some, None, IfSome, Ok, Err, Bool, true, false, refl, ap, ◌∙◌, arith}
 use Rattle.std.specs.Io.KnownBytes.{Appends, prepend_known}
 use Rattle.build_books.specs.View.{HostView}
-use Rattle.realm_host.specs.declared.why_not.WhyNot.{WhyNot}
 use Rattle.told_device.specs.Whole.{AppendsFront}
 use Rattle.told_device.proofs.Read.{keeps_same}
 use Rattle.told_device.specs.Lines.{lines_in, IsLine, HasLongLine}
@@ -51,8 +50,9 @@ module _ (first : List ℕ) (o : Opening) (opens : IsOpeningText first o) where
       of_input (Some xs) None is' more = absurd is'
       of_input (Some xs) (Some ys) is' more = is' ∙ ap (λ (t : List (List ℕ)). first ∷ t) more
 
-  stops_no_event : (lines more : List (List ℕ)) (number : ℕ) → lines ≡ first ∷ more → AreCutShort (host_of_opening o) more (NoEvent number) → StopsAt (λ host line. IsNoEvent line) lines number
-  stops_no_event lines more number are cut = record {
+  stops : (IsReason : HostView → List ℕ → Type 0) (lines more : List (List ℕ)) (number : ℕ) (fault : Fault) → lines ≡ first ∷ more
+      → (cut : AreCutShort (host_of_opening o) more fault) → number ≡ length cut.mid.history + 2 → IsReason cut.mid cut.line → StopsAt IsReason lines number
+  stops IsReason lines more number fault are cut same reason = record {
     o = o;
     host = cut.mid;
     before = first ∷ cut.before;
@@ -60,21 +60,8 @@ module _ (first : List ℕ) (o : Opening) (opens : IsOpeningText first o) where
     after = cut.after;
     split = are ∙ ap (λ (t : List (List ℕ)). first ∷ t) cut.split;
     history = record { first = first; events = cut.before; lines_are = refl; opens = opens; taken = cut.taken };
-    number_is = let long = length-taken (host_of_opening o) cut.before cut.mid cut.taken in let same = cut.untaken.0 in omega (arith, long, same);
-    reason = cut.untaken.1;
-  }
-
-  stops_refused : (lines more : List (List ℕ)) (number : ℕ) (why : WhyNot) → lines ≡ first ∷ more → AreCutShort (host_of_opening o) more (Refused number why) → StopsAt (IsEventRefused why) lines number
-  stops_refused lines more number why are cut = record {
-    o = o;
-    host = cut.mid;
-    before = first ∷ cut.before;
-    line = cut.line;
-    after = cut.after;
-    split = are ∙ ap (λ (t : List (List ℕ)). first ∷ t) cut.split;
-    history = record { first = first; events = cut.before; lines_are = refl; opens = opens; taken = cut.taken };
-    number_is = let long = length-taken (host_of_opening o) cut.before cut.mid cut.taken in let same = cut.untaken.0 in omega (arith, long, same);
-    reason = cut.untaken.1;
+    number_is = let long = length-taken (host_of_opening o) cut.before cut.mid cut.taken in omega (arith, long, same);
+    reason = reason;
   }
 
   pub no_history_in : (input ahead : Option (List ℕ)) (fault : Fault) → IsLine input first ahead → AreNotTaken ahead (host_of_opening o) fault → IsNoHistoryIn input fault
@@ -82,10 +69,12 @@ module _ (first : List ℕ) (o : Opening) (opens : IsOpeningText first o) where
   no_history_in input ahead NoOpening is none = absurd none
   no_history_in None ahead (NoEvent number) is none = tt
   no_history_in (Some xs) None (NoEvent number) is none = absurd is
-  no_history_in (Some xs) (Some ys) (NoEvent number) is none = stops_no_event (lines_in xs) (lines_in ys) number is none
+  no_history_in (Some xs) (Some ys) (NoEvent number) is none =
+      stops (λ host line. IsNoEvent line) (lines_in xs) (lines_in ys) number (NoEvent number) is none none.untaken.0 none.untaken.1
   no_history_in None ahead (Refused number why) is none = tt
   no_history_in (Some xs) None (Refused number why) is none = absurd is
-  no_history_in (Some xs) (Some ys) (Refused number why) is none = stops_refused (lines_in xs) (lines_in ys) number why is none
+  no_history_in (Some xs) (Some ys) (Refused number why) is none =
+      stops (IsEventRefused why) (lines_in xs) (lines_in ys) number (Refused number why) is none none.untaken.0 none.untaken.1
   no_history_in input ahead EraseNamesNoBuild is none = absurd none
   no_history_in input ahead Memory is none = tt
   no_history_in input ahead Device is none = tt
@@ -119,7 +108,8 @@ module _ (erase : Option ℕ) (unread : Bool) (input : Option (List ℕ)) where
   cut_map old new o host text read history map written = rw read (record { text = text; map = record { o = o; host = host; history = history; map = map }; written = written })
 
   -- all of it was
-  pub printed_map : (old new : Option (List ℕ)) (o : Opening) (host : HostView) (text : List ℕ) → IsHistoryIn input o host → IsMap erase o host text → Appends old new text → IsMapPrinted erase input old new
+  pub printed_map : (old new : Option (List ℕ)) (o : Opening) (host : HostView) (text : List ℕ) → IsHistoryIn input o host → IsMap erase o host text
+      → Appends old new text → IsMapPrinted erase input old new
   printed_map old new o host text history map written = record { text = text; map = record { o = o; host = host; history = history; map = map }; written = written }
 
 -- where a history was read, no read failed

@@ -1,4 +1,3 @@
-pub mod Words
 mod Faults
 mod Takings
 mod Legal

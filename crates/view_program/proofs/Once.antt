@@ -53,10 +53,12 @@ one_host lines o p host other is also =
     (subst (λ (events : List (List ℕ)). AreTaken (host_of_opening o) events other) (sym same)
     (subst (λ (it : Opening). AreTaken (host_of_opening it) also.events other) (sym (one_machine lines o p host other is also)) also.taken))
 
-next_of : (IsReason : HostView → List ℕ → Type 0) (lines : List (List ℕ)) (o : Opening) (host : HostView) (number : ℕ) → IsHistory lines o host → (stop : StopsAt IsReason lines number) → IsNext stop.host stop.line
+next_of : (IsReason : HostView → List ℕ → Type 0) (lines : List (List ℕ)) (o : Opening) (host : HostView) (number : ℕ) → IsHistory lines o host
+    → (stop : StopsAt IsReason lines number) → IsNext stop.host stop.line
 next_of IsReason lines o host number history stop =
     let here = stop.history in
-    let all : history.first ∷ history.events ≡ here.first ∷ (here.events ++ stop.line ∷ stop.after) = sym history.lines_are ∙ stop.split ∙ ap (λ (t : List (List ℕ)). t ++ stop.line ∷ stop.after) here.lines_are in
+    let all : history.first ∷ history.events ≡ here.first ∷ (here.events ++ stop.line ∷ stop.after) = sym history.lines_are ∙ stop.split
+    ∙ ap (λ (t : List (List ℕ)). t ++ stop.line ∷ stop.after) here.lines_are in
     let same : history.first ≡ here.first = cc in
     let events : history.events ≡ here.events ++ stop.line ∷ stop.after = cc in
     let machine : stop.o ≡ o = one_opening here.first stop.o o here.opens (subst (λ line. IsOpeningText line o) same history.opens) in

@@ -1,5 +1,6 @@
 -- Lines that a host takes, one after another.
-use Rattle.std.proofs.Common.{◌≡◌, ◌↔◌, Bool, true, false, Ok, Err, ℕ, ◌+◌, ◌<◌, List, [], ◌∷◌, ◌++◌, length, length-append, Option, Some, None, IfSome, refl, sym, ap, ◌∙◌, append_assoc, arith, subst}
+use Rattle.std.proofs.Common.{◌≡◌, ◌↔◌, Bool, true, false, Ok, Err, ℕ, ◌+◌, ◌<◌, List, [], ◌∷◌, ◌++◌, length, length-append, Option, Some, None}
+use Rattle.std.proofs.Common.{IfSome, refl, sym, ap, ◌∙◌, append_assoc, arith, subst}
 use mathlib.Core.List.{append-nil}
 use Rattle.build_books.specs.View.{HostView}
 use Rattle.realm_host.specs.Recorded.{fresh_like}
@@ -75,7 +76,8 @@ module _ (start now : Option (List ℕ)) (old mid : HostView) (s : SoFar start n
 
   -- ---- up to a line that is not taken
 
-  cut_at : (start' now' : Option (List ℕ)) (line : List ℕ) (fault : Fault) → Took start' s.lines now' → IfSome now' (λ bytes. (more : List (List ℕ)) × (lines_in bytes ≡ line ∷ more)) → IsUntaken mid line fault
+  cut_at : (start' now' : Option (List ℕ)) (line : List ℕ) (fault : Fault) → Took start' s.lines now'
+      → IfSome now' (λ bytes. (more : List (List ℕ)) × (lines_in bytes ≡ line ∷ more)) → IsUntaken mid line fault
       → IfSome start' (λ bytes. AreCutShort old (lines_in bytes) fault)
   cut_at None now' line fault took is untaken = tt
   cut_at (Some xs) None line fault took is untaken = absurd took

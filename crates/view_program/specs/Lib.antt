@@ -1,6 +1,4 @@
 pub mod Stop
-pub mod Line
-pub mod Program
 pub mod History
 pub mod Json
 pub mod PageData

@@ -13,8 +13,8 @@ use Rattle.order_runs.specs.Explored.{IsExplored}
 use Rattle.order_runs.specs.declared.totals.Totals.{Totals}
 use Rattle.order_runs.specs.Exploring.{IsNotExplored}
 use Rattle.order_runs.specs.Lines.{orders_text, drawn_text}
-use Rattle.view_program.specs.declared.orders.Orders.{Orders}
-use Rattle.view_program.specs.declared.orders.Orders.TheVariants.{First, Drawn}
+use Rattle.command_line.specs.declared.realmview.Orders.{Orders}
+use Rattle.command_line.specs.declared.realmview.Orders.TheVariants.{First, Drawn}
 
 -- of all orders that there are, from the lowest on, or of the first so many
 pub record IsFirstText (most : ℕ) (plan : Plan) (text : List ℕ) : Type 0 where

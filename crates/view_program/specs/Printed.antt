@@ -19,8 +19,8 @@ use Rattle.view_program.specs.Why.{IsWhyText}
 use Rattle.view_program.specs.Orders.{IsOrdersText, IsWithoutOrders}
 use Rattle.view_program.specs.declared.checking.Verdict.{Verdict}
 use Rattle.view_program.specs.declared.checking.Verdict.TheVariants.{Done, HasErrors}
-use Rattle.view_program.specs.declared.line.Asked.{Asked}
-use Rattle.view_program.specs.declared.line.Asked.TheVariants.{History, Apply, Json, Page, Why, Explore, Check}
+use Rattle.command_line.specs.declared.realmview.Asked.{Asked}
+use Rattle.command_line.specs.declared.realmview.Asked.TheVariants.{History, Apply, Json, Page, Why, Explore, Check}
 use Rattle.view_program.specs.declared.fault.Fault.TheVariants.{Plan, NoOpening, NoEvent, Refused, EraseNamesNoBuild, Memory, Device}
 
 -- the input is a history with this map

@@ -11,7 +11,7 @@ use std::io::{Read, Write};
 use told_device::Told;
 
 /// How what was asked for ended.
-#[derive(Clone, Copy, Debug, PartialEq, Eq)]
+#[derive(Clone, Copy)]
 pub enum Verdict {
     /// It is done.
     Done,

@@ -11,7 +11,7 @@ use told_device::{DeviceFailed, LineError};
 
 /// Why what was asked for is not printed, or a prefix of the text alone. Its line goes to standard error. Lines are counted
 /// from 1.
-#[derive(Clone, Copy, Debug, PartialEq, Eq, Error)]
+#[derive(Clone, Copy, Debug, Error)]
 pub enum Fault {
     /// A plan has no history, for this reason.
     #[error(transparent)]

@@ -5,8 +5,8 @@ ghost use Rattle.view_program.specs.Applied.{host_of_opening};
 
 use buddy::BuddyArena;
 use history_text::Opening;
-use page_arena::BuildError;
 use realm_host::{Host, Settings};
+use realm_program::boot_by;
 use std::alloc::{AllocError, Global};
 
 /// A host of that size, over pages that are all free.
@@ -20,13 +20,5 @@ pub fn boot(alloc: Global, opening: &Opening) -> Result<Host<BuddyArena>, AllocE
         opening.history,
         opening.builds,
     ).unwrap();
-    let store = match BuddyArena::build(alloc, opening.pages) {
-        Ok(store) => store,
-        Err(BuildError::Memory(error)) => return Err(error),
-        Err(BuildError::BadSize) => unreachable!(),
-    };
-    match Host::boot(alloc, settings, store) {
-        Ok(host) => Ok(host),
-        Err((error, _store)) => Err(error),
-    }
+    boot_by(alloc, settings, opening.pages)
 }

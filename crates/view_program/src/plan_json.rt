@@ -1,17 +1,37 @@
 //! A plan in, the document of its run out.
-ghost use Rattle.std.specs.Prelude.{◌≡◌, ◌+◌, ◌≤◌, ◌↔◌, ◌⊎◌, false, true, Err, None};
+ghost use Rattle.std.specs.Prelude.{◌≡◌, ◌+◌, ◌≤◌, ◌↔◌, ◌⊎◌, false, true, Err, IfOk, None, string_bytes};
+ghost use Rattle.realm_plan.specs.PlanView.{plan_view};
 ghost use Rattle.realm_program.specs.Printed.{IsEnd};
-ghost use Rattle.realm_program.specs.Replay.{IsWithoutText};
+ghost use Rattle.realm_program.specs.Replay.{IsWithoutText, opening_host};
 ghost use Rattle.realm_program.specs.declared.fault.Fault.TheVariants.{Device};
+ghost use Rattle.run_json.specs.Document.{IsDocument};
 ghost use Rattle.view_program.specs.Json.{IsJsonText};
 
 use buddy::BuddyArena;
+use realm_host::Books;
 use realm_plan::Plan;
 use realm_program::{Fault, PlanText, boot, print};
 use run_json::run_document;
-use std::alloc::Global;
+use std::alloc::{AllocError, Global};
 use std::io::{Read, Write};
 use told_device::Told;
+
+/// The document of a run of the plan, and the books in the end.
+pub(crate) fn run_of(alloc: Global, plan: &Plan) -> Result<(String, Books), AllocError>
+    ensures { IfOk result (λ ran. IsDocument (plan_view plan.now) (opening_host (plan_view plan.now)) ran.1 (string_bytes ran.0)) }
+{
+    let mut host = boot::<BuddyArena>(alloc, plan)?;
+    let document = run_document(alloc, &mut host, plan)?;
+    Ok((document, host.into_books()))
+}
+
+// The document of a run of the plan.
+fn document_of(alloc: Global, plan: &Plan) -> Result<String, AllocError>
+    ensures { IfOk result (λ text. IsJsonText (plan_view plan.now) (string_bytes text)) }
+{
+    let (document, _books) = run_of(alloc, plan)?;
+    Ok(document)
+}
 
 // The documents of runs.
 #[derive(Drop)]
@@ -23,9 +43,7 @@ impl PlanText for Documents {
     ghost is_without = { λ asked. IsWithoutText None };
 
     fn text_of(&self, alloc: Global, plan: &Plan) -> Result<Vec<u8>, Fault> {
-        let mut host = boot::<BuddyArena>(alloc, plan)?;
-        let document = run_document(alloc, &mut host, plan)?;
-        Ok(document.into_bytes())
+        Ok(document_of(alloc, plan)?.into_bytes())
     }
 }
 

@@ -7,7 +7,7 @@ ghost use Rattle.order_runs.specs.Exploring.{IsNotExplored};
 ghost use Rattle.order_runs.specs.Lines.{orders_text, drawn_text};
 ghost use Rattle.view_program.specs.Orders.{IsFirstText, IsDrawnText, IsOrdersText, IsWithoutOrders};
 
-use crate::orders::Orders;
+use command_line::realmview::Orders;
 use order_runs::{
     Explored, Progress, Totals, explore as run_first, push_drawn, push_orders, sample,
 };

@@ -1,19 +1,21 @@
 //! A plan in, a page that shows its run out.
-ghost use Rattle.std.specs.Prelude.{◌≡◌, ◌+◌, ◌<◌, ◌≤◌, ◌↔◌, ◌⊎◌, false, true, Err, None, OnOk, IfOk, string_bytes};
+ghost use Rattle.std.specs.Prelude.{◌≡◌, ◌+◌, ◌<◌, ◌≤◌, ◌↔◌, ◌⊎◌, ◌++◌, false, true, Err, None, OnOk, IfOk, string_bytes};
 ghost use Rattle.realm_plan.specs.PlanView.{plan_view};
-ghost use Rattle.realm_host.specs.Recorded.{fresh_like};
+ghost use Rattle.realm_host.specs.Recorded.{fresh_like, IsWithout};
 ghost use Rattle.realm_program.specs.Printed.{IsEnd};
 ghost use Rattle.realm_program.specs.Replay.{opening_host, IsWithoutText};
 ghost use Rattle.realm_program.specs.declared.fault.Fault.TheVariants.{Device};
-ghost use Rattle.run_json.specs.Document.{IsDocument};
+ghost use Rattle.run_json.specs.Items.{comma};
+ghost use Rattle.run_json.specs.Worlds.{IsWorldText};
 ghost use Rattle.view_program.specs.PageData.{IsWithoutWorld, AreWithoutWorlds, IsPageData, IsPageText};
 
+use crate::plan_json::run_of;
 use buddy::BuddyArena;
 use granule_addr::BuildId;
-use realm_host::{Books, apply_without};
+use realm_host::{Books, Host, apply_without};
 use realm_plan::Plan;
 use realm_program::{Fault, PlanText, boot, print};
-use run_json::{Comma, page_of, push_world, run_document};
+use run_json::{Comma, page_of, push_world};
 use std::alloc::{AllocError, Global};
 use std::io::{Read, Write};
 use told_device::Told;
@@ -26,7 +28,35 @@ fn id_of(place: usize) -> BuildId
     BuildId::new(place as u8).unwrap()
 }
 
-// Appends the world of a history without a build: it is applied to a fresh host of the plan.
+// A fresh host of the plan, with a history without a build.
+fn fresh_without(
+    alloc: Global,
+    plan: &Plan,
+    books: &Books,
+    build: BuildId,
+) -> Result<Host<BuddyArena>, AllocError>
+    requires { opening_host (plan_view plan.now) ≡ fresh_like books.now }
+    ensures { IfOk result (IsWithout books.now build) }
+{
+    let mut fresh = boot(alloc, plan)?;
+    apply_without(books, build, &mut fresh);
+    Ok(fresh)
+}
+
+// Appends the world of a host behind those of the builds below.
+fn push_next(
+    alloc: Global,
+    text: &mut String,
+    host: &Host<BuddyArena>,
+    build: BuildId,
+) -> Result<(), AllocError>
+    ensures { OnOk result (IsWorldText host.now (string_bytes text.old ++ comma build) (string_bytes text.new)) }
+{
+    write!(text, "{}", Comma(build.number() as usize))?;
+    push_world(alloc, text, host)
+}
+
+// Appends the world of a history without a build.
 fn push_without(
     alloc: Global,
     text: &mut String,
@@ -37,10 +67,8 @@ fn push_without(
     requires { opening_host (plan_view plan.now) ≡ fresh_like books.now }
     ensures { OnOk result (IsWithoutWorld books.now build (string_bytes text.old) (string_bytes text.new)) }
 {
-    let mut fresh = boot::<BuddyArena>(alloc, plan)?;
-    apply_without(books, build, &mut fresh);
-    write!(text, "{}", Comma(build.number() as usize))?;
-    push_world(alloc, text, &fresh)
+    let fresh = fresh_without(alloc, plan, books, build)?;
+    push_next(alloc, text, &fresh, build)
 }
 
 // Appends the worlds of a history without each of the plan's builds.
@@ -57,15 +85,6 @@ fn push_all_without(
         push_without(alloc, text, plan, books, id_of(place))?;
     }
     Ok(())
-}
-
-// The document of a run of the plan, and the books in the end.
-fn run_of(alloc: Global, plan: &Plan) -> Result<(String, Books), AllocError>
-    ensures { IfOk result (λ ran. IsDocument (plan_view plan.now) (opening_host (plan_view plan.now)) ran.1 (string_bytes ran.0)) }
-{
-    let mut host = boot::<BuddyArena>(alloc, plan)?;
-    let document = run_document(alloc, &mut host, plan)?;
-    Ok((document, host.into_books()))
 }
 
 // The data of a page: the document of a run of the plan, and the worlds without each build.

@@ -1,6 +1,6 @@
-use Rattle.std.proofs.Common.{◌≡◌, ◌∙◌, true, ap, length, refl, sym, replicate, vec_len, arith}
-use Rattle.std.proofs.lemmas.List.{length-map, length-replicate}
-use Rattle.granule_addr.specs.Page.{zero_page}
+use Rattle.std.proofs.Common.{◌≡◌, ◌∙◌, length, refl, sym, vec_len, arith}
+use Rattle.std.proofs.lemmas.List.{length-map}
+use Rattle.std.proofs.lemmas.Result.{IfOk-weaker}
 use Rattle.realm_program.proofs.booting.boot.Goals as goal
 
 pub unwrap-settings-requires : goal.unwrap-settings-requires
@@ -16,18 +16,14 @@ unwrap-settings-requires g c =
       few_builds = omega (arith, c.len.ensures, builds);
     })
 
-pub boot-requires : goal.boot-requires
-boot-requires g c =
-    let made = c.in-Ok.ensures in
-    let count = ap length made.zero ∙ length-replicate _ zero_page in
-    record { zero = made.zero ∙ ap (λ n. replicate n zero_page) (sym count); free = made.free ∙ ap (λ n. replicate n true) (sym count) }
+pub boot_by-requires : goal.boot_by-requires
+boot_by-requires g c = let plan = c.args.plan.now in record { some = plan.pages_in_limits.0; few = plan.pages_in_limits.1 }
 
-pub returns-in-Ok-boot : goal.returns-in-Ok-boot
-returns-in-Ok-boot g c =
+pub returns : goal.returns
+returns g c =
     let plan = c.args.plan.now in
     let few = plan.builds_in_limits in
-    let count = ap length c.in-Ok.ensures.zero ∙ length-replicate plan.pages zero_page in
     let are = rw c.unwrap-settings.ensures at c.new.ensures.value in
     let all : c.unwrap-settings.result.builds ≡ vec_len plan.builds = omega (arith, are.3, c.len.ensures, few) in
     let builds = all ∙ plan.builds.ok.0 ∙ sym (length-map plan.builds.items (λ b. b.items)) in
-    c.in-Ok-boot.ensures.ok ∙ rw (count, are.0, are.1, are.2, builds) refl
+    IfOk-weaker c.boot_by.result _ _ (λ host is. is ∙ rw (are.0, are.1, are.2, builds) refl) c.boot_by.ensures

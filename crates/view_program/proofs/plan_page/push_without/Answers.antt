@@ -1,17 +1,11 @@
-use Rattle.std.proofs.Common.{ℕ, ◌++◌, string_bytes, ap, ◌∙◌, subst}
 use Rattle.std.proofs.lemmas.Result.{on_ok_weaker}
-use Rattle.run_json.specs.Items.{comma}
-use Rattle.run_json.specs.Worlds.{IsWorldText}
 use Rattle.view_program.proofs.plan_page.push_without.Goals as goal
 
-pub apply_without-requires : goal.apply_without-requires
-apply_without-requires c = c.in_ok-fresh.ensures ∙ c.requires
+pub fresh_without-requires : goal.fresh_without-requires
+fresh_without-requires c = c.requires
 
 pub returns : goal.returns
 returns c =
-    let fresh = c.apply_without.new.fresh in
-    let new = string_bytes c.push_world.new.text in
-    let begun = c.in_ok-write.ensures.bytes ∙ ap (λ (n : ℕ). string_bytes c.args.text.now ++ comma n) c.number.ensures.value in
-    on_ok_weaker c.push_world.result
-    (λ world. record { fresh = fresh; without = c.apply_without.ensures; world = subst (λ t. IsWorldText fresh t new) begun world })
-    c.push_world.ensures
+    on_ok_weaker c.push_next.result
+    (λ world. record { fresh = c.in_ok-fresh.fresh; without = c.in_ok-fresh.ensures; world = world })
+    c.push_next.ensures

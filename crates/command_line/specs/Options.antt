@@ -1,0 +1,66 @@
+-- What the command lines of several programs have: how the program is declared, its options, and what their texts are read as.
+use Rattle.std.specs.Prelude.{◌≡◌, ℕ, List, [], ◌∷◌, true, codes, Option, Some, None, Ok, pos}
+use Rattle.std.specs.Str.{bytes_eq}
+use Rattle.std.specs.Str.Parse.{ParsesUnsigned}
+use Rattle.clap.specs.Faults.{values_fault}
+use Rattle.clap.specs.Simple.{filled}
+use Rattle.clap.specs.Walk.{reading_by}
+use Rattle.clap.specs.Words.{App, Row, Rule, Text, found_of, new_app, new_rule, rows_of, with_rule}
+use Rattle.clap.specs.declared.builder.action.ArgAction.TheVariants.{Set}
+use Rattle.clap.specs.declared.builder.value_parser.ValueParser.TheVariants as parser
+use Rattle.clap.specs.declared.parser.matches.ArgMatches.{ArgMatches}
+
+-- a program of this name: it has a version; a subcommand is required, and there is none called `help`
+abbrev pub program_named : Text → App
+program_named name =
+    let a = new_app name in
+    record a { top = record a.top { has_version = true; subcommand_required = true; disable_help_subcommand = true } }
+
+-- `--erase B`, B from 0 to 7
+abbrev pub erase_option : Rule
+erase_option = record (new_rule (codes "erase")) { long = Some (codes "erase"); value_names = 1; action = Some Set; parser = Some (parser.Signed (pos 0) (pos 7)) }
+
+-- a subcommand of this name with that option
+abbrev pub erasing_subcommand : Text → App
+erasing_subcommand name = with_rule (new_app name) erase_option
+
+-- an option of this name with a number from 0 to 4294967295
+abbrev pub number_option : Text → Rule
+number_option name = record (new_rule name) { long = Some name; value_names = 1; action = Some Set; parser = Some (parser.Signed (pos 0) (pos 4294967295)) }
+
+-- ---- texts of options
+
+-- The build that the text names: the number of 3 bits that it is read as, and there is one. `clap` lets no other text
+-- through.
+abbrev pub IsErase : Option Text → Option ℕ → Type 0
+IsErase None erase = erase ≡ None
+IsErase (Some text) None = ⊥
+IsErase (Some text) (Some build) = ParsesUnsigned {E = Unit {0}} 3 10 text (Ok build)
+
+-- The number of 32 bits that the text is read as, where one is given. `clap` lets no other text through.
+abbrev pub IsNumber : Option Text → Option ℕ → Type 0
+IsNumber None number = number ≡ None
+IsNumber (Some text) None = ⊥
+IsNumber (Some text) (Some number) = ParsesUnsigned {E = Unit {0}} 32 10 text (Ok number)
+
+-- ---- values that have passed the parser of their option
+
+-- each row of a list
+abbrev pub Each : (Row → Type 0) → List Row → Type 0
+Each P [] = Unit {0}
+Each P (r ∷ rs) = P r × Each P rs
+
+-- where the row is the rule's, its values passed the rule's parser, and are read as it says
+abbrev pub IsPassed : Rule → Row → Type 0
+IsPassed a r = bytes_eq r.id a.id ≡ true → (values_fault a r.values ≡ []) × (r.reading ≡ reading_by a)
+
+-- the rules of both kinds of options where the command is built
+abbrev pub built_erase : Rule
+built_erase = filled erase_option
+
+abbrev pub built_number : Text → Rule
+built_number name = filled (number_option name)
+
+-- the values of an option have passed its parser, in what was matched
+abbrev pub ArePassed : Rule → ArgMatches → Type 0
+ArePassed rule matches = Each (IsPassed rule) (rows_of (found_of matches))

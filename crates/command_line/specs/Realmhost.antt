@@ -1,0 +1,25 @@
+-- The command line of `realmhost`: what its reader is told of the program, and what the words ask for.
+use Rattle.std.specs.Prelude.{◌≡◌, List, codes, Option, Some, None}
+use Rattle.clap.specs.Words.{App, Row, Text, new_app, one_of, with_subcommand}
+use Rattle.command_line.specs.Options.{IsErase, erasing_subcommand, program_named}
+use Rattle.command_line.specs.declared.realmhost.Line.{Line}
+use Rattle.command_line.specs.declared.realmhost.Line.TheVariants.{Replay, Run}
+
+abbrev pub replay_subcommand : App
+replay_subcommand = erasing_subcommand (codes "replay")
+
+-- without options
+abbrev pub run_subcommand : App
+run_subcommand = new_app (codes "run")
+
+abbrev pub realmhost_alone : App
+realmhost_alone = program_named (codes "realmhost")
+
+unfoldable pub realmhost : App
+realmhost = with_subcommand (with_subcommand realmhost_alone replay_subcommand.top) run_subcommand.top
+
+-- by what `clap` says of the words' subcommand
+abbrev pub IsHostSubcommand : Option (Text × List Row) → Line → Type 0
+IsHostSubcommand None line = ⊥
+IsHostSubcommand (Some found) (Replay erase) = (found.0 ≡ codes "replay") × IsErase (one_of (codes "erase") found.1) erase
+IsHostSubcommand (Some found) Run = found.0 ≡ codes "run"

@@ -1,0 +1,18 @@
+-- The command line of `rmitrace`: what its reader is told of the program, and what the words ask for.
+use Rattle.std.specs.Prelude.{◌≡◌, List, codes, Option, Some, None}
+use Rattle.clap.specs.Words.{App, Row, Text, new_app, with_subcommand}
+use Rattle.command_line.specs.Options.{program_named}
+use Rattle.command_line.specs.declared.rmitrace.Asked.{Asked}
+use Rattle.command_line.specs.declared.rmitrace.Asked.TheVariants.{Answer, Check}
+
+abbrev pub rmitrace_alone : App
+rmitrace_alone = program_named (codes "rmitrace")
+
+unfoldable pub rmitrace : App
+rmitrace = with_subcommand (with_subcommand rmitrace_alone (new_app (codes "answer")).top) (new_app (codes "check")).top
+
+-- by what `clap` says of the words' subcommand
+abbrev pub IsTraceSubcommand : Option (Text × List Row) → Asked → Type 0
+IsTraceSubcommand None asked = ⊥
+IsTraceSubcommand (Some found) Answer = found.0 ≡ codes "answer"
+IsTraceSubcommand (Some found) Check = found.0 ≡ codes "check"

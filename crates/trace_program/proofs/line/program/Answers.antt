@@ -1,8 +1,0 @@
-use Rattle.std.proofs.Common.{true, ap}
-use Rattle.clap.specs.Words.{App}
-use Rattle.trace_program.proofs.line.program.Goals as goal
-
-pub returns : goal.returns
-returns c =
-    rw (c.disable_help_subcommand.ensures, c.subcommand_required.ensures, c.about-named.ensures, c.version.ensures)
-    (ap (λ (a : App). record a { top = record a.top { has_version = true; subcommand_required = true; disable_help_subcommand = true } }) c.new.ensures.app)

@@ -1,7 +1,0 @@
-use Rattle.trace_program.proofs.line.subcommand_named.Goals as goal
-
-pub returns-clause-app : goal.returns-clause-app
-returns-clause-app c = rw c.about.ensures c.new.ensures.app
-
-pub returns-clause-local : goal.returns-clause-local
-returns-clause-local c = rw c.about.ensures c.new.ensures.local
