@@ -30,6 +30,10 @@ abbrev pub is_undelegated_state : Option GranuleState → Bool
 is_undelegated_state (Some Undelegated) = true
 is_undelegated_state _ = false
 
+-- a state that was found, against the one that is wanted
+abbrev pub page_look : ℕ → Option GranuleState → GranuleState → Bool → Look
+page_look page found wanted fails = input_look (fact.Input (input.Page page wanted found)) fails
+
 abbrev pub page_delegated : HostView → ℕ → ℕ → Look
 page_delegated host build page =
     input_look (fact.Input (input.Page page Delegated (state_of_page host build page))) (not (is_delegated_state (state_of_page host build page)))

@@ -8,6 +8,7 @@ use Rattle.realm_model.specs.declared.states.RealmState.TheVariants.{New, Active
 use Rattle.build_commands.specs.declared.refusal.Refusal.TheVariants.{Rmi}
 use Rattle.build_books.specs.View.{HostView, world_of}
 use Rattle.realm_host.specs.Readings.{realm_at}
+use Rattle.refusal_reasons.specs.Looks.{rmi_look}
 use Rattle.refusal_reasons.specs.OfInput.{input_look, page_delegated}
 use Rattle.refusal_reasons.specs.declared.realm_fact.RealmFact.TheVariants as realm_fact
 use Rattle.refusal_reasons.specs.declared.look.Fact.TheVariants as fact
@@ -25,6 +26,10 @@ is_new_state _ = false
 abbrev pub is_active_state : Option RealmState → Bool
 is_active_state (Some Active) = true
 is_active_state _ = false
+
+-- a state that was found, against the one that is wanted
+abbrev pub state_look : Option RealmState → RealmState → Bool → Look
+state_look found wanted fails = rmi_look (fact.Realm (realm_fact.State wanted found)) fails error_realm
 
 abbrev pub realm_new : HostView → ℕ → Look
 realm_new host build = record {

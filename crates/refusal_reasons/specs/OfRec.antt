@@ -6,6 +6,7 @@ use Rattle.realm_model.specs.declared.states.RecState.TheVariants.{Ready, Runnin
 use Rattle.build_commands.specs.declared.refusal.Refusal.TheVariants.{Rmi}
 use Rattle.build_books.specs.View.{HostView, world_of}
 use Rattle.realm_host.specs.Readings.{rec_at}
+use Rattle.refusal_reasons.specs.Looks.{rmi_look}
 use Rattle.refusal_reasons.specs.OfInput.{input_look, page_delegated}
 use Rattle.refusal_reasons.specs.OfRealm.{realm_new}
 use Rattle.refusal_reasons.specs.declared.rec_fact.RecFact.TheVariants as rec_fact
@@ -35,6 +36,10 @@ is_running_state _ = false
 
 abbrev pub rec_there : HostView → ℕ → ℕ → Look
 rec_there host build number = input_look (fact.Rec (rec_fact.There number)) (is_none (state_of_rec host build number))
+
+-- a state that was found, against the one that is wanted
+abbrev pub rec_look : ℕ → Option RecState → RecState → Bool → Look
+rec_look number found wanted fails = rmi_look (fact.Rec (rec_fact.State number wanted found)) fails error_rec
 
 abbrev pub rec_ready : HostView → ℕ → ℕ → Look
 rec_ready host build number = record {

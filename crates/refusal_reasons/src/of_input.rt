@@ -1,6 +1,6 @@
 //! Input checks of pages and of IPAs. RMM 1.0, RMI command conditions.
 ghost use Rattle.std.specs.Prelude.{◌≡◌, ◌++◌, OnOk, map, unwrap_or, option_map};
-ghost use Rattle.refusal_reasons.specs.OfInput.{input_look, state_of_page, page_delegated, page_undelegated, width_of, protected, table_level, table_start, run_count, one_table};
+ghost use Rattle.refusal_reasons.specs.OfInput.{input_look, page_look, state_of_page, page_delegated, page_undelegated, width_of, protected, table_level, table_start, run_count, one_table};
 ghost use Rattle.granule_addr.specs.Ipa.{is_protected_at};
 
 use crate::input_fact::InputFact;
@@ -8,6 +8,7 @@ use crate::look::{Fact, Look, add};
 use granule_addr::BuildId;
 use page_arena::PageStore;
 use realm_host::{GranuleState, Host, Refusal, Rmi};
+use realm_model::GranuleState::{Delegated, Undelegated};
 use std::alloc::AllocError;
 
 /// A check of an input.
@@ -21,13 +22,20 @@ pub(crate) fn input_look(fact: Fact, fails: bool) -> Look
     }
 }
 
+// A check of the state of a page's granule that was found, against the one that is wanted.
+fn page_look(page: u16, found: Option<GranuleState>, wanted: GranuleState, fails: bool) -> Look
+    ensures { result ≡ page_look page found wanted fails }
+{
+    let fact = InputFact::Page(page, wanted, found);
+    input_look(Fact::Input(fact), fails)
+}
+
 /// The granule of a build's page is DELEGATED.
 pub(crate) fn page_delegated<S: PageStore>(host: &Host<S>, build: BuildId, page: u16) -> Look
     ensures { result ≡ page_delegated host.now build page }
 {
-    let found = host.page_state(build, page);
-    let fact = Fact::Input(InputFact::Page(page, GranuleState::Delegated, found));
-    input_look(fact, !matches!(found, Some(GranuleState::Delegated)))
+    let now = host.page_state(build, page);
+    page_look(page, now, Delegated, !matches!(now, Some(Delegated)))
 }
 
 /// Adds that the granules of a build's pages are DELEGATED.
@@ -49,9 +57,8 @@ pub(crate) fn add_delegated<S: PageStore>(
 pub(crate) fn page_undelegated<S: PageStore>(host: &Host<S>, build: BuildId, page: u16) -> Look
     ensures { result ≡ page_undelegated host.now build page }
 {
-    let found = host.page_state(build, page);
-    let fact = Fact::Input(InputFact::Page(page, GranuleState::Undelegated, found));
-    input_look(fact, !matches!(found, Some(GranuleState::Undelegated)))
+    let now = host.page_state(build, page);
+    page_look(page, now, Undelegated, !matches!(now, Some(Undelegated)))
 }
 
 // The IPA width of a build's realm; 0 where it has none.

@@ -1,6 +1,6 @@
 //! Checks of a realm that is to be made, and of the state of one that is there. RMM 1.0, RMI_REALM_CREATE, Realm attributes.
 ghost use Rattle.std.specs.Prelude.{◌≡◌, ◌++◌, ◌∷◌, ◌≤◌, OnOk, length};
-ghost use Rattle.refusal_reasons.specs.OfRealm.{state_of_realm, realm_new, realm_active, follow, are_adjacent, begins_right, width_look, apart_look, start_looks, realm_create_looks};
+ghost use Rattle.refusal_reasons.specs.OfRealm.{state_of_realm, state_look, realm_new, realm_active, follow, are_adjacent, begins_right, width_look, apart_look, start_looks, realm_create_looks};
 
 use crate::look::{Fact, Look, add, rmi_look};
 use crate::of_input::{add_delegated, input_look};
@@ -8,6 +8,7 @@ use crate::realm_fact::RealmFact;
 use granule_addr::{BuildId, Gran, IpaWidth};
 use page_arena::PageStore;
 use realm_host::{Host, RealmState, Rmi};
+use realm_model::RealmState::{Active, New};
 use std::alloc::AllocError;
 
 // The state of a build's realm.
@@ -20,13 +21,20 @@ fn state_of_realm<S: PageStore>(host: &Host<S>, build: BuildId) -> Option<RealmS
     }
 }
 
+// A check of the state that was found, against the one that is wanted.
+fn state_look(found: Option<RealmState>, wanted: RealmState, fails: bool) -> Look
+    ensures { result ≡ state_look found wanted fails }
+{
+    let fact = Fact::Realm(RealmFact::State(wanted, found));
+    rmi_look(fact, fails, Rmi::REALM)
+}
+
 /// The realm of a build is NEW.
 pub(crate) fn realm_new<S: PageStore>(host: &Host<S>, build: BuildId) -> Look
     ensures { result ≡ realm_new host.now build }
 {
     let found = state_of_realm(host, build);
-    let fact = Fact::Realm(RealmFact::State(RealmState::New, found));
-    rmi_look(fact, !matches!(found, Some(RealmState::New)), Rmi::REALM)
+    state_look(found, New, !matches!(found, Some(New)))
 }
 
 /// The realm of a build is ACTIVE.
@@ -34,8 +42,7 @@ pub(crate) fn realm_active<S: PageStore>(host: &Host<S>, build: BuildId) -> Look
     ensures { result ≡ realm_active host.now build }
 {
     let found = state_of_realm(host, build);
-    let fact = Fact::Realm(RealmFact::State(RealmState::Active, found));
-    rmi_look(fact, !matches!(found, Some(RealmState::Active)), Rmi::REALM)
+    state_look(found, Active, !matches!(found, Some(Active)))
 }
 
 // Whether the granules are that of a number and those behind it, in their order.

@@ -1,7 +1,7 @@
 //! Checks of a REC that is to be made, and of one that is there. RMM 1.0, RMI_REC_CREATE, REC attributes.
 ghost use Rattle.std.specs.Prelude.{◌≡◌, ◌++◌, ◌∷◌, ◌≤◌, OnOk, length};
 ghost use Rattle.realm_model.specs.Command.Check.{are_distinct};
-ghost use Rattle.refusal_reasons.specs.OfRec.{state_of_rec, rec_there, rec_ready, rec_is_running, rec_create_looks};
+ghost use Rattle.refusal_reasons.specs.OfRec.{state_of_rec, rec_look, rec_there, rec_ready, rec_is_running, rec_create_looks};
 
 use crate::look::{Fact, Look, rmi_look};
 use crate::of_input::{add_delegated, input_look};
@@ -10,6 +10,7 @@ use crate::rec_fact::RecFact;
 use granule_addr::{BuildId, Gran, RecNo};
 use page_arena::PageStore;
 use realm_host::{Host, RecState, Rmi};
+use realm_model::RecState::{Ready, Running};
 use std::alloc::AllocError;
 
 // Whether no granule stands twice in a list.
@@ -68,13 +69,20 @@ pub(crate) fn rec_there<S: PageStore>(host: &Host<S>, build: BuildId, number: Re
     input_look(Fact::Rec(RecFact::There(number)), found.is_none())
 }
 
+// A check of the state of a REC that was found, against the one that is wanted.
+fn rec_look(number: RecNo, found: Option<RecState>, wanted: RecState, fails: bool) -> Look
+    ensures { result ≡ rec_look number found wanted fails }
+{
+    let fact = Fact::Rec(RecFact::State(number, wanted, found));
+    rmi_look(fact, fails, Rmi::REC)
+}
+
 /// The REC is READY.
 pub(crate) fn rec_ready<S: PageStore>(host: &Host<S>, build: BuildId, number: RecNo) -> Look
     ensures { result ≡ rec_ready host.now build number }
 {
     let found = state_of_rec(host, build, number);
-    let fact = Fact::Rec(RecFact::State(number, RecState::Ready, found));
-    rmi_look(fact, !matches!(found, Some(RecState::Ready)), Rmi::REC)
+    rec_look(number, found, Ready, !matches!(found, Some(Ready)))
 }
 
 /// The REC is RUNNING.
@@ -82,6 +90,5 @@ pub(crate) fn rec_is_running<S: PageStore>(host: &Host<S>, build: BuildId, numbe
     ensures { result ≡ rec_is_running host.now build number }
 {
     let found = state_of_rec(host, build, number);
-    let fact = Fact::Rec(RecFact::State(number, RecState::Running, found));
-    rmi_look(fact, !matches!(found, Some(RecState::Running)), Rmi::REC)
+    rec_look(number, found, Running, !matches!(found, Some(Running)))
 }
