@@ -12,7 +12,7 @@ use Rattle.realm_plan.specs.Plan.{Plan}
 use Rattle.plan_runs.specs.Place.{first_place}
 use Rattle.plan_runs.specs.declared.place.Place.{Place}
 use Rattle.order_runs.specs.Next.{could}
-use Rattle.order_runs.specs.Chosen.{builds_left, lowest_of, Stage, first_stage, IsStageTurn, AreChosen, IsChosenRun}
+use Rattle.order_runs.specs.Chosen.{builds_left, lowest_of, Stage, first_stage, IsStageTurn, AreChosen, IsChosenRun, stage_at}
 use Rattle.order_runs.specs.Drawn.{builds_with_steps, drawn, AreDrawn, IsDrawnTo}
 use Rattle.order_runs.specs.declared.choice.Choice.{Choice}
 use Rattle.order_runs.specs.declared.end.StepEnd.{StepEnd}
@@ -97,10 +97,10 @@ IsDrawing-more plan stream from choices at choice to new now after is left draws
 pub IsChosenRun-drawn :
     (plan : Plan) (host : HostView) (places : List Place) (noted : List StepEnd) (stream after : Stream) (choices : List Choice) (to : Stage)
     → places ≡ replicate 8 first_place → noted ≡ []
-    → IsDrawnTo plan stream (record { at = record { host = host; places = places }; ends = noted }) choices to after
+    → IsDrawnTo plan stream (stage_at host places noted) choices to after
     → AreDrawn stream choices after × IsChosenRun plan host choices to.at.host to.ends
 IsChosenRun-drawn plan host places noted stream after choices to first none is =
-    let from : Stage = record { at = record { host = host; places = places }; ends = noted } in
+    let from = stage_at host places noted in
     let begins : from ≡ first_stage host = λ i. record { at = record { host = host; places = first i }; ends = none i } in (
       is.are_drawn,
       record { last = to; chosen = subst (λ s. AreChosen plan s choices to) begins is.chosen; whole = is.whole; host = refl; ends = refl },

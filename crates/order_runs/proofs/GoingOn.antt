@@ -3,7 +3,7 @@ use Rattle.std.proofs.Common.{◌≡◌, true, MatchBool, replicate, Bool, None,
 use Rattle.std.proofs.lemmas.List.Elements.{All-nil, All-push}
 use Rattle.build_books.specs.View.{HostView}
 use Rattle.realm_plan.specs.Plan.{Plan}
-use Rattle.order_runs.specs.Chosen.{builds_left, lowest_of, Stage, first_stage, IsStageTurn, AreChosen, IsChosenRun, IsLowestAfter, GoesOnTo}
+use Rattle.order_runs.specs.Chosen.{builds_left, lowest_of, Stage, first_stage, IsStageTurn, AreChosen, IsChosenRun, IsLowestAfter, GoesOnTo, stage_at}
 use Rattle.order_runs.proofs.Chosen.{lowest_is, AreChosen-more, AreChosen-append}
 use Rattle.order_runs.specs.declared.choice.Choice.{Choice}
 use Rattle.order_runs.specs.declared.end.StepEnd.{StepEnd}
@@ -59,11 +59,11 @@ IsChosenRun-whole plan host front choices at to is on = (
 pub IsChosenRun-kept :
     (plan : Plan) (host : HostView) (places : List Place) (noted : List StepEnd) (kept front choices : List Choice) (at to : Stage) (test : Bool) (Other : Type 0)
     → places ≡ replicate 8 first_place → noted ≡ [] → kept ≡ front
-    → MatchBool test (AreChosen plan (record { at = record { host = host; places = places }; ends = noted }) kept at) Other → test ≡ true
+    → MatchBool test (AreChosen plan (stage_at host places noted) kept at) Other → test ≡ true
     → GoesOnTo plan at front choices to
     → IsLowestAfter front choices × IsChosenRun plan host choices to.at.host to.ends
 IsChosenRun-kept plan host places noted kept front choices at to test Other first none same match told on =
-    let from : Stage = record { at = record { host = host; places = places }; ends = noted } in
+    let from = stage_at host places noted in
     let begins : from ≡ first_stage host = λ i. record { at = record { host = host; places = first i }; ends = none i } in
     let is = subst (λ t. MatchBool t (AreChosen plan from kept at) Other) told match in
     IsChosenRun-whole plan host front choices at to

@@ -38,6 +38,9 @@ pub record Stage : Type 0 where
   pub at : Position
   pub ends : List StepEnd
 
+abbrev pub stage_at : HostView → List Place → List StepEnd → Stage
+stage_at host places ends = record { at = record { host = host; places = places }; ends = ends }
+
 abbrev pub refusal_in : TurnAnswer → Option Refusal
 refusal_in (Refused refusal) = Some refusal
 refusal_in _ = None

@@ -14,7 +14,8 @@ pub record Line : Type 0 where
 
 -- None is noted of the turn, which then is not refused, or one, of its build, with the refusal in its answer.
 abbrev pub IsEndOfTurn : Line → Type 0
-IsEndOfTurn line = ((line.noted ≡ []) × (refusal_of_turn line.turn.told ≡ None)) ⊎ ((step : ℕ) × (line.noted ≡ record { build = line.turn.build; step = step; refusal = refusal_of_turn line.turn.told } ∷ []))
+IsEndOfTurn line = ((line.noted ≡ []) × (refusal_of_turn line.turn.told ≡ None))
+    ⊎ ((step : ℕ) × (line.noted ≡ record { build = line.turn.build; step = step; refusal = refusal_of_turn line.turn.told } ∷ []))
 
 -- A run of the plan leads here, and these are the ends of its turns' steps.
 pub record AreTold (plan : Plan) (host to : HostView) (ends : List StepEnd) : Type 0 where

@@ -1,7 +1,7 @@
 //! What is chosen at a turn.
 
 /// The build that has a turn, and which builds could have had it: those with a step left.
-#[derive(Clone, Copy, Debug, PartialEq, Eq)]
+#[derive(Clone, Copy)]
 pub struct Choice {
     pub build: usize,
     pub left: [bool; 8],

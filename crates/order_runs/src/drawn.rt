@@ -2,7 +2,7 @@
 ghost use Rattle.std.specs.Prelude.{◌≡◌, [], OnOk, IfSome, IfNone};
 ghost use Rattle.rand_core.specs.Stream.{next_u32};
 ghost use Rattle.realm_plan.specs.PlanView.{plan_view};
-ghost use Rattle.order_runs.specs.Chosen.{IsChosenRun};
+ghost use Rattle.order_runs.specs.Chosen.{IsChosenRun, stage_at};
 ghost use Rattle.order_runs.specs.Drawn.{builds_with_steps, drawn, AreDrawn, IsDrawnTo};
 ghost use Rattle.order_runs.specs.TurnsLeft.{AreSteady};
 
@@ -56,8 +56,8 @@ fn go_on_drawn<S: PageStore, R: Rng>(
 ) -> Result<(), AllocError>
     requires steady { AreSteady (plan_view plan.now) places.old }
     requires none { choices.old.items ≡ [] }
-    ensures { OnOk result (IsDrawnTo (plan_view plan.now) (R.stream rng.old) (record { at = record { host = host.old; places = places.old }; ends = ends.old.items })
-        choices.new.items (record { at = record { host = host.new; places = places.new }; ends = ends.new.items }) (R.stream rng.new)) }
+    ensures { OnOk result (IsDrawnTo (plan_view plan.now) (R.stream rng.old) (stage_at host.old places.old ends.old.items)
+        choices.new.items (stage_at host.new places.new ends.new.items) (R.stream rng.new)) }
 {
     let mut left = builds_left(plan, places);
     while let Some(build) = draw(rng, &left) {

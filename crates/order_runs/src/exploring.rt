@@ -18,7 +18,7 @@ use realm_program::{Fault, boot};
 use std::alloc::{AllocError, Global};
 
 /// What the orders of a plan come to: all that there are, or the first so many.
-#[derive(Debug, Drop)]
+#[derive(Drop)]
 pub struct Explored {
     pub totals: Totals,
     /// Whether there are no more.

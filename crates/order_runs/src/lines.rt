@@ -1,5 +1,6 @@
 //! The lines of what orders come to.
 ghost use Rattle.std.specs.Prelude.{◌≡◌, ◌++◌, OnOk, string_bytes};
+ghost use Rattle.std.specs.List.{flat_map};
 ghost use Rattle.realm_plan.specs.PlanView.{plan_view};
 ghost use Rattle.order_runs.specs.Lines.{shown_text, orders_line, drawn_line, whole_words, whole_line, end_line, step_lines, smooth_line, smooth_lines, map_lines};
 
@@ -70,16 +71,18 @@ fn whole_words(is_refused: bool) -> &'static str
     }
 }
 
-/// Appends the line of how many orders had a step that was refused, or none.
-pub(crate) fn push_whole(
+/// Appends the lines of how many orders had a step that was refused, or none.
+pub(crate) fn push_wholes(
     text: &mut String,
     orders: u64,
-    tally: &Tally<bool>,
+    wholes: &[Tally<bool>],
 ) -> Result<(), AllocError>
-    ensures { OnOk result (string_bytes text.new ≡ string_bytes text.old ++ whole_line orders tally.now) }
+    ensures { OnOk result (string_bytes text.new ≡ string_bytes text.old ++ flat_map (whole_line orders) wholes.now) }
 {
-    text.push_str(whole_words(tally.thing))?;
-    push_shown(text, orders, tally.count, &tally.first)?;
+    for tally in wholes {
+        text.push_str(whole_words(tally.thing))?;
+        push_shown(text, orders, tally.count, &tally.first)?;
+    }
     Ok(())
 }
 

@@ -3,7 +3,7 @@ ghost use Rattle.std.specs.Prelude.{◌≡◌, ◌^◌, ◌<◌, ◌↔◌, IsTr
 ghost use Rattle.std.specs.Bool.{OnTrue, OnFalse, MatchBool};
 ghost use Rattle.realm_plan.specs.PlanView.{plan_view};
 ghost use Rattle.plan_runs.specs.Run.{place_of};
-ghost use Rattle.order_runs.specs.Chosen.{has_left, builds_left, lowest_of, refusal_in, IsOpen, Stage, IsStageTurn, AreChosen, first_stage, IsChosenRun, IsLowestAfter, GoesOnTo, CannotBeKept};
+ghost use Rattle.order_runs.specs.Chosen.{has_left, builds_left, lowest_of, refusal_in, IsOpen, Stage, IsStageTurn, AreChosen, first_stage, IsChosenRun, IsLowestAfter, GoesOnTo, CannotBeKept, stage_at};
 ghost use Rattle.order_runs.specs.TurnsLeft.{AreSteady, turns_left};
 
 use crate::choice::Choice;
@@ -62,11 +62,10 @@ pub(crate) fn take_step<S: PageStore>(
     ends: &mut Vec<StepEnd>,
     build: usize,
 ) -> Result<(), AllocError>
-    requires left { has_left (plan_view plan.now) places.old build ≡ true }
-    requires inside { build < 8 }
+    requires left { (build < 8) × (has_left (plan_view plan.now) places.old build ≡ true) }
     requires steady { AreSteady (plan_view plan.now) places.old }
-    ensures step { OnOk result (IsStageTurn (plan_view plan.now) (record { at = record { host = host.old; places = places.old }; ends = ends.old.items })
-        build (record { at = record { host = host.new; places = places.new }; ends = ends.new.items })) }
+    ensures step { OnOk result (IsStageTurn (plan_view plan.now) (stage_at host.old places.old ends.old.items)
+        build (stage_at host.new places.new ends.new.items)) }
     ensures steady { AreSteady (plan_view plan.now) places.new }
     ensures fewer { turns_left (plan_view plan.now).builds places.new < turns_left (plan_view plan.now).builds places.old }
 {
@@ -105,9 +104,9 @@ fn keep_to<S: PageStore>(
 ) -> Result<bool, AllocError>
     requires steady { AreSteady (plan_view plan.now) places.old }
     ensures kept { IfOk result (λ kept. MatchBool kept
-        (AreChosen (plan_view plan.now) (record { at = record { host = host.old; places = places.old }; ends = ends.old.items })
-        choices.now (record { at = record { host = host.new; places = places.new }; ends = ends.new.items }))
-        (CannotBeKept (plan_view plan.now) (record { at = record { host = host.old; places = places.old }; ends = ends.old.items }) choices.now)) }
+        (AreChosen (plan_view plan.now) (stage_at host.old places.old ends.old.items)
+        choices.now (stage_at host.new places.new ends.new.items))
+        (CannotBeKept (plan_view plan.now) (stage_at host.old places.old ends.old.items) choices.now)) }
     ensures steady { AreSteady (plan_view plan.now) places.new }
 {
     for choice in choices {
@@ -128,8 +127,8 @@ fn go_on<S: PageStore>(
     choices: &mut Vec<Choice>,
 ) -> Result<(), AllocError>
     requires steady { AreSteady (plan_view plan.now) places.old }
-    ensures { OnOk result (GoesOnTo (plan_view plan.now) (record { at = record { host = host.old; places = places.old }; ends = ends.old.items })
-        choices.old.items choices.new.items (record { at = record { host = host.new; places = places.new }; ends = ends.new.items })) }
+    ensures { OnOk result (GoesOnTo (plan_view plan.now) (stage_at host.old places.old ends.old.items)
+        choices.old.items choices.new.items (stage_at host.new places.new ends.new.items)) }
 {
     let mut left = builds_left(plan, places);
     while let Some(build) = lowest_of(&left) {

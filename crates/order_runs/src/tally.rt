@@ -5,7 +5,7 @@ use crate::choice::Choice;
 use std::alloc::{AllocError, Global};
 
 /// A thing that orders show, how many did, and the builds of the first one's turns.
-#[derive(Debug, Drop)]
+#[derive(Drop)]
 pub struct Tally<K> {
     pub thing: K,
     pub count: u64,

@@ -2,10 +2,10 @@
 ghost use Rattle.std.specs.Prelude.{◌≡◌, ◌++◌, OnOk, string_bytes};
 ghost use Rattle.std.specs.List.{flat_map, range_with_len};
 ghost use Rattle.realm_plan.specs.PlanView.{plan_view};
-ghost use Rattle.order_runs.specs.Lines.{step_count, whole_line, build_lines, smooth_lines, map_lines, totals_text, orders_text, drawn_text};
+ghost use Rattle.order_runs.specs.Lines.{step_count, build_lines, smooth_lines, map_lines, totals_text, orders_text, drawn_text};
 
 use crate::exploring::Explored;
-use crate::lines::{push_count, push_drawn_count, push_map, push_smooth, push_step, push_whole};
+use crate::lines::{push_count, push_drawn_count, push_map, push_smooth, push_step, push_wholes};
 use crate::{Tally, Totals};
 use realm_plan::Plan;
 use std::alloc::AllocError;
@@ -71,16 +71,6 @@ fn push_maps(text: &mut String, orders: u64, maps: &[Tally<String>]) -> Result<(
 {
     for map in maps {
         push_map(text, orders, map)?;
-    }
-    Ok(())
-}
-
-// Appends the lines of how often a step was refused, or none.
-fn push_wholes(text: &mut String, orders: u64, wholes: &[Tally<bool>]) -> Result<(), AllocError>
-    ensures { OnOk result (string_bytes text.new ≡ string_bytes text.old ++ flat_map (whole_line orders) wholes.now) }
-{
-    for tally in wholes {
-        push_whole(text, orders, tally)?;
     }
     Ok(())
 }

@@ -3,7 +3,7 @@ use crate::end::StepEnd;
 use crate::tally::Tally;
 
 /// What the runs of orders come to.
-#[derive(Debug, Drop)]
+#[derive(Drop)]
 pub struct Totals {
     /// How many orders were run.
     pub orders: u64,

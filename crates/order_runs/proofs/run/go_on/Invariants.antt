@@ -1,6 +1,6 @@
 use Rattle.std.proofs.Common.{◌≡◌}
 use Rattle.realm_plan.specs.PlanView.{plan_view}
-use Rattle.order_runs.specs.Chosen.{builds_left}
+use Rattle.order_runs.specs.Chosen.{builds_left, stage_at}
 use Rattle.order_runs.specs.TurnsLeft.{AreSteady, turns_left}
 use Rattle.order_runs.proofs.GoingOn.{IsGoingOn}
 use Rattle.order_runs.proofs.run.go_on.Given as goal
@@ -9,8 +9,8 @@ abbrev pub invariant-loop-build : goal.invariant-loop-build
 invariant-loop-build g l =
     AreSteady (plan_view l.plan) l.places
     × (l.left ≡ builds_left (plan_view l.plan) l.places)
-    × IsGoingOn (plan_view l.plan) (record { at = record { host = l.fn.host; places = l.fn.places }; ends = l.fn.ends.items })
-    l.fn.choices.items l.choices.items (record { at = record { host = l.host; places = l.places }; ends = l.ends.items })
+    × IsGoingOn (plan_view l.plan) (stage_at l.fn.host l.fn.places l.fn.ends.items)
+    l.fn.choices.items l.choices.items (stage_at l.host l.places l.ends.items)
 
 abbrev pub decreases-loop-build : goal.decreases-loop-build
 decreases-loop-build g l = turns_left (plan_view l.plan).builds l.places

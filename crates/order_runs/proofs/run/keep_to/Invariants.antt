@@ -1,11 +1,11 @@
 use Rattle.std.proofs.Common.{take}
 use Rattle.realm_plan.specs.PlanView.{plan_view}
-use Rattle.order_runs.specs.Chosen.{AreChosen}
+use Rattle.order_runs.specs.Chosen.{AreChosen, stage_at}
 use Rattle.order_runs.specs.TurnsLeft.{AreSteady}
 use Rattle.order_runs.proofs.run.keep_to.Given as goal
 
 abbrev pub invariant-loop-choice : goal.invariant-loop-choice
 invariant-loop-choice g l =
     AreSteady (plan_view l.plan) l.places
-    × AreChosen (plan_view l.plan) (record { at = record { host = l.fn.host; places = l.fn.places }; ends = l.fn.ends.items })
-    (take l.choice-index l.choices) (record { at = record { host = l.host; places = l.places }; ends = l.ends.items })
+    × AreChosen (plan_view l.plan) (stage_at l.fn.host l.fn.places l.fn.ends.items)
+    (take l.choice-index l.choices) (stage_at l.host l.places l.ends.items)

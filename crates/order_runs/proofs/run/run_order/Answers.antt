@@ -1,6 +1,6 @@
 use Rattle.std.proofs.Common.{replicate, ap}
 use Rattle.realm_plan.specs.PlanView.{plan_view}
-use Rattle.order_runs.specs.Chosen.{CannotBeKept}
+use Rattle.order_runs.specs.Chosen.{CannotBeKept, stage_at}
 use Rattle.order_runs.proofs.GoingOn.{IsChosenRun-kept}
 use Rattle.order_runs.proofs.run.run_order.Goals as goal
 
@@ -8,8 +8,8 @@ pub returns : goal.returns
 returns g c =
     IsChosenRun-kept (plan_view c.args.plan.now) c.args.host.now (replicate 8 c.first-places.result) c.clear.new.self.items c.deref.result.now
     c.args.choices.now.items c.go_on.new.choices.items
-    (record { at = record { host = c.keep_to.new.host; places = c.keep_to.new.places }; ends = c.keep_to.new.ends.items })
-    (record { at = record { host = c.go_on.new.host; places = c.go_on.new.places }; ends = c.go_on.new.ends.items }) c.in_ok-keep_to.field-0
-    (CannotBeKept (plan_view c.args.plan.now) (record { at = record { host = c.args.host.now; places = replicate 8 c.first-places.result }; ends = c.clear.new.self.items }) c.deref.result.now)
+    (stage_at c.keep_to.new.host c.keep_to.new.places c.keep_to.new.ends.items)
+    (stage_at c.go_on.new.host c.go_on.new.places c.go_on.new.ends.items) c.in_ok-keep_to.field-0
+    (CannotBeKept (plan_view c.args.plan.now) (stage_at c.args.host.now (replicate 8 c.first-places.result) c.clear.new.self.items) c.deref.result.now)
     (ap (replicate 8) c.first-places.ensures) c.clear.ensures.items c.deref.ensures.value
     c.in_ok-keep_to.ensures.kept c.if-not-branch.false c.in_ok-go_on.ensures

@@ -13,13 +13,13 @@ module _ (g : Over) (c : After-place_at-after g) where
   steady =
       steady_after (plan_view c.args.plan.now) (record { host = c.args.host.now; places = c.args.places.now })
       (record { build = c.args.build; told = option_map (λ told. (told.0.now, told.1)) c.take_turn.result })
-      (record { host = c.take_turn.new.host; places = c.take_turn.new.places }) c.requires.steady c.requires.inside c.take_turn.ensures
+      (record { host = c.take_turn.new.host; places = c.take_turn.new.places }) c.requires.steady c.requires.left.0 c.take_turn.ensures
 
   fewer : turns_left (plan_view c.args.plan.now).builds c.take_turn.new.places < turns_left (plan_view c.args.plan.now).builds c.args.places.now
   fewer =
       fewer_after (plan_view c.args.plan.now) (record { host = c.args.host.now; places = c.args.places.now })
       (record { build = c.args.build; told = option_map (λ told. (told.0.now, told.1)) c.take_turn.result })
-      (record { host = c.take_turn.new.host; places = c.take_turn.new.places }) c.requires.steady c.requires.inside c.requires.left
+      (record { host = c.take_turn.new.host; places = c.take_turn.new.places }) c.requires.steady c.requires.left.0 c.requires.left.1
       (subst (λ (p : Place). p.left < 2 ^ 16) c.place_at-after.ensures.value c.place_at-after.ensures.fits) c.take_turn.ensures
 
 pub returns-in_err-push-clause-steady : goal.returns-in_err-push-clause-steady
