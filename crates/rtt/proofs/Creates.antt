@@ -87,7 +87,8 @@ module _ (entries new : Entries) (granules : List Granule) (rd : ℕ) (root : Ro
     (delegated : IsIn granules granule Delegated realm)
     (wrote : new table (entry_index above ipa) ≡ table_row granule)
     (fresh : (index : ℕ) → index < 512 → new granule index ≡ unassigned ripas)
-    (kept : (other index : ℕ) → IsIn granules other InRtt (Some rd) → other ≢ granule → index < 512 → ((other ≡ table) × (index ≡ entry_index above ipa) → ⊥) → new other index ≡ entries other index) where
+    (kept : (other index : ℕ) → IsIn granules other InRtt (Some rd) → other ≢ granule → index < 512 → ((other ≡ table) × (index ≡ entry_index above ipa) → ⊥)
+    → new other index ≡ entries other index) where
   -- nothing of the realm's is the new table's granule
   apart : (state : GranuleState) (other : ℕ) → state ≢ Delegated → IsIn granules other state (Some rd) → other ≢ granule
   apart state other differ is = apart_states granules other granule state Delegated (Some rd) realm is delegated differ

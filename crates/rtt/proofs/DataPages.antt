@@ -64,7 +64,8 @@ module _ (pages mid : List (List ℕ)) (flags : List Bool) (sized : IsSized mid 
   leaf_rows_are = leaf_rows (entries_of pages) (entries_of written_pages) granules rd root ipa table entry tables.own below at wrote kept
 
 -- the row that a walk has found at the last level
-row_found : (pages : List (List ℕ)) (root : Root) (ipa table : ℕ) (entry : Row) → IsInside root.width 3 ipa → table_at (entries_of pages) root 3 ipa ≡ Some table → entry ≡ entries_of pages table (entry_index 3 ipa)
+row_found : (pages : List (List ℕ)) (root : Root) (ipa table : ℕ) (entry : Row) → IsInside root.width 3 ipa → table_at (entries_of pages) root 3 ipa ≡ Some table
+    → entry ≡ entries_of pages table (entry_index 3 ipa)
     → row_at (rows pages root) 3 ipa ≡ Some entry
 unfolding rows
 row_found pages root ipa table entry inside at is =
@@ -85,7 +86,8 @@ pub mapped : (pages new_pages : List (List ℕ)) (flags : List Bool) (granules n
     → old ≡ entries_of pages table (entry_index level ipa) → is_unassigned old ≡ true → IsIn granules page Delegated None → row ≡ assigned ripas page
     → new_pages ≡ with_word pages table index (entry_word row) → new_granules ≡ set granules page (record { state = InData; realm = Some rd })
     → Mapped pages new_pages granules new_granules rd root ipa old (assigned ripas page)
-mapped pages new_pages flags granules new_granules rd root level ipa table index page ripas old row sized backed tables inside last at within index_is old_is free delegated row_is pages_are granules_are =
+mapped pages new_pages flags granules new_granules rd root level ipa table index page ripas old row sized backed tables inside last at within index_is
+    old_is free delegated row_is pages_are granules_are =
     let entry = assigned ripas page in
     let inside_last : IsInside root.width 3 ipa = subst (λ (l : ℕ). IsInside root.width l ipa) last inside in
     let below = inside.below in
@@ -98,7 +100,8 @@ mapped pages new_pages flags granules new_granules rd root level ipa table index
     let rows_are : rows after root ≡ put_row (rows pages root) 3 ipa entry = leaf_rows_are pages pages flags sized granules rd root ipa table entry tables below at_last within is (λ _ _. refl) in
     let row_is : row_at (rows pages root) 3 ipa ≡ Some old = row_found pages root ipa table old inside_last at_last (old_is ∙ ap (λ (l : ℕ). entries_of pages table (entry_index l ipa)) last) in
     let table_in : IsIn granules table InRtt (Some rd) = tables.own.tables 3 ipa table inside_last at_last in
-    let beside : (granule : ℕ) → granule ≢ table → page_at after granule ≡ page_at pages granule = λ granule apart. page_at-with_word_other pages table (entry_index 3 ipa) (entry_word entry) granule apart in
+    let beside : (granule : ℕ) → granule ≢ table → page_at after granule ≡ page_at pages granule = λ granule apart. page_at-with_word_other pages table
+    (entry_index 3 ipa) (entry_word entry) granule apart in
     rw (written, granules_are) (record {
       was = row_is;
       rows_are = rows_are;
@@ -193,13 +196,15 @@ module _ (pages mid : List (List ℕ)) (flags : List Bool) (sized : IsSized mid 
         (λ granule other no_rtt. beside granule (λ q. no_rtt (subst (λ (k : ℕ). IsIn granules k InRtt (Some rd)) (sym q) table_in)) other);
   }
 
-pub unmapped : (pages mid new_pages : List (List ℕ)) (flags mid_flags : List Bool) (granules new_granules : List Granule) (rd : ℕ) (root : Root) (level ipa table index page : ℕ) (entry row : Row) (ripas : Ripas)
+pub unmapped : (pages mid new_pages : List (List ℕ)) (flags mid_flags : List Bool) (granules new_granules : List Granule) (rd : ℕ) (root : Root)
+    (level ipa table index page : ℕ) (entry row : Row) (ripas : Ripas)
     → IsSized mid mid_flags → IsBacked pages flags granules → HasTables pages granules rd root
     → IsInside root.width level ipa → level ≡ 3 → table_at (entries_of pages) root level ipa ≡ Some table → table < length pages → index ≡ entry_index level ipa
     → entry ≡ entries_of pages table (entry_index level ipa) → Some page ≡ data_of entry → IsIn granules page InData (Some rd) → ripas ≡ unmapped_ripas entry.ripas → row ≡ unassigned ripas
     → mid ≡ set pages page zero_page → new_pages ≡ with_word mid table index (entry_word row) → new_granules ≡ set granules page (record { state = Delegated; realm = None })
     → Unmapped pages new_pages granules new_granules rd root ipa
-unmapped pages mid new_pages flags mid_flags granules new_granules rd root level ipa table index page entry row ripas sized backed tables inside last at within index_is is leads lies ripas_is row_is mid_is pages_are granules_are =
+unmapped pages mid new_pages flags mid_flags granules new_granules rd root level ipa table index page entry row ripas sized backed tables inside last
+    at within index_is is leads lies ripas_is row_is mid_is pages_are granules_are =
     let index_last : index ≡ entry_index 3 ipa = index_is ∙ ap (λ (l : ℕ). entry_index l ipa) last in
     let written : new_pages ≡ with_word mid table (entry_index 3 ipa) (entry_word (unassigned ripas)) = pages_are ∙ (λ i. with_word mid table (index_last i) (entry_word (row_is i))) in
     let len : length mid ≡ length pages = ap length mid_is ∙ length-set pages page zero_page in

@@ -39,7 +39,8 @@ module _ (entries new : Entries) (granules : List Granule) (rd : ℕ) (root : Ro
     (was : table_of (entries table (entry_index above ipa)) ≡ Some granule)
     (unused : (index : ℕ) → index < 512 → is_unassigned (entries granule index) ≡ true)
     (wrote : new table (entry_index above ipa) ≡ unassigned Destroyed)
-    (kept : (other index : ℕ) → IsIn granules other InRtt (Some rd) → other ≢ granule → index < 512 → ((other ≡ table) × (index ≡ entry_index above ipa) → ⊥) → new other index ≡ entries other index) where
+    (kept : (other index : ℕ) → IsIn granules other InRtt (Some rd) → other ≢ granule → index < 512 → ((other ≡ table) × (index ≡ entry_index above ipa) → ⊥)
+    → new other index ≡ entries other index) where
   -- the table that goes
   pub its_place : table_at entries root level ipa ≡ Some granule
   its_place =
@@ -51,7 +52,8 @@ module _ (entries new : Entries) (granules : List Granule) (rd : ℕ) (root : Ro
   no_other l i other inside is out same =
       let both = own.tables_once l i level ipa granule inside (below_rows.level_inside level above ipa next place root.width below) (is ∙ ap (λ (k : ℕ). Some k) same) its_place in
       let suc_above = below_rows.suc_above level above ipa next place in
-      let served : served_count level ≡ covered_count above = ap served_count (sym suc_above) ∙ served_below above (below_rows.low level above ipa next place) (below_rows.high level above ipa next place) in
+      let served : served_count level ≡ covered_count above = ap served_count (sym suc_above)
+      ∙ served_below above (below_rows.low level above ipa next place) (below_rows.high level above ipa next place) in
       out (both.0 ∙ sym suc_above)
       (ap (λ (k : ℕ). i / k) (sym served) ∙ ap (λ (k : ℕ). i / served_count k) (sym both.0) ∙ both.1 ∙ ap (λ (k : ℕ). ipa / k) served)
 

@@ -23,7 +23,8 @@ option_and_then-same look new_look (Some table) same = same table refl
 
 -- entries that lead to the same tables
 module _ (entries new : Entries) (root : Root)
-    (same : (level ipa table index : ℕ) → IsInside root.width level ipa → table_at entries root level ipa ≡ Some table → index < 512 → table_of (new table index) ≡ table_of (entries table index)) where
+    (same : (level ipa table index : ℕ) → IsInside root.width level ipa → table_at entries root level ipa ≡ Some table → index < 512
+    → table_of (new table index) ≡ table_of (entries table index)) where
   pub same_table_at : (level ipa : ℕ) → IsInside root.width level ipa → table_at new root level ipa ≡ table_at entries root level ipa
   unfolding table_at
   same_table_at level ipa inside = down level inside.most
@@ -38,7 +39,8 @@ module _ (entries new : Entries) (root : Root)
           (λ t at. same (suc l) ipa t index (record { least = omega arith; most = omega arith; below = inside.below }) at (index_below (suc l) ipa))
 
   -- and to the same pages
-  module _ (same_data : (level ipa table index : ℕ) → IsInside root.width level ipa → table_at entries root level ipa ≡ Some table → index < 512 → data_of (new table index) ≡ data_of (entries table index)) where
+  module _ (same_data : (level ipa table index : ℕ) → IsInside root.width level ipa → table_at entries root level ipa ≡ Some table → index < 512
+      → data_of (new table index) ≡ data_of (entries table index)) where
     pub same_data_at : (level ipa : ℕ) → IsInside root.width level ipa → data_at new root level ipa ≡ data_at entries root level ipa
     same_data_at level ipa inside =
         let index = entry_index level ipa in

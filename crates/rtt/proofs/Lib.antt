@@ -19,6 +19,7 @@ pub mod RamRows
 pub mod Walks
 pub mod RowWords
 pub mod OtherRealms
+pub mod Kept
 pub mod RowShapes
 pub mod Written
 pub mod FoundRows

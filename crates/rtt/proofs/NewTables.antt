@@ -101,21 +101,24 @@ module _ (pages mid : List (List ℕ)) (flags : List Bool) (sized : IsSized mid 
             rows_after
             ∙ ap (λ (r : Row). with_table (rows pages root) level ipa granule r.ripas) same;
         tables = record {
-          own = created_granules (entries_of pages) (entries_of after) granules rd root level above ipa table granule old.ripas None tables.own next place inside.below at none delegated wrote fresh kept
+          own = created_granules (entries_of pages) (entries_of after) granules rd root level above ipa table granule old.ripas None tables.own next
+              place inside.below at none delegated wrote fresh kept
               moved (Moves-set granules granule InRtt (Some rd) delegated.inside);
           words = created_each (entries_of pages) (entries_of after) granules rd root level above ipa table granule old.ripas None tables.own next place inside.below at none delegated wrote fresh kept
               (IsExact after)
               (exact_written mid flags sized table (entry_index above ipa) (table_row granule) within few said)
               (λ index lt. exact_read after granule index (unassigned old.ripas) refl (fresh_word index lt))
               (λ l i t index there t_at lt ne out. same_exact pages after t index (far_word t index ne lt out) (tables.words l i t index there t_at lt));
-          sound = subst (λ r. IsSoundRows root.width (look r)) (sym rows_after) (with_table_sound (rows pages root) level ipa old tables.sound (table_place ipa level place) row_there granule old.ripas plain);
+          sound = subst (λ r. IsSoundRows root.width (look r)) (sym rows_after) (with_table_sound (rows pages root) level ipa old tables.sound
+              (table_place ipa level place) row_there granule old.ripas plain);
         };
         others = λ other ne no_table. beside other (λ q. no_table (record { level = above; ipa = ipa; inside = inside; at = at ∙ ap (λ (k : ℕ). Some k) (sym q) })) ne;
         other_realms = others_left pages after granules moved rd granule Delegated InRtt None (Some rd) delegated (λ _ _ e. cc) (Moves-set granules granule InRtt (Some rd) delegated.inside)
             (λ other ne no_rtt. beside other (λ q. no_rtt (subst (λ (k : ℕ). IsIn granules k InRtt (Some rd)) (sym q) (tables.own.tables above ipa table inside at))) ne);
       }
 
-pub created : (pages mid new_pages : List (List ℕ)) (flags mid_flags : List Bool) (granules new_granules : List Granule) (rd : ℕ) (root : Root) (level wanted ended ipa table index granule : ℕ) (old fresh leads : Row) (ripas : Ripas)
+pub created : (pages mid new_pages : List (List ℕ)) (flags mid_flags : List Bool) (granules new_granules : List Granule) (rd : ℕ) (root : Root)
+    (level wanted ended ipa table index granule : ℕ) (old fresh leads : Row) (ripas : Ripas)
     → IsSized mid mid_flags → IsBacked pages flags granules → HasTables pages granules rd root → wanted + 1 ≡ level → is_table_place ipa level ≡ true
     → IsInside root.width ended ipa → ended ≡ wanted → table_at (entries_of pages) root ended ipa ≡ Some table → table < length pages → index ≡ entry_index ended ipa
     → old ≡ entries_of pages table (entry_index ended ipa) → is_table old ≡ false → IsIn granules granule Delegated None
@@ -123,7 +126,8 @@ pub created : (pages mid new_pages : List (List ℕ)) (flags mid_flags : List Bo
     → ((i : ℕ) → 0 ≤ i → i < 512 → word_at mid granule i ≡ entry_word fresh) → ((other : ℕ) → other ≢ granule → page_at mid other ≡ page_at pages other) → length mid ≡ length pages
     → new_pages ≡ with_word mid table index (entry_word leads) → new_granules ≡ set granules granule (record { state = InRtt; realm = Some rd })
     → Created pages new_pages granules new_granules rd root level ipa granule
-created pages mid new_pages flags mid_flags granules new_granules rd root level wanted ended ipa table index granule old fresh leads ripas sized backed tables next place inside ends at within index_is is plain delegated
+created pages mid new_pages flags mid_flags granules new_granules rd root level wanted ended ipa table index granule old fresh leads ripas sized backed
+    tables next place inside ends at within index_is is plain delegated
     ripas_is fresh_is leads_is written others count pages_are granules_are =
     let index_at : index ≡ entry_index wanted ipa = index_is ∙ ap (λ (l : ℕ). entry_index l ipa) ends in
     let after : new_pages ≡ with_word mid table (entry_index wanted ipa) (entry_word (table_row granule)) = pages_are ∙ (λ i. with_word mid table (index_at i) (entry_word (leads_is i))) in

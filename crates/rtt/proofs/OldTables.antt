@@ -161,18 +161,21 @@ module _ (pages mid : List (List ℕ)) (flags : List Bool) (sized : IsSized mid 
     others = λ other no_table.
         beside other (λ q. no_table (record { level = above; ipa = ipa; inside = inside; at = at ∙ ap (λ (k : ℕ). Some k) (sym q) }))
         (λ q. no_table (record { level = level; ipa = ipa; inside = deep; at = its ∙ ap (λ (k : ℕ). Some k) (sym q) }));
-    other_realms = others_left pages after granules moved_granules rd granule InRtt Delegated (Some rd) None in_rtt (λ other apart e. apart (sym (same_Some _ _ e))) (Moves-set granules granule Delegated None lies)
+    other_realms = others_left pages after granules moved_granules rd granule InRtt Delegated (Some rd) None in_rtt (λ other apart e. apart (sym (same_Some _ _ e)))
+        (Moves-set granules granule Delegated None lies)
         (λ other ne no_rtt. beside other (λ q. no_rtt (subst (λ (k : ℕ). IsIn granules k InRtt (Some rd)) (sym q) (tables.own.tables above ipa table inside at))) ne);
   }
 
-pub gone : (pages mid new_pages : List (List ℕ)) (flags mid_flags : List Bool) (granules new_granules : List Granule) (rd : ℕ) (root : Root) (level wanted ended ipa table index granule : ℕ) (entry row : Row)
+pub gone : (pages mid new_pages : List (List ℕ)) (flags mid_flags : List Bool) (granules new_granules : List Granule) (rd : ℕ) (root : Root)
+    (level wanted ended ipa table index granule : ℕ) (entry row : Row)
     → IsSized mid mid_flags → IsBacked pages flags granules → HasTables pages granules rd root → wanted + 1 ≡ level → is_table_place ipa level ≡ true
     → IsInside root.width ended ipa → ended ≡ wanted → table_at (entries_of pages) root ended ipa ≡ Some table → table < length pages → index ≡ entry_index ended ipa
     → entry ≡ entries_of pages table (entry_index ended ipa) → Some granule ≡ table_of entry → granule < length pages
     → ((i : ℕ) → 0 ≤ i → i < 512 → is_unassigned (entries_of pages granule i) ≡ true) → row ≡ unassigned Destroyed
     → mid ≡ set pages granule zero_page → new_pages ≡ with_word mid table index (entry_word row) → new_granules ≡ set granules granule (record { state = Delegated; realm = None })
     → Gone pages new_pages granules new_granules rd root level ipa
-gone pages mid new_pages flags mid_flags granules new_granules rd root level wanted ended ipa table index granule entry row sized backed tables next place inside ends at within index_is is leads granule_within
+gone pages mid new_pages flags mid_flags granules new_granules rd root level wanted ended ipa table index granule entry row sized backed tables next
+    place inside ends at within index_is is leads granule_within
     unused row_is mid_is pages_are granules_are =
     let index_at : index ≡ entry_index wanted ipa = index_is ∙ ap (λ (l : ℕ). entry_index l ipa) ends in
     let after : new_pages ≡ with_word mid table (entry_index wanted ipa) (entry_word (unassigned Destroyed)) = pages_are ∙ (λ i. with_word mid table (index_at i) (entry_word (row_is i))) in

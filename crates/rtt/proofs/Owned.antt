@@ -99,7 +99,8 @@ module _ (entries new : Entries) (granules : List Granule) (rd : ℕ) (root : Ro
   -- The realm owns its granules again.
   pub HasGranules-written : (new_granules : List Granule) → Fits entries new_granules rd root level ipa entry → HasGranules new new_granules rd root
   HasGranules-written new_granules fits = record {
-    tables = λ l i t inside is. ⊎_elim (λ n. fits.table_new t (deep l n.1 inside.most) n.0) (λ o. fits.tables_stay l i t inside o.0 o.1) (table_cases entries new granules rd root level ipa table entry own w l i t inside is);
+    tables = λ l i t inside is. ⊎_elim (λ n. fits.table_new t (deep l n.1 inside.most) n.0) (λ o. fits.tables_stay l i t inside o.0 o.1)
+        (table_cases entries new granules rd root level ipa table entry own w l i t inside is);
     tables_once = λ l i m j t inside inside' is is'. elim (table_cases entries new granules rd root level ipa table entry own w l i t inside is) [
       | inl n ↦ elim (table_cases entries new granules rd root level ipa table entry own w m j t inside' is') [
         | inl n' ↦

@@ -34,7 +34,8 @@ fits_table ipa level first count last first_is run =
     omega (arith, start, some, one_table)
 
 -- whether the rows are all UNASSIGNED
-pub pages_unused : (pages : List (List ℕ)) (root : Root) (level ipa table first count : ℕ) (answer : Bool) → IsInside root.width level ipa → level ≡ 3 → table_at (entries_of pages) root level ipa ≡ Some table
+pub pages_unused : (pages : List (List ℕ)) (root : Root) (level ipa table first count : ℕ) (answer : Bool) → IsInside root.width level ipa → level ≡ 3
+    → table_at (entries_of pages) root level ipa ≡ Some table
     → first ≡ entry_index level ipa → first + count ≤ 512
     → (IsTrue answer ↔ ((index : ℕ) → first ≤ index → index < first + count → is_unassigned (entries_of pages table index) ≡ true))
     → all_rows is_unassigned (rows pages root) 3 ipa count ≡ answer
@@ -140,5 +141,6 @@ pub ram_given : (pages new_pages : List (List ℕ)) (granules : List Granule) (r
     → RamGiven pages new_pages granules rd root ipa count
 ram_given pages new_pages granules rd root level ipa table first count row tables inside last at first_is fits row_is unused written left others =
     let start : first ≡ entry_index 3 ipa = first_is ∙ ap (λ (l : ℕ). entry_index l ipa) last in
-    ram_at pages new_pages granules rd root ipa table first count tables (subst (λ (l : ℕ). IsInside root.width l ipa) last inside) (ap (λ (l : ℕ). table_at (entries_of pages) root l ipa) (sym last) ∙ at)
+    ram_at pages new_pages granules rd root ipa table first count tables (subst (λ (l : ℕ). IsInside root.width l ipa) last inside)
+    (ap (λ (l : ℕ). table_at (entries_of pages) root l ipa) (sym last) ∙ at)
     start (subst (λ (i : ℕ). i + count ≤ 512) start fits) unused (λ index low high. written index low high ∙ ap entry_word row_is) left others

@@ -27,7 +27,8 @@ module _ (entries : Entries) (root : Root) (ipa table count : ℕ) (below : ipa 
   start = entry_index 3 ipa
 
   -- the places of the pages
-  page_place : (k : ℕ) → k < count → (is_place root.width 3 (ipa + k * covered_count 3) ≡ true) × (entry_index 3 (ipa + k * covered_count 3) ≡ start + k) × ((ipa + k * covered_count 3) / served_count 3 ≡ ipa / served_count 3)
+  page_place : (k : ℕ) → k < count → (is_place root.width 3 (ipa + k * covered_count 3) ≡ true) × (entry_index 3 (ipa + k * covered_count 3) ≡ start + k)
+      × ((ipa + k * covered_count 3) / served_count 3 ≡ ipa / served_count 3)
   page_place k few =
       let room : ipa / 1 % 512 + count ≤ 512 = fits in
       let n = ipa + k * 1 in
@@ -61,7 +62,8 @@ module _ (entries : Entries) (root : Root) (ipa table count : ℕ) (below : ipa 
       (own : HasGranules entries granules rd root)
       (unused : (k : ℕ) → k < count → is_unassigned (entries table (start + k)) ≡ true)
       (wrote : (k : ℕ) → k < count → new table (start + k) ≡ as_ram (Some (entries table (start + k))))
-      (kept : (granule index : ℕ) → IsIn granules granule InRtt (Some rd) → index < 512 → ((granule ≡ table) × (start ≤ index) × (index < start + count) → ⊥) → new granule index ≡ entries granule index) where
+      (kept : (granule index : ℕ) → IsIn granules granule InRtt (Some rd) → index < 512 → ((granule ≡ table) × (start ≤ index) × (index < start + count) → ⊥)
+      → new granule index ≡ entries granule index) where
     InRun : ℕ → ℕ → Type 0
     InRun granule index = (k : ℕ) × (k < count) × (granule ≡ table) × (index ≡ start + k)
 
@@ -124,11 +126,13 @@ module _ (entries : Entries) (root : Root) (ipa table count : ℕ) (below : ipa 
             ∙ ap (λ o. Some (as_ram o)) (sym (page_row k few))
             ∙ sym (ap (get (put_rows as_ram rows 3 ipa count)) q ∙ get-put_rows as_ram rows 3 ipa count k few)
 
-        beside : (l i : ℕ) → ((k : ℕ) → k < count → ◌≡◌ {A = ℕ × ℕ} (l, i) (3, ipa + k * covered_count 3) → ⊥) → row_in new root l i ≡ row_in entries root l i → row_in new root l i ≡ get (put_rows as_ram rows 3 ipa count) (l, i)
+        beside : (l i : ℕ) → ((k : ℕ) → k < count → ◌≡◌ {A = ℕ × ℕ} (l, i) (3, ipa + k * covered_count 3) → ⊥) → row_in new root l i ≡ row_in entries root l i
+            → row_in new root l i ≡ get (put_rows as_ram rows 3 ipa count) (l, i)
         beside l i out same = same ∙ sym (get-put_rows_beside as_ram rows 3 ipa count (l, i) out ∙ get-rows_in entries root l i)
 
         -- an entry of the run is at a place of the run
-        its_place : (l i t k : ℕ) → IsInside root.width l i → first_covered l i ≡ i → table_at entries root l i ≡ Some t → t ≡ table → k < count → entry_index l i ≡ start + k → ◌≡◌ {A = ℕ × ℕ} (l, i) (3, ipa + k * covered_count 3)
+        its_place : (l i t k : ℕ) → IsInside root.width l i → first_covered l i ≡ i → table_at entries root l i ≡ Some t → t ≡ table → k < count
+            → entry_index l i ≡ start + k → ◌≡◌ {A = ℕ × ℕ} (l, i) (3, ipa + k * covered_count 3)
         its_place l i t k inside first is same few index =
             let both = own.tables_once l i 3 ipa table inside (record { least = lit≤ tt; most = lit≤ tt; below = below }) (is ∙ ap (λ (g : ℕ). Some g) same) at in
             let three : l ≡ 3 = both.0 in

@@ -179,5 +179,6 @@ closed pages new_pages flags granules new_granules rd root backed tables pages_a
     let was = start_in pages granules rd root tables in
     record {
       backed = backed_after pages new_pages flags granules new_granules root InRtt Delegated (Some rd) None backed was used pages_are granules_are;
-      other_realms = others_after pages new_pages flags granules new_granules root InRtt Delegated (Some rd) None backed was used pages_are granules_are rd (λ other apart e. apart (sym (same_Some _ _ e)));
+      other_realms =
+          others_after pages new_pages flags granules new_granules root InRtt Delegated (Some rd) None backed was used pages_are granules_are rd (λ other apart e. apart (sym (same_Some _ _ e)));
     }

@@ -128,7 +128,8 @@ module _ (entries : Entries) (root : Root) where
   abbrev no_table : Row → Bool
   no_table row = not (is_table row)
 
-  pub no_root_table : has_root_table root.width (rows_in entries root) ≡ false → (number index : ℕ) → number < start_count root.width → index < 512 → is_table (entries (root.first + number) index) ≡ false
+  pub no_root_table : has_root_table root.width (rows_in entries root) ≡ false → (number index : ℕ) → number < start_count root.width → index < 512
+      → is_table (entries (root.first + number) index) ≡ false
   no_root_table none number index few within =
       let k = number * 512 + index in
       let table : number ≡ k / 512 = omega arith in
@@ -136,7 +137,8 @@ module _ (entries : Entries) (root : Root) where
       ap is_table (λ j. entries (root.first + table j) (at j))
       ∙ not_true _ (all_rows_each no_table (rows_in entries root) 1 0 (512 * start_count root.width) (λ k. entries (root.first + k / 512) (k % 512)) root_row (not_false _ none) k (omega arith))
 
-  pub root_table : has_root_table root.width (rows_in entries root) ≡ true → (number : ℕ) × (index : ℕ) × (number < start_count root.width) × (index < 512) × (is_table (entries (root.first + number) index) ≡ true)
+  pub root_table : has_root_table root.width (rows_in entries root) ≡ true → (number : ℕ) × (index : ℕ) × (number < start_count root.width) × (index < 512)
+      × (is_table (entries (root.first + number) index) ≡ true)
   root_table some =
       let found = all_rows_fails no_table (rows_in entries root) 1 0 (512 * start_count root.width) (λ k. entries (root.first + k / 512) (k % 512)) root_row (not_true _ some) in
       let few = found.1 in

@@ -48,7 +48,8 @@ module _ (test : Row → Bool) (rows : Rows) (level first n : ℕ) (row : ℕ �
       first_ones zero few e = cc
       first_ones (suc m) few e =
           let lt : m < n = few m (omega arith) in
-          let here : elim (get rows (level, first + m * covered_count level)) [ Some row ↦ test row | None ↦ false ] ≡ test (row m) = ap (λ o. elim o [ Some row ↦ test row | None ↦ false ]) (are m lt) in
+          let here : elim (get rows (level, first + m * covered_count level)) [ Some row ↦ test row | None ↦ false ] ≡ test (row m) = ap
+          (λ o. elim o [ Some row ↦ test row | None ↦ false ]) (are m lt) in
           elim (test (row m)) as (λ b. test (row m) ≡ b → (k : ℕ) × (k < n) × (test (row k) ≡ false)) [
             | true ↦ λ passes. first_ones m (λ k h. few k (omega arith)) (sym (ap (λ b. b && all_rows test rows level first m) (here ∙ passes)) ∙ e)
             | false ↦ λ fails. (m, lt, fails)

@@ -28,7 +28,8 @@ module _ (pages : List (List ℕ)) (root : Root) where
   found : (level ipa : ℕ) (row : Row) → IsInside root.width level ipa → row_at (rows pages root) level ipa ≡ Some row
       → (t : ℕ) × (table_at (entries_of pages) root level ipa ≡ Some t) × (entries_of pages t (entry_index level ipa) ≡ row)
   unfolding rows
-  found level ipa row inside at = in_some (entries_of pages) (entry_index level ipa) (table_at (entries_of pages) root level ipa) row (sym (row_at-rows_in (entries_of pages) root level ipa inside) ∙ at)
+  found level ipa row inside at =
+      in_some (entries_of pages) (entry_index level ipa) (table_at (entries_of pages) root level ipa) row (sym (row_at-rows_in (entries_of pages) root level ipa inside) ∙ at)
 
   -- the table by the rows is the table by the entries
   table_found : (level ipa table : ℕ) → IsInside root.width level ipa → table_by (rows pages root) root level ipa ≡ Some table → table_at (entries_of pages) root level ipa ≡ Some table
@@ -41,7 +42,8 @@ module _ (pages : List (List ℕ)) (root : Root) where
       let minus : suc (suc level) - 1 ≡ suc level = omega arith in
       let by_row : table_by (rows pages root) root (suc (suc level)) ipa ≡ option_and_then table_of (row_at (rows pages root) (suc level) ipa) =
       (λ i. cond (no_root i) (Some (start_table root ipa)) (option_and_then table_of (row_at (rows pages root) (minus i) ipa))) in
-      elim (row_at (rows pages root) (suc level) ipa) as (λ o. row_at (rows pages root) (suc level) ipa ≡ o → option_and_then table_of o ≡ Some table → table_at (entries_of pages) root (suc (suc level)) ipa ≡ Some table) [
+      elim (row_at (rows pages root) (suc level) ipa) as (λ o. row_at (rows pages root) (suc level) ipa ≡ o → option_and_then table_of o ≡ Some table
+      → table_at (entries_of pages) root (suc (suc level)) ipa ≡ Some table) [
         | None ↦ λ _ e. cc
         | Some row ↦ λ there e.
             let its = found (suc level) ipa row above there in

@@ -69,7 +69,8 @@ module _ (entries new : Entries) (granules : List Granule) (rd : ℕ) (root : Ro
       ∙ sym (get-insert_row (rows_in entries root) (level, first_covered level ipa) (l, i) entry
       ∙ ap (cond (is_at (l, i) (level, first_covered level ipa)) (Some entry)) (get-rows_in entries root l i)))
     where
-      beside : (l i : ℕ) → cond (is_under (suc level) level ipa l i) (cond (is_place root.width l i) (option_and_then (λ t. Some (new t (entry_index l i))) (table_of entry)) None) (row_in entries root l i)
+      beside : (l i : ℕ) → cond (is_under (suc level) level ipa l i) (cond (is_place root.width l i) (option_and_then (λ t. Some (new t (entry_index l i))) (table_of entry)) None)
+          (row_in entries root l i)
           ≡ row_in entries root l i
       beside l i =
           let below = option_and_then (λ t. Some (new t (entry_index l i))) (table_of entry) in

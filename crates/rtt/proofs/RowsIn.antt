@@ -19,7 +19,8 @@ row_in-bounded entries root =
     let nothing : (level ipa : ℕ) → (is_place root.width level ipa ≡ true → ⊥) → row_in entries root level ipa ≡ None = λ level ipa n.
     elim (is_place root.width level ipa) as (λ b. is_place root.width level ipa ≡ b → cond b (entry_at entries root level ipa) None ≡ None) [ true ↦ λ k. absurd (n k) | false ↦ λ k. refl ] refl in
     record {
-      levels = λ level ipa out. nothing level ipa (λ k. let facts = place_facts root.width level ipa k in let low : 1 ≤ level = facts.least in let high : level ≤ 3 = facts.most in ⊎_elim (λ z. omega arith) (λ z. omega arith) out);
+      levels = λ level ipa out. nothing level ipa (λ k. let facts = place_facts root.width level ipa k in let low : 1 ≤ level = facts.least in
+          let high : level ≤ 3 = facts.most in ⊎_elim (λ z. omega arith) (λ z. omega arith) out);
       granules = λ level ipa past. nothing level ipa (λ k. let facts = place_facts root.width level ipa k in let lt : ipa < served_space root.width = facts.inside in omega arith);
     }
 

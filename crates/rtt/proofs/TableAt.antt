@@ -71,7 +71,8 @@ data_in (Some row) = data_of row
 
 pub data_at-entry : (entries : Entries) (root : Root) (level ipa : ℕ) → data_at entries root level ipa ≡ data_in (entry_at entries root level ipa)
 data_at-entry entries root level ipa =
-    elim (table_at entries root level ipa) as (λ t. option_and_then (λ table. data_of (entries table (entry_index level ipa))) t ≡ data_in (option_and_then (λ table. Some (entries table (entry_index level ipa))) t)) [
+    elim (table_at entries root level ipa) as (λ t. option_and_then (λ table. data_of (entries table (entry_index level ipa))) t ≡ data_in
+    (option_and_then (λ table. Some (entries table (entry_index level ipa))) t)) [
       | None ↦ refl
       | Some table ↦ refl
     ]

@@ -33,7 +33,8 @@ table_inside pages granules rd root level ipa table as_many tables inside at =
     let lies = (tables.own.tables level ipa table inside at).inside in
     omega arith
 
-pub start_inside : (pages : List (List ℕ)) (granules : List Granule) (rd : ℕ) (root : Root) (ipa : ℕ) → length granules ≡ length pages → HasTables pages granules rd root → ipa < served_space root.width
+pub start_inside : (pages : List (List ℕ)) (granules : List Granule) (rd : ℕ) (root : Root) (ipa : ℕ) → length granules ≡ length pages
+    → HasTables pages granules rd root → ipa < served_space root.width
     → start_table root ipa < length pages
 start_inside pages granules rd root ipa as_many tables below =
     table_inside pages granules rd root 1 ipa (start_table root ipa) as_many tables (record { least = omega arith; most = omega arith; below = below }) (table_at-root (entries_of pages) root ipa)

@@ -92,7 +92,8 @@ module _ (entries new : Entries) (granules : List Granule) (rd : ℕ) (root : Ro
                   ap (option_and_then (λ t. table_of (new t i))) (same ∙ none)
                   ∙ sym (ap (λ b. cond b (table_of entry) was) off ∙ ap (option_and_then (λ t. table_of (entries t i))) none)
               | inr found ↦
-                  let beside : ((found.0 ≡ table) × (i ≡ entry_index level ipa) → ⊥) → option_and_then (λ t. table_of (new t i)) (table_at new root p other) ≡ cond (is_under (suc level) level ipa (suc p) other) (table_of entry) was = λ apart.
+                  let beside : ((found.0 ≡ table) × (i ≡ entry_index level ipa) → ⊥) → option_and_then (λ t. table_of (new t i)) (table_at new root p other) ≡ cond
+                  (is_under (suc level) level ipa (suc p) other) (table_of entry) was = λ apart.
                   let off : is_under (suc level) level ipa (suc p) other ≡ false = under_false (suc level) level ipa (suc p) other (λ q cov.
                   apart (same_Some found.0 table (sym found.1 ∙ there q cov), ap (λ (k : ℕ). entry_index k other) (suc_same p level q) ∙ index_of_entry level other ipa cov)) in
                   ap (option_and_then (λ t. table_of (new t i))) (same ∙ found.1)
@@ -184,7 +185,8 @@ module _ (entries new : Entries) (granules : List Granule) (rd : ℕ) (root : Ro
                   ap (option_and_then (λ t. Some (new t i))) (same ∙ none)
                   ∙ sym (ap (λ c. cond c (Some entry) (cond under_test below was)) off ∙ ap (λ c. cond c below was) u.0 ∙ ap (option_and_then (λ t. Some (entries t i))) none)
               | inr found ↦
-                  let beside : ((found.0 ≡ table) × (i ≡ entry_index level ipa) → ⊥) → option_and_then (λ t. Some (new t i)) (table_at new root l other) ≡ cond own_test (Some entry) (cond under_test below was) = λ apart.
+                  let beside : ((found.0 ≡ table) × (i ≡ entry_index level ipa) → ⊥) → option_and_then (λ t. Some (new t i)) (table_at new root l other) ≡ cond own_test
+                  (Some entry) (cond under_test below was) = λ apart.
                   let off : own_test ≡ false = under_false level level ipa l other (λ q cov.
                   apart (same_Some found.0 table (sym found.1 ∙ there q cov), ap (λ (k : ℕ). entry_index k other) q ∙ index_of_entry level other ipa cov)) in
                   ap (option_and_then (λ t. Some (new t i))) (same ∙ found.1)

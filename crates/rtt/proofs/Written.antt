@@ -1,5 +1,5 @@
 -- Entries are written in the page of a table.
-use Rattle.std.proofs.Common.{◌≡◌, ◌≢◌, ℕ, ◌+◌, ◌<◌, ◌≤◌, Bool, List, length, ◌⊎◌, ⊎_elim, inl, inr, sym, ap, ◌∙◌, arith}
+use Rattle.std.proofs.Common.{◌≡◌, ◌≢◌, ℕ, ◌+◌, ◌<◌, ◌≤◌, Bool, List, length, ◌⊎◌, ⊎_elim, inl, inr, sym, ap, subst, ◌∙◌, arith}
 use Rattle.std.proofs.lemmas.Bool.{cases_eq, cases_lt}
 use Rattle.page_arena.specs.Page.{page_at, IsSized}
 use Rattle.page_arena.specs.Pages.{length-page_at}
@@ -19,6 +19,9 @@ pub IsEntry-entries_of : (pages : List (List ℕ)) (granule index : ℕ) → IsE
 unfolding entries_of
 IsEntry-entries_of pages granule index = IsEntry-entry_of (word_at pages granule index)
 
+pub IsEntry-read : {entry : Row} (pages : List (List ℕ)) (granule index : ℕ) → entry ≡ entries_of pages granule index → IsEntry entry
+IsEntry-read pages granule index is = subst IsEntry (sym is) (IsEntry-entries_of pages granule index)
+
 -- where the word of an entry stands, the entry is read, and the word is exact
 pub entry_read : (pages : List (List ℕ)) (granule index : ℕ) (row : Row) → IsEntry row → word_at pages granule index ≡ entry_word row → entries_of pages granule index ≡ row
 unfolding entries_of
@@ -28,7 +31,8 @@ pub exact_read : (pages : List (List ℕ)) (granule index : ℕ) (row : Row) →
 exact_read pages granule index row is word = word ∙ sym (ap entry_word (entry_read pages granule index row is word))
 
 -- one word, one entry
-pub same_entry : (pages new_pages : List (List ℕ)) (granule index : ℕ) → word_at new_pages granule index ≡ word_at pages granule index → entries_of new_pages granule index ≡ entries_of pages granule index
+pub same_entry : (pages new_pages : List (List ℕ)) (granule index : ℕ) → word_at new_pages granule index ≡ word_at pages granule index
+    → entries_of new_pages granule index ≡ entries_of pages granule index
 unfolding entries_of
 same_entry pages new_pages granule index same = ap entry_of same
 

@@ -40,7 +40,8 @@ was : (g : Over) (c : goal.After-shift g) → (granule_at c.loop-number.granules
 was g c =
     ap (λ (k : ℕ). (granule_at c.loop-number.granules k).state) c.starting_table-table.ensures
     ∙ ap (λ (granules : List Granule). (granule_at granules (c.args.self.now.root.first + c.loop-number.number)).state) c.loop-number.invariant.moved
-    ∙ ap (λ (x : Granule). x.state) (get_or-set_each_beside c.args.to.now c.args.self.now.root.first c.loop-number.number c.args.granules.now (c.args.self.now.root.first + c.loop-number.number) undelegated (inr (omega arith)))
+    ∙ ap (λ (x : Granule). x.state) (get_or-set_each_beside c.args.to.now c.args.self.now.root.first c.loop-number.number c.args.granules.now
+    (c.args.self.now.root.first + c.loop-number.number) undelegated (inr (omega arith)))
     ∙ c.requires.state c.loop-number.number (omega arith)
 
 pub shift-requires : goal.shift-requires
@@ -76,4 +77,5 @@ pub returns-clause-moved : goal.returns-clause-moved
 unfolding starting_tables
 returns-clause-moved g c =
     let all : c.loop-number.number ≡ start_count c.args.self.now.root.width = omega arith in
-    c.loop-number.invariant.moved ∙ ap (λ (n : ℕ). set_each c.args.to.now (range_with_len c.args.self.now.root.first n) c.args.granules.now) all
+    let moved : List Granule = set_each c.args.to.now (range_with_len c.args.self.now.root.first c.loop-number.number) c.args.granules.now in
+    ◌∙◌ {b = moved} c.loop-number.invariant.moved (ap (λ (n : ℕ). set_each c.args.to.now (range_with_len c.args.self.now.root.first n) c.args.granules.now) all)

@@ -30,15 +30,18 @@ clear_starting_tables-requires-clause-state g c = λ number few.
 pub returns-clause-answer : goal.returns-clause-answer
 returns-clause-answer g c = no_table_below (g.S.PageStore.page_bytes c.args.store.now) c.args.self.now.root true c.if-not-has_no_table_below.ensures
 
-done : (g : Over) (c : goal.After-clear_starting_tables g) → Closed (g.S.PageStore.page_bytes c.args.store.now) (g.S.PageStore.page_bytes c.clear_starting_tables.new.store) (g.S.PageStore.free_flags c.args.store.now)
+done : (g : Over) (c : goal.After-clear_starting_tables g) → Closed (g.S.PageStore.page_bytes c.args.store.now) (g.S.PageStore.page_bytes c.clear_starting_tables.new.store)
+    (g.S.PageStore.free_flags c.args.store.now)
     c.args.granules.now c.clear_starting_tables.new.granules c.args.self.now.rd
 done g c =
     closed (g.S.PageStore.page_bytes c.args.store.now) (g.S.PageStore.page_bytes c.clear_starting_tables.new.store) (g.S.PageStore.free_flags c.args.store.now)
-    c.args.granules.now c.clear_starting_tables.new.granules c.args.self.now.rd c.args.self.now.root c.requires.backed c.requires.tables c.clear_starting_tables.ensures.cleared c.clear_starting_tables.ensures.moved
+    c.args.granules.now c.clear_starting_tables.new.granules c.args.self.now.rd c.args.self.now.root c.requires.backed c.requires.tables
+    c.clear_starting_tables.ensures.cleared c.clear_starting_tables.ensures.moved
 
 pub returns-clause-keeps : goal.returns-clause-keeps
 returns-clause-keeps g c = record {
-  backed = subst (λ (flags : List Bool). IsBacked (g.S.PageStore.page_bytes c.clear_starting_tables.new.store) flags c.clear_starting_tables.new.granules) (sym c.clear_starting_tables.ensures.flags) (done g c).backed;
+  backed = subst (λ (flags : List Bool). IsBacked (g.S.PageStore.page_bytes c.clear_starting_tables.new.store) flags c.clear_starting_tables.new.granules)
+      (sym c.clear_starting_tables.ensures.flags) (done g c).backed;
   flags = c.clear_starting_tables.ensures.flags;
   other_realms = (done g c).other_realms;
 }

@@ -18,7 +18,8 @@ pub clear_starting_tables-requires-clause-state : goal.clear_starting_tables-req
 clear_starting_tables-requires-clause-state g c = λ number few.
     ap (λ (x : Granule). x.state) (start_is (λ table. IsIn c.args.granules.now table Delegated None) c.args.self.now.root c.requires.delegated number few).is
 
-done : (g : Over) (c : goal.After-clear_starting_tables g) → Opened (g.S.PageStore.page_bytes c.args.store.now) (g.S.PageStore.page_bytes c.clear_starting_tables.new.store) (g.S.PageStore.free_flags c.args.store.now)
+done : (g : Over) (c : goal.After-clear_starting_tables g) → Opened (g.S.PageStore.page_bytes c.args.store.now) (g.S.PageStore.page_bytes c.clear_starting_tables.new.store)
+    (g.S.PageStore.free_flags c.args.store.now)
     c.args.granules.now c.clear_starting_tables.new.granules c.args.self.now.rd c.args.self.now.root
 done g c =
     opened (g.S.PageStore.page_bytes c.args.store.now) (g.S.PageStore.page_bytes c.clear_starting_tables.new.store) (g.S.PageStore.free_flags c.args.store.now)
@@ -33,7 +34,8 @@ pub returns-clause-keeps : goal.returns-clause-keeps
 returns-clause-keeps g c = record {
   tables = (done g c).tables;
   rest = record {
-    backed = subst (λ (flags : List Bool). IsBacked (g.S.PageStore.page_bytes c.clear_starting_tables.new.store) flags c.clear_starting_tables.new.granules) (sym c.clear_starting_tables.ensures.flags) (done g c).backed;
+    backed = subst (λ (flags : List Bool). IsBacked (g.S.PageStore.page_bytes c.clear_starting_tables.new.store) flags c.clear_starting_tables.new.granules)
+        (sym c.clear_starting_tables.ensures.flags) (done g c).backed;
     flags = c.clear_starting_tables.ensures.flags;
     other_realms = (done g c).other_realms;
   };
