@@ -69,60 +69,77 @@ module _ (picked : Picked) where
   fill : (page value : ℕ) (gs : List ℕ) (act : Act) → length gs ≡ 1 → act_of (Fill page value) gs picked ≡ Some act → IsOfCommand (Fill page value) gs act
   unfolding act_of named is_reverse reverse_of room_taken needs_of
   fill page value [] act long e = cc
-  fill page value (g ∷ []) act long e = of_equal (Fill page value) (g ∷ []) (acts.Fill g value) act (same_Some (acts.Fill g value) act e) (record { command = refl; forward = refl; names = refl; paired = refl; room = refl })
+  fill page value (g ∷ []) act long e =
+      of_equal (Fill page value) (g ∷ []) (acts.Fill g value) act (same_Some (acts.Fill g value) act e) (record { command = refl; forward = refl; names = refl; paired = refl; room = refl })
   fill page value (g ∷ h ∷ gs) act long e = absurd (omega arith)
 
   peek : (page offset : ℕ) (gs : List ℕ) (act : Act) → length gs ≡ 1 → act_of (Peek page offset) gs picked ≡ Some act → IsOfCommand (Peek page offset) gs act
   unfolding act_of named is_reverse reverse_of room_taken needs_of
   peek page offset [] act long e = cc
-  peek page offset (g ∷ []) act long e = of_equal (Peek page offset) (g ∷ []) (acts.Peek g offset picked.byte) act (same_Some (acts.Peek g offset picked.byte) act e) (record { command = refl; forward = refl; names = refl; paired = refl; room = refl })
+  peek page offset (g ∷ []) act long e =
+      of_equal (Peek page offset) (g ∷ []) (acts.Peek g offset picked.byte) act (same_Some (acts.Peek g offset picked.byte) act e)
+      (record { command = refl; forward = refl; names = refl; paired = refl; room = refl })
   peek page offset (g ∷ h ∷ gs) act long e = absurd (omega arith)
 
   delegate : (page : ℕ) (gs : List ℕ) (act : Act) → length gs ≡ 1 → act_of (Delegate page) gs picked ≡ Some act → IsOfCommand (Delegate page) gs act
   unfolding act_of named is_reverse reverse_of room_taken needs_of
   delegate page [] act long e = cc
-  delegate page (g ∷ []) act long e = of_equal (Delegate page) (g ∷ []) (acts.Delegate g) act (same_Some (acts.Delegate g) act e) (record { command = refl; forward = refl; names = refl; paired = refl; room = refl })
+  delegate page (g ∷ []) act long e =
+      of_equal (Delegate page) (g ∷ []) (acts.Delegate g) act (same_Some (acts.Delegate g) act e) (record { command = refl; forward = refl; names = refl; paired = refl; room = refl })
   delegate page (g ∷ h ∷ gs) act long e = absurd (omega arith)
 
   rtt : (page ipa level : ℕ) (gs : List ℕ) (act : Act) → length gs ≡ 1 → act_of (Rtt page ipa level) gs picked ≡ Some act → IsOfCommand (Rtt page ipa level) gs act
   unfolding act_of named is_reverse reverse_of room_taken needs_of
   rtt page ipa level [] act long e = cc
-  rtt page ipa level (g ∷ []) act long e = of_equal (Rtt page ipa level) (g ∷ []) (acts.Rtt g ipa level) act (act_in_range (is_ipa ipa && is_level level) (acts.Rtt g ipa level) act e) (record { command = refl; forward = refl; names = refl; paired = refl; room = refl })
+  rtt page ipa level (g ∷ []) act long e =
+      of_equal (Rtt page ipa level) (g ∷ []) (acts.Rtt g ipa level) act (act_in_range (is_ipa ipa && is_level level) (acts.Rtt g ipa level) act e)
+      (record { command = refl; forward = refl; names = refl; paired = refl; room = refl })
   rtt page ipa level (g ∷ h ∷ gs) act long e = absurd (omega arith)
 
   unknown : (page ipa : ℕ) (gs : List ℕ) (act : Act) → length gs ≡ 1 → act_of (Unknown page ipa) gs picked ≡ Some act → IsOfCommand (Unknown page ipa) gs act
   unfolding act_of named is_reverse reverse_of room_taken needs_of
   unknown page ipa [] act long e = cc
-  unknown page ipa (g ∷ []) act long e = of_equal (Unknown page ipa) (g ∷ []) (acts.Unknown g ipa) act (act_in_range (is_ipa ipa) (acts.Unknown g ipa) act e) (record { command = refl; forward = refl; names = refl; paired = refl; room = refl })
+  unknown page ipa (g ∷ []) act long e =
+      of_equal (Unknown page ipa) (g ∷ []) (acts.Unknown g ipa) act (act_in_range (is_ipa ipa) (acts.Unknown g ipa) act e)
+      (record { command = refl; forward = refl; names = refl; paired = refl; room = refl })
   unknown page ipa (g ∷ h ∷ gs) act long e = absurd (omega arith)
 
   -- commands on none
   ripas : (ipa count : ℕ) (gs : List ℕ) (act : Act) → length gs ≡ 0 → act_of (Ripas ipa count) gs picked ≡ Some act → IsOfCommand (Ripas ipa count) gs act
   unfolding act_of named is_reverse reverse_of room_taken needs_of
-  ripas ipa count gs act long e = of_equal (Ripas ipa count) gs (acts.Ripas ipa count) act (act_in_range (is_ipa ipa) (acts.Ripas ipa count) act e) (record { command = refl; forward = refl; names = sym (none_left gs long); paired = refl; room = refl })
+  ripas ipa count gs act long e =
+      of_equal (Ripas ipa count) gs (acts.Ripas ipa count) act (act_in_range (is_ipa ipa) (acts.Ripas ipa count) act e)
+      (record { command = refl; forward = refl; names = sym (none_left gs long); paired = refl; room = refl })
 
   activate : (gs : List ℕ) (act : Act) → length gs ≡ 0 → act_of (Activate) gs picked ≡ Some act → IsOfCommand (Activate) gs act
   unfolding act_of named is_reverse reverse_of room_taken needs_of
-  activate gs act long e = of_equal (Activate) gs (acts.Activate) act (same_Some (acts.Activate) act e) (record { command = refl; forward = refl; names = sym (none_left gs long); paired = refl; room = refl })
+  activate gs act long e =
+      of_equal (Activate) gs (acts.Activate) act (same_Some (acts.Activate) act e) (record { command = refl; forward = refl; names = sym (none_left gs long); paired = refl; room = refl })
 
   enter : (number : ℕ) (gs : List ℕ) (act : Act) → length gs ≡ 0 → act_of (Enter number) gs picked ≡ Some act → IsOfCommand (Enter number) gs act
   unfolding act_of named is_reverse reverse_of room_taken needs_of
-  enter number gs act long e = of_equal (Enter number) gs (acts.Enter number) act (same_Some (acts.Enter number) act e) (record { command = refl; forward = refl; names = sym (none_left gs long); paired = refl; room = refl })
+  enter number gs act long e =
+      of_equal (Enter number) gs (acts.Enter number) act (same_Some (acts.Enter number) act e) (record { command = refl; forward = refl; names = sym (none_left gs long); paired = refl; room = refl })
 
   exit : (number : ℕ) (gs : List ℕ) (act : Act) → length gs ≡ 0 → act_of (Exit number) gs picked ≡ Some act → IsOfCommand (Exit number) gs act
   unfolding act_of named is_reverse reverse_of room_taken needs_of
-  exit number gs act long e = of_equal (Exit number) gs (acts.Exit number) act (same_Some (acts.Exit number) act e) (record { command = refl; forward = refl; names = sym (none_left gs long); paired = refl; room = refl })
+  exit number gs act long e =
+      of_equal (Exit number) gs (acts.Exit number) act (same_Some (acts.Exit number) act e) (record { command = refl; forward = refl; names = sym (none_left gs long); paired = refl; room = refl })
 
   poke : (number ipa offset value : ℕ) (gs : List ℕ) (act : Act) → length gs ≡ 0 → act_of (Poke number ipa offset value) gs picked ≡ Some act → IsOfCommand (Poke number ipa offset value) gs act
   unfolding act_of named is_reverse reverse_of room_taken needs_of
-  poke number ipa offset value gs act long e = of_equal (Poke number ipa offset value) gs (acts.Poke number ipa offset value) act (act_in_range (is_ipa ipa) (acts.Poke number ipa offset value) act e) (record { command = refl; forward = refl; names = sym (none_left gs long); paired = refl; room = refl })
+  poke number ipa offset value gs act long e =
+      of_equal (Poke number ipa offset value) gs (acts.Poke number ipa offset value) act (act_in_range (is_ipa ipa) (acts.Poke number ipa offset value) act e)
+      (record { command = refl; forward = refl; names = sym (none_left gs long); paired = refl; room = refl })
 
   -- commands on more
   data_of : (page ipa source : ℕ) (gs : List ℕ) (act : Act) → length gs ≡ 2 → act_of (Data page ipa source) gs picked ≡ Some act → IsOfCommand (Data page ipa source) gs act
   unfolding act_of named is_reverse reverse_of room_taken needs_of
   data_of page ipa source [] act long e = cc
   data_of page ipa source (g ∷ []) act long e = cc
-  data_of page ipa source (g ∷ s ∷ []) act long e = of_equal (Data page ipa source) (g ∷ s ∷ []) (acts.Data g ipa s) act (act_in_range (is_ipa ipa) (acts.Data g ipa s) act e) (record { command = refl; forward = refl; names = refl; paired = refl; room = refl })
+  data_of page ipa source (g ∷ s ∷ []) act long e =
+      of_equal (Data page ipa source) (g ∷ s ∷ []) (acts.Data g ipa s) act (act_in_range (is_ipa ipa) (acts.Data g ipa s) act e)
+      (record { command = refl; forward = refl; names = refl; paired = refl; room = refl })
   data_of page ipa source (g ∷ s ∷ h ∷ gs) act long e = absurd (omega arith)
 
   realm : (rd root width : ℕ) (gs : List ℕ) (act : Act) → act_of (Realm rd root width) gs picked ≡ Some act → IsOfCommand (Realm rd root width) gs act
@@ -130,12 +147,15 @@ module _ (picked : Picked) where
   realm rd root width [] act e = cc
   realm rd root width (g ∷ gs) act e =
       let made = some_root (root_of width gs) (λ tables. acts.Realm g tables picked.vmid) act e in
-      of_equal (Realm rd root width) (g ∷ gs) (acts.Realm g made.0 picked.vmid) act made.2 (record { command = refl; forward = refl; names = ap (λ (ts : List ℕ). g ∷ ts) (tables_are width gs made.0 made.1); paired = refl; room = refl })
+      of_equal (Realm rd root width) (g ∷ gs) (acts.Realm g made.0 picked.vmid) act made.2
+      (record { command = refl; forward = refl; names = ap (λ (ts : List ℕ). g ∷ ts) (tables_are width gs made.0 made.1); paired = refl; room = refl })
 
   rec : (page : ℕ) (auxiliaries : ArrayVec ℕ) (gs : List ℕ) (act : Act) → act_of (Rec page auxiliaries) gs picked ≡ Some act → IsOfCommand (Rec page auxiliaries) gs act
   unfolding act_of named is_reverse reverse_of room_taken needs_of
   rec page auxiliaries [] act e = cc
-  rec page auxiliaries (g ∷ gs) act e = of_equal (Rec page auxiliaries) (g ∷ gs) (acts.Rec g (record { items = gs }) picked.number) act (same_Some _ act e) (record { command = refl; forward = refl; names = refl; paired = refl; room = refl })
+  rec page auxiliaries (g ∷ gs) act e =
+      of_equal (Rec page auxiliaries) (g ∷ gs) (acts.Rec g (record { items = gs }) picked.number) act (same_Some _ act e)
+      (record { command = refl; forward = refl; names = refl; paired = refl; room = refl })
 
   pub of_command : (cmd : Cmd) (gs : List ℕ) (act : Act) → length gs ≡ length (operands cmd) → act_of cmd gs picked ≡ Some act → IsOfCommand cmd gs act
   unfolding act_of operands

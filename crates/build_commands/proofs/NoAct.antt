@@ -40,7 +40,8 @@ realm_fails : (rd : Seen) (f : RealmRow → Outcome) → ((realm : RealmRow) →
 unfolding with_realm
 realm_fails rd f fails = by_realm rd.cell.descriptor fails
   where
-    by_realm : (o : Option RealmRow) → ((realm : RealmRow) → o ≡ Some realm → f realm ≡ Err error_input) → ◌≡◌ {A = Outcome} (elim o [ Some realm ↦ f realm | None ↦ Err error_input ]) (Err error_input)
+    by_realm : (o : Option RealmRow) → ((realm : RealmRow) → o ≡ Some realm → f realm ≡ Err error_input)
+        → ◌≡◌ {A = Outcome} (elim o [ Some realm ↦ f realm | None ↦ Err error_input ]) (Err error_input)
     by_realm None fail = refl
     by_realm (Some realm) fail = fail realm refl
 

@@ -5,7 +5,7 @@ ghost use Rattle.build_commands.specs.Needs.{needs_of, needs_but_vmid};
 use crate::Cmd;
 
 /// Whether a command wants its build to have a realm.
-#[derive(Clone, Copy, Debug, PartialEq, Eq)]
+#[derive(Clone, Copy)]
 pub enum Wants {
     Either,
     Realm,
@@ -13,7 +13,7 @@ pub enum Wants {
 }
 
 /// What a command needs of its build, a row of the table.
-#[derive(Clone, Copy, Debug, PartialEq, Eq)]
+#[derive(Clone, Copy)]
 pub struct Needs {
     /// whether there has to be a realm
     pub realm: Wants,

@@ -2,7 +2,7 @@
 use granule_addr::{RecNo, Vmid};
 
 /// The answers that an act holds: each is read by the commands that get it, and is any where a command gets none.
-#[derive(Clone, Copy, Debug, PartialEq, Eq)]
+#[derive(Clone, Copy)]
 pub struct Picked {
     /// for a realm that is made: the lowest VMID that none uses
     pub vmid: Vmid,

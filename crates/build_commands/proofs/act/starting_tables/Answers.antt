@@ -7,7 +7,8 @@ use Rattle.build_commands.proofs.act.starting_tables.Goals as goal
 
 pub returns-then-tables-start_count : goal.returns-then-tables-start_count
 returns-then-tables-start_count c =
-    too_few c.args.width c.args.tables.now c.in_ok-first.first c.in_ok-width.width c.in_ok-first.ensures c.in_ok-width.ensures (λ same. let other = c.if-tables-start_count.true in let count = c.start_count.ensures.value in absurd (omega arith))
+    too_few c.args.width c.args.tables.now c.in_ok-first.first c.in_ok-width.width c.in_ok-first.ensures c.in_ok-width.ensures
+    (λ same. let other = c.if-tables-start_count.true in let count = c.start_count.ensures.value in absurd (omega arith))
 
 pub returns-then-number : goal.returns-then-number
 returns-then-number c =

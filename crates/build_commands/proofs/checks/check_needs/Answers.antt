@@ -1,38 +1,52 @@
-use Rattle.std.proofs.Common.{ap, ◌∙◌}
+use Rattle.std.proofs.Common.{◌≡◌, ℕ, List, Some, Ok, Err, ap, ◌∙◌}
 use Rattle.std.proofs.lemmas.Result.{err_from_is_err_and}
+use Rattle.build_commands.specs.declared.cmd.Cmd.{Cmd}
+use Rattle.build_commands.specs.declared.refusal.Refusal.{Refusal}
+use Rattle.build_commands.specs.Desk.{DeskView}
 use Rattle.build_commands.specs.Needs.{operands, needs_of}
-use Rattle.build_commands.specs.Checks.{checked, build_checks, order_checks, page_checks, state_checks, checks_of}
+use Rattle.build_commands.specs.Checks.{Check, checked, first_that_holds, build_checks, order_checks, page_checks, state_checks, checks_of}
 use Rattle.build_commands.proofs.Refused.{none_of, some_of, is_checked_none, is_checked_some, by_first, by_second, by_third, by_last, all_there}
 use Rattle.build_commands.proofs.checks.check_needs.Goals as goal
 
+-- the first three lists of checks, each where those before it find nothing
+module _ (desk : DeskView) (build : ℕ) (cmd : Cmd) (refusal : Refusal) where
+  abbrev pages : List Check
+  pages = page_checks desk build (operands cmd)
+
+  abbrev states : List Check
+  states = state_checks desk build (needs_of cmd)
+
+  abbrev Refused : Type 0
+  Refused = first_that_holds (checks_of desk build cmd) ≡ Some refusal
+
+  by_build : Err refusal ≡ checked (build_checks desk build) → Refused
+  unfolding checks_of
+  by_build e = some_of (checks_of desk build cmd) refusal (by_first (build_checks desk build) (order_checks cmd) pages states refusal e)
+
+  by_order : Ok tt ≡ checked (build_checks desk build) → Err refusal ≡ checked (order_checks cmd) → Refused
+  unfolding checks_of
+  by_order build_is e = some_of (checks_of desk build cmd) refusal (by_second (build_checks desk build) (order_checks cmd) pages states refusal build_is e)
+
+  by_page : Ok tt ≡ checked (build_checks desk build) → Ok tt ≡ checked (order_checks cmd) → first_that_holds pages ≡ Some refusal → Refused
+  unfolding checks_of
+  by_page build_is order_is e = some_of (checks_of desk build cmd) refusal
+      (by_third (build_checks desk build) (order_checks cmd) pages states refusal build_is order_is (is_checked_some pages refusal e))
+
 pub returns-in_err-check_build-clause-refusal : goal.returns-in_err-check_build-clause-refusal
-unfolding checks_of
 returns-in_err-check_build-clause-refusal g c =
     let told = err_from_is_err_and c.from_residual.result c.from_residual.ensures.1 in
-    let desk = g.D.Desk.seen c.args.desk.now in
-    let cmd = c.args.cmd.now in
-    rw (told.1, told.2) (some_of (checks_of desk c.args.build cmd) _ (by_first
-    (build_checks desk c.args.build) (order_checks cmd) (page_checks desk c.args.build (operands cmd)) (state_checks desk c.args.build (needs_of cmd)) _ c.in_err-check_build.ensures))
+    rw (told.1, told.2) (by_build (g.D.Desk.seen c.args.desk.now) c.args.build c.args.cmd.now _ c.in_err-check_build.ensures)
 
 pub returns-in_err-check_order-clause-refusal : goal.returns-in_err-check_order-clause-refusal
-unfolding checks_of
 returns-in_err-check_order-clause-refusal g c =
     let told = err_from_is_err_and c.from_residual-in_err-check_order.result c.from_residual-in_err-check_order.ensures.1 in
-    let desk = g.D.Desk.seen c.args.desk.now in
-    let cmd = c.args.cmd.now in
-    rw (told.1, told.2) (some_of (checks_of desk c.args.build cmd) _ (by_second
-    (build_checks desk c.args.build) (order_checks cmd) (page_checks desk c.args.build (operands cmd)) (state_checks desk c.args.build (needs_of cmd)) _
-    c.in_ok-check_build.ensures c.in_err-check_order.ensures))
+    rw (told.1, told.2) (by_order (g.D.Desk.seen c.args.desk.now) c.args.build c.args.cmd.now _ c.in_ok-check_build.ensures c.in_err-check_order.ensures)
 
 pub returns-in_err-granules-clause-refusal : goal.returns-in_err-granules-clause-refusal
-unfolding checks_of
 returns-in_err-granules-clause-refusal g c =
     let told = err_from_is_err_and c.from_residual-in_err-granules.result c.from_residual-in_err-granules.ensures.1 in
-    let desk = g.D.Desk.seen c.args.desk.now in
-    let cmd = c.args.cmd.now in
-    rw (told.1, told.2) (some_of (checks_of desk c.args.build cmd) _ (by_third
-    (build_checks desk c.args.build) (order_checks cmd) (page_checks desk c.args.build (operands cmd)) (state_checks desk c.args.build (needs_of cmd)) _
-    c.in_ok-check_build.ensures c.in_ok-check_order.ensures (is_checked_some (page_checks desk c.args.build (operands cmd)) _ c.in_err-granules.ensures.err)))
+    rw (told.1, told.2) (by_page (g.D.Desk.seen c.args.desk.now) c.args.build c.args.cmd.now _
+    c.in_ok-check_build.ensures c.in_ok-check_order.ensures c.in_err-granules.ensures.err)
 
 pub returns-in_err-check_state-clause-refusal : goal.returns-in_err-check_state-clause-refusal
 unfolding checks_of

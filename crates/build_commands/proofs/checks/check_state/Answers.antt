@@ -11,7 +11,8 @@ returns-in_err-check_realm g c =
     let desk = g.D.Desk.seen c.args.desk.now in
     let needs = c.args.needs.now in
     rw (told.1, told.2) (by_first
-    (realm_checks desk c.args.build needs.realm) (journal_checks desk c.args.build needs.paired) (room_checks desk c.args.build needs.room) (vmid_checks desk needs.vmid) _ c.in_err-check_realm.ensures)
+    (realm_checks desk c.args.build needs.realm) (journal_checks desk c.args.build needs.paired) (room_checks desk c.args.build needs.room)
+    (vmid_checks desk needs.vmid) _ c.in_err-check_realm.ensures)
 
 pub returns-in_err-check_journal : goal.returns-in_err-check_journal
 unfolding state_checks
@@ -20,7 +21,8 @@ returns-in_err-check_journal g c =
     let desk = g.D.Desk.seen c.args.desk.now in
     let needs = c.args.needs.now in
     rw (told.1, told.2) (by_second
-    (realm_checks desk c.args.build needs.realm) (journal_checks desk c.args.build needs.paired) (room_checks desk c.args.build needs.room) (vmid_checks desk needs.vmid) _ c.in_ok-check_realm.ensures c.in_err-check_journal.ensures)
+    (realm_checks desk c.args.build needs.realm) (journal_checks desk c.args.build needs.paired) (room_checks desk c.args.build needs.room)
+    (vmid_checks desk needs.vmid) _ c.in_ok-check_realm.ensures c.in_err-check_journal.ensures)
 
 pub returns-in_err-check_room : goal.returns-in_err-check_room
 unfolding state_checks

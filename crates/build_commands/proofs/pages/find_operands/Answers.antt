@@ -11,7 +11,8 @@ returns-in_err-find-in-Data g c =
     let told = err_from_is_err_and c.from_residual.result c.from_residual.ensures.1 in
     let desk = g.D.Desk.seen c.args.desk.now in
     let old = c.args.found.now.items in
-    rw (told.1, told.2, c.in-Data.is) (first_missing desk c.args.build (c.in-Data.page ∷ []) (c.in-Data.source ∷ []) c.in_err-find-in-Data.field-0.0 old c.find.new.found.items c.find.new.found.items c.in_err-find-in-Data.ensures.next)
+    rw (told.1, told.2, c.in-Data.is) (first_missing desk c.args.build (c.in-Data.page ∷ []) (c.in-Data.source ∷ []) c.in_err-find-in-Data.field-0.0
+    old c.find.new.found.items c.find.new.found.items c.in_err-find-in-Data.ensures.next)
 
 pub returns-in_err-find-in-Realm : goal.returns-in_err-find-in-Realm
 unfolding operands
@@ -34,17 +35,20 @@ returns-in_err-find-in-Rec g c =
 pub returns-in_ok-find-in-Data : goal.returns-in_ok-find-in-Data
 unfolding operands
 returns-in_ok-find-in-Data g c =
-    rw (c.in-Data.is) (next_after (g.D.Desk.seen c.args.desk.now) c.args.build (c.in-Data.page ∷ []) (c.in-Data.source ∷ []) c.args.found.now.items c.find.new.found.items c.find-in-Data.new.found.items c.find-in-Data.new.found.items
+    rw (c.in-Data.is) (next_after (g.D.Desk.seen c.args.desk.now) c.args.build (c.in-Data.page ∷ []) (c.in-Data.source ∷ []) c.args.found.now.items
+    c.find.new.found.items c.find-in-Data.new.found.items c.find-in-Data.new.found.items
     c.find-in-Data.result c.in_ok-find-in-Data.ensures.next c.find-in-Data.ensures.next refl)
 
 pub returns-in_ok-find-in-Realm : goal.returns-in_ok-find-in-Realm
 unfolding operands
 returns-in_ok-find-in-Realm g c =
-    rw (c.in-Realm.is, sym c.tables_named.ensures.value) (next_after (g.D.Desk.seen c.args.desk.now) c.args.build (c.in-Realm.rd ∷ []) (range_with_len c.in-Realm.root c.tables_named.result) c.args.found.now.items c.find-in-Realm.new.found.items c.find_run.new.found.items c.find_run.new.found.items
+    rw (c.in-Realm.is, sym c.tables_named.ensures.value) (next_after (g.D.Desk.seen c.args.desk.now) c.args.build (c.in-Realm.rd ∷ [])
+    (range_with_len c.in-Realm.root c.tables_named.result) c.args.found.now.items c.find-in-Realm.new.found.items c.find_run.new.found.items c.find_run.new.found.items
     c.find_run.result c.in_ok-find-in-Realm.ensures.next c.find_run.ensures refl)
 
 pub returns-in_ok-find-in-Rec : goal.returns-in_ok-find-in-Rec
 unfolding operands
 returns-in_ok-find-in-Rec g c =
-    rw (c.in-Rec.is, sym c.as_slice.ensures.value) (next_after (g.D.Desk.seen c.args.desk.now) c.args.build (c.in-Rec.page ∷ []) c.as_slice.result.now c.args.found.now.items c.find-in-Rec.new.found.items c.find_all.new.found.items c.find_all.new.found.items
+    rw (c.in-Rec.is, sym c.as_slice.ensures.value) (next_after (g.D.Desk.seen c.args.desk.now) c.args.build (c.in-Rec.page ∷ []) c.as_slice.result.now
+    c.args.found.now.items c.find-in-Rec.new.found.items c.find_all.new.found.items c.find_all.new.found.items
     c.find_all.result c.in_ok-find-in-Rec.ensures.next c.find_all.ensures refl)

@@ -14,16 +14,19 @@ returns-in_err-find g c =
     let within : c.run.counter < c.args.count = c.run-test.true in
     let long = length-range_with_len c.args.first c.args.count in
     let at = c.run.invariant.page in
-    rw (told.1, told.2) (missing_at desk c.args.build (range_with_len c.args.first c.args.count) c.run.counter c.run.page c.run.page c.in_err-find.field-0.0 c.args.found.now.items c.run.found.items c.find.new.found.items
+    rw (told.1, told.2) (missing_at desk c.args.build (range_with_len c.args.first c.args.count) c.run.counter c.run.page c.run.page c.in_err-find.field-0.0
+    c.args.found.now.items c.run.found.items c.find.new.found.items
     (omega arith) (at ∙ sym (get_or-range_with_len c.args.first c.args.count c.run.counter c.run.page within))
-    (subst (λ (ps : List ℕ). AreFoundNext desk c.args.build ps c.args.found.now.items (Ok tt) c.run.found.items) (sym (take_range c.args.first c.args.count c.run.counter (omega arith))) c.run.invariant.next)
+    (subst (λ (ps : List ℕ). AreFoundNext desk c.args.build ps c.args.found.now.items (Ok tt) c.run.found.items)
+    (sym (take_range c.args.first c.args.count c.run.counter (omega arith))) c.run.invariant.next)
     c.in_err-find.ensures.next)
 
 pub run-preserved : goal.run-preserved
 run-preserved g c =
     let desk = g.D.Desk.seen c.args.desk.now in
     let at = c.run.invariant.page in
-    let more : range_with_len c.args.first c.run.counter ++ c.run.page ∷ [] ≡ range_with_len c.args.first (c.run.counter + 1) = sym (range_with_len_more c.args.first c.run.counter c.run.page (sym at)) in
+    let more : range_with_len c.args.first c.run.counter ++ c.run.page ∷ [] ≡ range_with_len c.args.first (c.run.counter + 1) = sym
+    (range_with_len_more c.args.first c.run.counter c.run.page (sym at)) in
     let both : AreFoundNext desk c.args.build (range_with_len c.args.first c.run.counter ++ c.run.page ∷ []) c.args.found.now.items (Ok tt) c.find.new.found.items =
     next_after desk c.args.build (range_with_len c.args.first c.run.counter) (c.run.page ∷ []) c.args.found.now.items c.run.found.items c.find.new.found.items c.find.new.found.items (Ok tt)
     c.run.invariant.next c.in_ok-find.ensures.next refl

@@ -10,7 +10,8 @@ returns-in_err-find_operands-clause-err g c =
     let told = err_from_is_err_and c.from_residual.result c.from_residual.ensures.1 in
     let desk = g.D.Desk.seen c.args.desk.now in
     rw (told.1, told.2) (one_not_found desk c.args.build (operands c.args.cmd.now) c.in_err-find_operands.field-0.0 c.find_operands.new.found.items
-    (subst (λ (old : List ℕ). AreFoundNext desk c.args.build (operands c.args.cmd.now) old (Err c.in_err-find_operands.field-0.0) c.find_operands.new.found.items) c.new-granules.ensures c.in_err-find_operands.ensures))
+    (subst (λ (old : List ℕ). AreFoundNext desk c.args.build (operands c.args.cmd.now) old (Err c.in_err-find_operands.field-0.0) c.find_operands.new.found.items)
+    c.new-granules.ensures c.in_err-find_operands.ensures))
 
 pub returns-clause-ok : goal.returns-clause-ok
 returns-clause-ok g c =
