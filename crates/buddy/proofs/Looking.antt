@@ -78,6 +78,7 @@ module _ (heads : List ℕ) (flags : List Bool) (order first : ℕ) (aligned : f
       let less : 2 ^ h.0 < 2 ^ order = pow_below h.0 order below in
       omega arith
 
-  pub looked_all : order ≤ 9 → (found : Bool) → HasLooked heads flags first order found → (IsTrue found ↔ IsFreeBlock flags order first) × OnTrue found (AreMaximal heads (with_taken flags order first))
+  pub looked_all : order ≤ 9 → (found : Bool) → HasLooked heads flags first order found → (IsTrue found ↔ IsFreeBlock flags order first)
+      × OnTrue found (AreMaximal heads (with_taken flags order first))
   looked_all low true looked = ((λ _. (found_free looked).0, λ _. refl), (found_free looked).1)
   looked_all low false looked = ((λ is. absurd (true≢false (sym is)), λ free. absurd (none_found low looked free)), tt)
