@@ -302,7 +302,8 @@ module _ (limits : Limits) (b : ℕ) (u w : World) (su : IsSoundPart u) (sw : Is
       let unused : is_table_unused d2.rows level ipa ≡ true = all_rows_from is_unassigned (λ r e. ap (λ (p : Mapping). is_unassigned_state p.state) e) d2.rows level ipa 512
       (λ k less. sym (both.same.rows (level, ipa + k * covered_count level)) ∙ look-with_table_below d.rows level ipa above sound.rows spot there g above.ripas k less) in
       let d3 : RealmRow = record d2 { rows = without_table d2.rows level ipa } in
-      let tail : List Update = Put n (record (cell_at w.machine n) { descriptor = Some d3 }) ∷ [] in
+      let last : Cell = record (cell_at w.machine n) { descriptor = Some d3 } in
+      let tail : List Update = Put n last ∷ [] in
       let was_free : mapping_of_row above ≡ Vacant = free_above (level - 1) above.state above.granule spot.low.1 (shape_of d.rows up above sound.rows there) plain in
       let rows_back : (q : ℕ × ℕ) → look d.rows q ≡ look d3.rows q = table_back d.rows d2.rows level ipa g above.ripas above there was_free
           (none_among d.rows level ipa above sound.rows spot there plain) both.same.rows in
@@ -314,7 +315,8 @@ module _ (limits : Limits) (b : ℕ) (u w : World) (su : IsSoundPart u) (sw : Is
         planned = λ used. planned_rtt used d2 n ipa g level row.0 both.there row.1 (ap (λ (p : Mapping). is_table_state p.state) row.2) granule place
             (protected_too both ipa protected) spot.low.0 unused both.found;
         fitting = fits_row n (level - 1) ipa g d2 row.0 both.found both.there row.1 granule;
-        back = back_left u w (Put g c ∷ Put n z ∷ []) tail (g ∷ []) refl (in_one g (delegated_leaves su.rd u g (su.cells g) free_g)) (tail_one u n _ (realm_tail rd d d1 d3 at is at_n
+        back = back_left u w (Put g c ∷ Put n z ∷ []) tail (g ∷ []) refl (in_one g (delegated_leaves su.rd u g (su.cells g) free_g))
+            (tail_one u n last (realm_tail rd d d1 d3 at is at_n
             (record { vmid = both.same.vmid; root = both.same.root; recs = both.same.recs; rows = rows_back }))) leads;
         ready_if = λ r. refl;
       }
@@ -355,7 +357,8 @@ module _ (limits : Limits) (b : ℕ) (u w : World) (su : IsSoundPart u) (sw : Is
           ∙ ap (λ t. cond t (Some (mapping_of_row (assigned ripas g))) (look d.rows place)) (place_self place) in
       let row = look_get (get d2.rows place) (mapping Assigned (Some g)) (sym (both.same.rows place) ∙ now_there) in
       let d3 : RealmRow = record d2 { rows = put_row d2.rows 3 ipa (unassigned (unmapped_ripas row.0.ripas)) } in
-      let tail : List Update = Put n (record (cell_at w.machine n) { descriptor = Some d3 }) ∷ [] in
+      let last : Cell = record (cell_at w.machine n) { descriptor = Some d3 } in
+      let tail : List Update = Put n last ∷ [] in
       let sound : IsSoundRealm d = (subst (IsSoundCell su.rd n) at (su.cells n)).row d is in
       let was_free : mapping_of_row old ≡ Vacant = free_unassigned 3 old.state old.granule (shape_of d.rows place old sound.rows there) free in
       let rows_back : (q : ℕ × ℕ) → look d.rows q ≡ look d3.rows q = λ q.
@@ -371,7 +374,8 @@ module _ (limits : Limits) (b : ℕ) (u w : World) (su : IsSoundPart u) (sw : Is
         planned = λ used. planned_data used d2 (cell_at w.machine n) n ipa g row.0 both.there row.1 (ap (λ (p : Mapping). is_assigned_state p.state) row.2) granule
             (protected_too both ipa protected) both.found;
         fitting = fits_row n 3 ipa g d2 row.0 both.found both.there row.1 granule;
-        back = back_left u w (Put g c ∷ Put n z ∷ []) tail (g ∷ []) refl (in_one g (delegated_leaves su.rd u g (su.cells g) free_g)) (tail_one u n _ (realm_tail rd d d1 d3 at is at_n
+        back = back_left u w (Put g c ∷ Put n z ∷ []) tail (g ∷ []) refl (in_one g (delegated_leaves su.rd u g (su.cells g) free_g))
+            (tail_one u n last (realm_tail rd d d1 d3 at is at_n
             (record { vmid = both.same.vmid; root = both.same.root; recs = both.same.recs; rows = rows_back }))) leads;
         ready_if = λ r. refl;
       }
