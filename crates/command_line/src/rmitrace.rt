@@ -1,10 +1,11 @@
 //! The command line of `rmitrace`.
-ghost use Rattle.std.specs.Prelude.{◌≡◌, IfOk, true, map, string_bytes};
-ghost use Rattle.clap.specs.Words.{FailsBy, app_of, fault_of, is_simple_and_free, subcommand_of};
+ghost use Rattle.std.specs.Prelude.{◌≡◌, IfOk, Some, codes, true, map, string_bytes};
+ghost use Rattle.clap.specs.Words.{FailsBy, app_of, fault_of, is_simple_and_free, subcommand_name_of, subcommand_of};
 ghost use Rattle.command_line.specs.Rmitrace.{rmitrace, IsTraceSubcommand};
+ghost use Rattle.command_line.specs.declared.rmitrace.Asked.TheVariants.{Answer, Check};
 
 use crate::options::{matched, program, subcommand};
-use clap::{Command, Error};
+use clap::{ArgMatches, Command, Error};
 use std::alloc::{AllocError, Global};
 
 /// What the program is asked to do.
@@ -36,6 +37,17 @@ fn command<'a>(alloc: Global) -> Result<Command<'a>, AllocError>
         .subcommand(check)
 }
 
+// What is asked for by the words that were matched.
+fn asked_by(matches: &ArgMatches) -> Asked
+    ensures check { result ≡ Check → subcommand_name_of matches.now ≡ Some (codes "check") }
+    ensures answer { result ≡ Answer → ¬ (subcommand_name_of matches.now ≡ Some (codes "check")) }
+{
+    if matches.subcommand_matches("check").is_some() {
+        return Asked::Check;
+    }
+    Asked::Answer
+}
+
 impl Asked {
     /// What the words ask for. The first word is the program's name.
     pub fn of(alloc: Global, words: &[String]) -> Result<Asked, Error>
@@ -45,9 +57,6 @@ impl Asked {
         ensures kinds { FailsBy (fault_of rmitrace (map string_bytes words.now)) result }
     {
         let matches = matched(command(alloc)?, words)?;
-        if matches.subcommand_matches("check").is_some() {
-            return Ok(Asked::Check);
-        }
-        Ok(Asked::Answer)
+        Ok(asked_by(&matches))
     }
 }
