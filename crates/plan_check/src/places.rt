@@ -12,11 +12,11 @@ pub struct KeyPlace {
     pub value: usize,
 }
 
-/// Where the value of a build's `steps` stands, and which of the steps that were found are its own.
+/// Where a build stands, the value of its `steps`, and which of the steps that were found are its own.
 #[derive(Clone, Copy)]
-pub struct StepsPlace {
-    pub build: usize,
+pub struct BuildPlace {
     pub at: usize,
+    pub steps_at: usize,
     pub first: usize,
     pub count: usize,
 }
@@ -25,9 +25,7 @@ pub struct StepsPlace {
 #[derive(Drop)]
 pub struct Places {
     pub keys: Vec<KeyPlace>,
-    pub builds: Vec<usize>,
-    /// The builds' `steps`, as far as builds have them.
-    pub lists: Vec<StepsPlace>,
+    pub builds: Vec<BuildPlace>,
     /// The steps of all builds, one build after the other.
     pub steps: Vec<usize>,
     /// The entries of `order`.
@@ -39,7 +37,6 @@ impl Places {
         Places {
             keys: Vec::new(alloc),
             builds: Vec::new(alloc),
-            lists: Vec::new(alloc),
             steps: Vec::new(alloc),
             entries: Vec::new(alloc),
         }
@@ -58,35 +55,26 @@ impl Places {
     /// Where a build stands, or else the value of `build`.
     pub fn build_at(&self, build: usize) -> usize {
         match self.builds.get(build) {
-            Some(at) => *at,
+            Some(place) => place.at,
             None => self.value_at("build"),
         }
     }
 
-    fn steps_of(&self, build: usize) -> Option<StepsPlace> {
-        for place in &self.lists {
-            if place.build == build {
-                return Some(*place);
-            }
-        }
-        None
-    }
-
     /// Where the value of a build's `steps` stands, or else the build.
     pub fn steps_at(&self, build: usize) -> usize {
-        match self.steps_of(build) {
-            Some(place) => place.at,
+        match self.builds.get(build) {
+            Some(place) => place.steps_at,
             None => self.build_at(build),
         }
     }
 
     /// Where a step of a build stands, or else the value of its `steps`.
     pub fn step_at(&self, build: usize, step: usize) -> usize {
-        match self.steps_of(build) {
+        match self.builds.get(build) {
             Some(place) if step < place.count => {
                 match self.steps.get(place.first.saturating_add(step)) {
                     Some(at) => *at,
-                    None => place.at,
+                    None => place.steps_at,
                 }
             }
             _ => self.steps_at(build),
@@ -121,21 +109,24 @@ impl Places {
 
     /// Adds a build, of which no step is known yet.
     pub fn add_build(&mut self, at: usize) -> Result<(), AllocError> {
-        self.builds.push(at)?;
+        let first = self.steps.len();
+        self.builds.push(BuildPlace {
+            at,
+            steps_at: at,
+            first,
+            count: 0,
+        })?;
         Ok(())
     }
 
-    /// Adds the `steps` of the last build. Its steps are those that were found from one on.
-    pub fn add_steps(&mut self, at: usize, first: usize) -> Result<(), AllocError> {
-        let build = self.last_build();
+    /// Says where the value of `steps` of the last build stands. Its steps are those that were found from one on.
+    pub fn keep_steps(&mut self, steps_at: usize, first: usize) {
         let count = self.steps.len().saturating_sub(first);
-        self.lists.push(StepsPlace {
-            build,
-            at,
-            first,
-            count,
-        })?;
-        Ok(())
+        if let Some(last) = self.builds.last_mut() {
+            last.steps_at = steps_at;
+            last.first = first;
+            last.count = count;
+        }
     }
 
     /// The number of the last build.

@@ -258,7 +258,7 @@ fn add_to_build<'a>(
     if name_of(key) == "steps" {
         let first = places.steps.len();
         add_items(source, value, &mut places.steps)?;
-        places.add_steps(value_at, first)?;
+        places.keep_steps(value_at, first);
     }
     let build = Some(places.last_build());
     places.add_key(build, first_part(key), at, value_at)?;
