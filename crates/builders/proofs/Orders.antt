@@ -55,7 +55,8 @@ world_of_seats host seats legal closed history too trails =
     sym (order_does_not_matter host.limits host.history history legal too (same_by_seats host.limits host.history history legal too seats closed.whole closed.trails trails)) ∙ world_is host legal
 
 -- two hosts that the same seats close
-pub did_the_same : (opened host twin : HostView) (seats : List SeatView) → IsHostGivenBack opened host seats → IsClosed host seats → IsHostGivenBack opened twin seats → IsClosed twin seats → DidTheSame host twin
+pub did_the_same : (opened host twin : HostView) (seats : List SeatView) → IsHostGivenBack opened host seats → IsClosed host seats → IsHostGivenBack opened twin seats
+    → IsClosed twin seats → DidTheSame host twin
 did_the_same opened host twin seats given closed again too =
     let limits : twin.limits ≡ host.limits = again.of_start.limits ∙ sym given.of_start.limits in
     let legal : IsLegal host.limits twin.history = subst (λ l. IsLegal l twin.history) limits again.shared.sound.legal in

@@ -57,7 +57,8 @@ same_end : (history grown : List Event) (event other : Event) → grown ≡ hist
 same_end history grown event other one two =
     ap (event_or other) (sym (last_push None history event) ∙ ap (last_or None) (sym one ∙ two) ∙ last_push None history other)
 
-replied_event : (opened : HostView) (cmd : Cmd) (reply : Reply) (seat new : SeatView) (told : IsCallTold opened (Ask cmd) (Replied reply) seat new) → IsEventOf seat.build (Did cmd (Ok reply)) told.event
+replied_event : (opened : HostView) (cmd : Cmd) (reply : Reply) (seat new : SeatView) (told : IsCallTold opened (Ask cmd) (Replied reply) seat new)
+    → IsEventOf seat.build (Did cmd (Ok reply)) told.event
 replied_event opened cmd reply seat new told =
     let it = told.answered in
     let is = same_end told.host.history told.new.history (by seat.build it.act) told.event (ap (λ (h : HostView). h.history) it.accepted.grows) told.ends in

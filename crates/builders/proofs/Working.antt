@@ -44,7 +44,8 @@ is_run opened old new passes stops steps lines answered ended is counts empty co
     }
 
 -- of any worker with this seat and these steps
-pub of_worker : (opened : HostView) (passes stops : ℕ → Type 0) (old new : WorkerView) → IsWorkerRun opened passes stops (record { seat = old.seat; steps = old.steps; lines = []; ended = false }) new → IsWorkerRun opened passes stops old new
+pub of_worker : (opened : HostView) (passes stops : ℕ → Type 0) (old new : WorkerView)
+    → IsWorkerRun opened passes stops (record { seat = old.seat; steps = old.steps; lines = []; ended = false }) new → IsWorkerRun opened passes stops old new
 of_worker opened passes stops old new run = record { steps_are = run.steps_are; build_is = run.build_is; worked = run.worked; passed = run.passed; stopped = run.stopped }
 
 none_left : {A B : Type 0} (R : A → B → Type 0) (xs : List A) (ys : List B) → xs ≡ [] → AllZip R xs ys → ys ≡ []

@@ -10,8 +10,10 @@ pub loop-seat-preserved : goal.loop-seat-preserved
 loop-seat-preserved g c =
     let seat_of : PassView → SeatView = λ pass. record { build = pass.build; count = pass.count; trail = c.seat.inside.trail } in (
       search rules,
-      ap (set c.loop-seat.seats c.loop-seat.seat-index) (ap seat_of c.audit.ensures.same.1 ∙ c.seat.view_is) ∙ set-get_or c.loop-seat.seats c.loop-seat.seat-index c.seat-item.result ∙ c.loop-seat.invariant.1,
-      All-more (λ (seat : SeatView). (seat.build < 8) × (get_or c.args.books.now seat.build 0 ≡ seat.count)) c.args.seats.now c.loop-seat.seat-index c.seat-item.result (search (rules, arith)) c.loop-seat.invariant.2 (search rules),
+      ap (set c.loop-seat.seats c.loop-seat.seat-index) (ap seat_of c.audit.ensures.same.1 ∙ c.seat.view_is)
+          ∙ set-get_or c.loop-seat.seats c.loop-seat.seat-index c.seat-item.result ∙ c.loop-seat.invariant.1,
+      All-more (λ (seat : SeatView). (seat.build < 8) × (get_or c.args.books.now seat.build 0 ≡ seat.count)) c.args.seats.now c.loop-seat.seat-index c.seat-item.result
+          (search (rules, arith)) c.loop-seat.invariant.2 (search rules),
     )
 
 pub returns-clause-counted : goal.returns-clause-counted

@@ -29,7 +29,8 @@ loop-trail-preserved g c =
     let trail = trail_is at.trails.items c.pop.new.self.items (vec_len at.trails) (vec_len c.pop.new.self) at.invariant.2 c.in-Some.ensures.cases c.in-Some.trail (search rules) in
     let rest = trails_left at.trails.items c.pop.new.self.items (vec_len at.trails) (vec_len c.pop.new.self) at.invariant.2 c.in-Some.ensures.cases c.in-Some.trail c.pop.ensures.rest in
     let len = c.push_reserved.ensures.len in (
-      seats_grow k at.seats.items c.push_reserved.new.self.items c.unwrap-pass.result c.in-Some.trail at.invariant.0 pass trail c.push_reserved.ensures.items ∙ sym (ap (λ n. map new_seat (range_with_len 0 n)) len),
+      seats_grow k at.seats.items c.push_reserved.new.self.items c.unwrap-pass.result c.in-Some.trail at.invariant.0 pass trail c.push_reserved.ensures.items
+          ∙ sym (ap (λ n. map new_seat (range_with_len 0 n)) len),
       left ∙ sym (ap (λ n. map unused (range_with_len n (8 - n))) len),
       rest,
       omega (arith, len, at.invariant.3, c.in-Some.ensures.cases),
