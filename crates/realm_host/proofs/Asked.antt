@@ -74,7 +74,8 @@ is_act_of host build (Take order) act plain is = cc
 is_act_of host build _ act plain is = is
 
 peek_outcome : (host : HostView) (build : ℕ) (cmd : Cmd) (granules : List ℕ) (rmi : Rmi) → IsPeekRefused host cmd granules rmi
-    → outcome_of_act host.limits (used_vmids (world_of host).machine) (act_of cmd granules (picked_for host build cmd granules)) (realm_of build (world_of host)) (map (seen (world_of host).machine) granules) ≡ Err rmi
+    → outcome_of_act host.limits (used_vmids (world_of host).machine) (act_of cmd granules (picked_for host build cmd granules)) (realm_of build (world_of host))
+    (map (seen (world_of host).machine) granules) ≡ Err rmi
 unfolding act_of outcome_of
 peek_outcome host build (Peek page offset) (granule ∷ others) rmi e = e
 peek_outcome host build (Peek page offset) [] rmi e = absurd e

@@ -81,7 +81,9 @@ module _ (host : HostView) (legal : IsLegal host.limits host.history) (room : (b
           record {
             legal = (grows fresh.limits fresh.history event accepted_here.world accepted_here.next so_far.legal accepted_here.world_is accepted_here.stepped accepted_here.in_turn).legal;
             room = record {
-              room = λ some. subst (λ (w : World). Rattle.realm_model.specs.Room.used_room event.build fresh.history w + Rattle.realm_model.specs.Room.room_taken event.act ≤ fresh.capacity) (sym at) accepted_here.room;
+              room =
+                  λ some. subst (λ (w : World). Rattle.realm_model.specs.Room.used_room event.build fresh.history w + Rattle.realm_model.specs.Room.room_taken
+                  event.act ≤ fresh.capacity) (sym at) accepted_here.room;
               few_open = accepted_here.few_open;
             };
           }

@@ -107,7 +107,8 @@ module _ (books : HostView) (monitor : MonitorView) (whole : IsWhole books monit
       subst (λ (o : Outcome). Answers {A = ℕ} (Err rmi) o) here refused
 
   -- that the build has no realm
-  pub none_said : (rd : ℕ) (root : Root) (vmid : ℕ) (told : Option ℕ) (answer : Bool) → act ≡ Realm rd root vmid → told ≡ rd_of build (world_of books) → is_some told ≡ not answer → answer ≡ says now build act
+  pub none_said : (rd : ℕ) (root : Root) (vmid : ℕ) (told : Option ℕ) (answer : Bool) → act ≡ Realm rd root vmid → told ≡ rd_of build (world_of books)
+      → is_some told ≡ not answer → answer ≡ says now build act
   unfolding fits
   none_said rd root vmid told answer is told_is answered =
       answer_is told answer answered ∙ ap is_none told_is ∙ by_rd (realm_of build (world_of books))

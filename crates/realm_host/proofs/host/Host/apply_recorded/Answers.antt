@@ -13,7 +13,8 @@ pub returns-then-not-has_build-clause-answer : goal.returns-then-not-has_build-c
 returns-then-not-has_build-clause-answer g c = (
   λ bad. cc,
   λ can.
-      let there = there_next c.args.self.now (subst (λ (h : HostView). IsLegal h.limits h.history) c.self.view_is c.self.invariant.mirror.legal) c.args.event.now.build c.args.event.now.act can.legal in
+      let there = there_next c.args.self.now (subst (λ (h : HostView). IsLegal h.limits h.history) c.self.view_is c.self.invariant.mirror.legal)
+      c.args.event.now.build c.args.event.now.act can.legal in
       c.if-not-has_build.ensures.there ∙ ap (λ (h : HostView). nat_lt c.args.event.now.build h.limits.builds) c.self.view_is ∙ lt-ltb c.args.event.now.build c.args.self.now.limits.builds there,
 )
 

@@ -20,12 +20,18 @@ returns-then-not-take_at g c = (
 
 pub record-requires-clause-can : goal.record-requires-clause-can
 record-requires-clause-can g c =
-    can_take c.self.inside.books c.self.inside.monitor c.self.invariant c.args.self.now c.self.view_is c.args.build c.args.order c.requires.there (let small = c.number.ensures.at_most in let same = c.number.ensures.value in omega (arith, small, same)) c.args.first c.requires.room (c.if-not-take_at.ensures.answer.0 refl) c.take_at.new.self c.if-not-take_at.ensures.taken
+    can_take c.self.inside.books c.self.inside.monitor c.self.invariant c.args.self.now c.self.view_is c.args.build c.args.order c.requires.there
+    (let small = c.number.ensures.at_most in let same = c.number.ensures.value in omega (arith, small, same)) c.args.first c.requires.room
+    (c.if-not-take_at.ensures.answer.0 refl) c.take_at.new.self c.if-not-take_at.ensures.taken
 
 pub invariant_of-self-2 : goal.invariant_of-self-2
 invariant_of-self-2 g c =
-    whole_taken c.self.inside.books c.self.inside.monitor c.self.invariant c.args.self.now c.self.view_is c.args.build c.args.order c.requires.there (let small = c.number.ensures.at_most in let same = c.number.ensures.value in omega (arith, small, same)) c.args.first c.requires.room (c.if-not-take_at.ensures.answer.0 refl) c.take_at.new.self c.if-not-take_at.ensures.taken c.record.new.self c.record.ensures
+    whole_taken c.self.inside.books c.self.inside.monitor c.self.invariant c.args.self.now c.self.view_is c.args.build c.args.order c.requires.there
+    (let small = c.number.ensures.at_most in let same = c.number.ensures.value in omega (arith, small, same)) c.args.first c.requires.room
+    (c.if-not-take_at.ensures.answer.0 refl) c.take_at.new.self c.if-not-take_at.ensures.taken c.record.new.self c.record.ensures
 
 pub returns : goal.returns
 returns g c =
-    take_recorded c.self.inside.books c.self.inside.monitor c.self.invariant c.args.self.now c.self.view_is c.args.build c.args.order c.requires.there (let small = c.number.ensures.at_most in let same = c.number.ensures.value in omega (arith, small, same)) c.args.first c.requires.room (c.if-not-take_at.ensures.answer.0 refl) c.take_at.new.self c.if-not-take_at.ensures.taken c.record.new.self c.record.ensures
+    take_recorded c.self.inside.books c.self.inside.monitor c.self.invariant c.args.self.now c.self.view_is c.args.build c.args.order c.requires.there
+    (let small = c.number.ensures.at_most in let same = c.number.ensures.value in omega (arith, small, same)) c.args.first c.requires.room
+    (c.if-not-take_at.ensures.answer.0 refl) c.take_at.new.self c.if-not-take_at.ensures.taken c.record.new.self c.record.ensures

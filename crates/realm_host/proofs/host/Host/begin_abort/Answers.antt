@@ -10,7 +10,8 @@ use Rattle.realm_host.proofs.Calls.{whole_begun, there_of}
 use Rattle.realm_host.proofs.host.Host.begin_abort.Goals as goal
 
 pub invariant_of-self : goal.invariant_of-self
-invariant_of-self g c = subst (λ (h : HostView). IsWhole h c.self.inside.monitor) (sym c.begin_abort.ensures.begun) (whole_begun c.self.inside.books c.self.inside.monitor c.self.invariant c.args.build)
+invariant_of-self g c =
+    subst (λ (h : HostView). IsWhole h c.self.inside.monitor) (sym c.begin_abort.ensures.begun) (whole_begun c.self.inside.books c.self.inside.monitor c.self.invariant c.args.build)
 
 pub returns-clause-goes_on : goal.returns-clause-goes_on
 returns-clause-goes_on g c =

@@ -25,42 +25,57 @@ returns-in_err-granules g c =
 
 pub picked_for-requires : goal.picked_for-requires
 picked_for-requires g c = record {
-  leased = subst (All (λ (x : ℕ). slice_get (world_of c.args.self.now).leases x ≡ Some (Some c.args.build))) (sym c.as_slice.ensures.value) (all_leased c.args.self.now (subst (λ (h : HostView). IsLegal h.limits h.history) c.self.view_is c.self.invariant.mirror.legal) c.args.build c.args.cmd c.in_ok-granules.granules.items (subst (λ (h : HostView). c.args.build < h.limits.builds) c.self.view_is c.in_ok-granules.ensures.there)
+  leased = subst (All (λ (x : ℕ). slice_get (world_of c.args.self.now).leases x ≡ Some (Some c.args.build))) (sym c.as_slice.ensures.value)
+      (all_leased c.args.self.now (subst (λ (h : HostView). IsLegal h.limits h.history) c.self.view_is c.self.invariant.mirror.legal) c.args.build
+      c.args.cmd c.in_ok-granules.granules.items (subst (λ (h : HostView). c.args.build < h.limits.builds) c.self.view_is c.in_ok-granules.ensures.there)
       (ap (λ (h : HostView). first_that_holds (checks_of (desk_of h) c.args.build c.args.cmd)) (sym c.self.view_is) ∙ c.in_ok-granules.ensures.none)
       (subst (λ (h : HostView). AreFound (desk_of h) c.args.build c.args.cmd c.in_ok-granules.granules.items) c.self.view_is c.in_ok-granules.ensures.granules));
-  named = ap length c.as_slice.ensures.value ∙ long c.args.self.now (subst (λ (h : HostView). IsLegal h.limits h.history) c.self.view_is c.self.invariant.mirror.legal) c.args.build c.args.cmd c.in_ok-granules.granules.items (subst (λ (h : HostView). c.args.build < h.limits.builds) c.self.view_is c.in_ok-granules.ensures.there)
+  named = ap length c.as_slice.ensures.value ∙ long c.args.self.now (subst (λ (h : HostView). IsLegal h.limits h.history) c.self.view_is c.self.invariant.mirror.legal)
+      c.args.build c.args.cmd c.in_ok-granules.granules.items (subst (λ (h : HostView). c.args.build < h.limits.builds) c.self.view_is c.in_ok-granules.ensures.there)
       (ap (λ (h : HostView). first_that_holds (checks_of (desk_of h) c.args.build c.args.cmd)) (sym c.self.view_is) ∙ c.in_ok-granules.ensures.none)
       (subst (λ (h : HostView). AreFound (desk_of h) c.args.build c.args.cmd c.in_ok-granules.granules.items) c.self.view_is c.in_ok-granules.ensures.granules);
 }
 
 pub returns-in-Err : goal.returns-in-Err
 returns-in-Err g c = (
-  not_read c.args.self.now (subst (λ (h : HostView). IsLegal h.limits h.history) c.self.view_is c.self.invariant.mirror.legal) c.args.build c.args.cmd c.in_ok-granules.granules.items (subst (λ (h : HostView). c.args.build < h.limits.builds) c.self.view_is c.in_ok-granules.ensures.there)
+  not_read c.args.self.now (subst (λ (h : HostView). IsLegal h.limits h.history) c.self.view_is c.self.invariant.mirror.legal) c.args.build c.args.cmd
+      c.in_ok-granules.granules.items (subst (λ (h : HostView). c.args.build < h.limits.builds) c.self.view_is c.in_ok-granules.ensures.there)
       (ap (λ (h : HostView). first_that_holds (checks_of (desk_of h) c.args.build c.args.cmd)) (sym c.self.view_is) ∙ c.in_ok-granules.ensures.none)
-      (subst (λ (h : HostView). AreFound (desk_of h) c.args.build c.args.cmd c.in_ok-granules.granules.items) c.self.view_is c.in_ok-granules.ensures.granules) (plain_of c.args.cmd c.in_default.not-Take) c.in-Err.rmi
+      (subst (λ (h : HostView). AreFound (desk_of h) c.args.build c.args.cmd c.in_ok-granules.granules.items) c.self.view_is c.in_ok-granules.ensures.granules)
+      (plain_of c.args.cmd c.in_default.not-Take) c.in-Err.rmi
       (subst (λ (gs : List ℕ). IsPeekRefused c.args.self.now c.args.cmd gs c.in-Err.rmi) c.as_slice.ensures.value c.in-Err.ensures.err),
   refl,
 )
 
 pub returns-in_default-act_of : goal.returns-in_default-act_of
 returns-in_default-act_of g c = (
-  no_act c.args.self.now (subst (λ (h : HostView). IsLegal h.limits h.history) c.self.view_is c.self.invariant.mirror.legal) c.args.build c.args.cmd c.in_ok-granules.granules.items (subst (λ (h : HostView). c.args.build < h.limits.builds) c.self.view_is c.in_ok-granules.ensures.there)
+  no_act c.args.self.now (subst (λ (h : HostView). IsLegal h.limits h.history) c.self.view_is c.self.invariant.mirror.legal) c.args.build c.args.cmd
+      c.in_ok-granules.granules.items (subst (λ (h : HostView). c.args.build < h.limits.builds) c.self.view_is c.in_ok-granules.ensures.there)
       (ap (λ (h : HostView). first_that_holds (checks_of (desk_of h) c.args.build c.args.cmd)) (sym c.self.view_is) ∙ c.in_ok-granules.ensures.none)
-      (subst (λ (h : HostView). AreFound (desk_of h) c.args.build c.args.cmd c.in_ok-granules.granules.items) c.self.view_is c.in_ok-granules.ensures.granules) (plain_of c.args.cmd c.in_default.not-Take)
-      (ap (act_of c.args.cmd c.in_ok-granules.granules.items) (sym (c.in-Ok.ensures.ok ∙ ap (λ (gs : List ℕ). picked_for c.args.self.now c.args.build c.args.cmd gs) c.as_slice.ensures.value)) ∙ sym c.in_default-act_of.ensures.act),
+      (subst (λ (h : HostView). AreFound (desk_of h) c.args.build c.args.cmd c.in_ok-granules.granules.items) c.self.view_is c.in_ok-granules.ensures.granules)
+      (plain_of c.args.cmd c.in_default.not-Take)
+      (ap (act_of c.args.cmd c.in_ok-granules.granules.items) (sym (c.in-Ok.ensures.ok
+      ∙ ap (λ (gs : List ℕ). picked_for c.args.self.now c.args.build c.args.cmd gs) c.as_slice.ensures.value)) ∙ sym c.in_default-act_of.ensures.act),
   refl,
 )
 
 pub act-requires : goal.act-requires
-act-requires g c = can_act c.args.self.now (subst (λ (h : HostView). IsLegal h.limits h.history) c.self.view_is c.self.invariant.mirror.legal) c.args.build c.args.cmd c.in_ok-granules.granules.items (subst (λ (h : HostView). c.args.build < h.limits.builds) c.self.view_is c.in_ok-granules.ensures.there)
+act-requires g c = can_act c.args.self.now (subst (λ (h : HostView). IsLegal h.limits h.history) c.self.view_is c.self.invariant.mirror.legal) c.args.build
+    c.args.cmd c.in_ok-granules.granules.items (subst (λ (h : HostView). c.args.build < h.limits.builds) c.self.view_is c.in_ok-granules.ensures.there)
     (ap (λ (h : HostView). first_that_holds (checks_of (desk_of h) c.args.build c.args.cmd)) (sym c.self.view_is) ∙ c.in_ok-granules.ensures.none)
-    (subst (λ (h : HostView). AreFound (desk_of h) c.args.build c.args.cmd c.in_ok-granules.granules.items) c.self.view_is c.in_ok-granules.ensures.granules) c.in-Some.act (ap (act_of c.args.cmd c.in_ok-granules.granules.items) (sym (c.in-Ok.ensures.ok ∙ ap (λ (gs : List ℕ). picked_for c.args.self.now c.args.build c.args.cmd gs) c.as_slice.ensures.value)) ∙ sym c.in-Some.ensures.act) c.in-Some.ensures.in_range
+    (subst (λ (h : HostView). AreFound (desk_of h) c.args.build c.args.cmd c.in_ok-granules.granules.items) c.self.view_is c.in_ok-granules.ensures.granules) c.in-Some.act
+    (ap (act_of c.args.cmd c.in_ok-granules.granules.items) (sym (c.in-Ok.ensures.ok
+    ∙ ap (λ (gs : List ℕ). picked_for c.args.self.now c.args.build c.args.cmd gs) c.as_slice.ensures.value)) ∙ sym c.in-Some.ensures.act) c.in-Some.ensures.in_range
 
 pub returns-in-Err-act : goal.returns-in-Err-act
 returns-in-Err-act g c = (
-  act_refused c.args.self.now (subst (λ (h : HostView). IsLegal h.limits h.history) c.self.view_is c.self.invariant.mirror.legal) c.args.build c.args.cmd c.in_ok-granules.granules.items (subst (λ (h : HostView). c.args.build < h.limits.builds) c.self.view_is c.in_ok-granules.ensures.there)
+  act_refused c.args.self.now (subst (λ (h : HostView). IsLegal h.limits h.history) c.self.view_is c.self.invariant.mirror.legal) c.args.build c.args.cmd
+      c.in_ok-granules.granules.items (subst (λ (h : HostView). c.args.build < h.limits.builds) c.self.view_is c.in_ok-granules.ensures.there)
       (ap (λ (h : HostView). first_that_holds (checks_of (desk_of h) c.args.build c.args.cmd)) (sym c.self.view_is) ∙ c.in_ok-granules.ensures.none)
-      (subst (λ (h : HostView). AreFound (desk_of h) c.args.build c.args.cmd c.in_ok-granules.granules.items) c.self.view_is c.in_ok-granules.ensures.granules) (plain_of c.args.cmd c.in_default.not-Take) c.in-Some.act (ap (act_of c.args.cmd c.in_ok-granules.granules.items) (sym (c.in-Ok.ensures.ok ∙ ap (λ (gs : List ℕ). picked_for c.args.self.now c.args.build c.args.cmd gs) c.as_slice.ensures.value)) ∙ sym c.in-Some.ensures.act) c.in-Err-act.rmi c.in-Err-act.ensures.0,
+      (subst (λ (h : HostView). AreFound (desk_of h) c.args.build c.args.cmd c.in_ok-granules.granules.items) c.self.view_is c.in_ok-granules.ensures.granules)
+      (plain_of c.args.cmd c.in_default.not-Take) c.in-Some.act (ap (act_of c.args.cmd c.in_ok-granules.granules.items)
+      (sym (c.in-Ok.ensures.ok ∙ ap (λ (gs : List ℕ). picked_for c.args.self.now c.args.build c.args.cmd gs) c.as_slice.ensures.value))
+      ∙ sym c.in-Some.ensures.act) c.in-Err-act.rmi c.in-Err-act.ensures.0,
   c.in-Err-act.ensures.1,
 )
 
@@ -68,6 +83,10 @@ pub returns : goal.returns
 returns g c =
     subst (λ (r : Reply). IsReplied c.args.self.now c.args.build c.args.cmd r c.act.new.self)
     (sym (c.reply_of-reply.ensures ∙ ap (λ (n : ℕ). reply_of n c.in-Some.act) (c.page_count.ensures ∙ ap (λ (h : HostView). length (pages_of_build h c.args.build)) c.self.view_is)))
-    (replied_to c.args.self.now (subst (λ (h : HostView). IsLegal h.limits h.history) c.self.view_is c.self.invariant.mirror.legal) c.args.build c.args.cmd c.in_ok-granules.granules.items (subst (λ (h : HostView). c.args.build < h.limits.builds) c.self.view_is c.in_ok-granules.ensures.there)
+    (replied_to c.args.self.now (subst (λ (h : HostView). IsLegal h.limits h.history) c.self.view_is c.self.invariant.mirror.legal) c.args.build c.args.cmd
+    c.in_ok-granules.granules.items (subst (λ (h : HostView). c.args.build < h.limits.builds) c.self.view_is c.in_ok-granules.ensures.there)
     (ap (λ (h : HostView). first_that_holds (checks_of (desk_of h) c.args.build c.args.cmd)) (sym c.self.view_is) ∙ c.in_ok-granules.ensures.none)
-    (subst (λ (h : HostView). AreFound (desk_of h) c.args.build c.args.cmd c.in_ok-granules.granules.items) c.self.view_is c.in_ok-granules.ensures.granules) (plain_of c.args.cmd c.in_default.not-Take) c.in-Some.act (ap (act_of c.args.cmd c.in_ok-granules.granules.items) (sym (c.in-Ok.ensures.ok ∙ ap (λ (gs : List ℕ). picked_for c.args.self.now c.args.build c.args.cmd gs) c.as_slice.ensures.value)) ∙ sym c.in-Some.ensures.act) c.act.new.self c.in_default-act.ensures)
+    (subst (λ (h : HostView). AreFound (desk_of h) c.args.build c.args.cmd c.in_ok-granules.granules.items) c.self.view_is c.in_ok-granules.ensures.granules)
+    (plain_of c.args.cmd c.in_default.not-Take) c.in-Some.act (ap (act_of c.args.cmd c.in_ok-granules.granules.items)
+    (sym (c.in-Ok.ensures.ok ∙ ap (λ (gs : List ℕ). picked_for c.args.self.now c.args.build c.args.cmd gs) c.as_slice.ensures.value))
+    ∙ sym c.in-Some.ensures.act) c.act.new.self c.in_default-act.ensures)

@@ -8,4 +8,5 @@ use Rattle.realm_host.proofs.host.Host.leases_named.Goals as goal
 pub returns-in_default : goal.returns-in_default
 returns-in_default g c =
     ap (list_all (is_leased_to (Some c.args.build) (world_of c.args.self.now).leases))
-    (sym (none_named c.args.act.now c.requires.forward c.requires.command c.in_default.not-Peek c.in_default.not-Realm c.in_default.not-Rec c.in_default.not-Fill c.in_default.not-Delegate c.in_default.not-Rtt c.in_default.not-Data c.in_default.not-Unknown))
+    (sym (none_named c.args.act.now c.requires.forward c.requires.command c.in_default.not-Peek c.in_default.not-Realm c.in_default.not-Rec
+    c.in_default.not-Fill c.in_default.not-Delegate c.in_default.not-Rtt c.in_default.not-Data c.in_default.not-Unknown))
