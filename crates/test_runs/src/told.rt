@@ -1,7 +1,10 @@
 //! A device is asked as often as is told, never again where it has failed, and flushed once.
+ghost use Rattle.std.specs.Prelude.{◌≡◌, false};
+
 use crate::devices::{Sink, Source, told_sink, told_source};
 use crate::wanted::{equal, holds};
 use realm_program::{ReadError, read_whole};
+use std::alloc::Global;
 use std::process::Abort;
 use told_device::Told;
 
@@ -19,11 +22,21 @@ fn was_written(rt: &impl Abort, output: &Told<Sink>, has_failed: bool, writes: u
     equal(rt, "flushes", output.device().flushes, flushes);
 }
 
+// All that a reader gives.
+fn whole(rt: &impl Abort, alloc: Global, input: &mut Told<Source<'_>>) -> Vec<u8>
+    requires { input.old.failed ≡ false }
+{
+    match read_whole(alloc, input) {
+        Ok(bytes) => bytes,
+        Err(_) => panic!(rt; "there is no input"),
+    }
+}
+
 #[test]
 fn reads_an_input(rt: HostRuntime) {
     for (bytes, reads) in [(b"pages = 1\n".as_slice(), 5), (b"", 1)] {
         let mut input = told_source(bytes, 3, None);
-        let got = read_whole(rt.alloc(), &mut input).expect(&rt, "an input");
+        let got = whole(&rt, rt.alloc(), &mut input);
         holds(&rt, "the bytes", got.as_slice() == bytes);
         was_read(&rt, &input, false, reads);
     }
@@ -49,7 +62,7 @@ fn keeps_no_more_than_it_must(rt: HostRuntime) {
     ] {
         let spaces = vec![in rt.alloc(); b' '; size].expect(&rt, "memory");
         let mut input = told_source(&spaces, most, None);
-        let bytes = read_whole(rt.alloc(), &mut input).expect(&rt, "an input");
+        let bytes = whole(&rt, rt.alloc(), &mut input);
         equal(&rt, "bytes", bytes.len() as u64, kept);
         was_read(&rt, &input, false, reads);
     }
