@@ -112,7 +112,8 @@ module _ (pages vmids aux count capacity : ℕ) (builds : List Build) (leases : 
             subst (λ (w : World). IsBuildOf [] w b build) (sym world_is_opening) (subst (IsBuildOf [] (opening limits) b) same (new_is limits b));
         stacks_are = λ b below. ap (λ (l : Stacks). stack_of l b) leases_are ∙ get_or-replicate count b no_stack [] below ∙ sym (no_pages b);
         holders_are = holders_are ∙ ap (λ (w : World). w.leases) (sym world_is_opening);
-        vmids_are = λ vmid. none_used vmid ∙ sym (ap (λ (w : World). is_vmid_used w.machine vmid) world_is_opening ∙ ap (list_any (λ used. Rattle.std.specs.Prelude.nat_eq vmid used)) (no_vmids pages));
+        vmids_are = λ vmid. none_used vmid ∙ sym (ap (λ (w : World). is_vmid_used w.machine vmid) world_is_opening
+            ∙ ap (list_any (λ used. Rattle.std.specs.Prelude.nat_eq vmid used)) (no_vmids pages));
         room = λ b below.
             let opened = ap length (none_open b) in
             let realm = ap (λ (w : World). running_count (realm_of b w)) world_is_opening ∙ ap running_count (no_realm_yet limits b) ∙ no_runs in

@@ -78,7 +78,9 @@ module _ (host : HostView) (builds : List Build) (leases : Stacks) (holders : Li
           let opened = ap length (none_open build host.history none) in
           record {
             used = omega (arith, sum, zero);
-            few_open = λ n. let early = ap length (none_open build (take n host.history) (acts_of-past host.limits.builds build (take n host.history) (All-take (λ (e : Event). e.build < host.limits.builds) n host.history kept.of_builds) past)) in omega (arith, early);
+            few_open =
+                λ n. let early = ap length (none_open build (take n host.history) (acts_of-past host.limits.builds build (take n host.history)
+                (All-take (λ (e : Event). e.build < host.limits.builds) n host.history kept.of_builds) past)) in omega (arith, early);
           }
 
   -- and neither abort nor mark

@@ -14,7 +14,8 @@ granule_is true k granule found is found_is = same_Some granule k (sym found_is 
 granule_is false k granule found is found_is = let clash : None ≡ Some granule = sym is ∙ found_is in cc
 
 -- one more granule of the block
-pub pushed_on : (start before after : List ℕ) (first k granule : ℕ) → first ≤ k → granule ≡ k → before ≡ start ++ range_with_len first (k - first) → after ≡ before ++ granule ∷ [] → after ≡ start ++ range_with_len first (k + 1 - first)
+pub pushed_on : (start before after : List ℕ) (first k granule : ℕ) → first ≤ k → granule ≡ k → before ≡ start ++ range_with_len first (k - first)
+    → after ≡ before ++ granule ∷ [] → after ≡ start ++ range_with_len first (k + 1 - first)
 pushed_on start before after first k granule low same before_is after_is =
     let here : first + (k - first) ≡ granule = omega arith in
     let next : k - first + 1 ≡ k + 1 - first = omega arith in

@@ -37,7 +37,8 @@ AllZip-append R [] (y ∷ ys) us vs h k = absurd h
 AllZip-append R (x ∷ xs) [] us vs h k = absurd h
 AllZip-append R (x ∷ xs) (y ∷ ys) us vs h k = (h.0, AllZip-append R xs ys us vs h.1 k)
 
-Fit-append : (steps : List Step) (lines : List Line) (exchanges : List Exchange) (its : List Line) (more : List Exchange) → Fit steps lines exchanges → Fit steps its more → Fit steps (lines ++ its) (exchanges ++ more)
+Fit-append : (steps : List Step) (lines : List Line) (exchanges : List Exchange) (its : List Line) (more : List Exchange) → Fit steps lines exchanges
+    → Fit steps its more → Fit steps (lines ++ its) (exchanges ++ more)
 Fit-append steps lines exchanges its more h k = record {
   one_by_one =
       subst (λ ls. AllZip (IsLineOf steps) ls (filter is_event (exchanges ++ more))) (sym (filter-append is_accepted lines its))
@@ -45,7 +46,8 @@ Fit-append steps lines exchanges its more h k = record {
       (AllZip-append (IsLineOf steps) (filter is_accepted lines) (filter is_event exchanges) (filter is_accepted its) (filter is_event more) h.one_by_one k.one_by_one));
 }
 
-Fit-both : {steps : List Step} {lines its its_more : List Line} {exchanges first more : List Exchange} → lines ≡ its ++ its_more → exchanges ≡ first ++ more → Fit steps its first → Fit steps its_more more → Fit steps lines exchanges
+Fit-both : {steps : List Step} {lines its its_more : List Line} {exchanges first more : List Exchange} → lines ≡ its ++ its_more → exchanges ≡ first ++ more
+    → Fit steps its first → Fit steps its_more more → Fit steps lines exchanges
 Fit-both {steps} {lines} {its} {its_more} {exchanges} {first} {more} ls es here later =
     subst (λ x. Fit steps x exchanges) (sym ls) (subst (λ x. Fit steps (its ++ its_more) x) (sym es) (Fit-append steps its first its_more more here later))
 
@@ -65,10 +67,12 @@ zip_both : {A B : Type 0} (R : A → B → Type 0) (is : Bool) (x : A) (y : B) (
 zip_both R true x y xs ys here rest = (here, rest)
 zip_both R false x y xs ys here rest = rest
 
-Fit-one : (steps : List Step) (at : Asked) (exchange : Exchange) (lines : List Line) (exchanges : List Exchange) → question_of exchange ≡ question_at steps at → Fit steps lines exchanges → Fit steps (line at (told exchange) ∷ lines) (exchange ∷ exchanges)
+Fit-one : (steps : List Step) (at : Asked) (exchange : Exchange) (lines : List Line) (exchanges : List Exchange) → question_of exchange ≡ question_at steps at
+    → Fit steps lines exchanges → Fit steps (line at (told exchange) ∷ lines) (exchange ∷ exchanges)
 Fit-one steps at exchange lines exchanges asks rest = record {
   one_by_one =
-      subst (λ b. AllZip (IsLineOf steps) (cond b (line at (told exchange) ∷ filter is_accepted lines) (filter is_accepted lines)) (cond (is_event exchange) (exchange ∷ filter is_event exchanges) (filter is_event exchanges))) (sym (is_done-told exchange))
+      subst (λ b. AllZip (IsLineOf steps) (cond b (line at (told exchange) ∷ filter is_accepted lines) (filter is_accepted lines))
+      (cond (is_event exchange) (exchange ∷ filter is_event exchanges) (filter is_event exchanges))) (sym (is_done-told exchange))
       (zip_both (IsLineOf steps) (is_event exchange) (line at (told exchange)) exchange (filter is_accepted lines) (filter is_event exchanges) (record { asks = asks; tells = refl }) rest.one_by_one);
 }
 
@@ -87,7 +91,8 @@ AreAt-exits : (steps : List Step) (numbers : List ℕ) (more : Questions) → Ar
 AreAt-exits steps [] more rest = rest
 AreAt-exits steps (number ∷ numbers) more rest = (refl, AreAt-exits steps numbers more rest)
 
-Fit-put : (steps : List Step) {questions : Questions} {exchanges : List Exchange} {lines : List Line} {end : Ending} → AreAt steps questions → ArePut questions exchanges lines end → Fit steps lines exchanges
+Fit-put : (steps : List Step) {questions : Questions} {exchanges : List Exchange} {lines : List Line} {end : Ending} → AreAt steps questions
+    → ArePut questions exchanges lines end → Fit steps lines exchanges
 Fit-put steps at all_put = Fit-none steps
 Fit-put steps at cut_short = Fit-none steps
 Fit-put steps at (refused {question = asks} {exchange = exchange} of_question is) = Fit-one steps asks.0 exchange [] [] (of_question ∙ at.0) (Fit-none steps)
@@ -96,31 +101,37 @@ Fit-put steps at (accepted {question = asks} {exchange = exchange} {exchanges = 
 
 -- ---- steps
 
-Fit-told : (steps : List Step) (place : ℕ) (answer : Answer) {exchanges : List Exchange} {lines : List Line} {end : Ending} → is_done answer ≡ false → IsTold place answer exchanges lines end → Fit steps lines exchanges
+Fit-told : (steps : List Step) (place : ℕ) (answer : Answer) {exchanges : List Exchange} {lines : List Line} {end : Ending} → is_done answer ≡ false
+    → IsTold place answer exchanges lines end → Fit steps lines exchanges
 Fit-told steps place answer {exchanges} {lines} not tells =
     subst (λ es. Fit steps lines es) (sym tells.nothing_asked)
     (subst (λ ls. Fit steps ls []) (sym tells.line_is)
     (record { one_by_one = subst (λ b. AllZip (IsLineOf steps) (cond b (line (asked.Step place) answer ∷ []) []) []) (sym not) tt }))
 
-Fit-undone : (steps : List Step) (place count : ℕ) {exchanges : List Exchange} {lines : List Line} (end : Ending) → Some question.Undo ≡ question_at steps (asked.Step place) → AreUndone place count exchanges lines end → Fit steps lines exchanges
+Fit-undone : (steps : List Step) (place count : ℕ) {exchanges : List Exchange} {lines : List Line} (end : Ending) → Some question.Undo ≡ question_at steps (asked.Step place)
+    → AreUndone place count exchanges lines end → Fit steps lines exchanges
 Fit-undone steps place zero end at tells = Fit-told steps place Nothing refl tells
 Fit-undone steps place (suc more) end at put = Fit-put steps (AreAt-replicate steps (suc more) (asked.Step place, question.Undo) at) put
 
-Fit-abort : (steps : List Step) (place : ℕ) (running : List ℕ) (journal : ℕ) {exchanges : List Exchange} {lines : List Line} (end : Ending) → Some question.Undo ≡ question_at steps (asked.Step place) → IsAbort place running journal exchanges lines end → Fit steps lines exchanges
+Fit-abort : (steps : List Step) (place : ℕ) (running : List ℕ) (journal : ℕ) {exchanges : List Exchange} {lines : List Line} (end : Ending)
+    → Some question.Undo ≡ question_at steps (asked.Step place) → IsAbort place running journal exchanges lines end → Fit steps lines exchanges
 Fit-abort steps place [] journal end at undone = Fit-undone steps place journal end at undone
 Fit-abort steps place (number ∷ numbers) journal end at tells = Fit-told steps place (Refused RecRunning) refl tells
 
-Fit-way_back : (steps : List Step) (place : ℕ) {mark : Mark} {journal : ℕ} {exchanges : List Exchange} {lines : List Line} {end : Ending} → Some question.Undo ≡ question_at steps (asked.Step place) → IsWayBack place mark journal exchanges lines end → Fit steps lines exchanges
+Fit-way_back : (steps : List Step) (place : ℕ) {mark : Mark} {journal : ℕ} {exchanges : List Exchange} {lines : List Line} {end : Ending}
+    → Some question.Undo ≡ question_at steps (asked.Step place) → IsWayBack place mark journal exchanges lines end → Fit steps lines exchanges
 Fit-way_back steps place at report.cut_short = Fit-none steps
 Fit-way_back steps place at (report.refused refusal) = record { one_by_one = tt }
 Fit-way_back steps place {journal = journal} {end = end} at (opened count {exchanges = exchanges} {lines = lines} undone) =
     let rest : Fit steps lines exchanges = Fit-undone steps place (min count journal) end at undone in record { one_by_one = rest.one_by_one }
 
-Fit-back : (steps : List Step) (place : ℕ) (mark : Option Mark) (journal : ℕ) {exchanges : List Exchange} {lines : List Line} (end : Ending) → Some question.Undo ≡ question_at steps (asked.Step place) → IsStepBack place mark journal exchanges lines end → Fit steps lines exchanges
+Fit-back : (steps : List Step) (place : ℕ) (mark : Option Mark) (journal : ℕ) {exchanges : List Exchange} {lines : List Line} (end : Ending)
+    → Some question.Undo ≡ question_at steps (asked.Step place) → IsStepBack place mark journal exchanges lines end → Fit steps lines exchanges
 Fit-back steps place None journal end at tells = Fit-told steps place (Refused NothingToUndo) refl tells
 Fit-back steps place (Some mark) journal end at way = Fit-way_back steps place at way
 
-Fit-step : (steps : List Step) (place : ℕ) (standing : StandingView) (taken : Step) {exchanges : List Exchange} {lines : List Line} (end : Ending) → slice_get steps place ≡ Some taken → IsStepTold place standing taken exchanges lines end → Fit steps lines exchanges
+Fit-step : (steps : List Step) (place : ℕ) (standing : StandingView) (taken : Step) {exchanges : List Exchange} {lines : List Line} (end : Ending)
+    → slice_get steps place ≡ Some taken → IsStepTold place standing taken exchanges lines end → Fit steps lines exchanges
 Fit-step steps place standing (step.Ask cmd) end at put = Fit-put steps (sym (ap (option_map question_of_step) at), tt) put
 Fit-step steps place standing step.Undo end at put = Fit-put steps (sym (ap (option_map question_of_step) at), tt) put
 Fit-step steps place standing step.Abort end at abort = Fit-abort steps place standing.running standing.journal end (sym (ap (option_map question_of_step) at)) abort
@@ -137,7 +148,8 @@ step_there : (steps front : List Step) (taken : Step) (rest : List Step) (place 
 step_there steps front taken rest place is at =
     ap (slice_get steps) at ∙ ap (λ xs. slice_get xs (length front)) is ∙ slice_get-front front taken rest
 
-Fit-whole : (steps front rest : List Step) (place : ℕ) (standing : StandingView) {exchanges : List Exchange} {lines : List Line} {ended : Bool} → steps ≡ front ++ rest → place ≡ length front → IsWorkerReport place standing rest exchanges lines ended → Fit steps lines exchanges
+Fit-whole : (steps front rest : List Step) (place : ℕ) (standing : StandingView) {exchanges : List Exchange} {lines : List Line} {ended : Bool}
+    → steps ≡ front ++ rest → place ≡ length front → IsWorkerReport place standing rest exchanges lines ended → Fit steps lines exchanges
 Fit-whole steps front _ place standing is at report.no_step_left = Fit-none steps
 Fit-whole steps front _ place standing is at (report.accepted {step = taken} {steps = rest} first more its its_more one others es ls) =
     let next : place + 1 ≡ length (front ++ taken ∷ []) = omega (arith, length-append front (taken ∷ [])) in

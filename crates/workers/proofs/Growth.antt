@@ -104,7 +104,8 @@ exit_closes number (Undid result) standing is = absurd (cc)
 exit_closes number (KeptMark result) standing is = absurd (cc)
 exit_closes number (LookedBack mark result) standing is = absurd (cc)
 
-pub closed : {asked : Asked} {asks : Question} {exchanges : List Exchange} {lines : List Line} {end : Ending} (standing : StandingView) → IsCloser asks → ArePut ((asked, asks) ∷ []) exchanges lines end → left_to_clear (standing_after exchanges standing) ≤ left_to_clear standing
+pub closed : {asked : Asked} {asks : Question} {exchanges : List Exchange} {lines : List Line} {end : Ending} (standing : StandingView) → IsCloser asks
+    → ArePut ((asked, asks) ∷ []) exchanges lines end → left_to_clear (standing_after exchanges standing) ≤ left_to_clear standing
 closed standing closes cut_short = omega arith
 closed standing closes (refused {exchange = exchange} of_question is) = closes exchange standing of_question
 closed standing closes (accepted {exchange = exchange} of_question is all_put) = closes exchange standing of_question
@@ -119,7 +120,8 @@ pub record IsGrowth (standing : StandingView) (exchanges : List Exchange) (lines
   pub turns : length exchanges ≤ length lines + 1
   pub if_refused : end ≡ ending.Refused → left_to_clear (standing_after exchanges standing) ≤ left_to_clear standing
 
-IsGrowth-asked : {asked : Asked} {asks : Question} {exchanges : List Exchange} {lines : List Line} {end : Ending} (standing : StandingView) → ArePut ((asked, asks) ∷ []) exchanges lines end → IsGrowth standing exchanges lines end
+IsGrowth-asked : {asked : Asked} {asks : Question} {exchanges : List Exchange} {lines : List Line} {end : Ending} (standing : StandingView)
+    → ArePut ((asked, asks) ∷ []) exchanges lines end → IsGrowth standing exchanges lines end
 IsGrowth-asked standing cut_short = record { left = omega arith; with_lines = omega arith; turns = omega arith; if_refused = λ _. omega arith }
 IsGrowth-asked standing (refused {exchange = exchange} of_question is) =
     let more = left-after_exchange exchange standing in
@@ -128,19 +130,22 @@ IsGrowth-asked standing (accepted {exchange = exchange} of_question is all_put) 
     let more = left-after_exchange exchange standing in
     record { left = more; with_lines = omega arith; turns = omega arith; if_refused = λ not. absurd (cc) }
 
-IsGrowth-told : {place : ℕ} {answer : Answer} {exchanges : List Exchange} {lines : List Line} {end : Ending} (standing : StandingView) → IsTold place answer exchanges lines end → IsGrowth standing exchanges lines end
+IsGrowth-told : {place : ℕ} {answer : Answer} {exchanges : List Exchange} {lines : List Line} {end : Ending} (standing : StandingView)
+    → IsTold place answer exchanges lines end → IsGrowth standing exchanges lines end
 IsGrowth-told {lines = lines} {end = end} standing tells =
     subst (λ es. IsGrowth standing es lines end) (sym tells.nothing_asked)
     (subst (λ ls. IsGrowth standing [] ls end) (sym tells.line_is) (record { left = omega arith; with_lines = omega arith; turns = omega arith; if_refused = λ _. omega arith }))
 
-one_undone : (exchange : Exchange) (standing : StandingView) → question_of exchange ≡ Some question.Undo → is_refused (told exchange) ≡ false → ((after_exchange exchange standing).journal ≡ standing.journal - 1) × ((after_exchange exchange standing).running ≡ standing.running)
+one_undone : (exchange : Exchange) (standing : StandingView) → question_of exchange ≡ Some question.Undo → is_refused (told exchange) ≡ false
+    → ((after_exchange exchange standing).journal ≡ standing.journal - 1) × ((after_exchange exchange standing).running ≡ standing.running)
 one_undone (Did cmd result) standing is taken = absurd (cc)
 one_undone (Undid (Ok undone)) standing is taken = (refl, refl)
 one_undone (Undid (Err refusal)) standing is taken = absurd (cc)
 one_undone (KeptMark result) standing is taken = absurd (cc)
 one_undone (LookedBack mark result) standing is taken = absurd (cc)
 
-undone_lines : (count : ℕ) (asked : Asked) {exchanges : List Exchange} {lines : List Line} {end : Ending} (standing : StandingView) → count ≤ standing.journal → ArePut (replicate count (asked, question.Undo)) exchanges lines end → length lines + left_to_clear (standing_after exchanges standing) ≤ left_to_clear standing + 1
+undone_lines : (count : ℕ) (asked : Asked) {exchanges : List Exchange} {lines : List Line} {end : Ending} (standing : StandingView) → count ≤ standing.journal
+    → ArePut (replicate count (asked, question.Undo)) exchanges lines end → length lines + left_to_clear (standing_after exchanges standing) ≤ left_to_clear standing + 1
 undone_lines zero asked standing enough all_put = omega arith
 undone_lines (suc more) asked standing enough cut_short = omega arith
 undone_lines (suc more) asked standing enough (refused {exchange = exchange} of_question is) = let left = undo_closes exchange standing of_question in omega arith
@@ -150,7 +155,8 @@ undone_lines (suc more) asked standing enough (accepted {exchange = exchange} of
     let rest = undone_lines more asked (after_exchange exchange standing) (omega (arith, one.0)) put in
     omega (arith, one.0, shorter, rest)
 
-undone_left : (count : ℕ) (asked : Asked) {exchanges : List Exchange} {lines : List Line} {end : Ending} (standing : StandingView) → ArePut (replicate count (asked, question.Undo)) exchanges lines end → left_to_clear (standing_after exchanges standing) ≤ left_to_clear standing
+undone_left : (count : ℕ) (asked : Asked) {exchanges : List Exchange} {lines : List Line} {end : Ending} (standing : StandingView)
+    → ArePut (replicate count (asked, question.Undo)) exchanges lines end → left_to_clear (standing_after exchanges standing) ≤ left_to_clear standing
 undone_left zero asked standing all_put = omega arith
 undone_left (suc more) asked standing cut_short = omega arith
 undone_left (suc more) asked standing (refused {exchange = exchange} of_question is) = undo_closes exchange standing of_question
@@ -160,7 +166,8 @@ undone_left (suc more) asked standing (accepted {exchange = exchange} of_questio
     omega (arith, one, rest)
 
 -- What a step undoes has a line for each exchange.
-IsGrowth-undone : (place count : ℕ) (end : Ending) {exchanges : List Exchange} {lines : List Line} (standing : StandingView) → count ≤ standing.journal → AreUndone place count exchanges lines end → IsGrowth standing exchanges lines end × (length exchanges ≤ length lines)
+IsGrowth-undone : (place count : ℕ) (end : Ending) {exchanges : List Exchange} {lines : List Line} (standing : StandingView) → count ≤ standing.journal
+    → AreUndone place count exchanges lines end → IsGrowth standing exchanges lines end × (length exchanges ≤ length lines)
 IsGrowth-undone place zero end standing enough tells =
     (IsGrowth-told standing tells, omega (arith, ap (length {A = Exchange}) tells.nothing_asked))
 IsGrowth-undone place (suc more) end standing enough put =
@@ -170,11 +177,13 @@ IsGrowth-undone place (suc more) end standing enough put =
       omega (arith, long.0),
     )
 
-IsGrowth-abort : (place : ℕ) (running : List ℕ) (end : Ending) {exchanges : List Exchange} {lines : List Line} (standing : StandingView) → IsAbort place running standing.journal exchanges lines end → IsGrowth standing exchanges lines end
+IsGrowth-abort : (place : ℕ) (running : List ℕ) (end : Ending) {exchanges : List Exchange} {lines : List Line} (standing : StandingView)
+    → IsAbort place running standing.journal exchanges lines end → IsGrowth standing exchanges lines end
 IsGrowth-abort place [] end standing undone = (IsGrowth-undone place standing.journal end standing (omega arith) undone).0
 IsGrowth-abort place (number ∷ numbers) end standing tells = IsGrowth-told standing tells
 
-IsGrowth-way_back : {place : ℕ} {mark : Mark} {exchanges : List Exchange} {lines : List Line} {end : Ending} (standing : StandingView) → IsWayBack place mark standing.journal exchanges lines end → IsGrowth standing exchanges lines end
+IsGrowth-way_back : {place : ℕ} {mark : Mark} {exchanges : List Exchange} {lines : List Line} {end : Ending} (standing : StandingView)
+    → IsWayBack place mark standing.journal exchanges lines end → IsGrowth standing exchanges lines end
 IsGrowth-way_back standing report.cut_short = record { left = omega arith; with_lines = omega arith; turns = omega arith; if_refused = λ _. omega arith }
 IsGrowth-way_back standing (report.refused refusal) = record { left = omega arith; with_lines = omega arith; turns = omega arith; if_refused = λ _. omega arith }
 IsGrowth-way_back {place = place} {end = end} standing (opened count undone) =
@@ -182,11 +191,13 @@ IsGrowth-way_back {place = place} {end = end} standing (opened count undone) =
     let rest = IsGrowth-undone place (min count standing.journal) end now (omega arith) undone in
     record { left = rest.0.left; with_lines = rest.0.with_lines; turns = omega (arith, rest.1); if_refused = rest.0.if_refused }
 
-IsGrowth-back : (place : ℕ) (mark : Option Mark) (end : Ending) {exchanges : List Exchange} {lines : List Line} (standing : StandingView) → IsStepBack place mark standing.journal exchanges lines end → IsGrowth standing exchanges lines end
+IsGrowth-back : (place : ℕ) (mark : Option Mark) (end : Ending) {exchanges : List Exchange} {lines : List Line} (standing : StandingView)
+    → IsStepBack place mark standing.journal exchanges lines end → IsGrowth standing exchanges lines end
 IsGrowth-back place None end standing tells = IsGrowth-told standing tells
 IsGrowth-back place (Some mark) end standing way = IsGrowth-way_back standing way
 
-pub IsGrowth-step : (place : ℕ) (taken : Step) (end : Ending) {exchanges : List Exchange} {lines : List Line} (standing : StandingView) → IsStepTold place standing taken exchanges lines end → IsGrowth standing exchanges lines end
+pub IsGrowth-step : (place : ℕ) (taken : Step) (end : Ending) {exchanges : List Exchange} {lines : List Line} (standing : StandingView)
+    → IsStepTold place standing taken exchanges lines end → IsGrowth standing exchanges lines end
 IsGrowth-step place (step.Ask cmd) end standing put = IsGrowth-asked standing put
 IsGrowth-step place step.Undo end standing put = IsGrowth-asked standing put
 IsGrowth-step place step.Abort end standing abort = IsGrowth-abort place standing.running end standing abort

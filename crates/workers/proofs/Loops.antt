@@ -17,7 +17,8 @@ use Rattle.workers.proofs.Questions.{Questions, Leads, Leads-none, Leads-next, L
 use Rattle.workers.proofs.Stretches.{IsStretch-append, IsStretch-so}
 
 -- the next question of the list is accepted
-pub loop_next : {before between after : List Exchange → Type 0} {passes stops : ℕ → Type 0} {old mid new : StandingView} {old_lines mid_lines new_lines : List Line} {first : Asked × Question} {from all : Questions} (rest : Questions)
+pub loop_next : {before between after : List Exchange → Type 0} {passes stops : ℕ → Type 0} {old mid new : StandingView} {old_lines mid_lines new_lines : List Line}
+    {first : Asked × Question} {from all : Questions} (rest : Questions)
     → from ≡ first ∷ rest
     → IsStretch before between passes stops old mid old_lines mid_lines ending.Done (Leads from all)
     → IsStretch between after passes stops mid new mid_lines new_lines ending.Done (λ exchanges lines. ArePut (first ∷ []) exchanges lines ending.Done)
@@ -26,7 +27,8 @@ loop_next {all = all} rest is so_far put =
     IsStretch-append so_far put (λ exchanges lines more its _ _ leads one. Leads-next (subst (λ qs. Leads qs all exchanges lines) is leads) one)
 
 -- the next question of the list ends it
-pub loop_stop : {before between after : List Exchange → Type 0} {passes stops : ℕ → Type 0} {old mid new : StandingView} {old_lines mid_lines new_lines : List Line} {end : Ending} {first : Asked × Question} {from all : Questions} (rest : Questions)
+pub loop_stop : {before between after : List Exchange → Type 0} {passes stops : ℕ → Type 0} {old mid new : StandingView} {old_lines mid_lines new_lines : List Line}
+    {end : Ending} {first : Asked × Question} {from all : Questions} (rest : Questions)
     → from ≡ first ∷ rest
     → (end ≡ ending.Done → ⊥)
     → IsStretch before between passes stops old mid old_lines mid_lines ending.Done (Leads from all)
@@ -60,7 +62,8 @@ replicate-none again count done none =
 
 -- ---- the exits of RECs
 
-pub exits-next : (numbers : List ℕ) (number place : ℕ) → place < length numbers → number ≡ get_or numbers place 0 → map exit_of (drop place numbers) ≡ exit_of number ∷ map exit_of (drop (place + 1) numbers)
+pub exits-next : (numbers : List ℕ) (number place : ℕ) → place < length numbers → number ≡ get_or numbers place 0
+    → map exit_of (drop place numbers) ≡ exit_of number ∷ map exit_of (drop (place + 1) numbers)
 exits-next numbers number place within is =
     let rest : drop place numbers ≡ get_or numbers place 0 ∷ drop (place + 1) numbers = rw (add-one, drop-cons numbers place 0) in
     ap (map exit_of) rest ∙ ap (λ n. exit_of n ∷ map exit_of (drop (place + 1) numbers)) (sym is)
@@ -71,7 +74,8 @@ exits-none numbers place end = ap (map exit_of) (drop_of_length-le numbers end)
 -- ---- the clearing of a build
 
 -- what runs has exited
-pub cleared : {before between after : List Exchange → Type 0} {passes stops : ℕ → Type 0} {old mid new : StandingView} {old_lines mid_lines new_lines : List Line} {end : Ending} (standing : StandingView) (numbers : List ℕ) (opened : ℕ)
+pub cleared : {before between after : List Exchange → Type 0} {passes stops : ℕ → Type 0} {old mid new : StandingView} {old_lines mid_lines new_lines : List Line} {end : Ending}
+    (standing : StandingView) (numbers : List ℕ) (opened : ℕ)
     → numbers ≡ standing.running
     → opened ≡ standing.journal
     → IsStretch before between passes stops old mid old_lines mid_lines ending.Done (λ exchanges lines. ArePut (map exit_of numbers) exchanges lines ending.Done)
@@ -83,7 +87,8 @@ cleared {end = end} standing numbers opened runs opens exits undos =
     (subst (λ n. ArePut (map exit_of numbers ++ replicate n (asked.Undo, question.Undo)) (exchanges ++ more) (lines ++ its) end) opens (ArePut-append exit undo)))
 
 -- an exit ended it
-pub cleared_stop : {before after : List Exchange → Type 0} {passes stops : ℕ → Type 0} {old new : StandingView} {old_lines new_lines : List Line} {end : Ending} (standing : StandingView) (numbers : List ℕ)
+pub cleared_stop : {before after : List Exchange → Type 0} {passes stops : ℕ → Type 0} {old new : StandingView} {old_lines new_lines : List Line} {end : Ending}
+    (standing : StandingView) (numbers : List ℕ)
     → numbers ≡ standing.running
     → (end ≡ ending.Done → ⊥)
     → IsStretch before after passes stops old new old_lines new_lines end (λ exchanges lines. ArePut (map exit_of numbers) exchanges lines end)

@@ -20,10 +20,13 @@ pub record LeadsOn (place : ℕ) (standing : StandingView) (rest : List Step) (s
 pub LeadsOn-none : (start : StandingView) (steps : List Step) → LeadsOn 0 start steps start steps [] []
 LeadsOn-none start steps = record { on = λ more its ended report. report }
 
-report_along : (start : StandingView) (steps : List Step) (ended : Bool) {es es' : List Exchange} {ls ls' : List Line} → es ≡ es' → ls ≡ ls' → IsWorkerReport 0 start steps es ls ended → IsWorkerReport 0 start steps es' ls' ended
+report_along : (start : StandingView) (steps : List Step) (ended : Bool) {es es' : List Exchange} {ls ls' : List Line} → es ≡ es' → ls ≡ ls'
+    → IsWorkerReport 0 start steps es ls ended → IsWorkerReport 0 start steps es' ls' ended
 report_along start steps ended {es} {es'} {ls} {ls'} e l h = subst (λ x. IsWorkerReport 0 start steps es' x ended) l (subst (λ x. IsWorkerReport 0 start steps x ls ended) e h)
 
-LeadsOn-next : (place : ℕ) (standing start : StandingView) (step : Step) (rest steps : List Step) (exchanges more : List Exchange) (lines its : List Line) → LeadsOn place standing (step ∷ rest) start steps exchanges lines → IsStepTold place standing step more its ending.Done → LeadsOn (place + 1) (standing_after more standing) rest start steps (exchanges ++ more) (lines ++ its)
+LeadsOn-next : (place : ℕ) (standing start : StandingView) (step : Step) (rest steps : List Step) (exchanges more : List Exchange) (lines its : List Line)
+    → LeadsOn place standing (step ∷ rest) start steps exchanges lines → IsStepTold place standing step more its ending.Done
+    → LeadsOn (place + 1) (standing_after more standing) rest start steps (exchanges ++ more) (lines ++ its)
 LeadsOn-next place standing start step rest steps exchanges more lines its leads taken = record {
   on = λ after after_lines ended report.
       report_along start steps ended (sym (append_assoc exchanges more after)) (sym (append_assoc lines its after_lines))
@@ -31,7 +34,8 @@ LeadsOn-next place standing start step rest steps exchanges more lines its leads
 }
 
 -- the next step is accepted
-pub steps_next : {before between after : List Exchange → Type 0} {passes stops : ℕ → Type 0} {old mid new : StandingView} {old_lines mid_lines new_lines : List Line} (place : ℕ) (step : Step) (from rest steps : List Step)
+pub steps_next : {before between after : List Exchange → Type 0} {passes stops : ℕ → Type 0} {old mid new : StandingView} {old_lines mid_lines new_lines : List Line}
+    (place : ℕ) (step : Step) (from rest steps : List Step)
     → from ≡ step ∷ rest
     → IsStretch before between passes stops old mid old_lines mid_lines ending.Done (LeadsOn place mid from old steps)
     → IsStretch between after passes stops mid new mid_lines new_lines ending.Done (λ exchanges lines. IsStepTold place mid step exchanges lines ending.Done)
@@ -42,7 +46,8 @@ steps_next {old = old} {mid = mid} place step from rest steps is so_far taken =
     (LeadsOn-next place mid old step rest steps exchanges more lines its (subst (λ xs. LeadsOn place mid xs old steps exchanges lines) is leads) one))
 
 -- the rest is reported
-reported : {before between after : List Exchange → Type 0} {passes stops : ℕ → Type 0} {old mid new : StandingView} {old_lines mid_lines new_lines : List Line} {end : Ending} (place : ℕ) (from steps : List Step) (ended : Bool)
+reported : {before between after : List Exchange → Type 0} {passes stops : ℕ → Type 0} {old mid new : StandingView} {old_lines mid_lines new_lines : List Line} {end : Ending}
+    (place : ℕ) (from steps : List Step) (ended : Bool)
     → IsStretch before between passes stops old mid old_lines mid_lines ending.Done (LeadsOn place mid from old steps)
     → IsStretch between after passes stops mid new mid_lines new_lines end (λ exchanges lines. IsWorkerReport place mid from exchanges lines ended)
     → IsStretch before after passes stops old new old_lines new_lines end (λ exchanges lines. IsWorkerReport 0 old steps exchanges lines ended)
@@ -50,7 +55,8 @@ reported place from steps ended so_far rest =
     IsStretch-append so_far rest (λ exchanges lines more its _ _ leads report. leads.on more its ended report)
 
 -- the next step is refused, and the build is cleared
-pub steps_cleared : {before between further after : List Exchange → Type 0} {passes stops : ℕ → Type 0} {old mid later new : StandingView} {old_lines mid_lines later_lines new_lines : List Line} {end : Ending} (place : ℕ) (step : Step) (from rest steps : List Step)
+pub steps_cleared : {before between further after : List Exchange → Type 0} {passes stops : ℕ → Type 0} {old mid later new : StandingView}
+    {old_lines mid_lines later_lines new_lines : List Line} {end : Ending} (place : ℕ) (step : Step) (from rest steps : List Step)
     → from ≡ step ∷ rest
     → IsStretch before between passes stops old mid old_lines mid_lines ending.Done (LeadsOn place mid from old steps)
     → IsStretch between further passes stops mid later mid_lines later_lines ending.Refused (λ exchanges lines. IsStepTold place mid step exchanges lines ending.Refused)
@@ -63,7 +69,8 @@ steps_cleared {mid = mid} {end = end} place step from rest steps is so_far taken
     (refused exchanges more lines its one (subst (λ s. ArePut (clearing s) more its end) counts cleared) refl refl)))
 
 -- the next step waits for a turn that does not come
-pub steps_cut : {before between after : List Exchange → Type 0} {passes stops : ℕ → Type 0} {old mid new : StandingView} {old_lines mid_lines new_lines : List Line} (place : ℕ) (step : Step) (from rest steps : List Step)
+pub steps_cut : {before between after : List Exchange → Type 0} {passes stops : ℕ → Type 0} {old mid new : StandingView} {old_lines mid_lines new_lines : List Line}
+    (place : ℕ) (step : Step) (from rest steps : List Step)
     → from ≡ step ∷ rest
     → IsStretch before between passes stops old mid old_lines mid_lines ending.Done (LeadsOn place mid from old steps)
     → IsStretch between after passes stops mid new mid_lines new_lines ending.Cut (λ exchanges lines. IsStepTold place mid step exchanges lines ending.Cut)

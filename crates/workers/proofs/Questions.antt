@@ -26,38 +26,45 @@ both_along : (P : List Exchange → List Line → Type 0) {es es' : List Exchang
 both_along P {es} {es'} {ls} {ls'} e l h = subst (P es') l (subst (λ x. P x ls) e h)
 
 -- the first question of the rest is accepted
-pub Leads-next : {question : Asked × Question} {rest all : Questions} {exchanges more : List Exchange} {lines its : List Line} → Leads (question ∷ rest) all exchanges lines → ArePut (question ∷ []) more its ending.Done → Leads rest all (exchanges ++ more) (lines ++ its)
+pub Leads-next : {question : Asked × Question} {rest all : Questions} {exchanges more : List Exchange} {lines its : List Line} → Leads (question ∷ rest) all exchanges lines
+    → ArePut (question ∷ []) more its ending.Done → Leads rest all (exchanges ++ more) (lines ++ its)
 Leads-next {all = all} {exchanges = exchanges} {lines = lines} leads (accepted {exchange = exchange} of_question is all_put) = record {
   on = λ after after_lines end put.
-      both_along (λ es ls. ArePut all es ls end) (sym (append_assoc exchanges (exchange ∷ []) after)) (sym (append_assoc lines (line _ (told exchange) ∷ []) after_lines)) (leads.on (exchange ∷ after) (line _ (told exchange) ∷ after_lines) end (accepted of_question is put));
+      both_along (λ es ls. ArePut all es ls end) (sym (append_assoc exchanges (exchange ∷ []) after)) (sym (append_assoc lines (line _ (told exchange) ∷ []) after_lines))
+      (leads.on (exchange ∷ after) (line _ (told exchange) ∷ after_lines) end (accepted of_question is put));
 }
 
 -- nothing of the rest is left
 pub Leads-whole : {all : Questions} {exchanges : List Exchange} {lines : List Line} → Leads [] all exchanges lines → ArePut all exchanges lines ending.Done
 Leads-whole {all} {exchanges} {lines} leads = both_along (λ es ls. ArePut all es ls ending.Done) (append-nil exchanges) (append-nil lines) (leads.on [] [] ending.Done all_put)
 
-stops_there : {question : Asked × Question} {rest : Questions} {exchanges : List Exchange} {lines : List Line} {end : Ending} → (end ≡ ending.Done → ⊥) → ArePut (question ∷ []) exchanges lines end → ArePut (question ∷ rest) exchanges lines end
+stops_there : {question : Asked × Question} {rest : Questions} {exchanges : List Exchange} {lines : List Line} {end : Ending} → (end ≡ ending.Done → ⊥)
+    → ArePut (question ∷ []) exchanges lines end → ArePut (question ∷ rest) exchanges lines end
 stops_there goes cut_short = cut_short
 stops_there goes (refused of_question is) = refused of_question is
 stops_there goes (accepted of_question is all_put) = absurd (goes refl)
 
 -- the first question of the rest ends it
-pub Leads-stop : {question : Asked × Question} {rest all : Questions} {exchanges more : List Exchange} {lines its : List Line} {end : Ending} → (end ≡ ending.Done → ⊥) → Leads (question ∷ rest) all exchanges lines → ArePut (question ∷ []) more its end → ArePut all (exchanges ++ more) (lines ++ its) end
+pub Leads-stop : {question : Asked × Question} {rest all : Questions} {exchanges more : List Exchange} {lines its : List Line} {end : Ending}
+    → (end ≡ ending.Done → ⊥) → Leads (question ∷ rest) all exchanges lines → ArePut (question ∷ []) more its end → ArePut all (exchanges ++ more) (lines ++ its) end
 Leads-stop {more = more} {its = its} {end = end} goes leads put = leads.on more its end (stops_there goes put)
 
 -- Questions that are all accepted, and then others.
-pub ArePut-append : {first more : Questions} {exchanges later : List Exchange} {lines its : List Line} {end : Ending} → ArePut first exchanges lines ending.Done → ArePut more later its end → ArePut (first ++ more) (exchanges ++ later) (lines ++ its) end
+pub ArePut-append : {first more : Questions} {exchanges later : List Exchange} {lines its : List Line} {end : Ending} → ArePut first exchanges lines ending.Done
+    → ArePut more later its end → ArePut (first ++ more) (exchanges ++ later) (lines ++ its) end
 ArePut-append all_put rest = rest
 ArePut-append (accepted of_question is put) rest = accepted of_question is (ArePut-append put rest)
 
-pub ArePut-append_stop : {first : Questions} (more : Questions) {exchanges : List Exchange} {lines : List Line} {end : Ending} → (end ≡ ending.Done → ⊥) → ArePut first exchanges lines end → ArePut (first ++ more) exchanges lines end
+pub ArePut-append_stop : {first : Questions} (more : Questions) {exchanges : List Exchange} {lines : List Line} {end : Ending} → (end ≡ ending.Done → ⊥)
+    → ArePut first exchanges lines end → ArePut (first ++ more) exchanges lines end
 ArePut-append_stop more goes all_put = absurd (goes refl)
 ArePut-append_stop more goes cut_short = cut_short
 ArePut-append_stop more goes (refused of_question is) = refused of_question is
 ArePut-append_stop more goes (accepted of_question is put) = accepted of_question is (ArePut-append_stop more goes put)
 
 -- each exchange has its line, and there are no more than questions
-pub length-ArePut : {questions : Questions} {exchanges : List Exchange} {lines : List Line} {end : Ending} → ArePut questions exchanges lines end → (length lines ≡ length exchanges) × (length exchanges ≤ length questions)
+pub length-ArePut : {questions : Questions} {exchanges : List Exchange} {lines : List Line} {end : Ending} → ArePut questions exchanges lines end
+    → (length lines ≡ length exchanges) × (length exchanges ≤ length questions)
 length-ArePut all_put = (refl, omega arith)
 length-ArePut cut_short = (refl, omega arith)
 length-ArePut (refused of_question is) = (refl, omega arith)

@@ -39,7 +39,8 @@ standing_after-append (exchange ∷ first) more standing = standing_after-append
 
 -- ---- one question
 
-put_alone : (asked : Asked) (question : Question) (exchange : Exchange) (is : Bool) → question_of exchange ≡ Some question → is_refused (told exchange) ≡ is → ArePut ((asked, question) ∷ []) (exchange ∷ []) (line asked (told exchange) ∷ []) (cond is ending.Refused ending.Done)
+put_alone : (asked : Asked) (question : Question) (exchange : Exchange) (is : Bool) → question_of exchange ≡ Some question → is_refused (told exchange) ≡ is
+    → ArePut ((asked, question) ∷ []) (exchange ∷ []) (line asked (told exchange) ∷ []) (cond is ending.Refused ending.Done)
 put_alone asked question exchange true of_question is = refused of_question is
 put_alone asked question exchange false of_question is = accepted of_question is all_put
 
@@ -52,7 +53,8 @@ pub not_cut : (answer : Answer) → ending_of answer ≡ ending.Cut → ⊥
 not_cut answer is = cut_at (is_refused answer) is
 
 -- One exchange after its turn had passed, and these lines are added.
-pub IsStretch-exchange : {before after : List Exchange → Type 0} {passes stops : ℕ → Type 0} {old new : StandingView} {end : Ending} {old_lines new_lines : List Line} {AreThose : List Exchange → List Line → Type 0} {turn : ℕ} (exchange : Exchange) (its : List Line)
+pub IsStretch-exchange : {before after : List Exchange → Type 0} {passes stops : ℕ → Type 0} {old new : StandingView} {end : Ending} {old_lines new_lines : List Line}
+    {AreThose : List Exchange → List Line → Type 0} {turn : ℕ} (exchange : Exchange) (its : List Line)
     → turn ≡ old.turn
     → passes turn
     → ((earlier : List Exchange) → before earlier → after (earlier ++ exchange ∷ []))
@@ -75,7 +77,8 @@ IsStretch-exchange {passes = passes} {old = old} {new = new} {turn = turn} excha
     }
 
 -- A question that was put after its turn had passed, with its line.
-pub IsStretch-one : {before after : List Exchange → Type 0} {passes stops : ℕ → Type 0} {question : Question} {old new : StandingView} {answer : Answer} {asked : Asked} {end : Ending} {old_lines new_lines : List Line} {turn : ℕ}
+pub IsStretch-one : {before after : List Exchange → Type 0} {passes stops : ℕ → Type 0} {question : Question} {old new : StandingView} {answer : Answer}
+    {asked : Asked} {end : Ending} {old_lines new_lines : List Line} {turn : ℕ}
     → turn ≡ old.turn
     → passes turn
     → IsExchange before after question old new answer
@@ -85,7 +88,8 @@ pub IsStretch-one : {before after : List Exchange → Type 0} {passes stops : �
 IsStretch-one {question = question} {answer = answer} {asked = asked} {end = end} {old_lines = old_lines} at pass put is adds =
     let its = line asked (told put.exchange) ∷ [] in
     IsStretch-exchange put.exchange its at pass put.told_after put.counted (λ cut. not_cut answer (sym is ∙ cut)) (adds ∙ ap (λ a. old_lines ++ line asked a ∷ []) put.answer_is)
-    (subst (λ e. ArePut ((asked, question) ∷ []) (put.exchange ∷ []) its e) (ap (λ a. ending_of a) (sym put.answer_is) ∙ sym is) (put_alone asked question put.exchange (is_refused (told put.exchange)) put.of_question refl))
+    (subst (λ e. ArePut ((asked, question) ∷ []) (put.exchange ∷ []) its e) (ap (λ a. ending_of a) (sym put.answer_is) ∙ sym is)
+    (put_alone asked question put.exchange (is_refused (told put.exchange)) put.of_question refl))
 
 -- The next turn does not come.
 pub IsStretch-cut : {before : List Exchange → Type 0} {passes stops : ℕ → Type 0} {standing : StandingView} {lines : List Line} {AreThose : List Exchange → List Line → Type 0} {turn : ℕ}
@@ -105,7 +109,8 @@ IsStretch-cut {before} {passes} {stops} {standing} {lines} {AreThose} {turn} at 
 }
 
 -- Nothing is asked, and a line is added.
-pub IsStretch-told : {before : List Exchange → Type 0} {passes stops : ℕ → Type 0} {standing : StandingView} {old_lines new_lines : List Line} {end : Ending} {AreThose : List Exchange → List Line → Type 0} (asked : Asked) (answer : Answer)
+pub IsStretch-told : {before : List Exchange → Type 0} {passes stops : ℕ → Type 0} {standing : StandingView} {old_lines new_lines : List Line} {end : Ending}
+    {AreThose : List Exchange → List Line → Type 0} (asked : Asked) (answer : Answer)
     → end ≡ ending_of answer
     → new_lines ≡ old_lines ++ line asked answer ∷ []
     → AreThose [] (line asked answer ∷ [])
@@ -137,10 +142,12 @@ IsStretch-none {before = before} {lines = lines} those = record {
 }
 
 -- Two stretches, one after the other.
-pub IsStretch-append : {before between after : List Exchange → Type 0} {passes stops : ℕ → Type 0} {old mid new : StandingView} {old_lines mid_lines new_lines : List Line} {one end : Ending} {First Second Whole : List Exchange → List Line → Type 0}
+pub IsStretch-append : {before between after : List Exchange → Type 0} {passes stops : ℕ → Type 0} {old mid new : StandingView} {old_lines mid_lines new_lines : List Line}
+    {one end : Ending} {First Second Whole : List Exchange → List Line → Type 0}
     → IsStretch before between passes stops old mid old_lines mid_lines one First
     → IsStretch between after passes stops mid new mid_lines new_lines end Second
-    → ((exchanges : List Exchange) (lines : List Line) (more : List Exchange) (its : List Line) → mid ≡ standing_after exchanges old → new ≡ standing_after more mid → First exchanges lines → Second more its → Whole (exchanges ++ more) (lines ++ its))
+    → ((exchanges : List Exchange) (lines : List Line) (more : List Exchange) (its : List Line) → mid ≡ standing_after exchanges old → new ≡ standing_after more mid
+    → First exchanges lines → Second more its → Whole (exchanges ++ more) (lines ++ its))
     → IsStretch before after passes stops old new old_lines new_lines end Whole
 IsStretch-append {before} {between} {after} {passes} {stops} {old} {mid} {new} {old_lines} {mid_lines} {new_lines} {one} {end} {First} {Second} {Whole} first second whole = record {
   exchanges = first.exchanges ++ second.exchanges;
@@ -157,7 +164,8 @@ IsStretch-append {before} {between} {after} {passes} {stops} {old} {mid} {new} {
 }
 
 -- The same stretch, said otherwise.
-pub IsStretch-so : {before after : List Exchange → Type 0} {passes stops : ℕ → Type 0} {old new : StandingView} {old_lines new_lines : List Line} {end : Ending} {First Whole : List Exchange → List Line → Type 0}
+pub IsStretch-so : {before after : List Exchange → Type 0} {passes stops : ℕ → Type 0} {old new : StandingView} {old_lines new_lines : List Line}
+    {end : Ending} {First Whole : List Exchange → List Line → Type 0}
     → IsStretch before after passes stops old new old_lines new_lines end First
     → ((exchanges : List Exchange) (lines : List Line) → new ≡ standing_after exchanges old → First exchanges lines → Whole exchanges lines)
     → IsStretch before after passes stops old new old_lines new_lines end Whole
@@ -173,7 +181,8 @@ IsStretch-so stretch so = record {
 }
 
 -- the gate is asked for the same build
-pub IsStretch-build : {before after : List Exchange → Type 0} {old new : StandingView} {old_lines new_lines : List Line} {end : Ending} {AreThose : List Exchange → List Line → Type 0} (passes stops : ℕ → ℕ → Type 0) {other build : ℕ}
+pub IsStretch-build : {before after : List Exchange → Type 0} {old new : StandingView} {old_lines new_lines : List Line} {end : Ending} {AreThose : List Exchange
+    → List Line → Type 0} (passes stops : ℕ → ℕ → Type 0) {other build : ℕ}
     → other ≡ build
     → IsStretch before after (passes other) (stops other) old new old_lines new_lines end AreThose
     → IsStretch before after (passes build) (stops build) old new old_lines new_lines end AreThose

@@ -30,7 +30,8 @@ pub AreUndone-none : {before : List Exchange → Type 0} {passes stops : ℕ →
 AreUndone-none {end = end} place count none is adds =
     IsStretch-told (asked.Step place) Nothing is adds (subst (λ n. AreUndone place n [] (line (asked.Step place) Nothing ∷ []) end) (sym none) (told_alone place Nothing end is))
 
-running_refuses : (place journal : ℕ) (running : List ℕ) (exchanges : List Exchange) (lines : List Line) (end : Ending) → 0 < length running → IsTold place (Refused RecRunning) exchanges lines end → IsAbort place running journal exchanges lines end
+running_refuses : (place journal : ℕ) (running : List ℕ) (exchanges : List Exchange) (lines : List Line) (end : Ending) → 0 < length running
+    → IsTold place (Refused RecRunning) exchanges lines end → IsAbort place running journal exchanges lines end
 running_refuses place journal [] exchanges lines end some tells = absurd (omega arith)
 running_refuses place journal (number ∷ numbers) exchanges lines end some tells = tells
 
@@ -41,7 +42,8 @@ pub IsAbort-running : {before : List Exchange → Type 0} {passes stops : ℕ �
     → new_lines ≡ old_lines ++ line (asked.Step place) (Refused RecRunning) ∷ []
     → IsStretch before before passes stops standing standing old_lines new_lines end (λ exchanges lines. IsAbort place running journal exchanges lines end)
 IsAbort-running {end = end} place journal running some is adds =
-    IsStretch-told (asked.Step place) (Refused RecRunning) is adds (running_refuses place journal running [] (line (asked.Step place) (Refused RecRunning) ∷ []) end some (told_alone place (Refused RecRunning) end is))
+    IsStretch-told (asked.Step place) (Refused RecRunning) is adds (running_refuses place journal running [] (line (asked.Step place) (Refused RecRunning) ∷ []) end some
+    (told_alone place (Refused RecRunning) end is))
 
 -- a step back without a mark
 pub IsStepBack-none : {before : List Exchange → Type 0} {passes stops : ℕ → Type 0} {standing : StandingView} {old_lines new_lines : List Line} {end : Ending} (place journal : ℕ) (mark : Option Mark)
@@ -50,10 +52,12 @@ pub IsStepBack-none : {before : List Exchange → Type 0} {passes stops : ℕ �
     → new_lines ≡ old_lines ++ line (asked.Step place) (Refused NothingToUndo) ∷ []
     → IsStretch before before passes stops standing standing old_lines new_lines end (λ exchanges lines. IsStepBack place mark journal exchanges lines end)
 IsStepBack-none {end = end} place journal mark none is adds =
-    IsStretch-told (asked.Step place) (Refused NothingToUndo) is adds (subst (λ m. IsStepBack place m journal [] (line (asked.Step place) (Refused NothingToUndo) ∷ []) end) (sym none) (told_alone place (Refused NothingToUndo) end is))
+    IsStretch-told (asked.Step place) (Refused NothingToUndo) is adds (subst (λ m. IsStepBack place m journal [] (line (asked.Step place) (Refused NothingToUndo) ∷ []) end)
+    (sym none) (told_alone place (Refused NothingToUndo) end is))
 
 -- a way back that is refused
-pub IsWayBack-refused : {before after : List Exchange → Type 0} {passes stops : ℕ → Type 0} {old new : StandingView} {old_lines new_lines : List Line} {end : Ending} {turn : ℕ} (place : ℕ) (mark : Mark) (journal : ℕ) (refusal : Refusal)
+pub IsWayBack-refused : {before after : List Exchange → Type 0} {passes stops : ℕ → Type 0} {old new : StandingView} {old_lines new_lines : List Line}
+    {end : Ending} {turn : ℕ} (place : ℕ) (mark : Mark) (journal : ℕ) (refusal : Refusal)
     → turn ≡ old.turn
     → passes turn
     → ((earlier : List Exchange) → before earlier → after (earlier ++ LookedBack mark (Err refusal) ∷ []))
@@ -71,14 +75,16 @@ record IsOpening (mark : Mark) (count : ℕ) (exchanges : List Exchange) (lines 
   looked : exchanges ≡ LookedBack mark (Ok count) ∷ []
   no_line : lines ≡ []
 
-go_opened : (place : ℕ) (mark : Mark) (journal count undos : ℕ) (exchanges : List Exchange) (lines : List Line) (more : List Exchange) (its : List Line) (end : Ending) → undos ≡ min count journal → IsOpening mark count exchanges lines → AreUndone place undos more its end → IsWayBack place mark journal (exchanges ++ more) (lines ++ its) end
+go_opened : (place : ℕ) (mark : Mark) (journal count undos : ℕ) (exchanges : List Exchange) (lines : List Line) (more : List Exchange) (its : List Line) (end : Ending)
+    → undos ≡ min count journal → IsOpening mark count exchanges lines → AreUndone place undos more its end → IsWayBack place mark journal (exchanges ++ more) (lines ++ its) end
 go_opened place mark journal count undos exchanges lines more its end least opening undone =
     subst (λ es. IsWayBack place mark journal (es ++ more) (lines ++ its) end) (sym opening.looked)
     (subst (λ ls. IsWayBack place mark journal (LookedBack mark (Ok count) ∷ more) (ls ++ its) end) (sym opening.no_line)
     (opened count (subst (λ n. AreUndone place n more its end) least undone)))
 
 -- a way back that is open
-pub IsWayBack-opened : {before between after : List Exchange → Type 0} {passes stops : ℕ → Type 0} {old mid new : StandingView} {old_lines new_lines : List Line} {end : Ending} {turn : ℕ} (place : ℕ) (mark : Mark) (journal count undos : ℕ)
+pub IsWayBack-opened : {before between after : List Exchange → Type 0} {passes stops : ℕ → Type 0} {old mid new : StandingView} {old_lines new_lines : List Line}
+    {end : Ending} {turn : ℕ} (place : ℕ) (mark : Mark) (journal count undos : ℕ)
     → turn ≡ old.turn
     → passes turn
     → ((earlier : List Exchange) → before earlier → between (earlier ++ LookedBack mark (Ok count) ∷ []))

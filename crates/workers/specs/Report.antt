@@ -86,13 +86,15 @@ is_over ending.Cut = false
 -- build is cleared.
 pub data IsWorkerReport : ℕ → StandingView → List Step → List Exchange → List Line → Bool → Type 0 where
   no_step_left : {place : ℕ} {standing : StandingView} → IsWorkerReport place standing [] [] [] true
-  accepted : {place : ℕ} {standing : StandingView} {step : Step} {steps : List Step} {exchanges : List Exchange} {lines : List Line} {ended : Bool} (first more : List Exchange) (its its_more : List Line)
+  accepted : {place : ℕ} {standing : StandingView} {step : Step} {steps : List Step} {exchanges : List Exchange} {lines : List Line} {ended : Bool}
+      (first more : List Exchange) (its its_more : List Line)
       → IsStepTold place standing step first its ending.Done
       → IsWorkerReport (place + 1) (standing_after first standing) steps more its_more ended
       → exchanges ≡ first ++ more
       → lines ≡ its ++ its_more
       → IsWorkerReport place standing (step ∷ steps) exchanges lines ended
-  refused : {place : ℕ} {standing : StandingView} {step : Step} {steps : List Step} {exchanges : List Exchange} {lines : List Line} {end : Ending} (first more : List Exchange) (its its_more : List Line)
+  refused : {place : ℕ} {standing : StandingView} {step : Step} {steps : List Step} {exchanges : List Exchange} {lines : List Line} {end : Ending}
+      (first more : List Exchange) (its its_more : List Line)
       → IsStepTold place standing step first its ending.Refused
       → ArePut (clearing (standing_after first standing)) more its_more end
       → exchanges ≡ first ++ more

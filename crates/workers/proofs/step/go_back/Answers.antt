@@ -6,11 +6,13 @@ use Rattle.workers.proofs.step.go_back.Goals as goal
 
 pub returns-in-Ok-look_back-clause-gone : goal.returns-in-Ok-look_back-clause-gone
 returns-in-Ok-look_back-clause-gone g c =
-    IsWayBack-opened c.args.place c.args.mark c.args.standing.now.journal c.in-Ok-look_back.count c.min-count.result c.turn.ensures c.in-Ok.ensures.ok c.in-Ok-look_back.ensures.told c.in-Ok-look_back.ensures.counted (search rules) c.undo_step.ensures.undone
+    IsWayBack-opened c.args.place c.args.mark c.args.standing.now.journal c.in-Ok-look_back.count c.min-count.result c.turn.ensures c.in-Ok.ensures.ok
+    c.in-Ok-look_back.ensures.told c.in-Ok-look_back.ensures.counted (search rules) c.undo_step.ensures.undone
 
 pub returns-in-Err-look_back-clause-gone : goal.returns-in-Err-look_back-clause-gone
 returns-in-Err-look_back-clause-gone g c =
-    IsWayBack-refused c.args.place c.args.mark c.args.standing.now.journal c.in-Err-look_back.refusal c.turn.ensures c.in-Ok.ensures.ok c.in-Err-look_back.ensures.told c.in-Err-look_back.ensures.counted c.tell.ensures.ending c.tell.ensures.added
+    IsWayBack-refused c.args.place c.args.mark c.args.standing.now.journal c.in-Err-look_back.refusal c.turn.ensures c.in-Ok.ensures.ok
+    c.in-Err-look_back.ensures.told c.in-Err-look_back.ensures.counted c.tell.ensures.ending c.tell.ensures.added
 
 pub returns-in-Err-clause-gone : goal.returns-in-Err-clause-gone
 returns-in-Err-clause-gone g c = IsStretch-cut c.turn.ensures c.in-Err.ensures.stuck cut_short

@@ -26,7 +26,8 @@ undos-preserved g c =
     let grows = grown c.in-Done.ensures.asked in
     let less = closed_by undo_closes c.in-Done.ensures.asked in
     record {
-      so_far = loop_next (replicate (c.args.count - (c.undos._done + 1)) question) (replicate-next question c.args.count c.undos._done c.undos-test.true) so_far.so_far (IsStretch-build (g.G.Gate.passes c.args.gate.now) (g.G.Gate.stops c.args.gate.now) so_far.build c.in-Done.ensures.asked);
+      so_far = loop_next (replicate (c.args.count - (c.undos._done + 1)) question) (replicate-next question c.args.count c.undos._done c.undos-test.true) so_far.so_far
+          (IsStretch-build (g.G.Gate.passes c.args.gate.now) (g.G.Gate.stops c.args.gate.now) so_far.build c.in-Done.ensures.asked);
       loan = cc;
       lines = omega (arith, grows.0, so_far.lines);
       turns = omega (arith, grows.1, so_far.turns);
@@ -38,7 +39,8 @@ undos-preserved g c =
 pub returns-in_default-clause-undone : goal.returns-in_default-clause-undone
 returns-in_default-clause-undone g c =
     let question : Asked × Question = (c.args.asked.now, Undo) in
-    loop_stop (replicate (c.args.count - (c.undos._done + 1)) question) (replicate-next question c.args.count c.undos._done c.undos-test.true) c.in_default.not-Done c.undos.invariant.so_far (IsStretch-build (g.G.Gate.passes c.args.gate.now) (g.G.Gate.stops c.args.gate.now) c.undos.invariant.build c.ask.ensures.asked)
+    loop_stop (replicate (c.args.count - (c.undos._done + 1)) question) (replicate-next question c.args.count c.undos._done c.undos-test.true)
+    c.in_default.not-Done c.undos.invariant.so_far (IsStretch-build (g.G.Gate.passes c.args.gate.now) (g.G.Gate.stops c.args.gate.now) c.undos.invariant.build c.ask.ensures.asked)
 
 pub returns-clause-undone : goal.returns-clause-undone
 returns-clause-undone g c =

@@ -8,7 +8,9 @@ use Rattle.workers.proofs.step.undo_each.Given as goal
 
 abbrev pub invariant-undos : goal.invariant-undos
 invariant-undos g l = record {
-  so_far : IsStretch (g.T.Teller.tells l.fn.teller) (g.T.Teller.tells l.teller) (g.G.Gate.passes l.gate l.fn.report.build) (g.G.Gate.stops l.gate l.fn.report.build) l.fn.standing l.standing l.fn.report.lines.items l.report.lines.items Done (Leads (replicate (l.count - l._done) (l.asked, Undo)) (replicate l.count (l.asked, Undo)));
+  so_far : IsStretch (g.T.Teller.tells l.fn.teller) (g.T.Teller.tells l.teller) (g.G.Gate.passes l.gate l.fn.report.build)
+      (g.G.Gate.stops l.gate l.fn.report.build) l.fn.standing l.standing l.fn.report.lines.items l.report.lines.items Done
+      (Leads (replicate (l.count - l._done) (l.asked, Undo)) (replicate l.count (l.asked, Undo)));
   loan : g.T.Teller.loan l.teller ≡ g.T.Teller.loan l.fn.teller;
   lines : vec_len l.report.lines ≤ vec_len l.fn.report.lines + l._done;
   turns : l.standing.turn ≤ l.fn.standing.turn + l._done;

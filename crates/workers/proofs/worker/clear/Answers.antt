@@ -24,7 +24,8 @@ undo_each-requires-clause-few g c = omega (arith, c.exit_each.ensures.no_more, c
 pub returns-in-Done-clause-cleared : goal.returns-in-Done-clause-cleared
 returns-in-Done-clause-cleared g c =
     let runs = c.as_slice.ensures.value ∙ c.numbers_again-numbers.ensures ∙ c.running.ensures.value in
-    cleared c.args.standing.now c.as_slice.result.now c.journal-open.result runs c.journal-open.ensures c.in-Done.ensures.exited (IsStretch-build (g.G.Gate.passes c.args.gate.now) (g.G.Gate.stops c.args.gate.now) c.exit_each.ensures.same.0 c.undo_each.ensures.undone)
+    cleared c.args.standing.now c.as_slice.result.now c.journal-open.result runs c.journal-open.ensures c.in-Done.ensures.exited
+    (IsStretch-build (g.G.Gate.passes c.args.gate.now) (g.G.Gate.stops c.args.gate.now) c.exit_each.ensures.same.0 c.undo_each.ensures.undone)
 
 pub returns-in_default-clause-cleared : goal.returns-in_default-clause-cleared
 returns-in_default-clause-cleared g c =

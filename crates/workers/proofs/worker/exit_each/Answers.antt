@@ -25,7 +25,8 @@ exits-preserved g c =
     let grows = grown c.in-Done.ensures.asked in
     let less = closed_by (exit_closes c.new-number.result) c.in-Done.ensures.asked in
     record {
-      so_far = loop_next (map exit_of (drop (at + 1) numbers)) (exits-next numbers c.new-number.result at c.exits-test.true c.new-number.ensures) so_far.so_far (IsStretch-build (g.G.Gate.passes c.args.gate.now) (g.G.Gate.stops c.args.gate.now) so_far.build c.in-Done.ensures.asked);
+      so_far = loop_next (map exit_of (drop (at + 1) numbers)) (exits-next numbers c.new-number.result at c.exits-test.true c.new-number.ensures) so_far.so_far
+          (IsStretch-build (g.G.Gate.passes c.args.gate.now) (g.G.Gate.stops c.args.gate.now) so_far.build c.in-Done.ensures.asked);
       loan = cc;
       lines = omega (arith, grows.0, so_far.lines);
       turns = omega (arith, grows.1, so_far.turns);
@@ -38,7 +39,8 @@ pub returns-in_default-clause-exited : goal.returns-in_default-clause-exited
 returns-in_default-clause-exited g c =
     let numbers = c.args.numbers.now in
     let at = c.exits.number-index in
-    loop_stop (map exit_of (drop (at + 1) numbers)) (exits-next numbers c.new-number.result at c.exits-test.true c.new-number.ensures) c.in_default.not-Done c.exits.invariant.so_far (IsStretch-build (g.G.Gate.passes c.args.gate.now) (g.G.Gate.stops c.args.gate.now) c.exits.invariant.build c.ask.ensures.asked)
+    loop_stop (map exit_of (drop (at + 1) numbers)) (exits-next numbers c.new-number.result at c.exits-test.true c.new-number.ensures) c.in_default.not-Done
+    c.exits.invariant.so_far (IsStretch-build (g.G.Gate.passes c.args.gate.now) (g.G.Gate.stops c.args.gate.now) c.exits.invariant.build c.ask.ensures.asked)
 
 pub returns-in_default-clause-no_more : goal.returns-in_default-clause-no_more
 returns-in_default-clause-no_more g c =

@@ -47,7 +47,8 @@ steps-preserved g c =
     let taken = c.in-Done.ensures.taken in
     let grows = grown_step place step taken in
     record {
-      so_far = steps_next place step (drop place steps) (drop (place + 1) steps) steps (drop-step steps step place c.steps-test.true c.index-steps-place.is) so_far.so_far (IsStretch-build (g.G.Gate.passes c.args.gate.now) (g.G.Gate.stops c.args.gate.now) so_far.build taken);
+      so_far = steps_next place step (drop place steps) (drop (place + 1) steps) steps (drop-step steps step place c.steps-test.true c.index-steps-place.is) so_far.so_far
+          (IsStretch-build (g.G.Gate.passes c.args.gate.now) (g.G.Gate.stops c.args.gate.now) so_far.build taken);
       loan = cc;
       left = omega (arith, grows.0, so_far.left);
       lines = omega (arith, grows.1, so_far.lines);

@@ -7,7 +7,8 @@ use Rattle.workers.proofs.worker.take_steps.Given as goal
 
 abbrev pub invariant-steps : goal.invariant-steps
 invariant-steps g l = record {
-  so_far : IsStretch (g.T.Teller.tells l.fn.teller) (g.T.Teller.tells l.teller) (g.G.Gate.passes l.gate l.fn.report.build) (g.G.Gate.stops l.gate l.fn.report.build) l.fn.standing l.standing l.fn.report.lines.items l.report.lines.items Done (LeadsOn l.place l.standing (drop l.place l.steps) l.fn.standing l.steps);
+  so_far : IsStretch (g.T.Teller.tells l.fn.teller) (g.T.Teller.tells l.teller) (g.G.Gate.passes l.gate l.fn.report.build)
+      (g.G.Gate.stops l.gate l.fn.report.build) l.fn.standing l.standing l.fn.report.lines.items l.report.lines.items Done (LeadsOn l.place l.standing (drop l.place l.steps) l.fn.standing l.steps);
   loan : g.T.Teller.loan l.teller ≡ g.T.Teller.loan l.fn.teller;
   left : left_to_clear l.standing ≤ l.place;
   lines : vec_len l.report.lines + left_to_clear l.standing ≤ 2 * l.place;
