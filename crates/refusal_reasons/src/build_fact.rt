@@ -1,7 +1,5 @@
 //! What is asked of a build, before the store or the monitor is.
-use crate::words::build_words;
 use granule_addr::Gran;
-use std::fmt;
 
 /// What refusals 1 to 6 ask.
 #[derive(Clone, Copy)]
@@ -18,15 +16,4 @@ pub enum BuildFact {
     Realm(Option<Gran>),
     /// It has none.
     NoRealm(Option<Gran>),
-}
-
-impl fmt::Display for BuildFact {
-    ghost use Rattle.std.specs.Prelude.{Some};
-    ghost use Rattle.refusal_reasons.specs.Words.{build_words};
-
-    ghost output = { λ fact. Some (build_words fact) };
-
-    fn fmt<W: fmt::Write>(&self, f: &mut fmt::Formatter<W>) -> fmt::Result {
-        fmt::Display::fmt(&build_words(*self), f)
-    }
 }

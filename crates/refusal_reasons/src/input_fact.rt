@@ -1,7 +1,5 @@
 //! What the input checks of pages and of IPAs ask. RMM 1.0, RMI command conditions.
-use crate::words::input_words;
 use realm_model::GranuleState;
-use std::fmt;
 
 /// What is asked of pages and of IPAs.
 #[derive(Clone, Copy)]
@@ -18,15 +16,4 @@ pub enum InputFact {
     Count(u16),
     /// From the IPA granule on, so many pages lie in one table.
     OneTable(u32, u16),
-}
-
-impl fmt::Display for InputFact {
-    ghost use Rattle.std.specs.Prelude.{Some};
-    ghost use Rattle.refusal_reasons.specs.Words.{input_words};
-
-    ghost output = { λ fact. Some (input_words fact) };
-
-    fn fmt<W: fmt::Write>(&self, f: &mut fmt::Formatter<W>) -> fmt::Result {
-        fmt::Display::fmt(&input_words(*self), f)
-    }
 }

@@ -36,7 +36,6 @@ pub use explaining::explain_turns;
 pub use input_fact::InputFact;
 pub use lines::push_looks;
 pub use look::{Fact, Look};
-pub use names::{EntryName, RealmName, RecName, StateName};
 pub use of_step::step_looks;
 pub use realm_fact::RealmFact;
 pub use rec_fact::RecFact;

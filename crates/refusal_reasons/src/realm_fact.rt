@@ -1,7 +1,5 @@
 //! What is asked of a realm that is to be made, and of one that is there. RMM 1.0, RMI_REALM_CREATE, Realm attributes.
-use crate::words::realm_words;
 use realm_model::RealmState;
-use std::fmt;
 
 /// What is asked of a realm.
 #[derive(Clone, Copy)]
@@ -16,15 +14,4 @@ pub enum RealmFact {
     Apart,
     /// The realm is in the state that is wanted, and it is in that which was found.
     State(RealmState, Option<RealmState>),
-}
-
-impl fmt::Display for RealmFact {
-    ghost use Rattle.std.specs.Prelude.{Some};
-    ghost use Rattle.refusal_reasons.specs.Words.{realm_words};
-
-    ghost output = { λ fact. Some (realm_words fact) };
-
-    fn fmt<W: fmt::Write>(&self, f: &mut fmt::Formatter<W>) -> fmt::Result {
-        fmt::Display::fmt(&realm_words(*self), f)
-    }
 }

@@ -1,8 +1,6 @@
 //! What is asked of a REC that is to be made, and of one that is there. RMM 1.0, RMI_REC_CREATE, REC attributes.
-use crate::words::rec_words;
 use granule_addr::RecNo;
 use realm_model::RecState;
-use std::fmt;
 
 /// What is asked of a REC.
 #[derive(Clone, Copy)]
@@ -15,15 +13,4 @@ pub enum RecFact {
     There(RecNo),
     /// The REC is in the state that is wanted, and it is in that which was found.
     State(RecNo, RecState, Option<RecState>),
-}
-
-impl fmt::Display for RecFact {
-    ghost use Rattle.std.specs.Prelude.{Some};
-    ghost use Rattle.refusal_reasons.specs.Words.{rec_words};
-
-    ghost output = { λ fact. Some (rec_words fact) };
-
-    fn fmt<W: fmt::Write>(&self, f: &mut fmt::Formatter<W>) -> fmt::Result {
-        fmt::Display::fmt(&rec_words(self), f)
-    }
 }

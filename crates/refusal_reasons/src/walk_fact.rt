@@ -1,8 +1,6 @@
 //! What is asked of the translation of a realm. RMM 1.0, RTT walk, RTT entry.
-use crate::words::walk_words;
 use granule_addr::Gran;
 use realm_model::EntryState;
-use std::fmt;
 
 /// What is asked of where a walk ends.
 #[derive(Clone, Copy)]
@@ -17,15 +15,4 @@ pub enum WalkFact {
     Leads(Option<Gran>),
     /// From the IPA granule on, so many entries of level 3 are UNASSIGNED.
     Free(u32, u16),
-}
-
-impl fmt::Display for WalkFact {
-    ghost use Rattle.std.specs.Prelude.{Some};
-    ghost use Rattle.refusal_reasons.specs.Words.{walk_words};
-
-    ghost output = { λ fact. Some (walk_words fact) };
-
-    fn fmt<W: fmt::Write>(&self, f: &mut fmt::Formatter<W>) -> fmt::Result {
-        fmt::Display::fmt(&walk_words(*self), f)
-    }
 }

@@ -16,7 +16,7 @@ use crate::sentence::{
 use crate::undo_fact::UndoFact;
 use crate::walk_fact::WalkFact;
 
-pub(crate) fn build_words(fact: BuildFact) -> Sentence
+fn build_words(fact: BuildFact) -> Sentence
     ensures { sentence_text result ≡ build_words fact }
 {
     match fact {
@@ -46,7 +46,7 @@ pub(crate) fn build_words(fact: BuildFact) -> Sentence
     }
 }
 
-pub(crate) fn room_words(fact: RoomFact) -> Sentence
+fn room_words(fact: RoomFact) -> Sentence
     ensures { sentence_text result ≡ room_words fact }
 {
     match fact {
@@ -72,7 +72,7 @@ pub(crate) fn room_words(fact: RoomFact) -> Sentence
     }
 }
 
-pub(crate) fn undo_words(fact: UndoFact) -> Sentence
+fn undo_words(fact: UndoFact) -> Sentence
     ensures { sentence_text result ≡ undo_words fact }
 {
     match fact {
@@ -89,7 +89,7 @@ pub(crate) fn undo_words(fact: UndoFact) -> Sentence
     }
 }
 
-pub(crate) fn input_words(fact: InputFact) -> Sentence
+fn input_words(fact: InputFact) -> Sentence
     ensures { sentence_text result ≡ input_words fact }
 {
     match fact {
@@ -136,7 +136,7 @@ pub(crate) fn input_words(fact: InputFact) -> Sentence
     }
 }
 
-pub(crate) fn realm_words(fact: RealmFact) -> Sentence
+fn realm_words(fact: RealmFact) -> Sentence
     ensures { sentence_text result ≡ realm_words fact }
 {
     match fact {
@@ -151,7 +151,7 @@ pub(crate) fn realm_words(fact: RealmFact) -> Sentence
     }
 }
 
-pub(crate) fn rec_words(fact: &RecFact) -> Sentence
+fn rec_words(fact: &RecFact) -> Sentence
     ensures { sentence_text result ≡ rec_words fact.now }
 {
     match *fact {
@@ -175,7 +175,7 @@ pub(crate) fn rec_words(fact: &RecFact) -> Sentence
     }
 }
 
-pub(crate) fn walk_words(fact: WalkFact) -> Sentence
+fn walk_words(fact: WalkFact) -> Sentence
     ensures { sentence_text result ≡ walk_words fact }
 {
     match fact {
