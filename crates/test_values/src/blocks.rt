@@ -3,7 +3,7 @@ ghost use Rattle.std.specs.Prelude.{◌≡◌, IsTrue};
 ghost use Rattle.page_arena.specs.Block.{IsTakenBlock};
 
 use crate::names::{granule, order};
-use crate::wanted::{equal, holds};
+use crate::wanted::{built, equal, holds};
 use buddy::BuddyArena;
 use granule_addr::{Gran, Order};
 use page_arena::{PageStore, PlainStore};
@@ -60,9 +60,7 @@ fn takes_the_page<S: PageStore>(rt: &impl Abort, store: &mut S, page: Gran, one:
 // Blocks of 13 pages: the last page of the block at 8 makes two halves of it, and they merge when it comes back.
 #[test]
 fn thirteen_pages(rt: HostRuntime) {
-    let Ok(mut arena) = BuddyArena::build(rt.alloc(), 13) else {
-        panic!(rt; "there is no arena");
-    };
+    let mut arena = built(&rt, BuddyArena::build(rt.alloc(), 13));
     let (nine, one) = (granule(9), order(0));
     has_blocks(&rt, &arena, &[(3, 0), (2, 8), (0, 12)]);
     takes_the_page(&rt, &mut arena, nine, one);
@@ -76,9 +74,7 @@ fn thirteen_pages(rt: HostRuntime) {
 // The same calls on a store that has no lists.
 #[test]
 fn thirteen_pages_of_a_plain_store(rt: HostRuntime) {
-    let Ok(mut store) = PlainStore::build(rt.alloc(), 13) else {
-        panic!(rt; "there is no store");
-    };
+    let mut store = built(&rt, PlainStore::build(rt.alloc(), 13));
     let (nine, one) = (granule(9), order(0));
     takes_the_page(&rt, &mut store, nine, one);
     store.give(nine, one);
@@ -101,12 +97,6 @@ fn are_named<S: PageStore>(rt: &impl Abort, store: &mut S) {
 
 #[test]
 fn four_pages(rt: HostRuntime) {
-    match BuddyArena::build(rt.alloc(), 4) {
-        Ok(mut arena) => are_named(&rt, &mut arena),
-        Err(_) => panic!(rt; "there is no arena"),
-    }
-    match PlainStore::build(rt.alloc(), 4) {
-        Ok(mut store) => are_named(&rt, &mut store),
-        Err(_) => panic!(rt; "there is no store"),
-    }
+    are_named(&rt, &mut built(&rt, BuddyArena::build(rt.alloc(), 4)));
+    are_named(&rt, &mut built(&rt, PlainStore::build(rt.alloc(), 4)));
 }

@@ -2,7 +2,7 @@
 ghost use Rattle.std.specs.Prelude.{◌<◌};
 
 use crate::names::{granule, offset, order};
-use crate::wanted::equal;
+use crate::wanted::{built, equal};
 use buddy::BuddyArena;
 use granule_addr::{Gran, PageOff};
 use page_arena::{PageStore, PlainStore};
@@ -85,12 +85,6 @@ fn writes<S: PageStore + Drop>(rt: &impl Abort, store: S) {
 
 #[test]
 fn of_both_stores(rt: HostRuntime) {
-    match BuddyArena::build(rt.alloc(), 4) {
-        Ok(arena) => writes(&rt, arena),
-        Err(_) => panic!(rt; "there is no arena"),
-    }
-    match PlainStore::build(rt.alloc(), 4) {
-        Ok(store) => writes(&rt, store),
-        Err(_) => panic!(rt; "there is no store"),
-    }
+    writes(&rt, built(&rt, BuddyArena::build(rt.alloc(), 4)));
+    writes(&rt, built(&rt, PlainStore::build(rt.alloc(), 4)));
 }

@@ -1,4 +1,5 @@
 //! Numbers of a machine, and the words of results and of table entries, by rows that are worked out by hand.
+use crate::names::granule;
 use crate::wanted::{equal, holds};
 use granule_addr::{
     BuildId, Gran, IpaGran, IpaWidth, Level, Order, PageOff, Vmid, align_down, buddy_of, index_at,
@@ -7,11 +8,6 @@ use granule_addr::{
 use realm_model::{Ripas, Rmi, Status};
 use rtt::Entry;
 use std::process::Abort;
-
-// The granule of that number, modulo 4096.
-fn granule(number: u16) -> Gran {
-    Gran::new(number % 4096, 4096).unwrap()
-}
 
 fn ipa(rt: &impl Abort, number: u32, width: u8) -> IpaGran {
     IpaGran::new(number, width).expect(rt, "an IPA granule")

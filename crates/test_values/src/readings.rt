@@ -1,6 +1,7 @@
 //! What is read of granules, of a realm with its REC and its rows, and of what a build has open.
 use crate::calls;
 use crate::hosts::{arena, build, plain};
+use crate::names::granule;
 use crate::wanted::{equal, holds};
 use realm_host::{
     Act, Cmd, Entry, Gran, GranuleState, GranuleView, Host, IpaGran, Kind, Level, Order, PageStore,
@@ -10,10 +11,6 @@ use std::process::Abort;
 
 // The first IPA granule of the second row of level 1.
 const SECOND: u32 = 262_144;
-
-fn granule(number: u16) -> Gran {
-    Gran::new(number % 4096, 4096).unwrap()
-}
 
 // A granule is in that state, of that build, and of the realm whose RD is granule 0.
 fn is_read<S: PageStore>(
@@ -104,8 +101,8 @@ fn row_is_read<S: PageStore>(
 }
 
 // The row of a level at that IPA granule.
-fn row(level: Level, first: u32, entry: Entry) -> RowView {
-    let first = IpaGran::new(first % 134_217_728, 39).unwrap();
+fn row(rt: &impl Abort, level: Level, first: u32, entry: Entry) -> RowView {
+    let first = IpaGran::new(first, 39).expect(rt, "an IPA granule");
     RowView {
         level,
         first,
@@ -117,10 +114,10 @@ fn row(level: Level, first: u32, entry: Entry) -> RowView {
 fn rows_are_read<S: PageStore>(rt: &impl Abort, host: &Host<S>) {
     let (start, last) = (Level::start(), Level::last());
     let empty = Entry::unassigned(Ripas::Empty);
-    row_is_read(rt, host, 7, last, row(start, 0, empty), SECOND);
-    let above = row(start, SECOND, Entry::table(granule(2)));
+    row_is_read(rt, host, 7, last, row(rt, start, 0, empty), SECOND);
+    let above = row(rt, start, SECOND, Entry::table(granule(2)));
     row_is_read(rt, host, SECOND + 5, start, above, 524_288);
-    let third = row(start.below(), SECOND + 1024, empty);
+    let third = row(rt, start.below(), SECOND + 1024, empty);
     row_is_read(rt, host, SECOND + 1029, last, third, SECOND + 1536);
     let outside = host.row(build(0), 134_217_728, last);
     holds(rt, "outside of 39 bits", outside.is_none());
@@ -138,7 +135,12 @@ fn a_walk_is_read<S: PageStore + Drop>(rt: &impl Abort, mut host: Host<S>) {
     calls::done(rt, &mut host, 0, table);
     rows_are_read(rt, &host);
     calls::undone(rt, &mut host, 0, Kind::Rtt, 5);
-    let gone = row(Level::start(), SECOND, Entry::unassigned(Ripas::Destroyed));
+    let gone = row(
+        rt,
+        Level::start(),
+        SECOND,
+        Entry::unassigned(Ripas::Destroyed),
+    );
     row_is_read(rt, &host, SECOND + 1029, Level::last(), gone, 524_288);
 }
 

@@ -1,5 +1,5 @@
 //! How many pages a store can have.
-use crate::wanted::{equal, holds};
+use crate::wanted::{built, equal, holds};
 use buddy::BuddyArena;
 use page_arena::{BuildError, PageStore, PlainStore};
 use std::marker::Send;
@@ -14,8 +14,8 @@ fn has_bad_size<S: Drop>(rt: &impl Abort, built: Result<S, BuildError>) {
 }
 
 // There is a store of so many pages, and all are free.
-fn has_pages<S: PageStore + Drop>(rt: &impl Abort, built: Result<S, BuildError>, pages: u16) {
-    let store = built.expect(rt, "a store");
+fn has_pages<S: PageStore + Drop>(rt: &impl Abort, store: Result<S, BuildError>, pages: u16) {
+    let store = built(rt, store);
     equal(rt, "pages", store.pages() as u64, pages as u64);
     equal(rt, "free pages", store.free_count() as u64, pages as u64);
 }

@@ -1,6 +1,6 @@
 //! How many orders a call of the arena looks at.
 use crate::names::order;
-use crate::wanted::{equal, holds};
+use crate::wanted::{built, equal, holds};
 use buddy::BuddyArena;
 use page_arena::PageStore;
 use std::process::Abort;
@@ -24,9 +24,7 @@ fn comes_and_goes(rt: &impl Abort, arena: &mut BuddyArena, count: u64) {
 
 #[test]
 fn of_512_pages(rt: HostRuntime) {
-    let Ok(mut arena) = BuddyArena::build(rt.alloc(), 512) else {
-        panic!(rt; "there is no arena");
-    };
+    let mut arena = built(&rt, BuddyArena::build(rt.alloc(), 512));
     visited(&rt, &arena, 0);
     comes_and_goes(&rt, &mut arena, 10);
     holds(&rt, "all pages", arena.take(order(9)).is_some());
@@ -37,8 +35,6 @@ fn of_512_pages(rt: HostRuntime) {
 
 #[test]
 fn of_one_page(rt: HostRuntime) {
-    let Ok(mut arena) = BuddyArena::build(rt.alloc(), 1) else {
-        panic!(rt; "there is no arena");
-    };
+    let mut arena = built(&rt, BuddyArena::build(rt.alloc(), 1));
     comes_and_goes(&rt, &mut arena, 1);
 }

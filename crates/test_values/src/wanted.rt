@@ -2,6 +2,7 @@
 //!
 //! A test is proved before it runs, and each comparison in its body branches: written out there, a row of them costs far
 //! more than a row of these calls.
+use page_arena::BuildError;
 use std::process::Abort;
 
 /// What is seen is what is wanted.
@@ -12,4 +13,12 @@ pub(crate) fn equal(rt: &impl Abort, what: &str, seen: u64, want: u64) {
 /// It holds: 1, and not 0.
 pub(crate) fn holds(rt: &impl Abort, what: &str, is_so: bool) {
     equal(rt, what, u64::from(is_so), 1);
+}
+
+/// The store that was built.
+pub(crate) fn built<S>(rt: &impl Abort, store: Result<S, BuildError>) -> S {
+    match store {
+        Ok(store) => store,
+        Err(_) => panic!(rt; "there is no store"),
+    }
 }
