@@ -42,7 +42,8 @@ module _ (opened : List Act) (i : ℕ) (act : Act) (inside : i < length opened) 
       ap (λ pages. granule_of_number pages left) left_pages
       ∙ ap (option_and_then _) (slice_get-append_left (pages_held act) (flat_map pages_held (drop (i + 1) opened)) left here)
 
-  pub granule_later : (left less : ℕ) → length (pages_held act) + less ≡ left → granule_of_number (flat_map pages_held (drop i opened)) left ≡ granule_of_number (flat_map pages_held (drop (i + 1) opened)) less
+  pub granule_later : (left less : ℕ) → length (pages_held act) + less ≡ left
+      → granule_of_number (flat_map pages_held (drop i opened)) left ≡ granule_of_number (flat_map pages_held (drop (i + 1) opened)) less
   granule_later left less e =
       ap (λ pages. granule_of_number pages left) left_pages
       ∙ ap (option_and_then _) (slice_get-append_right (pages_held act) (flat_map pages_held (drop (i + 1) opened)) left less e)

@@ -26,7 +26,8 @@ abbrev pub FitsHere : List Step → List Act → Option Event → Line → Type 
 FitsHere steps opened next line = IsSomeAnd (question_at steps line.asked) (λ asked. AnswerFits (flat_map pages_held opened) opened next asked line.answer)
 
 -- so with the same acts in a slice
-pub fits_here_of : (steps : List Step) (acts opened : List Act) (next : Option Event) (line : Line) (r : Bool) → acts ≡ opened → IsTrue r ↔ FitsHere steps acts next line → IsTrue r ↔ FitsHere steps opened next line
+pub fits_here_of : (steps : List Step) (acts opened : List Act) (next : Option Event) (line : Line) (r : Bool) → acts ≡ opened → IsTrue r
+    ↔ FitsHere steps acts next line → IsTrue r ↔ FitsHere steps opened next line
 fits_here_of steps acts opened next line r same says = subst (λ (xs : List Act). IsTrue r ↔ FitsHere steps xs next line) same says
 
 -- So many events of the build are followed: its next one is at this place of the history, and this is open.
@@ -122,7 +123,8 @@ module _ {build : ℕ} {history : List Event} {count next : ℕ} {opened : List 
 -- ---- lines
 
 -- an answer that tells an event has one
-answer_has : (pages : List ℕ) (opened : List Act) (next : Option Event) (asked : Question) (answer : Answer) → AnswerFits pages opened next asked answer → is_done answer ≡ true → (event : Event) × (next ≡ Some event)
+answer_has : (pages : List ℕ) (opened : List Act) (next : Option Event) (asked : Question) (answer : Answer) → AnswerFits pages opened next asked answer
+    → is_done answer ≡ true → (event : Event) × (next ≡ Some event)
 answer_has pages opened (Some event) asked answer fits done = (event, refl)
 answer_has pages opened None (question.Do cmd) (Replied reply) fits done = absurd fits
 answer_has pages opened None (question.Do cmd) (Undone undone) fits done = absurd fits
@@ -134,11 +136,13 @@ answer_has pages opened None asked (Marked length) fits done = cc
 answer_has pages opened None asked Nothing fits done = cc
 answer_has pages opened None asked (Refused refusal) fits done = cc
 
-asked_has : (pages : List ℕ) (opened : List Act) (next : Option Event) (asked : Option Question) (answer : Answer) → IsSomeAnd asked (λ one. AnswerFits pages opened next one answer) → is_done answer ≡ true → (event : Event) × (next ≡ Some event)
+asked_has : (pages : List ℕ) (opened : List Act) (next : Option Event) (asked : Option Question) (answer : Answer)
+    → IsSomeAnd asked (λ one. AnswerFits pages opened next one answer) → is_done answer ≡ true → (event : Event) × (next ≡ Some event)
 asked_has pages opened next None answer fits done = absurd fits
 asked_has pages opened next (Some asked) answer fits done = answer_has pages opened next asked answer fits done
 
-pub next_there : (steps : List Step) (opened : List Act) (history : List Event) (next : ℕ) (line : Line) → FitsHere steps opened (slice_get history next) line → is_done line.answer ≡ true → next < length history
+pub next_there : (steps : List Step) (opened : List Act) (history : List Event) (next : ℕ) (line : Line) → FitsHere steps opened (slice_get history next) line
+    → is_done line.answer ≡ true → next < length history
 next_there steps opened history next line fits done =
     let has = asked_has (flat_map pages_held opened) opened (slice_get history next) (question_at steps line.asked) line.answer fits done in
     slice_get_within history next has.0 has.1

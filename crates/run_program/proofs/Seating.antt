@@ -22,7 +22,8 @@ module _ (count : ℕ) (taken left : List SeatView) (seat : SeatView) (are : tak
   is_there = let long = longer in let same = ap length are ∙ length-map-range_with_len new_seat 0 count in omega arith
 
   pub is_next : seat ≡ new_seat (length taken)
-  is_next = sym (middle taken left seat seat) ∙ ap (λ (l : List SeatView). get_or l (length taken) seat) are ∙ get_or-map-range_with_len new_seat 0 count (length taken) (length taken) seat is_there (zero-add (length taken))
+  is_next = sym (middle taken left seat seat) ∙ ap (λ (l : List SeatView). get_or l (length taken) seat) are
+      ∙ get_or-map-range_with_len new_seat 0 count (length taken) (length taken) seat is_there (zero-add (length taken))
 
 -- a worker more
 pub one_more : (plan : Plan) (count : ℕ) (workers after : List WorkerView) (worker : WorkerView) → workers ≡ map (new_worker plan) (range_with_len 0 count)

@@ -47,6 +47,31 @@ fn work_all<
     Ok(ends)
 }
 
+// The workers of the plan's builds run in new seats of a shared host, which is closed then. The text of the run.
+fn run_shared<
+    R: Threads + Wait + Sync,
+    S: PageStore + Drop + Send,
+    G: Gate + Sync,
+    L: Ledgers + Send + Sync,
+>(
+    rt: &R,
+    alloc: Global,
+    plan: &Plan,
+    shared: Shared<S, L>,
+    seats: Vec<Seat<L>>,
+    gate: &G,
+) -> Result<String, RunFault>
+    requires { seats.items ≡ map new_seat (range_with_len 0 (vec_len plan.now.builds)) }
+    ensures ok { IfOk result (λ text. IsWorkersText (plan_view plan.now) (G.passes gate.now) (G.stops gate.now) L.opened (string_bytes text)) }
+    ensures err { IfErr result (IsWithoutWorkersText (plan_view plan.now) (G.passes gate.now) (G.stops gate.now) L.opened) }
+{
+    let Ends { seats, reports } = work_all(rt, alloc, plan, &shared, seats, gate)?;
+    let Ok(host) = shared.close(seats) else {
+        return Err(RunFault::Mismatch);
+    };
+    audited_text_of(alloc, plan, reports.as_slice(), &host)
+}
+
 // As `run_text`, with ledgers of these names.
 fn run_with<
     R: Threads + Wait + Sync,
@@ -72,11 +97,7 @@ fn run_with<
         Ok(started) => started,
         Err((error, _blanks, _host)) => return Err(error.into()),
     };
-    let Ends { seats, reports } = work_all(rt, alloc, plan, &shared, seats, gate)?;
-    let Ok(host) = shared.close(seats) else {
-        return Err(RunFault::Mismatch);
-    };
-    audited_text_of(alloc, plan, reports.as_slice(), &host)
+    run_shared(rt, alloc, plan, shared, seats, gate)
 }
 
 /// Runs each build of a plan by a worker in a thread of its own, on a host that has no history, and gives the text of the

@@ -35,7 +35,8 @@ next_of-next-requires-then-is_done c =
     let says =
     fits_here_of c.args.steps.now c.as_slice.result.now c.loop-line.opened.items (slice_get c.args.history.now c.loop-line.next) c.line-item.result c.line_fits.result
     c.as_slice.ensures.value c.line_fits.ensures in
-    let there = next_there c.args.steps.now c.loop-line.opened.items c.args.history.now c.loop-line.next c.line-item.result (says.0 c.if-not-line_fits.false) (sym c.is_done.ensures ∙ c.if-is_done.true) in
+    let there = next_there c.args.steps.now c.loop-line.opened.items c.args.history.now c.loop-line.next c.line-item.result (says.0 c.if-not-line_fits.false)
+    (sym c.is_done.ensures ∙ c.if-is_done.true) in
     omega arith
 
 pub loop-line-preserved : goal.loop-line-preserved

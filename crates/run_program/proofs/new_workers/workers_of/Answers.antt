@@ -31,7 +31,8 @@ returns g c =
     let at = c.loop-seat in
     let all = taken_all at.yielded _ _ _ at.invariant.0 at.invariant.1 c.in-None.ensures.steps.0 ∙ c.into_iter-seat-iterator.ensures.into_iter_gives.0 ∙ c.requires in
     let builds = c.args.plan.now.builds in
-    let count = at.invariant.2 ∙ ap (λ (l : List SeatView). length l) all ∙ length-map (range_with_len 0 (vec_len builds)) new_seat ∙ length-range_with_len 0 (vec_len builds) ∙ builds.ok.0 ∙ sym (length-map builds.items (λ b. b.items)) in
+    let count = at.invariant.2 ∙ ap (λ (l : List SeatView). length l) all ∙ length-map (range_with_len 0 (vec_len builds)) new_seat
+    ∙ length-range_with_len 0 (vec_len builds) ∙ builds.ok.0 ∙ sym (length-map builds.items (λ b. b.items)) in
     at.invariant.3 ∙ ap (λ n. map (new_worker (plan_view c.args.plan.now)) (range_with_len 0 n)) count
 
 pub loop-seat-preserved : goal.loop-seat-preserved

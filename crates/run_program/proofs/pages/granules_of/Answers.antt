@@ -21,7 +21,8 @@ returns-in_err-granule_at-clause-none c =
 
 pub push-requires : goal.push-requires
 push-requires c =
-    let as_many = granules_so_far (granule_of_number (flat_map pages_held c.args.opened.now)) c.as_slice-page-items.result.now c.loop-page.granules.items c.loop-page.page-index (omega arith) c.loop-page.invariant in
+    let as_many = granules_so_far (granule_of_number (flat_map pages_held c.args.opened.now)) c.as_slice-page-items.result.now c.loop-page.granules.items c.loop-page.page-index
+    (omega arith) c.loop-page.invariant in
     let few : length c.loop-page.granules.items < 17 = omega arith in
     (lit< tt, few)
 

@@ -52,7 +52,9 @@ returns-clause-end g c =
     let input = g.R.Read.remaining c.args.input.now.device in
     let old = g.W.Write.contents c.args.output.now.device in
     let new = g.W.Write.contents c.write_whole.new.self.device in
-    printed (IsThreadsText (g.G.Gate.passes c.args.gate.now) (g.G.Gate.stops c.args.gate.now)) (IsWithoutThreadsText (g.G.Gate.passes c.args.gate.now) (g.G.Gate.stops c.args.gate.now)) c.plan_in.new.input.failed input old new (plan_view c.in_ok-plan.plan) (string_bytes c.in_ok-text.text)
+    printed (IsThreadsText (g.G.Gate.passes c.args.gate.now) (g.G.Gate.stops c.args.gate.now))
+    (IsWithoutThreadsText (g.G.Gate.passes c.args.gate.now) (g.G.Gate.stops c.args.gate.now)) c.plan_in.new.input.failed input old new
+    (plan_view c.in_ok-plan.plan) (string_bytes c.in_ok-text.text)
     c.in_ok-plan.ensures.ok c.in_ok-text.ensures.ok (subst (Appends old new) c.as_bytes.ensures.value c.in_ok-write_whole.ensures.ok)
 
 pub returns-in_err-plan-clause-order : goal.returns-in_err-plan-clause-order
