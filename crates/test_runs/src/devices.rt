@@ -1,9 +1,12 @@
 //! Devices in memory that count what is asked of them, and fail at one call.
 ghost use Rattle.std.specs.Prelude.{◌≡◌, false};
 
+use crate::wanted::{equal, holds};
+use realm_program::Fault;
 use std::alloc::Global;
 use std::io;
 use std::io::{Read, Write};
+use std::process::Abort;
 use told_device::Told;
 
 // Errors after which a caller might ask again, in turn.
@@ -109,4 +112,120 @@ pub(crate) fn told_sink(
         fails_to_flush,
     };
     Told::new(sink)
+}
+
+/// The devices of a program: how much a call takes at most, and which call fails.
+#[derive(Clone, Copy)]
+pub(crate) struct Devices<'a> {
+    pub input: &'a [u8],
+    pub most_read: usize,
+    pub read_fails: Option<u64>,
+    pub most_written: usize,
+    pub write_fails: Option<u64>,
+    pub flush_fails: bool,
+}
+
+impl<'a> Devices<'a> {
+    /// Devices that take much in a call, and do not fail.
+    pub(crate) fn working(input: &'a [u8]) -> Devices<'a> {
+        Devices {
+            input,
+            most_read: 1000,
+            read_fails: None,
+            most_written: 1000,
+            write_fails: None,
+            flush_fails: false,
+        }
+    }
+
+    /// Devices of which that read fails. Each of the others gives 25 bytes.
+    pub(crate) fn read_fails(input: &'a [u8], read: usize) -> Devices<'a> {
+        Devices {
+            most_read: 25,
+            read_fails: Some(read as u64),
+            ..Devices::working(input)
+        }
+    }
+
+    /// Devices of which that write fails. Each of the others takes one byte.
+    pub(crate) fn write_fails(input: &'a [u8], write: usize) -> Devices<'a> {
+        Devices {
+            most_read: 25,
+            most_written: 1,
+            write_fails: Some(write as u64),
+            ..Devices::working(input)
+        }
+    }
+
+    pub(crate) fn source(&self) -> Told<Source<'a>>
+        ensures { result.failed ≡ false }
+    {
+        told_source(self.input, self.most_read, self.read_fails)
+    }
+
+    pub(crate) fn sink(&self, alloc: Global) -> Told<Sink>
+        ensures { result.failed ≡ false }
+    {
+        told_sink(alloc, self.most_written, self.write_fails, self.flush_fails)
+    }
+}
+
+/// What has come of a program: how it ended, how much of the input it left, and what it wrote, in how many calls.
+#[derive(Clone, Copy)]
+pub(crate) struct Outcome<'a> {
+    pub end: Result<(), Fault>,
+    pub left: usize,
+    pub text: &'a [u8],
+    pub writes: u64,
+    pub flushes: u64,
+}
+
+impl<'a> Outcome<'a> {
+    /// A text is written whole, in so many writes.
+    pub(crate) fn printed(text: &'a [u8], writes: u64) -> Outcome<'a> {
+        Outcome {
+            end: Ok(()),
+            left: 0,
+            text,
+            writes,
+            flushes: 1,
+        }
+    }
+
+    /// The program ends so, and writes nothing.
+    pub(crate) fn nothing(fault: Fault, left: usize) -> Outcome<'a> {
+        Outcome {
+            end: Err(fault),
+            left,
+            text: b"",
+            writes: 0,
+            flushes: 0,
+        }
+    }
+
+    /// A write fails after these bytes, each of them in a write of its own.
+    pub(crate) fn cut(text: &'a [u8]) -> Outcome<'a> {
+        Outcome {
+            end: Err(Fault::Device),
+            left: 0,
+            text,
+            writes: (text.len() as u64).saturating_add(1),
+            flushes: 0,
+        }
+    }
+
+    /// It is what came of a program.
+    pub(crate) fn came(
+        &self,
+        rt: &impl Abort,
+        end: Result<(), Fault>,
+        input: &Source<'_>,
+        output: &Sink,
+    ) {
+        holds(rt, "the end", end == self.end);
+        equal(rt, "bytes left", input.rest.len() as u64, self.left as u64);
+        holds(rt, "the text", output.has(self.text));
+        equal(rt, "writes", output.writes, self.writes);
+        equal(rt, "flushes", output.flushes, self.flushes);
+    }
 }

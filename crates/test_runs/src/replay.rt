@@ -1,9 +1,10 @@
 //! A plan and the text of its run, over bytes in memory and over devices that fail.
-use crate::devices::{told_sink, told_source};
-use crate::wanted::{equal, holds};
+use crate::devices::{Devices, Outcome};
 use granule_addr::BuildId;
 use realm_plan::PlanFault;
 use realm_program::{Fault, replay};
+use std::alloc::Global;
+use std::process::Abort;
 
 const PLAN: &[u8] = br#"pages = 1
 order = [0, 0, 0, 0]
@@ -19,81 +20,76 @@ const TEXT: &[u8] = b"0 take 0 = ok 0
 free 0
 ";
 
-fn is_device(outcome: Result<(), Fault>) -> bool {
-    matches!(outcome, Err(Fault::Device))
+// The plan in the input is replayed, and this comes of it.
+fn replays(
+    rt: &impl Abort,
+    alloc: Global,
+    devices: &Devices<'_>,
+    erase: Option<BuildId>,
+    want: &Outcome<'_>,
+) {
+    let mut input = devices.source();
+    let mut output = devices.sink(alloc);
+    let end = replay(alloc, &mut input, &mut output, erase);
+    want.came(rt, end, input.device(), output.device());
 }
 
 #[test]
 fn a_page_comes_back_empty(rt: HostRuntime) {
-    let mut input = told_source(PLAN, 1000, None);
-    let mut output = told_sink(rt.alloc(), 1000, None, false);
-    let outcome = replay(rt.alloc(), &mut input, &mut output, None);
-    holds(&rt, "the text is printed", outcome.is_ok());
-    holds(&rt, "all of it", output.device().has(TEXT));
+    let want = Outcome::printed(TEXT, 1);
+    replays(&rt, rt.alloc(), &Devices::working(PLAN), None, &want);
 }
 
 #[test]
 fn the_only_build_is_left_out(rt: HostRuntime) {
-    let mut input = told_source(PLAN, 1000, None);
-    let mut output = told_sink(rt.alloc(), 1000, None, false);
-    let outcome = replay(rt.alloc(), &mut input, &mut output, BuildId::new(0));
-    holds(&rt, "the map is printed", outcome.is_ok());
-    holds(
-        &rt,
-        "nobody leases the page",
-        output.device().has(b"free 1\n"),
-    );
+    let devices = Devices::working(PLAN);
+    let want = Outcome::printed(b"free 1\n", 1);
+    replays(&rt, rt.alloc(), &devices, BuildId::new(0), &want);
 }
 
 #[test]
 fn a_build_that_the_plan_has_not_is_not_left_out(rt: HostRuntime) {
-    let mut input = told_source(PLAN, 1000, None);
-    let mut output = told_sink(rt.alloc(), 1000, None, false);
-    let outcome = replay(rt.alloc(), &mut input, &mut output, BuildId::new(1));
-    let names_no_build = matches!(outcome, Err(Fault::EraseNamesNoBuild));
-    holds(&rt, "there is no such build", names_no_build);
-    equal(&rt, "writes", output.device().writes, 0);
+    let devices = Devices::working(PLAN);
+    let want = Outcome::nothing(Fault::EraseNamesNoBuild, 0);
+    replays(&rt, rt.alloc(), &devices, BuildId::new(1), &want);
 }
 
 #[test]
 fn a_plan_that_is_too_long_is_not_read_to_its_end(rt: HostRuntime) {
     let spaces = vec![in rt.alloc(); b' '; 1_048_600].expect(&rt, "memory");
-    let mut input = told_source(&spaces, 1000, None);
-    let mut output = told_sink(rt.alloc(), 1, None, false);
-    let outcome = replay(rt.alloc(), &mut input, &mut output, None);
-    let is_limit = matches!(outcome, Err(Fault::Plan(PlanFault::Limit)));
-    holds(&rt, "it is too long", is_limit);
-    equal(&rt, "bytes left", input.device().rest.len() as u64, 23);
+    let devices = Devices::working(&spaces);
+    let want = Outcome::nothing(Fault::Plan(PlanFault::Limit), 23);
+    replays(&rt, rt.alloc(), &devices, None, &want);
 }
 
 #[test]
 fn a_read_that_fails_writes_nothing(rt: HostRuntime) {
     for n in 0..5 {
-        let mut input = told_source(PLAN, 25, Some(n));
-        let mut output = told_sink(rt.alloc(), 1, None, false);
-        let outcome = replay(rt.alloc(), &mut input, &mut output, None);
-        holds(&rt, "a read failed", is_device(outcome));
-        equal(&rt, "writes", output.device().writes, 0);
-        equal(&rt, "flushes", output.device().flushes, 0);
+        let devices = Devices::read_fails(PLAN, n);
+        let want = Outcome::nothing(Fault::Device, PLAN.len().saturating_sub(25 * n));
+        replays(&rt, rt.alloc(), &devices, None, &want);
     }
 }
 
 #[test]
 fn a_write_that_fails_leaves_a_prefix_of_the_text(rt: HostRuntime) {
     for n in 0..TEXT.len() {
-        let mut input = told_source(PLAN, 25, None);
-        let mut output = told_sink(rt.alloc(), 1, Some(n as u64), false);
-        let outcome = replay(rt.alloc(), &mut input, &mut output, None);
-        holds(&rt, "a write failed", is_device(outcome));
-        holds(&rt, "a prefix", output.device().has(&TEXT[..n]));
+        let devices = Devices::write_fails(PLAN, n);
+        replays(&rt, rt.alloc(), &devices, None, &Outcome::cut(&TEXT[..n]));
     }
 }
 
 #[test]
 fn a_flush_that_fails_is_told(rt: HostRuntime) {
-    let mut input = told_source(PLAN, 25, None);
-    let mut output = told_sink(rt.alloc(), 10, None, true);
-    let outcome = replay(rt.alloc(), &mut input, &mut output, None);
-    holds(&rt, "the flush failed", is_device(outcome));
-    holds(&rt, "all was written", output.device().has(TEXT));
+    let devices = Devices {
+        most_read: 25,
+        most_written: 10,
+        flush_fails: true,
+        ..Devices::working(PLAN)
+    };
+    let want = Outcome {
+        end: Err(Fault::Device),
+        ..Outcome::printed(TEXT, 11)
+    };
+    replays(&rt, rt.alloc(), &devices, None, &want);
 }

@@ -1,13 +1,19 @@
 //! A plan run in threads, and the text of its run, over bytes in memory, over devices that fail, and at gates.
-use crate::devices::{told_sink, told_source};
+use crate::devices::{Devices, Outcome};
 use crate::gates::{ForBuild0, Together};
-use crate::wanted::{equal, holds};
+use crate::wanted::equal;
 use builders::OpenGate;
 use command_line::Reason;
 use granule_addr::BuildId;
 use realm_plan::PlanFault;
 use realm_program::Fault;
 use run_program::run;
+use std::alloc::Global;
+use std::marker::Sync;
+use std::process::Abort;
+use std::sync::Wait;
+use std::thread::Threads;
+use workers::Gate;
 
 const PLAN: &[u8] = br#"pages = 2
 [[build]]
@@ -28,56 +34,61 @@ free 0
 audit ok
 ";
 
+// The plan in the input is run in threads at that gate, and this comes of it.
+fn runs<R: Threads + Wait + Abort + Sync, G: Gate + Sync>(
+    rt: &R,
+    alloc: Global,
+    gate: &G,
+    devices: &Devices<'_>,
+    want: &Outcome<'_>,
+) {
+    let mut input = devices.source();
+    let mut output = devices.sink(alloc);
+    let end = run(rt, alloc, &mut input, &mut output, gate);
+    want.came(rt, end, input.device(), output.device());
+}
+
 #[test]
 fn each_build_reads_after_both_have_filled(rt: HostRuntime) {
-    let mut input = told_source(PLAN, 1000, None);
-    let mut output = told_sink(rt.alloc(), 1000, None, false);
     let gate = Together::from(&rt);
-    let outcome = run(&rt, rt.alloc(), &mut input, &mut output, &gate);
-    holds(&rt, "the text is printed", outcome.is_ok());
-    holds(&rt, "all of it", output.device().has(TEXT));
+    let want = Outcome::printed(TEXT, 1);
+    runs(&rt, rt.alloc(), &gate, &Devices::working(PLAN), &want);
 }
 
 #[test]
 fn the_lowest_build_that_waits_in_vain_is_told(rt: HostRuntime) {
-    let second = BuildId::new(1).unwrap();
-    let mut input = told_source(PLAN, 1000, None);
-    let mut output = told_sink(rt.alloc(), 1000, None, false);
-    let outcome = run(&rt, rt.alloc(), &mut input, &mut output, &ForBuild0);
-    let fault = outcome.expect_err(&rt, "a fault");
-    holds(&rt, "build 1 waits", fault == Fault::Stuck(second));
+    let fault = Fault::Stuck(BuildId::new(1).unwrap());
     equal(&rt, "the status", fault.status() as u64, 3);
-    equal(&rt, "writes", output.device().writes, 0);
+    let want = Outcome::nothing(fault, 0);
+    runs(&rt, rt.alloc(), &ForBuild0, &Devices::working(PLAN), &want);
 }
 
 #[test]
 fn a_plan_that_is_none_is_told(rt: HostRuntime) {
-    let mut input = told_source(b"pages =", 1000, None);
-    let mut output = told_sink(rt.alloc(), 1000, None, false);
-    let outcome = run(&rt, rt.alloc(), &mut input, &mut output, &OpenGate);
-    let is_syntax = matches!(outcome, Err(Fault::Plan(PlanFault::Syntax)));
-    holds(&rt, "it is no plan", is_syntax);
-    equal(&rt, "writes", output.device().writes, 0);
+    let devices = Devices::working(b"pages =");
+    let want = Outcome::nothing(Fault::Plan(PlanFault::Syntax), 0);
+    runs(&rt, rt.alloc(), &OpenGate, &devices, &want);
 }
 
 #[test]
 fn a_read_that_fails_writes_nothing(rt: HostRuntime) {
     for n in 0..5 {
-        let mut input = told_source(PLAN, 25, Some(n));
-        let mut output = told_sink(rt.alloc(), 1, None, false);
-        let outcome = run(&rt, rt.alloc(), &mut input, &mut output, &OpenGate);
-        holds(&rt, "a read failed", matches!(outcome, Err(Fault::Device)));
-        equal(&rt, "writes", output.device().writes, 0);
+        let devices = Devices::read_fails(PLAN, n);
+        let want = Outcome::nothing(Fault::Device, PLAN.len().saturating_sub(25 * n));
+        runs(&rt, rt.alloc(), &OpenGate, &devices, &want);
     }
 }
 
 #[test]
 fn a_write_that_fails_leaves_a_prefix_of_the_text(rt: HostRuntime) {
     for n in 0..TEXT.len() {
-        let mut input = told_source(PLAN, 25, None);
-        let mut output = told_sink(rt.alloc(), 1, Some(n as u64), false);
-        let outcome = run(&rt, rt.alloc(), &mut input, &mut output, &OpenGate);
-        holds(&rt, "a write failed", matches!(outcome, Err(Fault::Device)));
-        holds(&rt, "a prefix", output.device().has(&TEXT[..n]));
+        let devices = Devices::write_fails(PLAN, n);
+        runs(
+            &rt,
+            rt.alloc(),
+            &OpenGate,
+            &devices,
+            &Outcome::cut(&TEXT[..n]),
+        );
     }
 }

@@ -4,13 +4,15 @@ ghost use Rattle.builders.specs.Names.{AreNamed};
 
 use crate::gates::{ForBuild0, Together};
 use crate::hosts::{booted, closed, started};
+use crate::lines;
+use crate::lines::{replied, step};
 use crate::wanted::{equal, holds, same_lines, same_text};
 use build_commands::Step;
 use builders::{Blanks, Ledgers, OpenGate, Seat, Shared, Worker, run_builds};
 use granule_addr::{BuildId, PageOff};
 use page_arena::PlainStore;
 use plan_runs::map_text;
-use realm_host::{Cmd, Host, Kind, Refusal, Reply, Undone};
+use realm_host::{Cmd, Host, Kind, Refusal, Reply};
 use realm_model::Rmi;
 use std::alloc::Global;
 use std::marker::{Brand, Send, Sync};
@@ -50,30 +52,40 @@ fn plan<const N: usize>(rt: &impl Abort, alloc: Global, steps: [Step; N]) -> Vec
     Vec::from_array(alloc, steps).expect(rt, "memory")
 }
 
-// Build 0 fills a page, build 1 is refused at its third step, and build 2 reads what it filled.
-fn three_plans(rt: &impl Abort, alloc: Global) -> Vec<Vec<Step>> {
-    let fills = plan(rt, alloc, [take(1), fill(0, 1)]);
-    let is_refused = plan(rt, alloc, [take(1), delegate(), delegate(), fill(1, 5)]);
-    let reads = plan(rt, alloc, [take(0), fill(0, 2), peek(4095)]);
-    Vec::from_array(alloc, [fills, is_refused, reads]).expect(rt, "memory")
+// Which builds work side by side, and their plans.
+#[derive(Clone, Copy)]
+enum Plans {
+    // Build 0 fills a page, build 1 is refused at its third step, and build 2 reads what it filled.
+    Three,
+    // Both builds fill a page and read from it.
+    Two,
 }
 
-// Both builds fill a page and read from it.
-fn two_plans(rt: &impl Abort, alloc: Global) -> Vec<Vec<Step>> {
-    let first = plan(rt, alloc, [take(0), fill(0, 9), peek(0)]);
-    let second = plan(rt, alloc, [take(0), fill(0, 3), peek(0)]);
-    Vec::from_array(alloc, [first, second]).expect(rt, "memory")
-}
-
-fn answered(place: usize, answer: Answer) -> Line {
-    Line {
-        asked: Asked::Step(place),
-        answer,
+impl Plans {
+    fn builds(self) -> u8 {
+        match self {
+            Plans::Three => 3,
+            Plans::Two => 2,
+        }
     }
-}
 
-fn replied(place: usize, reply: Reply) -> Line {
-    answered(place, Answer::Replied(reply))
+    fn pages(self) -> u16 {
+        match self {
+            Plans::Three => 16,
+            Plans::Two => 2,
+        }
+    }
+
+    // The steps of a build.
+    fn steps(self, rt: &impl Abort, alloc: Global, number: u8) -> Vec<Step> {
+        match (self, number) {
+            (Plans::Three, 0) => plan(rt, alloc, [take(1), fill(0, 1)]),
+            (Plans::Three, 1) => plan(rt, alloc, [take(1), delegate(), delegate(), fill(1, 5)]),
+            (Plans::Three, _) => plan(rt, alloc, [take(0), fill(0, 2), peek(4095)]),
+            (Plans::Two, 0) => plan(rt, alloc, [take(0), fill(0, 9), peek(0)]),
+            (Plans::Two, _) => plan(rt, alloc, [take(0), fill(0, 3), peek(0)]),
+        }
+    }
 }
 
 // The first page of the build that was taken.
@@ -82,10 +94,7 @@ fn taken() -> Line {
 }
 
 fn undone(kind: Kind, left: u16) -> Line {
-    Line {
-        asked: Asked::Undo,
-        answer: Answer::Undone(Undone { kind, left }),
-    }
+    lines::undone(Asked::Undo, kind, left)
 }
 
 // The report of a build has these lines.
@@ -117,14 +126,14 @@ fn workers_of<L: Ledgers>(
     rt: &impl Abort,
     alloc: Global,
     mut seats: Vec<Seat<L>>,
-    mut plans: Vec<Vec<Step>>,
+    plans: Plans,
 ) -> Vec<Worker<L>>
     ensures { All (λ worker. worker.lines ≡ []) result.items }
 {
     let mut workers = Vec::new(alloc);
     for _ in 0..seats.len() {
         let seat = seats.pop().expect(rt, "a seat");
-        let steps = plans.pop().expect(rt, "steps");
+        let steps = plans.steps(rt, alloc, seat.build().number());
         match workers.push(worker_of(rt, alloc, seat, steps)) {
             Ok(()) => {}
             Err(_) => panic!(rt; "there is no memory for a worker"),
@@ -157,7 +166,7 @@ fn run_plans<R: Threads + Wait + Abort + Sync, G: Gate + Sync, L: Ledgers + Send
     shared: &Shared<PlainStore, L>,
     seats: Vec<Seat<L>>,
     gate: &G,
-    plans: Vec<Vec<Step>>,
+    plans: Plans,
 ) -> (Result<(), BuildId>, Vec<Seat<L>>, Vec<Report>) {
     let mut workers = workers_of(rt, alloc, seats, plans);
     let ends = run_builds(rt, shared, workers.as_mut_slice(), gate);
@@ -172,7 +181,7 @@ fn work_together<R: Threads + Wait + Abort + Sync, G: Gate + Sync, L: Ledgers + 
     blanks: Blanks,
     host: Host<PlainStore>,
     gate: &G,
-    plans: Vec<Vec<Step>>,
+    plans: Plans,
 ) -> Outcome
     requires empty { host.history ≡ [] }
     requires opened { host ≡ L.opened }
@@ -184,16 +193,14 @@ fn work_together<R: Threads + Wait + Abort + Sync, G: Gate + Sync, L: Ledgers + 
     Outcome { ends, reports, map }
 }
 
-// As `work_together`, on a host of so many pages, with a build for each plan.
+// As `work_together`, on a host of which no build has done anything.
 fn boot_and_work<R: Threads + Wait + Abort + Sync, G: Gate + Sync>(
     rt: &R,
     alloc: Global,
-    pages: u16,
     gate: &G,
-    plans: Vec<Vec<Step>>,
+    plans: Plans,
 ) -> Outcome {
-    let builds = u8::try_from(plans.len()).expect(rt, "few builds");
-    let host = booted(rt, alloc, pages, 0, builds);
+    let host = booted(rt, alloc, plans.pages(), 0, plans.builds());
     work_together::<R, G, Brand>(rt, alloc, Blanks::new(), host, gate, plans)
 }
 
@@ -216,11 +223,11 @@ fn is_outcome(
 
 #[test]
 fn one_of_three_is_refused(rt: HostRuntime) {
-    let outcome = boot_and_work(&rt, rt.alloc(), 16, &OpenGate, three_plans(&rt, rt.alloc()));
+    let outcome = boot_and_work(&rt, rt.alloc(), &OpenGate, Plans::Three);
     let is_refused = [
         taken(),
         replied(1, Reply::Done),
-        answered(2, Answer::Refused(Refusal::Rmi(Rmi::INPUT))),
+        step(2, Answer::Refused(Refusal::Rmi(Rmi::INPUT))),
         undone(Kind::Delegate, 1),
         undone(Kind::Take, 0),
     ];
@@ -237,13 +244,7 @@ free 13
 #[test]
 fn two_of_three_are_stopped(rt: HostRuntime) {
     let second = BuildId::new(1).unwrap();
-    let outcome = boot_and_work(
-        &rt,
-        rt.alloc(),
-        16,
-        &ForBuild0,
-        three_plans(&rt, rt.alloc()),
-    );
+    let outcome = boot_and_work(&rt, rt.alloc(), &ForBuild0, Plans::Three);
     let fills = [taken(), replied(1, Reply::Done)];
     let is_stopped = [taken()];
     let map = "0 page 0 UNDELEGATED 4096
@@ -265,7 +266,7 @@ free 11
 #[test]
 fn each_reads_after_both_have_filled(rt: HostRuntime) {
     let gate = Together::from(&rt);
-    let outcome = boot_and_work(&rt, rt.alloc(), 2, &gate, two_plans(&rt, rt.alloc()));
+    let outcome = boot_and_work(&rt, rt.alloc(), &gate, Plans::Two);
     let first = [taken(), replied(1, Reply::Done), replied(2, Reply::Byte(9))];
     let second = [taken(), replied(1, Reply::Done), replied(2, Reply::Byte(3))];
     let map = "0 page 0 UNDELEGATED 36864
