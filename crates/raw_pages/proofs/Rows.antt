@@ -240,7 +240,7 @@ module _ (E : El) {M : Type 1} {𝓤 : Ura M} (𝓛 : Logic 𝓤) (t : Ty → Pt
 module _ (E : El) {M : Type 1} {𝓤 : Ura M} (𝓛 : Logic 𝓤) (row : (Owner E).Denot) (rb ro : ℕ) (us : List Val) (b o : ℕ) (e : row.at ≡ block_ptr b o) where
   pub closed : (xs : List (el_x E))
       → ent 𝓤 (sep 𝓤 (sem 𝓛 (All E 𝓛 (right E row.alloc) b o row.room xs)) (sem 𝓛 (fsep (Mark E row us) (cell_at full_share (Owner E).mir us rb ro))))
-          (sem 𝓛 ((mem (Owner E)).own_at (with_items row xs) rb ro))
+      (sem 𝓛 ((mem (Owner E)).own_at (with_items row xs) rb ro))
   unfolding part_of
   closed xs =
       let new = with_items row xs in

@@ -65,7 +65,7 @@ module _ (limits : Limits) (b : ℕ) (w v : World) (kept : IsKept b w) (kept_v :
           absurd (no_descriptor (cell_at (part_of v b).machine k) e ((realm_gone_step limits b (part_of w b) (part_of v b) rd root vmid square kept.sound.part s).0 k) is)
       by_act act r s =
           let then = turned_by limits b (part_of w b) (part_of v b) act Rests square kept.sound.part (λ none. none_there b w kept (sym (realm_of-part_of b w) ∙ none))
-              (allowed limits (part_of w b) kept.sound.part act r refl) s k d was in
+          (allowed limits (part_of w b) kept.sound.part act r refl) s k d was in
           subst (Rests d) (same_Some _ _ (sym then.1 ∙ is)) then.2
 
   pub rests_still : (n : ℕ) → rec_runs (realm_of b w) n ≡ false → rec_runs (realm_of b v) n ≡ false

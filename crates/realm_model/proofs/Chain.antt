@@ -147,7 +147,7 @@ module _ (limits : Limits) (b : ℕ) (Same : World → World → Type 0) (Sound 
   unfolding open_entries
   kept history w legal at_w =
       kept_after limits b Same Sound laws (opening limits) [] [] [] history (opening limits) w
-          (record { sound = laws.sound_opening; open_is = refl; chained = laws.itself (opening limits) }) legal.in_turn at_w (λ n. omega arith)
+      (record { sound = laws.sound_opening; open_is = refl; chained = laws.itself (opening limits) }) legal.in_turn at_w (λ n. omega arith)
 
   -- Where nothing is open, the build owns what it owned at first
   pub nothing_open : (history : List Event) (w : World) → IsLegal limits history → replay limits history ≡ Some w → open_entries b history ≡ [] → Same (opening limits) w
@@ -175,5 +175,12 @@ module _ (limits : Limits) (b : ℕ) (Same : World → World → Type 0) (Sound 
       top_of [] h sound e = cc
       top_of (a ∷ st) h sound e =
           let same : a ≡ act = same_Some _ _ (sym (last-reverse st a) ∙ e) in
-          record { before = h.0; after_it = h.1; sound_before = h.2; sound = sound; stepped = subst (λ d. step limits h.0 (by b d) ≡ Some h.1) same h.4;
-              same = h.5; paired = ap is_paired (sym same) ∙ h.6 }
+          record {
+            before = h.0;
+            after_it = h.1;
+            sound_before = h.2;
+            sound = sound;
+            stepped = subst (λ d. step limits h.0 (by b d) ≡ Some h.1) same h.4;
+            same = h.5;
+            paired = ap is_paired (sym same) ∙ h.6;
+          }

@@ -39,9 +39,9 @@ same_half width known level i j same =
           | true ↦ one
           | false ↦ elim (level == 2) as (λ t. i / (if t then 512 else 1) * (if t then 512 else 1) ≡ j / (if t then 512 else 1) * (if t then 512 else 1)
               → i < tables * 67108864 → j < tables * 67108864) [
-            | true ↦ two
-            | false ↦ three
-          ]
+                | true ↦ two
+                | false ↦ three
+              ]
         ]
       where
         one : i / 262144 * 262144 ≡ j / 262144 * 262144 → i < tables * 67108864 → j < tables * 67108864

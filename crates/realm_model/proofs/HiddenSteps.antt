@@ -116,7 +116,7 @@ module _ (limits : Limits) (p : Option ℕ → Bool) (free : p None ≡ false) (
       ap (λ t. cond t (after_outcome c (outcome_of limits.vmids limits.aux fewer e.act (realm_of c (masked p w)) (map (seen (masked p w).machine) (named e.act))) (masked p w)) None) open_too
       ∙ (λ i. after_outcome c (outcome_of limits.vmids limits.aux fewer e.act (realm i) (granules i)) (masked p w))
       ∙ after_outcome-masked p free c other (outcome_of limits.vmids limits.aux used e.act (realm_of c w) (map (seen w.machine) (named e.act)))
-          (outcome_of limits.vmids limits.aux fewer e.act (realm_of c w) (map (seen w.machine) (named e.act))) w v
+      (outcome_of limits.vmids limits.aux fewer e.act (realm_of c w) (map (seen w.machine) (named e.act))) w v
       (outcome_of-fewer limits used fewer (used-hidden p w.leases w.machine) e.act (realm_of c w) (map (seen w.machine) (named e.act))) both.1
 
   -- an event of a hidden build is not seen

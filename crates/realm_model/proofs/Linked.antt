@@ -116,7 +116,7 @@ module _ (limits : Limits) (w : World) (sound : IsSoundPart w) (old : IsLinked (
       let rows = ((subst (IsSoundCell sound.rd rd.number) at (sound.cells rd.number)).row d is).rows in
       let there = walk_at d.rows ipa (level - 1) end e (eqb-true end.level (level - 1) last) in
       Yields-Ok R _ (row_more w sound old rd d (record d { rows = with_table d.rows level ipa g end.row.ripas }) at is refl refl g (held InRtt rd.number)
-          (level - 1, first_covered (level - 1) ipa) outer.0 refl refl
+      (level - 1, first_covered (level - 1) ipa) outer.0 refl refl
       (ap row_target (look-with_table d.rows level ipa end.row rows (table_place ipa level outer.1) there g end.row.ripas (not_true _ plain)))
       (λ q to h. elim (with_table_cases d.rows level ipa end.row rows (table_place ipa level outer.1) there g end.row.ripas q (not_true _ plain)) [
         | inl new ↦ inr new.0

@@ -38,7 +38,7 @@ module _ (r s : Rows) (same : LookSame r s) where
   both_put_rows x y alike level first zero q = same q
   both_put_rows x y alike level first (suc n) q =
       both_insert place_total mapping_of_row (put_rows (λ _. x) r level first n) (put_rows (λ _. y) s level first n) (both_put_rows x y alike level first n)
-          (level, first + n * covered_count level) x y alike q
+      (level, first + n * covered_count level) x y alike q
 
   pub both_drop_rows : (level first count : ℕ) → LookSame (drop_rows r level first count) (drop_rows s level first count)
   both_drop_rows level first count q =

@@ -46,7 +46,7 @@ module _ (mark : Mark) (history : List Event) (event : Event) (within : mark.pla
         since = λ n h. by_place n
             (λ low. subst Deep (early n low) (s.since n h))
             (λ high. subst Deep (early (length history) (omega arith) ∙ take_all (length history) history (omega arith) ∙ sym (take_all n history (omega (arith, longer))))
-                (s.since (length history) within));
+            (s.since (length history) within));
       },
       subst Deep (take_all (length next) next (omega arith)) (s.since (length next) (omega (arith, longer))),
     ),

@@ -69,7 +69,7 @@ realm_from_twins b n (l ∷ leases) (c ∷ ms) (d ∷ ns) long same =
     let r : Option Seen = realm_from b (suc n) leases ms in
     let s : Option Seen = realm_from b (suc n) leases ns in
     subst (λ t. AreTwins (cond here (Some (record { number = n; cell = c })) r) (cond (same_lease l (Some b) && t) (Some (record { number = n; cell = d })) s))
-        (rows_both c.descriptor d.descriptor (same 0).descriptor)
+    (rows_both c.descriptor d.descriptor (same 0).descriptor)
     (elim here as (λ t. AreTwins (cond t (Some (record { number = n; cell = c })) r) (cond t (Some (record { number = n; cell = d })) s)) [
       | true ↦ record { number = refl; cell = same 0 }
       | false ↦ realm_from_twins b (suc n) leases ms ns (ap pred long) (λ g. same (suc g))
@@ -140,8 +140,16 @@ module _ (limits : Limits) (w v : World) (cells : (g : ℕ) → SameCell (cell_a
         let same = at_realm d e is ise in
         Agree-Ok _ _ (
           alike_put g g _ _ refl (record { state = refl; realm = ap Some twin.number; descriptor = tt }),
-          (alike_realm rd sd _ _ twin (record { vmid = same.vmid; root = same.root; recs = same.recs; rows = both_put d.rows e.rows same.rows
-              (3, first_covered 3 ipa) (assigned Ram g) (assigned Ram g) refl }), tt),
+          (
+            alike_realm rd sd _ _ twin (record {
+              vmid = same.vmid;
+              root = same.root;
+              recs = same.recs;
+              rows = both_put d.rows e.rows same.rows
+                  (3, first_covered 3 ipa) (assigned Ram g) (assigned Ram g) refl;
+            }),
+            tt,
+          ),
         )))))))
 
     unknown_follows : (g ipa : ℕ) → Follows (Unknown g ipa) (Some rd) (Some sd)
@@ -151,8 +159,16 @@ module _ (limits : Limits) (w v : World) (cells : (g : ℕ) → SameCell (cell_a
         let same = at_realm d e is ise in
         Agree-Ok _ _ (
           alike_put g g _ _ refl (held_same InData rd.number sd.number twin.number),
-          (alike_realm rd sd _ _ twin (record { vmid = same.vmid; root = same.root; recs = same.recs; rows = both_put d.rows e.rows same.rows
-              (3, first_covered 3 ipa) (assigned a.row.ripas g) (assigned b.row.ripas g) refl }), tt),
+          (
+            alike_realm rd sd _ _ twin (record {
+              vmid = same.vmid;
+              root = same.root;
+              recs = same.recs;
+              rows = both_put d.rows e.rows same.rows
+                  (3, first_covered 3 ipa) (assigned a.row.ripas g) (assigned b.row.ripas g) refl;
+            }),
+            tt,
+          ),
         ))))))
 
     undata_follows : (g ipa : ℕ) → Follows (UnData g ipa) (Some rd) (Some sd)
@@ -183,7 +199,7 @@ module _ (limits : Limits) (w v : World) (cells : (g : ℕ) → SameCell (cell_a
         let same = at_realm d e is ise in
         let next : d.next ≡ e.next = sym (eqb-true n d.next (realm_test rd d (λ x r. n == r.next) fit_w is)) ∙ eqb-true n e.next (realm_test sd e (λ x r. n == r.next) fit_v ise) in
         let recs : (q : ℕ) → option_map granules_of_rec (get (insert d.recs d.next (made w.machine g aux.items)) q) ≡ option_map granules_of_rec
-            (get (insert e.recs e.next (made v.machine g aux.items)) q) = λ q.
+        (get (insert e.recs e.next (made v.machine g aux.items)) q) = λ q.
         both_insert nat_cmp_total granules_of_rec d.recs e.recs same.recs d.next (made w.machine g aux.items) (made v.machine g aux.items) (λ i. (g, numbers aux.items i)) q
         ∙ ap (λ k. option_map granules_of_rec (get (insert e.recs k (made v.machine g aux.items)) q)) next in
         Agree-Ok _ _ (
@@ -206,7 +222,7 @@ module _ (limits : Limits) (w v : World) (cells : (g : ℕ) → SameCell (cell_a
         let d2 : RealmRow = record d { recs = remove d.recs n } in
         let e2 : RealmRow = record e { recs = remove e.recs n } in
         let last : IsAlike (put_realm rd d2) (put_realm sd e2) = alike_realm rd sd d2 e2 twin
-            (record { vmid = same.vmid; root = same.root; recs = λ q. both_remove nat_cmp_total granules_of_rec d.recs e.recs same.recs n q; rows = same.rows }) in
+        (record { vmid = same.vmid; root = same.root; recs = λ q. both_remove nat_cmp_total granules_of_rec d.recs e.recs same.recs n q; rows = same.rows }) in
         Agree-Ok _ _ (alike_more (lefts (r.granule ∷ r.auxiliaries)) (lefts (s.granule ∷ s.auxiliaries)) (put_realm rd d2 ∷ []) (put_realm sd e2 ∷ [])
         (alike_lefts (r.granule ∷ r.auxiliaries) (s.granule ∷ s.auxiliaries) (λ i. (alike i).0 ∷ (alike i).1)) (last, tt)))))
 
@@ -270,7 +286,7 @@ both_step limits b act w v next other sw sv p same step_w step_v =
     let did_w = done limits b w next act (λ us. o ≡ Ok us) (record { where_ok = λ us e. e }) step_w in
     let did_v = done limits b v other act (λ us. q ≡ Ok us) (record { where_ok = λ us e. e }) step_v in
     let follows = act_follows limits w v same.cells act (realm_of b w) (realm_of b v) p (realms_twins b w v sw sv same) (asked limits b w next act step_w).fit
-        (asked limits b v other act step_v).fit in
+    (asked limits b v other act step_v).fit in
     own_alike b did_w.0 did_v.0 w v next other ((follows.both did_w.0 did_w.1).where_ok did_v.0 did_v.1) sw sv same did_w.2 did_v.2
 
 any_step : (limits : Limits) (b : ℕ) (act : Act) (w v next other : World) → IsSquare w → IsSquare v → OwnershipFollows limits b act w v next other

@@ -31,8 +31,12 @@ own_itself w = record { leases = refl; cells = λ g. cell_itself (cell_at w.mach
 pub own_chain : (u v w : World) → OwnsSame u v → OwnsSame v w → OwnsSame u w
 own_chain u v w h k = record {
   leases = h.leases ∙ k.leases;
-  cells = λ g. record { state = (h.cells g).state ∙ (k.cells g).state; realm = (h.cells g).realm
-      ∙ (k.cells g).realm; descriptor = descriptor_chain _ _ _ (h.cells g).descriptor (k.cells g).descriptor };
+  cells = λ g. record {
+    state = (h.cells g).state ∙ (k.cells g).state;
+    realm = (h.cells g).realm
+        ∙ (k.cells g).realm;
+    descriptor = descriptor_chain _ _ _ (h.cells g).descriptor (k.cells g).descriptor;
+  };
 }
 
 descriptor_turned : (o p : Option RealmRow) → SameDescriptor o p → SameDescriptor p o

@@ -138,7 +138,7 @@ pub pair_back : (limits : Limits) (b : ℕ) (u v w x : World) (act r : Act) → 
     → step limits u (by b act) ≡ Some v → OwnsSame (part_of v b) (part_of w b) → step limits w (by b r) ≡ Some x → OwnsSame (part_of u b) (part_of x b)
 pair_back limits b u v w x act r e su sw stepped same back =
     part_back limits b (part_of u b) (part_of v b) (part_of w b) (part_of x b) act (IsClean-part_of u b su.clean) (IsSquare-part_of u b su.square)
-        (IsSquare-part_of w b sw.square) su.part sw.part (paired_reverse act r e)
+    (IsSquare-part_of w b sw.square) su.part sw.part (paired_reverse act r e)
     (step-part_of limits b u v (by b act) refl stepped) same
     (step-part_of limits b w x (by b (rev act)) refl (ap (λ a. step limits w (by b a)) (reverse_is act r e) ∙ back))
 

@@ -39,11 +39,11 @@ module _ (limits : Limits) (b : ℕ) (w v : World) (kept : IsKept b w) (kept_v :
         let then = turned_by limits b (part_of w b) (part_of v b) (Rec g aux n) (λ d e. is_rec_running (get e.recs d.next) ≡ false) (IsSquare-part_of w b kept.sound.square) kept.sound.part
         (λ none. none_there b w kept (sym (realm_of-part_of b w) ∙ none))
         (λ d rec m ready. ap is_rec_running (get-insert nat_cmp_total d.recs d.next rec d.next
-            ∙ ap (λ t. cond t (Some rec) (get d.recs d.next)) ((eq_by_cmp_equiv nat_cmp_total).refl d.next)) ∙ ap not ready)
+        ∙ ap (λ t. cond t (Some rec) (get d.recs d.next)) ((eq_by_cmp_equiv nat_cmp_total).refl d.next)) ∙ ap not ready)
         own there.0 there.1 there.2 in
         let number : n ≡ d.next = eqb-true n d.next (realm_test (seen (part_of w b).machine there.0) d (λ x r. n == r.next)
         (ap (λ o. realm_is o (λ x r. n == r.next)) (sym (realm_of-part_of b w ∙ found b w kept there.0 there.1 there.2))
-            ∙ (asked limits b (part_of w b) (part_of v b) (Rec g aux n) own).fit) there.2) in
+        ∙ (asked limits b (part_of w b) (part_of v b) (Rec g aux n) own).fit) there.2) in
         ap (λ o. is_running o (Rec g aux n)) (found b v kept_v there.0 then.0 then.1)
         ∙ ap (λ o. elim o [ Some r ↦ is_rec_running (get r.recs n) | None ↦ false ]) then.1
         ∙ ap (λ m. is_rec_running (get then.0.recs m)) number ∙ then.2

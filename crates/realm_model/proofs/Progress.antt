@@ -119,7 +119,7 @@ module _ (limits : Limits) (b : ℕ) (u v w : World) (act : Act) (su : IsSound b
       let info = reverses limits b w act p in
       let named_part : list_all (is_leased_to (Some b) W.leases) (named r) ≡ true =
       named_back (is_leased_to (Some b) W.leases) act (ap (λ ls. list_all (is_leased_to (Some b) ls) (named act)) part_leases
-          ∙ ap (λ l. list_all (is_leased_to l U.leases) (named act)) (sym (holder_is b act k)) ∙ a.leases) in
+      ∙ ap (λ l. list_all (is_leased_to l U.leases) (named act)) (sym (holder_is b act k)) ∙ a.leases) in
       let named_here : list_all (is_leased_to (Some b) w.leases) (named r) ≡ true = all_part_leased b w (named r) named_part in
       let realm : realm_of b W ≡ realm_of b w = realm_of-part_of b w in
       let granules : map (seen W.machine) (named r) ≡ map (seen w.machine) (named r) =
@@ -147,7 +147,7 @@ module _ (limits : Limits) (b : ℕ) (u v w : World) (order first : ℕ) (su : I
   block_held = all_part_leased b w block (all_from_in (is_leased_to (Some b) (part_of w b).leases) block (λ g i. leased_from (Some b) (part_of w b).leases g
       (ap (λ ls. slice_get ls g) (sym same.leases)
       ∙ leases_taken b block (part_of u b) (part_of v b) (take_did limits b (part_of u b) (part_of v b) (part_of w b) order first (IsClean-part_of u b su.clean)
-          (IsSquare-part_of u b su.square) block_stepped same) g
+      (IsSquare-part_of u b su.square) block_stepped same) g
       ∙ ap (λ t. cond t (Some (Some b)) (slice_get (part_of u b).leases g)) i)))
 
   block_blank : list_all is_undelegated (map (seen (part_of w b).machine) block) ≡ true

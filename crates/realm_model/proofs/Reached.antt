@@ -59,7 +59,7 @@ sized_reached limits = of_reached limits (IsSized limits) (λ w v e h s. sized_s
 
 module _ (limits : Limits) (P : List Event → World → Type 0)
     (kept : (before : List Event) (w v : World) (e : Event) → IsLegal limits before → replay limits before ≡ Some w → P before w → IsInTurn before e
-        → step limits w e ≡ Some v → P (before ++ e ∷ []) v) where
+    → step limits w e ≡ Some v → P (before ++ e ∷ []) v) where
   kept_legal : (before es : List Event) (w v : World) → IsLegal limits before → replay limits before ≡ Some w → P before w → AllInTurn before es → after limits es w ≡ Some v → P (before ++ es) v
   unfolding after
   kept_legal before [] w v legal at_w h turns done = subst (λ es. P es v) (sym (append-nil before)) (subst (P before) (same_Some _ _ done) h)

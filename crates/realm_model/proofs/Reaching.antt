@@ -36,9 +36,9 @@ state_leased b (l ∷ leases) [] clean g held = cc
 state_leased b (None ∷ leases) (c ∷ machine) clean zero held = absurd (true_false _ (ap (λ (x : Cell). is_host_state x.state) (sym (ap (head_or blank) clean))) held)
 state_leased b (Some o ∷ leases) (c ∷ machine) clean zero held =
     elim (o == b) as (λ t. (o == b) ≡ t → is_host_state (cond (not t) blank c).state ≡ false → Some (cond (not t) None (Some o)) ≡ Some (Some b)) [
-  | true ↦ λ same h. ap (λ x. Some (Some x)) (eqb-true o b same)
-  | false ↦ λ other h. cc
-] refl held
+      | true ↦ λ same h. ap (λ x. Some (Some x)) (eqb-true o b same)
+      | false ↦ λ other h. cc
+    ] refl held
 state_leased b (l ∷ leases) (c ∷ machine) clean (suc g) held = state_leased b leases machine (ap tail clean) g held
 
 pub reaches_own : (limits : Limits) (b : ℕ) (w : World) (act : Act) → IsSound b w → IsLinkedFor b w → ReachesOwn limits b w act (realm_of b w)

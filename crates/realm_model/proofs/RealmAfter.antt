@@ -172,7 +172,7 @@ allowed limits w sound act k = λ d e same. (ap (λ (x : RealmRow). x.vmid) same
 pub turned_by : (limits : Limits) (b : ℕ) (w v : World) (act : Act) (T : RealmRow → RealmRow → Type 0) → IsSquare w → (sound : IsSoundPart w)
     → (realm_of b w ≡ None → (k : ℕ) → (cell_at w.machine k).descriptor ≡ None)
     → Allows limits w sound T act → step limits w (by b act) ≡ Some v → (k : ℕ) (d : RealmRow) → (cell_at w.machine k).descriptor ≡ Some d → (e : RealmRow)
-        × ((cell_at v.machine k).descriptor ≡ Some e) × T d e
+    × ((cell_at v.machine k).descriptor ≡ Some e) × T d e
 turned_by limits b w v act T square sound none allows s k d there =
     let did = done limits b w v act (S limits w sound T) (turns limits w sound T act (realm_of b w) allows (IsAt-realm_of b w) none (asked limits b w v act s).fit) s in
     let turned = did.1 k d there in
@@ -197,7 +197,7 @@ made_new limits w rd root v realm none =
 -- a realm that ends ran no REC, and no realm is left
 destroyed : (limits : Limits) (w : World) (sound : IsSoundPart w) (rd : ℕ) (root : Root) (v : ℕ) (realm : Option Seen)
     → Yields (λ us. ((k : ℕ) (e : RealmRow) → (put_at us k (cell_at w.machine k)).descriptor ≡ Some e → ⊥)
-        × ((k : ℕ) (d : RealmRow) → (cell_at w.machine k).descriptor ≡ Some d → running d.recs d.next ≡ 0))
+    × ((k : ℕ) (d : RealmRow) → (cell_at w.machine k).descriptor ≡ Some d → running d.recs d.next ≡ 0))
     (outcome_of limits.vmids limits.aux (used_vmids w.machine) (UnRealm rd root v) realm (map (seen w.machine) (named (UnRealm rd root v))))
 unfolding outcome_of named
 destroyed limits w sound rd root v realm = Yields-with_realm P _ _ (λ d is. Yields-check P _ _ _ (λ empty. Yields-Ok P _ (
@@ -224,7 +224,7 @@ pub realm_gone_step : (limits : Limits) (b : ℕ) (w v : World) (rd : ℕ) (root
     → ((k : ℕ) → (cell_at v.machine k).descriptor ≡ None) × ((k : ℕ) (d : RealmRow) → (cell_at w.machine k).descriptor ≡ Some d → running d.recs d.next ≡ 0)
 realm_gone_step limits b w v rd root vmid square sound s =
     let did = done limits b w v (UnRealm rd root vmid) (λ us. ((k : ℕ) (e : RealmRow) → (put_at us k (cell_at w.machine k)).descriptor ≡ Some e → ⊥)
-        × ((k : ℕ) (d : RealmRow) → (cell_at w.machine k).descriptor ≡ Some d → running d.recs d.next ≡ 0))
+    × ((k : ℕ) (d : RealmRow) → (cell_at w.machine k).descriptor ≡ Some d → running d.recs d.next ≡ 0))
     (destroyed limits w sound rd root vmid (realm_of b w)) s in
     ((λ k. none_of (cell_at v.machine k).descriptor (λ e is. did.1.0 k e (ap (λ (c : Cell). c.descriptor) (sym (cell_put b did.0 w v square did.2 k)) ∙ is))), did.1.1)
   where

@@ -96,7 +96,7 @@ few_step limits b before w v e at_w few s = ⊎_elim
     (λ same. λ k d is.
     let more : length (acts_of b (before ++ e ∷ [])) ≡ length (acts_of b before) + 1 =
     ap (λ n. length (acts_of n (before ++ e ∷ []))) (sym same) ∙ ap length (acts_of-own before e) ∙ length-append (acts_of e.build before) (e.act ∷ [])
-        ∙ ap (λ n. length (acts_of n before) + 1) same in
+    ∙ ap (λ n. length (acts_of n before) + 1) same in
     let stepped : step limits w (by b e.act) ≡ Some v = ap (λ n. step limits w (by n e.act)) (sym same) ∙ s in
     subst (λ n. d.next ≤ n) (sym more) (next_after limits b w v (kept_reached limits b before w at_w) e.act stepped (length (acts_of b before)) few k d is))
     (λ apart. λ k d is.

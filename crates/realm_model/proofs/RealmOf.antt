@@ -26,7 +26,7 @@ IsAt-realm_from b [] front machine = tt
 IsAt-realm_from b (l ∷ leases) front [] = tt
 IsAt-realm_from b (l ∷ leases) front (c ∷ machine) =
     elim (same_lease l (Some b) && is_some c.descriptor) as (λ t. IsAt (front ++ c ∷ machine)
-        (cond t (Some (record { number = length front; cell = c })) (realm_from b (suc (length front)) leases machine))) [
+    (cond t (Some (record { number = length front; cell = c })) (realm_from b (suc (length front)) leases machine))) [
       | true ↦ get_or_at front c machine blank (length front) refl
       | false ↦
           let long : length (front ++ c ∷ []) ≡ suc (length front) = simp length-append (omega arith) in
@@ -51,7 +51,7 @@ IsHeld-realm_from b front [] machine = tt
 IsHeld-realm_from b front (l ∷ leases) [] = tt
 IsHeld-realm_from b front (l ∷ leases) (c ∷ machine) =
     elim (same_lease l (Some b) && is_some c.descriptor) as (λ t. (same_lease l (Some b) && is_some c.descriptor) ≡ t
-        → IsHeld b (front ++ l ∷ leases) (cond t (Some (record { number = length front; cell = c })) (realm_from b (suc (length front)) leases machine))) [
+    → IsHeld b (front ++ l ∷ leases) (cond t (Some (record { number = length front; cell = c })) (realm_from b (suc (length front)) leases machine))) [
       | true ↦ λ e. leased_from (Some b) (front ++ l ∷ leases) (length front) (slice_get_at front l leases ∙ ap Some (lease_is l (Some b) (and_parts _ _ e).0))
       | false ↦ λ e.
           let long : length (front ++ l ∷ []) ≡ suc (length front) = simp length-append (omega arith) in

@@ -36,12 +36,12 @@ pub made_row : (w : World) (rd : ℕ) (root : Root) (v : ℕ) → ((k : ℕ) →
     → (k : ℕ) (e : RealmRow) → (put_at (creation rd root v) k (cell_at w.machine k)).descriptor ≡ Some e → (k ≡ rd) × (new_realm v root ≡ e)
 made_row w rd root v none k e h =
     elim (is_in k (starting_tables root)) as (λ t. (cond t (held InRtt rd) (cond (k == rd) (new_rd rd root v) (cell_at w.machine k))).descriptor ≡ Some e → (k ≡ rd) × (new_realm v root ≡ e)) [
-  | true ↦ λ h. cc
-  | false ↦ λ h. elim (k == rd) as (λ t. (k == rd) ≡ t → (cond t (new_rd rd root v) (cell_at w.machine k)).descriptor ≡ Some e → (k ≡ rd) × (new_realm v root ≡ e)) [
-    | true ↦ λ here h. (eqb-true k rd here, same_Some _ _ h)
-    | false ↦ λ other h. absurd (no_descriptor (cell_at w.machine k) e (none k) h)
-  ] refl h
-] (sym (ap (λ (c : Cell). c.descriptor) (put_at-creation rd root v k (cell_at w.machine k))) ∙ h)
+      | true ↦ λ h. cc
+      | false ↦ λ h. elim (k == rd) as (λ t. (k == rd) ≡ t → (cond t (new_rd rd root v) (cell_at w.machine k)).descriptor ≡ Some e → (k ≡ rd) × (new_realm v root ≡ e)) [
+        | true ↦ λ here h. (eqb-true k rd here, same_Some _ _ h)
+        | false ↦ λ other h. absurd (no_descriptor (cell_at w.machine k) e (none k) h)
+      ] refl h
+    ] (sym (ap (λ (c : Cell). c.descriptor) (put_at-creation rd root v k (cell_at w.machine k))) ∙ h)
 
 -- none is left where the one is gone
 pub gone_row : (w : World) (sound : IsSoundPart w) (rd : ℕ) (d : RealmRow) → (cell_at w.machine rd).descriptor ≡ Some d → (gs : List ℕ)

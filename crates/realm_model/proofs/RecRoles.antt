@@ -219,9 +219,9 @@ module _ (w : World) (sound : IsSoundPart w) (old : IsLinked (λ k. cell_at w.ma
       recs_stay : (q : ℕ) → (recs_of e1 q ≡ recs_of d q) ⊎ (recs_of d q ≡ Some (rec.granule, rec.auxiliaries))
       recs_stay q = elim (eq_by_cmp nat_cmp q m) as (λ t. eq_by_cmp nat_cmp q m ≡ t → recs_of e1 q ≡ cond t None (recs_of d q) → (recs_of e1 q ≡ recs_of d q)
           ⊎ (recs_of d q ≡ Some (rec.granule, rec.auxiliaries))) [
-        | true ↦ λ e is. inr (ap (recs_of d) (nat_place q m e) ∙ was)
-        | false ↦ λ e is. inl is
-      ] refl (recs q)
+            | true ↦ λ e is. inr (ap (recs_of d) (nat_place q m e) ∙ was)
+            | false ↦ λ e is. inl is
+          ] refl (recs q)
 
       among : (k : ℕ) → is_in k all ≡ true → is_in k (map granule_of (lefts all)) ≡ false → ⊥
       among k i out = true_false _ (ap (is_in k) (granules-each_put left all) ∙ i) out

@@ -306,7 +306,7 @@ module _ (limits : Limits) (b : ℕ) (u w : World) (su : IsSoundPart u) (sw : Is
       let tail : List Update = Put n last ∷ [] in
       let was_free : mapping_of_row above ≡ Vacant = free_above (level - 1) above.state above.granule spot.low.1 (shape_of d.rows up above sound.rows there) plain in
       let rows_back : (q : ℕ × ℕ) → look d.rows q ≡ look d3.rows q = table_back d.rows d2.rows level ipa g above.ripas above there was_free
-          (none_among d.rows level ipa above sound.rows spot there plain) both.same.rows in
+      (none_among d.rows level ipa above sound.rows spot there plain) both.same.rows in
       let granule : row.0.granule ≡ Some g = ap (λ (p : Mapping). p.granule) row.2 in
       record {
         ready = true;
@@ -354,7 +354,7 @@ module _ (limits : Limits) (b : ℕ) (u w : World) (su : IsSoundPart u) (sw : Is
       let d2 : RealmRow = both.realm in
       let place : ℕ × ℕ = (3, first_covered 3 ipa) in
       let now_there : look d1.rows place ≡ Some (mapping Assigned (Some g)) = look-insert d.rows place place (assigned ripas g)
-          ∙ ap (λ t. cond t (Some (mapping_of_row (assigned ripas g))) (look d.rows place)) (place_self place) in
+      ∙ ap (λ t. cond t (Some (mapping_of_row (assigned ripas g))) (look d.rows place)) (place_self place) in
       let row = look_get (get d2.rows place) (mapping Assigned (Some g)) (sym (both.same.rows place) ∙ now_there) in
       let d3 : RealmRow = record d2 { rows = put_row d2.rows 3 ipa (unassigned (unmapped_ripas row.0.ripas)) } in
       let last : Cell = record (cell_at w.machine n) { descriptor = Some d3 } in
@@ -406,7 +406,7 @@ module _ (limits : Limits) (b : ℕ) (u w : World) (su : IsSoundPart u) (sw : Is
       ∙ realm_there (seen w.machine k) _ d2 there
       ∙ rec_there d2 n _ rec at
       ∙ ap (λ (p : ℕ × List ℕ). check (is_ready rec.state) error_rec (Ok (lefts (p.0 ∷ p.1) ++ Put k
-          (record (cell_at w.machine k) { descriptor = Some (record d2 { recs = remove d2.recs n }) }) ∷ []))) own
+      (record (cell_at w.machine k) { descriptor = Some (record d2 { recs = remove d2.recs n }) }) ∷ []))) own
 
   abbrev runs : Option RecRow → Bool
   runs None = false
@@ -502,7 +502,7 @@ module _ (limits : Limits) (b : ℕ) (u w : World) (su : IsSoundPart u) (sw : Is
       let inner = and_parts _ _ outer.0 in
       let bytes = (cell_at u.machine source).bytes in
       Yields-Ok P _ (λ leads. undone_data (Data g ipa source) rd d (measurement_after d.measurement (data_event ipa bytes)) g ipa Ram end.row
-          (record (held_cell InData rd.number) { bytes = bytes }) refl at is held inner.0 outer.1
+      (record (held_cell InData rd.number) { bytes = bytes }) refl at is held inner.0 outer.1
       (walk_at d.rows ipa 3 end e (eqb-true end.level 3 last)) free leads)))))))
   undone (Unknown g ipa) None k p h at held fit = Yields-Err (Y (Unknown g ipa)) _
   undone (Unknown g ipa) (Some rd) k p h at held fit =

@@ -120,7 +120,7 @@ module _ (w : World) (sound : IsSoundPart w) where
     poked g o v = kept (λ k. put_at (PutByte g o v ∷ []) k (now k))
         (λ k role. elim (k == g) as (λ t. SameHead (cond t (cell_after (PutByte g o v) (now k)) (now k)) (now k)) [ true ↦ (refl, refl) | false ↦ (refl, refl) ])
         (λ k role. elim (k == g) as (λ t. is_role_state (cond t (cell_after (PutByte g o v) (now k)) (now k)).state ≡ true → is_role_state (now k).state ≡ true)
-            [ true ↦ λ h. h | false ↦ λ h. h ] role)
+        [ true ↦ λ h. h | false ↦ λ h. h ] role)
         (λ k e h. elim (k == g) as (λ t. (cond t (cell_after (PutByte g o v) (now k)) (now k)).descriptor ≡ Some e → (now k).descriptor ≡ Some e) [ true ↦ λ h. h | false ↦ λ h. h ] h)
         (λ k e is. elim (k == g) as (λ t. (cond t (cell_after (PutByte g o v) (now k)) (now k)).descriptor ≡ Some e) [ true ↦ is | false ↦ is ])
 

@@ -139,7 +139,7 @@ rolled_back limits history mark w legal at_w stands rest =
     (subst (λ k. k ≤ length (open_entries b (take (mark.place + n) history))) (sym stands.depth) (stands.since (mark.place + n) (omega arith)))) in
     let st : List Act = both_there.stack in
     let kept : Kept limits b (SameFor b) (IsSound b) (laws limits b) parts.base (open_entries b p) st history w = subst
-        (λ es. Kept limits b (SameFor b) (IsSound b) (laws limits b) parts.base (open_entries b p) st es w) whole both_there.kept in
+    (λ es. Kept limits b (SameFor b) (IsSound b) (laws limits b) parts.base (open_entries b p) st es w) whole both_there.kept in
     let top : above mark history ≡ reverse st = ap (drop mark.depth) kept.open_is ∙ ap (λ n. drop n (open_entries b p ++ reverse st)) (sym stands.depth) ∙ drop_front (open_entries b p) (reverse st) in
     let stack : st ≡ reverse (above mark history) = sym (reverse-reverse st) ∙ ap reverse (sym top) in
     let none_runs : list_any (is_running (realm_of b w)) st ≡ false = any_reverse _ st (ap (list_any (is_running (realm_of b w))) (sym top) ∙ rest) in

@@ -56,7 +56,7 @@ module _ (p q : ℕ → Bool) (n : ℕ) (same : (k : ℕ) → k ≢ n → q k �
         where
           both : (t : Bool) → length (filter q (range_with_len (a + 1) m)) ≡ length (filter p (range_with_len (a + 1) m)) + 1
               → length (cond t (a ∷ filter q (range_with_len (a + 1) m)) (filter q (range_with_len (a + 1) m))) ≡ length
-                  (cond t (a ∷ filter p (range_with_len (a + 1) m)) (filter p (range_with_len (a + 1) m))) + 1
+              (cond t (a ∷ filter p (range_with_len (a + 1) m)) (filter p (range_with_len (a + 1) m))) + 1
           both true e = omega arith
           both false e = e
 

@@ -220,9 +220,11 @@ module _ (limits : Limits) (w : World) (o : ℕ) (sound : AllCells o w) where
   good (UnRealm rd root v) realm stands at = Yields-with_realm G _ _ (λ d is. Yields-check G _ _ _ (λ _. Yields-Ok G _
       (left_sound o rd, each_alone G (λ g. Put g left) (λ g us h. (left_sound o g, h)) (starting_tables d.root) tt)))
   good Activate None stands at = Yields-Err G _
-  good Activate (Some rd) stands at = Yields-with_realm G _ _ (λ d is. Yields-check G _ _ _ (λ _. Yields-Ok G _
-      (let h = realm_is_sound rd d at is in realm_put rd d (record d { state = Active }) at is
-          (record { width = h.width; aligned = h.aligned; rows = h.rows; full = h.full; empty = h.empty; recs = h.recs }), tt)))
+  good Activate (Some rd) stands at = Yields-with_realm G _ _ (λ d is. Yields-check G _ _ _ (λ _. Yields-Ok G _ (
+    let h = realm_is_sound rd d at is in realm_put rd d (record d { state = Active }) at is
+        (record { width = h.width; aligned = h.aligned; rows = h.rows; full = h.full; empty = h.empty; recs = h.recs }),
+    tt,
+  )))
   good (Rtt g ipa level) None stands at = Yields-Err G _
   good (Rtt g ipa level) (Some rd) stands at =
       Yields-with_realm G _ _ (λ d is. Yields-check G _ _ _ (λ place. Yields-with_end G _ _ _ _ (λ end e. Yields-check G _ _ _ (λ last. Yields-check G _ _ _ (λ plain.
@@ -231,8 +233,10 @@ module _ (limits : Limits) (w : World) (o : ℕ) (sound : AllCells o w) where
       let made = with_table_sound d.rows level ipa end.row h.rows spot
       (walk_at d.rows ipa (level - 1) end e (eqb-true end.level (level - 1) last)) g end.row.ripas (not_true _ plain) in
       let empty = with_table_empty d.rows ipa h.width h.empty (and_parts _ _ place).1 level spot g end.row.ripas in
-      Yields-Ok G _ (held_sound InRtt g rd.number refl refl (rd_is rd d at is),
-          (realm_put rd d _ at is (rows_put d _ d.measurement h made (with_table_full d.rows level ipa spot h.full g end.row.ripas) empty), tt)))))))
+      Yields-Ok G _ (
+        held_sound InRtt g rd.number refl refl (rd_is rd d at is),
+        (realm_put rd d _ at is (rows_put d _ d.measurement h made (with_table_full d.rows level ipa spot h.full g end.row.ripas) empty), tt),
+      ))))))
   good (UnRtt g ipa level) None stands at = Yields-Err G _
   good (UnRtt g ipa level) (Some rd) stands at =
       Yields-with_realm G _ _ (λ d is. Yields-check G _ _ _ (λ place. Yields-with_end G _ _ _ _
@@ -248,8 +252,11 @@ module _ (limits : Limits) (w : World) (o : ℕ) (sound : AllCells o w) where
       Yields-with_realm G _ _ (λ d is. Yields-check G _ _ _ (λ input. Yields-check G _ _ _ (λ _. Yields-with_end G _ _ _ _ (λ end e. Yields-check G _ _ _ (λ _. Yields-check G _ _ _ (λ all.
       let h = realm_is_sound rd d at is in
       let empty = with_ram_empty d.rows ipa h.width h.empty (and_parts _ _ input).1 n (and_parts _ _ (and_parts _ _ input).0).1 all in
-      Yields-Ok G _ (realm_put rd d _ at is (rows_put d _ (measurement_after d.measurement (ripas_event ipa n)) h (with_ram_sound d.rows ipa n h.rows all)
-          (with_ram_full d.rows ipa n h.full all) empty), tt)))))))
+      Yields-Ok G _ (
+        realm_put rd d _ at is (rows_put d _ (measurement_after d.measurement (ripas_event ipa n)) h (with_ram_sound d.rows ipa n h.rows all)
+            (with_ram_full d.rows ipa n h.full all) empty),
+        tt,
+      )))))))
   good (Data g ipa source) None stands at = Yields-Err G _
   good (Data g ipa source) (Some rd) stands at =
       Yields-with_realm G _ _ (λ d is. Yields-check G _ _ _ (λ input. Yields-check G _ _ _ (λ _. Yields-with_end G _ _ _ _ (λ end e. Yields-check G _ _ _ (λ last. Yields-check G _ _ _ (λ free.
@@ -266,7 +273,7 @@ module _ (limits : Limits) (w : World) (o : ℕ) (sound : AllCells o w) where
       Yields-with_realm G _ _ (λ d is. Yields-check G _ _ _ (λ input. Yields-with_end G _ _ _ _ (λ end e. Yields-check G _ _ _ (λ last. Yields-check G _ _ _ (λ free.
       let h = realm_is_sound rd d at is in
       let new = leaf_put d ipa end.row (assigned end.row.ripas g) d.measurement h (and_parts _ _ input).1 (walk_at d.rows ipa 3 end e (eqb-true end.level 3 last))
-          (plain_unassigned end.row free) (refl, refl) refl in
+      (plain_unassigned end.row free) (refl, refl) refl in
       Yields-Ok G _ (held_sound InData g rd.number refl refl (rd_is rd d at is), (realm_put rd d _ at is new, tt)))))))
   good (UnData g ipa) None stands at = Yields-Err G _
   good (UnData g ipa) (Some rd) stands at =
@@ -274,7 +281,7 @@ module _ (limits : Limits) (w : World) (o : ℕ) (sound : AllCells o w) where
       (λ end e. Yields-check G _ _ _ (λ last. Yields-check G _ _ _ (λ used. Yields-with_granule G _ _ (λ pa there.
       let h = realm_is_sound rd d at is in
       let new = leaf_put d ipa end.row (unassigned (unmapped_ripas end.row.ripas)) d.measurement h input (walk_at d.rows ipa 3 end e (eqb-true end.level 3 last))
-          (plain_assigned end.row used) refl refl in
+      (plain_assigned end.row used) refl refl in
       Yields-Ok G _ (left_sound o pa, (realm_put rd d _ at is new, tt))))))))
   good (Rec g aux n) None stands at = Yields-Err G _
   good (Rec g aux n) (Some rd) stands at = Yields-with_realm G _ _ (λ d is. Yields-check G _ _ _ (λ _. Yields-check G _ _ _ (λ _. Yields-Ok G _ (

@@ -83,9 +83,9 @@ put_sound {width} rows place row sound there no_table shaped = record {
     stays : (q : ℕ × ℕ) → has_table (look rows) q ≡ true → has_table (look (insert rows place row)) q ≡ true
     stays q h = elim (q.0 == 1) as (λ t. (t || is_table_kind (look rows (q.0 - 1, first_covered (q.0 - 1) q.1))) ≡ true
         → (t || is_table_kind (look (insert rows place row) (q.0 - 1, first_covered (q.0 - 1) q.1))) ≡ true) [
-      | true ↦ λ h. refl
-      | false ↦ λ h. table_stays (q.0 - 1, first_covered (q.0 - 1) q.1) h
-    ] h
+          | true ↦ λ h. refl
+          | false ↦ λ h. table_stays (q.0 - 1, first_covered (q.0 - 1) q.1) h
+        ] h
 
 -- ---- tables
 
@@ -165,9 +165,9 @@ module _ {width : ℕ} (old : Rows) (level ipa : ℕ) (above : Row) (sound : IsS
     stays : (q : ℕ × ℕ) → has_table (look old) q ≡ true → has_table (look made) q ≡ true
     stays q h = elim (q.0 == 1) as (λ t. (t || is_table_kind (look old (q.0 - 1, first_covered (q.0 - 1) q.1))) ≡ true
         → (t || is_table_kind (look made (q.0 - 1, first_covered (q.0 - 1) q.1))) ≡ true) [
-      | true ↦ λ h. refl
-      | false ↦ λ h. table_stays (q.0 - 1, first_covered (q.0 - 1) q.1) h
-    ] h
+          | true ↦ λ h. refl
+          | false ↦ λ h. table_stays (q.0 - 1, first_covered (q.0 - 1) q.1) h
+        ] h
 
     made_sound : IsSoundRows width (look made)
     made_sound = record {
@@ -315,9 +315,9 @@ module _ {width : ℕ} (old : Rows) (level ipa : ℕ) (above : Row) (sound : IsS
     left_below q out some =
         elim (q.0 == 1) as (λ t. (q.0 == 1) ≡ t → (t || is_table_kind (look old (q.0 - 1, first_covered (q.0 - 1) q.1))) ≡ true
         → (t || is_table_kind (look left_rows (q.0 - 1, first_covered (q.0 - 1) q.1))) ≡ true) [
-      | true ↦ λ e h. refl
-      | false ↦ λ e h. parent_stays q.0 q.1 out e h
-    ] refl (sound.below q some)
+          | true ↦ λ e h. refl
+          | false ↦ λ e h. parent_stays q.0 q.1 out e h
+        ] refl (sound.below q some)
 
     up_out : under up ≡ false
     up_out = ap (λ t. t && nat_le ipa up.1 && nat_lt up.1 (ipa + 512 * covered_count level)) (ne_eqb (level - 1) level (λ e. let l = at.low in omega (arith, l, e)))

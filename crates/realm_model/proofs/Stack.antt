@@ -141,7 +141,7 @@ opened_other [] a h = elim (is_paired a) as (λ t. opened_step t a 0 [] ≡ cond
 opened_other (x ∷ xs) a h =
     (λ i. opened_step (is_paired x) x (need_other xs a h i) (opened_other xs a h i))
     ∙ elim (is_paired x && is_zero (need xs)) as (λ t. cond t (x ∷ (opened xs ++ cond (is_paired a) (a ∷ []) [])) (opened xs ++ cond (is_paired a) (a ∷ []) []) ≡ cond t
-        (x ∷ opened xs) (opened xs) ++ cond (is_paired a) (a ∷ []) []) [ true ↦ refl | false ↦ refl ]
+    (x ∷ opened xs) (opened xs) ++ cond (is_paired a) (a ∷ []) []) [ true ↦ refl | false ↦ refl ]
 
 length_push : (p : Act → Bool) (F : List Act) (a : Act) → length (filter p (F ++ a ∷ [])) ≡ length (filter p F) + cond (p a) 1 0
 length_push p F a =

@@ -32,7 +32,7 @@ asked limits b w v act s =
 -- what a step did, where its command yields P
 pub done : (limits : Limits) (b : ℕ) (w v : World) (act : Act) (P : List Update → Type 0)
     → Yields P (outcome_of limits.vmids limits.aux (used_vmids w.machine) act (realm_of b w) (map (seen w.machine) (named act))) → step limits w (by b act) ≡ Some v
-        → (us : List Update) × P us × (updated_all b us w ≡ Some v)
+    → (us : List Update) × P us × (updated_all b us w ≡ Some v)
 unfolding step
 done limits b w v act P yields s =
     of_plan (outcome_of limits.vmids limits.aux (used_vmids w.machine) act (realm_of b w) (map (seen w.machine) (named act))) yields (guarded (is_allowed limits w (by b act)) _ v s).1

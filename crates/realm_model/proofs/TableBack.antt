@@ -43,7 +43,7 @@ module _ (old rows : Rows) (level ipa granule : ℕ) (ripas : Ripas) (above : Ro
   table_back q =
       let dropped = drop_rows rows level ipa (512 * covered_count level) in
       elim (eq_by_cmp place_cmp q above_place) as (λ t. eq_by_cmp place_cmp q above_place ≡ t
-          → option_map mapping_of_row (get old q) ≡ option_map mapping_of_row (cond t (Some (unassigned Destroyed)) (get dropped q))) [
+      → option_map mapping_of_row (get old q) ≡ option_map mapping_of_row (cond t (Some (unassigned Destroyed)) (get dropped q))) [
         | true ↦ λ e. ap (λ x. option_map mapping_of_row (get old x)) (same_place q above_place e) ∙ ap (option_map mapping_of_row) was ∙ ap Some free
         | false ↦ λ apart. elsewhere q apart
       ] refl ∙ sym (ap (option_map mapping_of_row) (get-insert place_total dropped above_place (unassigned Destroyed) q))

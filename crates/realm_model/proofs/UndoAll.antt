@@ -86,7 +86,7 @@ module _ (limits : Limits) (b : ℕ) (base : World) (below : List Act) where
       let next : KeptOver st (history ++ by b r.0 ∷ []) undo.world =
       kept_back limits b (SameFor b) (IsSound b) (laws limits b) base below act st history w undo.world r.0 back.0 back.1 k undo.in_turn undo.stepped in
       let still = none_run_still limits b w undo.world (kept_reached limits b history w at_w) (kept_reached limits b (history ++ by b r.0 ∷ []) undo.world undo.grown.world_is)
-          r.0 back.1 undo.stepped st parts.1 in
+      r.0 back.1 undo.stepped st parts.1 in
       subst Ended (append_assoc history (by b r.0 ∷ []) (events b st) ∙ ap (λ es. history ++ es) (sym (events_more b act r.0 st r.1)))
       (undo_all st (history ++ by b r.0 ∷ []) undo.world undo.grown.legal undo.grown.world_is next still)
 
@@ -105,7 +105,7 @@ undone limits history b w legal at_w rest =
     let stack : k.0 ≡ reverse (open_entries b history) = sym (reverse-reverse k.0) ∙ ap reverse (sym k.1.open_is) in
     let ended : Ended limits b (opening limits) [] (history ++ undoing b history) =
     subst (λ st. Ended limits b (opening limits) [] (history ++ events b st)) stack
-        (undo_all limits b (opening limits) [] k.0 history w legal at_w k.1 (none_run (realm_of b w) k.0 ((rest_is_of_all limits history b w at_w).0 rest))) in
+    (undo_all limits b (opening limits) [] k.0 history w legal at_w k.1 (none_run (realm_of b w) k.0 ((rest_is_of_all limits history b w at_w).0 rest))) in
     let others : erase b (history ++ undoing b history) ≡ erase b history = erase_events b history (reverse (open_entries b history)) in
     let world_is : replay limits (history ++ undoing b history) ≡ replay limits (erase b history) =
     ended.world_is ∙ sym (emptied limits b (history ++ undoing b history) ended.world ended.legal ended.world_is ended.kept.open_is) ∙ ap (replay limits) others in
@@ -131,5 +131,10 @@ pub undone_next : (limits : Limits) (history : List Event) (b : ℕ) (w : World)
 undone_next limits history b w act legal at_w top rest =
     let r = some_is (reverse_of act) (newest limits b (SameFor b) (IsSound b) (laws limits b) history w act legal at_w top).paired in
     let undo = undoable limits b history w act r.0 legal at_w top r.1 rest in
-    record { back = r.0; reverse_is = r.1; legal = undo.grown.legal; left_open = ap (λ xs. xs ++ act ∷ []) (front_open b history r.0 (back_is act r.0 r.1))
-        ∙ front_last (open_entries b history) act top }
+    record {
+      back = r.0;
+      reverse_is = r.1;
+      legal = undo.grown.legal;
+      left_open = ap (λ xs. xs ++ act ∷ []) (front_open b history r.0 (back_is act r.0 r.1))
+          ∙ front_last (open_entries b history) act top;
+    }

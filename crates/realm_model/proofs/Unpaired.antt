@@ -73,7 +73,7 @@ module _ (limits : Limits) (w : World) where
   mild (Ripas ipa n) (Some rd) p r at = Yields-with_realm P _ _ (λ d is. Yields-check P _ _ _ (λ _. Yields-check P _ _ _ (λ _.
       Yields-with_end P _ _ _ _ (λ end e. Yields-check P _ _ _ (λ _. Yields-check P _ _ _ (λ all. Yields-Ok P _
       (realm_put rd d (record d { rows = with_ram d.rows ipa n; measurement = measurement_after d.measurement (ripas_event ipa n) }) at is
-          (record { vmid = refl; root = refl; recs = λ n. refl; rows = same_rows d.rows ipa n all }))))))))
+      (record { vmid = refl; root = refl; recs = λ n. refl; rows = same_rows d.rows ipa n all }))))))))
   mild (Enter n) None p r at = Yields-Err P _
   mild (Enter n) (Some rd) p r at =
       Yields-with_realm P _ _ (λ d is. Yields-with_rec P _ _ _ (λ rec there. Yields-check P _ _ _

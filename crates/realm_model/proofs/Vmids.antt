@@ -134,8 +134,11 @@ module _ (limits : Limits) (w : World) (Made : ℕ → RealmRow → Type 0) wher
       Yields-Ok V _ (λ e h. cc, (λ x h. realm_vmid rd d at is x (same_vmid _ x h), tt))))))))
   vmids (Rec g aux m) None makes at = Yields-Err V _
   vmids (Rec g aux m) (Some rd) makes at = Yields-with_realm V _ _ (λ d is. Yields-check V _ _ _ (λ _. Yields-check V _ _ _ (λ _.
-      Yields-Ok V _ (λ e h. cc, each_in_front V (put_seen (held RecAux rd.number)) (λ a us h. (λ e h. cc, h)) (map (seen w.machine) aux.items) _
-          (λ x h. realm_vmid rd d at is x (same_vmid _ x h), tt)))))
+      Yields-Ok V _ (
+        λ e h. cc,
+        each_in_front V (put_seen (held RecAux rd.number)) (λ a us h. (λ e h. cc, h)) (map (seen w.machine) aux.items) _
+            (λ x h. realm_vmid rd d at is x (same_vmid _ x h), tt),
+      ))))
   vmids (UnRec g aux m) None makes at = Yields-Err V _
   vmids (UnRec g aux m) (Some rd) makes at = Yields-with_realm V _ _ (λ d is. Yields-with_rec V _ _ _ (λ rec there. Yields-check V _ _ _ (λ _.
       Yields-Ok V _ (λ e h. cc, each_in_front V (λ g. Put g left) (λ g us h. (λ e h. cc, h)) rec.auxiliaries _ (λ x h. realm_vmid rd d at is x (same_vmid _ x h), tt)))))
@@ -183,7 +186,7 @@ pub realm_before : (limits : Limits) (w v : World) (b : ℕ) (act : Act) → IsS
 realm_before limits w v b act square s k e is =
     let did = done limits b w v act (V limits w (IsMade limits w act)) (vmids limits w (IsMade limits w act) act (realm_of b w) (makes limits w act) (IsAt-realm_of b w)) s in
     from_put limits w (IsMade limits w act) did.0 k (cell_at w.machine k) did.1 (from_now limits w (IsMade limits w act) k) e
-        (ap (λ (c : Cell). c.descriptor) (sym (cell_put b did.0 w v square did.2 k)) ∙ is)
+    (ap (λ (c : Cell). c.descriptor) (sym (cell_put b did.0 w v square did.2 k)) ∙ is)
 
 -- an act that makes no realm leaves none where none was
 none_made : (limits : Limits) (w : World) (act : Act) (k : ℕ) (e : RealmRow) → makes_realm act ≡ false → IsMade limits w act k e → ⊥

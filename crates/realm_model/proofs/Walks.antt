@@ -27,9 +27,9 @@ walk_end rows ipa zero end e = cc
 walk_end rows ipa (suc level) end e =
     elim (row_at rows (suc level) ipa) as (λ o. row_at rows (suc level) ipa ≡ o
     → elim o [ Some row ↦ Some (record { level = suc level; row = row }) | None ↦ walk rows ipa level ] ≡ Some end → row_at rows end.level ipa ≡ Some end.row) [
-  | Some row ↦ λ there e. let same = same_Some _ _ e in ap (λ (x : Walk). row_at rows x.level ipa) (sym same) ∙ there ∙ ap (λ (x : Walk). Some x.row) same
-  | None ↦ λ there e. walk_end rows ipa level end e
-] refl e
+      | Some row ↦ λ there e. let same = same_Some _ _ e in ap (λ (x : Walk). row_at rows x.level ipa) (sym same) ∙ there ∙ ap (λ (x : Walk). Some x.row) same
+      | None ↦ λ there e. walk_end rows ipa level end e
+    ] refl e
 
 -- one ends above a level that has no row there
 pub walk_above : (rows : Rows) (ipa level : ℕ) → row_at rows (suc level) ipa ≡ None → walk rows ipa (suc level) ≡ walk rows ipa level

@@ -22,7 +22,7 @@ unfolding updated_all
 IsSquare-updated_all b [] w v h e = subst IsSquare (same_Some _ _ e) h
 IsSquare-updated_all b (u ∷ us) w v h e =
     IsSquare-updated_all b us (updated b u w) v (length-set w.leases (granule_of u) (lease_after b u) ∙ h
-        ∙ sym (length-set w.machine (granule_of u) (cell_after u (cell_at w.machine (granule_of u))))) (guarded _ _ _ e).1
+    ∙ sym (length-set w.machine (granule_of u) (cell_after u (cell_at w.machine (granule_of u))))) (guarded _ _ _ e).1
 
 abbrev pub put_at : List Update → ℕ → Cell → Cell
 put_at [] k c = c

@@ -127,7 +127,7 @@ rammed : step eight (early (record second { rows = mapped }) table_page table_pa
 unfolding named outcome_of fits updated_all realm_from with_realm starting_tables
 rammed = step_by eight _ _ (by 0 (Ripas 8 4)) _ refl
     (check_true _ _ _ refl ∙ check_true _ _ _ refl ∙ end_there mapped 8 3 _ _ (walk_there mapped 8 3 (vacant Empty) (lit≤ tt) (mapped-row 8 (lit≤ tt)))
-        ∙ check_true _ _ _ refl ∙ check_true _ _ _ all_free)
+    ∙ check_true _ _ _ refl ∙ check_true _ _ _ all_free)
     refl
 
 -- the worlds from then on, by the realm, and granules 4, 6 and 7

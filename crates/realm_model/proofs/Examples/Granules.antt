@@ -108,7 +108,7 @@ unfolding step named outcome_of fits updated_all check
 in_turn-world =
     and_then (machine_of 2) _ bare _ _ _ refl (and_then (machine_of 2) _ _ _ _ _ filled-world (and_then (machine_of 2) _ _ _ _ _ peeked-world
     (and_then (machine_of 2) _ _ _ _ _ delegated-world (and_then (machine_of 2) _ _ _ _ _ undelegated-world
-        (and_then (machine_of 2) _ (opening (machine_of 2)) _ _ _ refl (at_end (machine_of 2) _))))))
+    (and_then (machine_of 2) _ (opening (machine_of 2)) _ _ _ refl (at_end (machine_of 2) _))))))
 
 -- ---- two blocks of two pages, undone, and then one of four
 

@@ -249,7 +249,7 @@ unfolding named outcome_of fits updated_all realm_from with_realm with_granule
 unlowered = step_by eight _ _ (by 0 (UnRtt 2 second 3)) _
     (ap (λ o. elim o [ Some r ↦ option_eq nat_eq r.granule (Some 2) | None ↦ false ]) emptied-above)
     (check_true _ _ _ refl ∙ end_there emptied second 2 _ _ (walk_there emptied second 2 (leads 2) (lit≤ tt) emptied-above) ∙ check_true _ _ _ refl
-        ∙ check_true _ _ _ refl ∙ check_true _ _ _ emptied-unused)
+    ∙ check_true _ _ _ refl ∙ check_true _ _ _ emptied-unused)
     refl
 
 unraised : step eight (world closed table_page delegated delegated) (by 0 (UnRtt 1 second 2)) ≡ Some (world bare delegated delegated delegated)
@@ -257,7 +257,7 @@ unfolding named outcome_of fits updated_all realm_from with_realm with_granule
 unraised = step_by eight _ _ (by 0 (UnRtt 1 second 2)) _
     (ap (λ o. elim o [ Some r ↦ option_eq nat_eq r.granule (Some 1) | None ↦ false ]) closed-above)
     (check_true _ _ _ refl ∙ end_there closed second 1 _ _ (walk_there closed second 1 (leads 1) (lit≤ tt) closed-above) ∙ check_true _ _ _ refl
-        ∙ check_true _ _ _ refl ∙ check_true _ _ _ closed-unused)
+    ∙ check_true _ _ _ refl ∙ check_true _ _ _ closed-unused)
     refl
 
 -- the RD and all starting tables are DELEGATED and zero

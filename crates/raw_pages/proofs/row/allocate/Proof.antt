@@ -72,9 +72,9 @@ allocate_spec 𝓤 𝓛 𝓜 𝓡 wired X W LX LW g d dd met md =
     let el : Elements = record { row = X; laws = LX } in
     let z : (Takes Z 𝓛 𝓜.mem 𝓡.returns).Ghost = at_takes Z 𝓛 𝓜.mem 𝓡.returns κ q self.ref_ptr by (room * s) al τ in
     sets ! (is ! (bin ! (get ! refl) (size_word !) (record { fits = subst (λ (k : ℕ). k < 2 ^ 64) (sym (uncapped room s bytes)) bytes })) (ap (vint w64) (uncapped room s bytes)))
-        refl (tt, record { fits = bytes }) $
+    refl (tt, record { fits = bytes }) $
     use2 𝓛 (raw ((Takes Z 𝓛 𝓜.mem 𝓡.returns).pre z)) (Takes-goes Z 𝓛 𝓜.mem 𝓡.returns κ q self.ref_ptr by (Incl-trans bounds.0 lives) (room * s) al τ
-        (block_size el room bytes) (block_align el room) bytes (capped_fits (align (elτ E)))) $
+    (block_size el room bytes) (block_align el room) bytes (capped_fits (align (elτ E)))) $
     calls_at ! (framed 𝓤 𝓛.H 𝓜 𝓣) (Takes Z 𝓛 𝓜.mem 𝓡.returns) (met.allocate dd) z (and_then ! (get ! refl) (and_then ! (get ! refl) (and_then ! (align_word !) (no_more !)))) (λ v.
     use1 𝓛 (later (raw (Answered Z 𝓛 𝓜.mem 𝓡.returns by τ v) ⊛ ‵ (flft κ q))) (Takes-gives Z 𝓛 𝓜.mem 𝓡.returns κ q self.ref_ptr by (room * s) al τ v) $ await ! tt $ split ! $
     answers Z ! 𝓜.mem 𝓡.returns by τ v

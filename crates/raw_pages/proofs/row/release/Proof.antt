@@ -41,17 +41,18 @@ pub release_spec : {M : Type 1} → statement M
 release_spec 𝓤 𝓛 𝓜 𝓡 wired X W LX LW g d dd met md =
     let E : El = record { row = X; laws = LX; al = record { row = W; laws = LW; g = g; d = d; drops = dd } } in let Z = E.al in
     let c = f.clauses X W g d dd 𝓛 𝓜.mem 𝓡.returns in let 𝓣 = tables 𝓤 𝓛.H 𝓜 𝓡 𝓡.env in let fn = inst_fn (args E) code.function in
-    proved 𝓛 (T E) (stayed E) c 𝓜 𝓡
-    (Goes-dropped 𝓛 3 (RefOf (0 ∷ []) tt (plain (λ _. P E)) (λ _. tt)) yes (λ κs x w. refl),
-        (Goes-dropped 𝓛 3 (plain (λ _. Starts E)) no (λ κs x w. refl), (Goes-dropped 𝓛 3 (plain (λ _. usize)) yes (λ κs x w. refl), (Goes-blank 𝓛 3 (plain (λ _. Owner E)) no (λ κs x w. tt), tt))))
+    proved 𝓛 (T E) (stayed E) c 𝓜 𝓡 (
+      Goes-dropped 𝓛 3 (RefOf (0 ∷ []) tt (plain (λ _. P E)) (λ _. tt)) yes (λ κs x w. refl),
+      (Goes-dropped 𝓛 3 (plain (λ _. Starts E)) no (λ κs x w. refl), (Goes-dropped 𝓛 3 (plain (λ _. usize)) yes (λ κs x w. refl), (Goes-blank 𝓛 3 (plain (λ _. Owner E)) no (λ κs x w. tt), tt))),
+    )
     (f.Key.name (args E)) fn (code.unfolded 𝓤 𝓛.H 𝓜 𝓡 wired (X, (W, tt)) d dd)
     (λ κs. (shr_vals, (start_val E, (uint_vals w64, (owner_val E, tt))))) (λ κs.
-        (shr_Tells (named 0) κs.0 (P E), ((start_lowers E).val_is, (uint_Tells w64, ((owner_lowers E).val_is, tt))))) (λ κs qs bounds a n are.
+    (shr_Tells (named 0) κs.0 (P E), ((start_lowers E).val_is, (uint_Tells w64, ((owner_lowers E).val_is, tt))))) (λ κs qs bounds a n are.
     let self = a.0 in let start = a.1.0 in let room = a.1.1.0 in let row = a.1.1.1.0 in let κ = κs.0 in let q = qs.0 in let S = (T E).signature in let s = sz E in let by = self.now in
     let vss : Vals S κs = (shr_vals self, (start_val E start, (uint_vals w64 room, (owner_val E row, tt)))) in let W' = walk_of 𝓛 (T E) (stayed E) c in
     let y : W'.Ghost = ((κs, qs, bounds, a, vss), tt) in
     qed 𝓛 (((‵ (flft κ q) ⊛ Others 𝓛 κs qs) ⊛ ‵ (owns (types_at S.params κs) a vss))
-        ∷ (raw (fact 𝓤 (κs.1.0 ⊑ X.lives)) ⊛ raw (fact 𝓤 (κs.1.1.0 ⊑ W.lives)) ⊛ raw (fact 𝓤 (Asks E by start room row))) ∷ []) ∵
+    ∷ (raw (fact 𝓤 (κs.1.0 ⊑ X.lives)) ⊛ raw (fact 𝓤 (κs.1.1.0 ⊑ W.lives)) ⊛ raw (fact 𝓤 (Asks E by start room row))) ∷ []) ∵
     move ! (1 ∷ []) $ split3 ! $ drop ! $ heard ! _ (λ lives. heard ! _ (λ asked. split ! $ split ! $
     move ! (2 ∷ []) $ fsplit ! $ fsplit ! $ drop ! $ move ! (1 ∷ []) $ fsplit ! $ drop ! $ fsplit ! $ drop ! $ fsplit ! $ fsplit ! $ keep ! (1 ∷ 3 ∷ 4 ∷ 5 ∷ []) $
     -- [what the row owns; what a `&` to the allocator holds; the token; the other tokens]
@@ -64,16 +65,16 @@ release_spec 𝓤 𝓛 𝓜 𝓡 wired X W LX LW g d dd met md =
     first ! $ blocks ! $
     sets ! (is ! (of_opd ! (get_in ! (fld ! refl (stop !)) (sub ! 0 refl (whole !)))) (ap ptr_val (sym asked.0 ∙ e))) refl (tt, tt) $
     sets ! (is ! (bin ! (get ! refl) (size_word !) (record { fits = subst (λ (k : ℕ). k < 2 ^ 64) (sym (uncapped room s bytes)) bytes })) (ap (vint w64) (uncapped room s bytes)))
-        refl (tt, record { fits = bytes }) $
+    refl (tt, record { fits = bytes }) $
     let z : (Gives Z 𝓛 𝓜.mem 𝓡.returns).Ghost = at_gives Z 𝓛 𝓜.mem 𝓡.returns κ q self.ref_ptr by b o (room * s) al τ in
     group ! 4 $ use1 𝓛 (raw ((Gives Z 𝓛 𝓜.mem 𝓡.returns).pre z)) (Gives-goes Z 𝓛 𝓜.mem 𝓡.returns κ q self.ref_ptr by (Incl-trans bounds.0 lives) b o
-        (room * s) al τ (block_size el room bytes) (block_align el room) bytes (capped_fits (align (elτ E)))) $
+    (room * s) al τ (block_size el room bytes) (block_align el room) bytes (capped_fits (align (elτ E)))) $
     calls_at_last ! (framed 𝓤 𝓛.H 𝓜 𝓣) (Gives Z 𝓛 𝓜.mem 𝓡.returns) (met.deallocate dd) z
-        (and_then ! (get ! refl) (and_then ! (get ! refl) (and_then ! (get ! refl) (and_then ! (align_word !) (no_more !))))) (λ v.
+    (and_then ! (get ! refl) (and_then ! (get ! refl) (and_then ! (get ! refl) (and_then ! (align_word !) (no_more !))))) (λ v.
     use1 𝓛 (later (given (v ≡ vunit) (‵ (flft κ q)))) (Gives-Gives Z 𝓛 𝓜.mem 𝓡.returns κ q self.ref_ptr by b o (room * s) al τ v) $ await ! tt $ learn ! (λ ended.
     lands_last ! refl (subst (λ (u : Val). Yes (has_ty ty_unit u) × WT u) (sym ended) (tt, tt)) $ exec ! 𝓣.C 𝓣.Λ (env fn.locals l) (after 1 fn.body) (at_ret _ (W'.post y)) $
     sets ! (of_opd ! (unit_lit !)) refl (tt, tt) $ returns ! (look_at ! 0 refl) $ free_all ! refl $ keep ! (0 ∷ 1 ∷ []) $
     suffices ! _ (ends_at 𝓛 (T E) (stayed E) c y vunit tt (tt, (tt, (tt, (tt, tt)))) (tt, (tt, (tt, (tt, tt))))) $
     join ! $ feq_i ! (List Val) (vunit ∷ []) (vunit ∷ []) refl $ nothing ! $ nothing ! $ fjoin ! $ nothing ! $ fjoin ! $ nothing ! $ fjoin ! $ nothing
-        ! $ fjoin ! $ join ! $ move ! (1 ∷ 0 ∷ []) $ join ! $
+    ! $ fjoin ! $ join ! $ move ! (1 ∷ 0 ∷ []) $ join ! $
     nothing ! $ move ! (1 ∷ 0 ∷ []) $ done !)))))))

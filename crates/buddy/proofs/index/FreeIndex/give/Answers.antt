@@ -10,7 +10,7 @@ pub overflow_add-self : goal.overflow_add-self
 overflow_add-self c =
     let i = c.self.inside in let order = c.args.order in let first = c.args.first in
     let most = given_count i.count i.lists c.give_to-turns.new.lists order first c.self.invariant
-        (subst (λ flags. IsTakenBlock flags order first) (sym c.self.view_is) c.requires.block) c.give_to-turns.ensures.lists in
+    (subst (λ flags. IsTakenBlock flags order first) (sym c.self.view_is) c.requires.block) c.give_to-turns.ensures.lists in
     let size = c.size_of.ensures.size in
     record { fits = omega arith }
 
@@ -19,7 +19,7 @@ invariant_of-self c =
     let i = c.self.inside in let order = c.args.order in let first = c.args.first in
     subst (λ n. IsIndex (i.count + n) c.give_to-turns.new.lists) (sym c.size_of.ensures.size)
     (more_index i.count i.lists c.give_to-turns.new.lists order first c.self.invariant (subst (λ flags. IsTakenBlock flags order first) (sym c.self.view_is) c.requires.block)
-        c.give_to-turns.ensures.lists)
+    c.give_to-turns.ensures.lists)
 
 pub returns-clause-given : goal.returns-clause-given
 returns-clause-given c =

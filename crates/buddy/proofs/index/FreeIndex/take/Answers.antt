@@ -14,7 +14,7 @@ returns-in_err-found-clause-none c =
     let heads = c.self.inside.lists in let order = c.args.order in
     if_none c.from_residual.result (λ first free.
     none_free heads (held heads) c.self.invariant.lists order (omega arith) (λ k g le low head. c.in_err-found.ensures.none k le (omega arith) (g, head)) first
-        (subst (λ flags. IsFreeBlock flags order first) (sym c.self.view_is) free))
+    (subst (λ flags. IsFreeBlock flags order first) (sym c.self.view_is) free))
 
 pub cut_out-cut-requires : goal.cut_out-cut-requires
 cut_out-cut-requires c =
@@ -61,5 +61,5 @@ pub returns-clause-smallest : goal.returns-clause-smallest
 returns-clause-smallest c = λ larger start from maximal.
     let heads = c.self.inside.lists in let order = c.args.order in
     least heads (held heads) c.self.invariant.lists order c.in_ok-found.found c.in_ok-found.first c.in_ok-found.ensures.head c.in_ok-found.ensures.from
-        c.cut_out-cut.result.1 c.cut_out-cut.ensures.turns
+    c.cut_out-cut.result.1 c.cut_out-cut.ensures.turns
     c.in_ok-found.ensures.lowest larger start from (subst (λ flags. IsMaximalBlock flags larger start) (sym c.self.view_is) maximal)

@@ -9,4 +9,4 @@ invariant_of-self c =
     let seen = ap length c.self.view_is in let inside = c.requires.inside in
     subst (IsMask _) (sym c.put.ensures)
     (mask_put c.self.inside.mask c.self.inside.links c.self.invariant c.args.granule c.args.order (omega arith) c.requires.order
-        (ap (λ heads. head_at heads c.args.granule) c.self.view_is ∙ c.requires.no_head))
+    (ap (λ heads. head_at heads c.args.granule) c.self.view_is ∙ c.requires.no_head))

@@ -33,7 +33,7 @@ returns c =
     let it = c.own_slot-slot.new in let own = c.own_slot-slot.ensures in let count = own.count in let read = c.slot.ensures in let x = c.two-written.result.0.now in
     let reads = slot_inside it.row.items it.slots.of.items it.slots.used it.slots.own own.whole.mark c.args.source (omega arith) [] in
     page_written it.row.items it.slots.of.items it.slots.used it.slots.own own.whole.mark c.args.target (omega arith) x c.own_slot-slot.result
-        (set it.row.items c.own_slot-slot.result x) own.slot own.own refl
+    (set it.row.items c.own_slot-slot.result x) own.slot own.own refl
     ∙ ap (λ (pages : List (List ℕ)). set pages c.args.target x) (own.pages ∙ c.self.view_is)
     ∙ ap (λ (page : List ℕ). set c.args.self.now c.args.target page)
     (c.two-written.ensures.values.0

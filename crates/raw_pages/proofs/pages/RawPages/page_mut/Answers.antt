@@ -26,7 +26,7 @@ returns c =
         refl,
         λ w.
             page_written it.row.items it.slots.of.items it.slots.used it.slots.own own.whole.mark c.args.index (omega arith) w c.own_slot-slot.result
-                (set it.row.items c.own_slot-slot.result w) slot own.own refl
+            (set it.row.items c.own_slot-slot.result w) slot own.own refl
             ∙ ap (λ (pages : List (List ℕ)). set pages c.args.index w) (own.pages ∙ c.self.view_is),
       ),
       record {

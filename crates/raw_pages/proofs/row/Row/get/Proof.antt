@@ -27,15 +27,17 @@ pub get_spec : {M : Type 1} → statement M
 get_spec 𝓤 𝓛 𝓜 𝓡 wired X W LX LW g d dd met md =
     let E : El = record { row = X; laws = LX; al = record { row = W; laws = LW; g = g; d = d; drops = dd } } in
     let c = f.clauses X W g d dd 𝓛 𝓜.mem 𝓡.returns in let 𝓣 = tables 𝓤 𝓛.H 𝓜 𝓡 𝓡.env in
-    proved 𝓛 (T E) (stayed E) c 𝓜 𝓡 (Goes-dropped 𝓛 3 (RefOf (0 ∷ []) tt (plain (λ _. Owner E)) (λ _. tt)) yes (λ κs x w. refl),
-        (Goes-dropped 𝓛 3 (plain (λ _. Starts E)) no (λ κs x w. refl), (Goes-dropped 𝓛 3 (plain (λ _. usize)) yes (λ κs x w. refl), tt)))
+    proved 𝓛 (T E) (stayed E) c 𝓜 𝓡 (
+      Goes-dropped 𝓛 3 (RefOf (0 ∷ []) tt (plain (λ _. Owner E)) (λ _. tt)) yes (λ κs x w. refl),
+      (Goes-dropped 𝓛 3 (plain (λ _. Starts E)) no (λ κs x w. refl), (Goes-dropped 𝓛 3 (plain (λ _. usize)) yes (λ κs x w. refl), tt)),
+    )
     (f.Key.name (args E)) (inst_fn (args E) code.function) (code.unfolded 𝓤 𝓛.H 𝓜 𝓡 wired (X, (W, tt)) d dd)
     (λ κs. (shr_vals, (start_val E, (uint_vals w64, tt)))) (λ κs. (shr_Tells (named 0) κs.0 (Owner E), ((start_lowers E).val_is, (uint_Tells w64, tt)))) (λ κs qs bounds a n are.
     let self = a.0 in let start = a.1.0 in let index = a.1.1.0 in let row = self.now in let κ = κs.0 in let S = (T E).signature in
     let vss : Vals S κs = (shr_vals self, (start_val E start, (uint_vals w64 index, tt))) in let W' = walk_of 𝓛 (T E) (stayed E) c in
     let y : W'.Ghost = ((κs, qs, bounds, a, vss), tt) in
     qed 𝓛 ((raw (alive 𝓛 S κs qs) ⊛ ‵ (owns (types_at S.params κs) a vss)) ∷ (raw (fact 𝓤 (κs.1.0 ⊑ X.lives)) ⊛ raw (fact 𝓤 (κs.1.1.0 ⊑ W.lives)) ⊛ raw
-        (fact 𝓤 (HasItem (R E) start row index))) ∷ []) ∵
+    (fact 𝓤 (HasItem (R E) start row index))) ∷ []) ∵
     move ! (1 ∷ []) $ split3 ! $ drop ! $ drop ! $ heard ! _ (λ asked. split ! $
     move ! (1 ∷ []) $ fsplit ! $ fsplit ! $ keep ! (1 ∷ 3 ∷ []) $
     -- [what a `&` to the row holds; the tokens]

@@ -27,8 +27,10 @@ pub get_mut_spec : {M : Type 1} → statement M
 get_mut_spec 𝓤 𝓛 𝓜 𝓡 wired X W LX LW g d dd met md =
     let E : El = record { row = X; laws = LX; al = record { row = W; laws = LW; g = g; d = d; drops = dd } } in
     let c = f.clauses X W g d dd 𝓛 𝓜.mem 𝓡.returns in let 𝓣 = tables 𝓤 𝓛.H 𝓜 𝓡 𝓡.env in
-    proved 𝓛 (T E) (stayed E) c 𝓜 𝓡 (Goes-spent_ref 𝓛 3 (0 ∷ []) tt (plain (λ _. Owner E)),
-        (Goes-dropped 𝓛 3 (plain (λ _. Starts E)) no (λ κs x w. refl), (Goes-dropped 𝓛 3 (plain (λ _. usize)) yes (λ κs x w. refl), tt)))
+    proved 𝓛 (T E) (stayed E) c 𝓜 𝓡 (
+      Goes-spent_ref 𝓛 3 (0 ∷ []) tt (plain (λ _. Owner E)),
+      (Goes-dropped 𝓛 3 (plain (λ _. Starts E)) no (λ κs x w. refl), (Goes-dropped 𝓛 3 (plain (λ _. usize)) yes (λ κs x w. refl), tt)),
+    )
     (f.Key.name (args E)) (inst_fn (args E) code.function) (code.unfolded 𝓤 𝓛.H 𝓜 𝓡 wired (X, (W, tt)) d dd)
     (λ κs. (mut_vals, (start_val E, (uint_vals w64, tt)))) (λ κs. (mut_Tells (named 0) κs.0 (Owner E), ((start_lowers E).val_is, (uint_Tells w64, tt)))) (λ κs qs bounds a n are.
     let self = a.0 in let start = a.1.0 in let index = a.1.1.0 in let row = self.now in let κ = κs.0 in let q = qs.0 in let γ = self.ghost_name in
@@ -36,7 +38,7 @@ get_mut_spec 𝓤 𝓛 𝓜 𝓡 wired X W LX LW g d dd met md =
     let vss : Vals S κs = (mut_vals self, (start_val E start, (uint_vals w64 index, tt))) in let W' = walk_of 𝓛 (T E) (stayed E) c in
     let y : W'.Ghost = ((κs, qs, bounds, a, vss), tt) in
     qed 𝓛 (((‵ (flft κ q) ⊛ Others 𝓛 κs qs) ⊛ ‵ (owns (types_at S.params κs) a vss))
-        ∷ (raw (fact 𝓤 (κs.1.0 ⊑ X.lives)) ⊛ raw (fact 𝓤 (κs.1.1.0 ⊑ W.lives)) ⊛ raw (fact 𝓤 (HasItem (R E) start row index))) ∷ []) ∵
+    ∷ (raw (fact 𝓤 (κs.1.0 ⊑ X.lives)) ⊛ raw (fact 𝓤 (κs.1.1.0 ⊑ W.lives)) ⊛ raw (fact 𝓤 (HasItem (R E) start row index))) ∷ []) ∵
     move ! (1 ∷ []) $ split3 ! $ drop ! $ drop ! $ heard ! _ (λ asked. split ! $ split ! $
     move ! (2 ∷ []) $ fsplit ! $ fsplit3 ! $ keep ! (1 ∷ 2 ∷ 4 ∷ 5 ∷ []) $
     enter ! _ _ _ _ _ $ alloc_all ! (λ l. pass_all ! refl ((tt, tt), (word-Good [] start.first, ((tt, record { fits = are.1.1.0.1 }), tt))) $

@@ -31,9 +31,13 @@ pub put_spec : {M : Type 1} → statement M
 put_spec 𝓤 𝓛 𝓜 𝓡 wired X W LX LW g d dd met md =
     let E : El = record { row = X; laws = LX; al = record { row = W; laws = LW; g = g; d = d; drops = dd } } in
     let c = f.clauses X W g d dd 𝓛 𝓜.mem 𝓡.returns in let 𝓣 = tables 𝓤 𝓛.H 𝓜 𝓡 𝓡.env in let fn = inst_fn (args E) code.function in
-    proved_at 𝓛 (T E) (stayed E) c 𝓜 𝓡
-    (Goes-ref 𝓛 3 0 tt (plain (λ _. Owner E)), (Goes-dropped 𝓛 3 (plain (λ _. Starts E)) no (λ κs x w. refl),
-        (Goes-dropped 𝓛 3 (plain (λ _. usize)) yes (λ κs x w. refl), (Goes-dropped 𝓛 3 (plain (λ _. R E)) no (λ κs x w. refl), tt))))
+    proved_at 𝓛 (T E) (stayed E) c 𝓜 𝓡 (
+      Goes-ref 𝓛 3 0 tt (plain (λ _. Owner E)),
+      (
+        Goes-dropped 𝓛 3 (plain (λ _. Starts E)) no (λ κs x w. refl),
+        (Goes-dropped 𝓛 3 (plain (λ _. usize)) yes (λ κs x w. refl), (Goes-dropped 𝓛 3 (plain (λ _. R E)) no (λ κs x w. refl), tt)),
+      ),
+    )
     (f.Key.name (args E)) fn (code.unfolded 𝓤 𝓛.H 𝓜 𝓡 wired (X, (W, tt)) d dd) (λ y are.
     let κs = y.0.0 in let qs = y.0.1 in let a = y.0.3 in let vss = y.0.4 in let κ = κs.0 in let q = qs.0 in let S = (T E).signature in
     let self = a.0 in let start = a.1.0 in let index = a.1.1.0 in let item = a.1.1.1.0 in let row = self.now in let γ = self.ghost_name in
@@ -46,7 +50,7 @@ put_spec 𝓤 𝓛 𝓜 𝓡 wired X W LX LW g d dd met md =
     let as_passed : List Val × List Val × List Val × List Val → Type 1 = λ ws. ent 𝓤 (W'.pre y) (Runs (ws.0 ++ (ws.1 ++ (ws.2 ++ (ws.3 ++ []))))) in
     subst as_passed (λ j. (sym e0 j, sym e1 j, sym e2 j, sym it.1 j)) (
     qed 𝓛 (((‵ (flft κ q) ⊛ Others 𝓛 κs qs) ⊛ ‵ (owns (types_at S.params κs) a vss))
-        ∷ (raw (fact 𝓤 (κs.1.0 ⊑ X.lives)) ⊛ raw (fact 𝓤 (κs.1.1.0 ⊑ W.lives)) ⊛ raw (fact 𝓤 (Asks E row start index))) ∷ []) ∵
+    ∷ (raw (fact 𝓤 (κs.1.0 ⊑ X.lives)) ⊛ raw (fact 𝓤 (κs.1.1.0 ⊑ W.lives)) ⊛ raw (fact 𝓤 (Asks E row start index))) ∷ []) ∵
     move ! (1 ∷ []) $ split3 ! $ drop ! $ drop ! $ heard ! _ (λ asked. split ! $ split ! $
     move ! (2 ∷ []) $ fsplit ! $ fsplit3 ! $ move ! (3 ∷ []) $ fsplit ! $ drop ! $ fsplit ! $ drop ! $ fsplit ! $ keep ! (3 ∷ 4 ∷ 5 ∷ 6 ∷ 0 ∷ []) $
     rewrite ! 4 (λ (us : List Val). ‵ ((R E).own_val item us)) it.1 refl $

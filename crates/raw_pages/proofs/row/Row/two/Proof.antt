@@ -38,18 +38,22 @@ pub two_spec : {M : Type 1} → statement M
 two_spec 𝓤 𝓛 𝓜 𝓡 wired X W LX LW g d dd met md =
     let E : El = record { row = X; laws = LX; al = record { row = W; laws = LW; g = g; d = d; drops = dd } } in
     let c = f.clauses X W g d dd 𝓛 𝓜.mem 𝓡.returns in let 𝓣 = tables 𝓤 𝓛.H 𝓜 𝓡 𝓡.env in
-    proved 𝓛 (T E) (stayed E) c 𝓜 𝓡
-    (Goes-spent_ref 𝓛 3 (0 ∷ []) tt (plain (λ _. Owner E)), (Goes-dropped 𝓛 3 (plain (λ _. Starts E)) no (λ κs x w. refl),
-        (Goes-dropped 𝓛 3 (plain (λ _. usize)) yes (λ κs x w. refl), (Goes-dropped 𝓛 3 (plain (λ _. usize)) yes (λ κs x w. refl), tt))))
+    proved 𝓛 (T E) (stayed E) c 𝓜 𝓡 (
+      Goes-spent_ref 𝓛 3 (0 ∷ []) tt (plain (λ _. Owner E)),
+      (
+        Goes-dropped 𝓛 3 (plain (λ _. Starts E)) no (λ κs x w. refl),
+        (Goes-dropped 𝓛 3 (plain (λ _. usize)) yes (λ κs x w. refl), (Goes-dropped 𝓛 3 (plain (λ _. usize)) yes (λ κs x w. refl), tt)),
+      ),
+    )
     (f.Key.name (args E)) (inst_fn (args E) code.function) (code.unfolded 𝓤 𝓛.H 𝓜 𝓡 wired (X, (W, tt)) d dd)
     (λ κs. (mut_vals, (start_val E, (uint_vals w64, (uint_vals w64, tt)))))
-        (λ κs. (mut_Tells (named 0) κs.0 (Owner E), ((start_lowers E).val_is, (uint_Tells w64, (uint_Tells w64, tt))))) (λ κs qs bounds a n are.
+    (λ κs. (mut_Tells (named 0) κs.0 (Owner E), ((start_lowers E).val_is, (uint_Tells w64, (uint_Tells w64, tt))))) (λ κs qs bounds a n are.
     let self = a.0 in let start = a.1.0 in let read = a.1.1.0 in let write = a.1.1.1.0 in let row = self.now in let κ = κs.0 in let q = qs.0 in let γ = self.ghost_name in
     let rb = self.ref_ptr.0 in let ro = self.ref_ptr.1 in let S = (T E).signature in
     let vss : Vals S κs = (mut_vals self, (start_val E start, (uint_vals w64 read, (uint_vals w64 write, tt)))) in let W' = walk_of 𝓛 (T E) (stayed E) c in
     let y : W'.Ghost = ((κs, qs, bounds, a, vss), tt) in
     qed 𝓛 (((‵ (flft κ q) ⊛ Others 𝓛 κs qs) ⊛ ‵ (owns (types_at S.params κs) a vss))
-        ∷ (raw (fact 𝓤 (κs.1.0 ⊑ X.lives)) ⊛ raw (fact 𝓤 (κs.1.1.0 ⊑ W.lives)) ⊛ raw (fact 𝓤 (HasItem (R E) start row read × HasItem (R E) start row write × (read ≢ write)))) ∷ []) ∵
+    ∷ (raw (fact 𝓤 (κs.1.0 ⊑ X.lives)) ⊛ raw (fact 𝓤 (κs.1.1.0 ⊑ W.lives)) ⊛ raw (fact 𝓤 (HasItem (R E) start row read × HasItem (R E) start row write × (read ≢ write)))) ∷ []) ∵
     move ! (1 ∷ []) $ split3 ! $ heard ! _ (λ lives. drop ! $ heard ! _ (λ asked. split ! $ split ! $
     move ! (2 ∷ []) $ fsplit ! $ fsplit3 ! $ keep ! (1 ∷ 2 ∷ 4 ∷ 5 ∷ []) $
     enter ! _ _ _ _ _ $ alloc_all ! (λ l. pass_all ! refl ((tt, tt), (word-Good [] start.first, ((tt, record { fits = are.1.1.0.1 }), ((tt, record { fits = are.1.1.1.0.1 }), tt)))) $
@@ -75,7 +79,7 @@ two_spec 𝓤 𝓛 𝓜 𝓡 wired X W LX LW g d dd met md =
     move ! (3 ∷ 4 ∷ []) $ fjoin ! $ move ! (3 ∷ 0 ∷ []) $ fjoin ! $ nothing ! $ move ! (2 ∷ 0 ∷ []) $ fjoin ! $ use1 𝓛 (‵ (fseps Qs)) (kept 𝓛 (part_at (R E) full_share x b from)) $
     move ! (3 ∷ 4 ∷ 5 ∷ 2 ∷ 0 ∷ 1 ∷ []) $ group ! 6 $
     use1 𝓛 (later (some (λ (δ : GName). ‵ (fobs δ ((R E).coded.code z)) ⊛ ‵ (fbor κ (Borrowed (mem (R E)) b to δ)) ⊛ ‵ (flft κ q) ⊛ ‵
-        (follows (Owner E) (R E) γ δ Mine) ⊛ (‵ (fbor κ (part_at (R E) full_share x b from)) ⊛ ‵ ftrue))))
+    (follows (Owner E) (R E) γ δ Mine) ⊛ (‵ (fbor κ (part_at (R E) full_share x b from)) ⊛ ‵ ftrue))))
     (takes_beside 𝓛 (mem (Owner E)) (mem (R E)) Mine κ q rb ro b to γ Qs (sem 𝓛 Beside) way coded coded z) $ await ! tt $ pick ! (λ δ.
     let r : (ShrRef (named 0) κ (R E)).Denot = record { ref_ptr = (b, from); now = x } in let w : (MutRef (named 0) κ (R E)).Denot = record { ref_ptr = (b, to); ghost_name = δ; now = z } in
     split3 ! $ move ! (2 ∷ []) $ split3 ! $ move ! (2 ∷ []) $ split ! $ move ! (1 ∷ []) $ drop ! $
