@@ -1,9 +1,9 @@
 -- A realm becomes ACTIVE, over the fields of a monitor.
-use Rattle.std.proofs.Common.{◌≡◌, ℕ, Bool, true, false, [], ◌∷◌, set, Some, None, Ok, Err, refl, sym, ap, ◌∙◌, subst, arith}
+use Rattle.std.proofs.Common.{◌≡◌, ℕ, Bool, true, false, [], ◌∷◌, set, Some, Ok, Err, refl, sym, ap, ◌∙◌, subst, arith}
 use Rattle.realm_model.specs.declared.states.RealmState.TheVariants.{Active}
 use Rattle.realm_model.specs.Machine.{RealmRow}
 use Rattle.realm_model.specs.Update.{Update, Outcome, machine_after_all}
-use Rattle.realm_model.specs.Command.Check.{check, error_input, error_realm, is_new, put_realm}
+use Rattle.realm_model.specs.Command.Check.{check, error_realm, is_new, put_realm}
 use Rattle.realm_model.specs.Command.Realm.{realm_activate}
 use Rattle.realm_objects.specs.Attributes.{RealmAttributes}
 use Rattle.rtt.specs.Realm.{LeavesOthers}
@@ -12,7 +12,7 @@ use Rattle.rmi_monitor.specs.Inside.{Fields, realm_at, machine_of, seen_as, IsWh
 use Rattle.rmi_monitor.proofs.Granules.{cell_is, machine_is, after_done}
 use Rattle.rmi_monitor.proofs.RealmAfter.{with_row_of}
 use Rattle.rmi_monitor.proofs.TableMoves.{whole_still, machine_still}
-use Rattle.rmi_monitor.proofs.RealmFound.{row_of, nowhere, somewhere}
+use Rattle.rmi_monitor.proofs.RealmFound.{row_of, somewhere}
 
 -- the fields with other attributes of a realm
 abbrev pub with_realm_at : Fields → ℕ → RealmAttributes → Fields
@@ -21,9 +21,6 @@ with_realm_at fields rd realm = record fields { realms = set fields.realms rd (S
 module _ (monitor : MonitorView) (fields : Fields) (view_is : seen_as fields ≡ monitor) (whole : IsWhole fields) (rd : ℕ) (taken : IsTaken monitor rd) where
   abbrev outcome : Outcome
   outcome = realm_activate (seen_in monitor rd)
-
-  pub activate_none : realm_at fields rd ≡ None → outcome ≡ Err error_input
-  activate_none none = nowhere monitor fields view_is whole rd taken.inside none _
 
   module _ (realm : RealmAttributes) (there : realm_at fields rd ≡ Some realm) where
     abbrev row : RealmRow

@@ -11,12 +11,11 @@ use Rattle.granule_table.specs.declared.granule.Granule.{Granule}
 use Rattle.realm_model.specs.declared.states.GranuleState.TheVariants.{Undelegated}
 use Rattle.realm_model.specs.Machine.{Cell, Machine, blank, cell_at}
 use Rattle.rtt.specs.Realm.{LeavesAlone}
-use Rattle.rtt.proofs.FrameLaws.{rows-alone, HasTables-alone}
 use Rattle.rmi_monitor.specs.View.{MonitorView, IsGivable, with_block, without_block}
 use Rattle.rmi_monitor.specs.Inside.{Fields, descriptor_of, cell_of, machine_of, seen_as, IsSoundAt, IsWhole}
 use Rattle.rmi_monitor.proofs.Machines.{length-machine_of, cell_at-machine_of, same_machine, cell_stays, descriptor_stays}
 use Rattle.rmi_monitor.proofs.Checks.{undelegated_state}
-use Rattle.rmi_monitor.proofs.Frames.{recs_beside}
+use Rattle.rmi_monitor.proofs.Frames.{recs_beside, tables_stay, rows_stay}
 use Rattle.rmi_monitor.proofs.HostMoves.{cell_of-host}
 use Rattle.rmi_monitor.proofs.Granules.{as_many_pages, cell_is}
 
@@ -87,15 +86,14 @@ module _ (monitor : MonitorView) (fields : Fields) (view_is : seen_as fields ≡
     count_places = whole.count_places;
     rec_places = whole.rec_places;
     each = sound;
-    tables = λ rd realm there. HasTables-alone fields.pages fields.granules new.pages new.granules rd realm.root (whole.tables rd realm there) (alone rd);
+    tables = λ rd. tables_stay fields new whole rd (alone rd);
     recs = recs_beside fields whole new.pages new.free;
     counted = whole.counted;
     vmids_used = whole.vmids_used;
   }
 
   descriptor_is : (g : ℕ) → descriptor_of new g ≡ descriptor_of fields g
-  descriptor_is g = descriptor_stays fields new g refl refl
-      (λ realm there. rows-alone fields.pages fields.granules new.pages new.granules g realm.root (whole.tables g realm there) (alone g))
+  descriptor_is g = descriptor_stays fields new g refl refl (rows_stay fields new whole g (alone g))
 
   -- a granule of the block
   cell_inside : (g : ℕ) → first ≤ g → g < first + count → cell_of new g ≡ blank

@@ -9,11 +9,10 @@ use Rattle.realm_model.specs.declared.states.GranuleState.TheVariants.{Data as I
 use Rattle.realm_model.specs.Machine.{Cell, cell_at}
 use Rattle.realm_model.specs.Update.{PutByte, machine_after_all}
 use Rattle.rtt.specs.Realm.{LeavesAlone}
-use Rattle.rtt.proofs.FrameLaws.{rows-alone, HasTables-alone}
 use Rattle.rmi_monitor.specs.View.{MonitorView, after_command}
 use Rattle.rmi_monitor.specs.Inside.{Fields, descriptor_of, bytes_of, cell_of, machine_of, seen_as, IsWhole}
 use Rattle.rmi_monitor.proofs.Machines.{one_put, cell_stays, descriptor_stays}
-use Rattle.rmi_monitor.proofs.Frames.{recs_beside}
+use Rattle.rmi_monitor.proofs.Frames.{recs_beside, tables_stay, rows_stay}
 use Rattle.rmi_monitor.proofs.Granules.{machine_is, cell_is, after_by, in_machine}
 
 abbrev pub with_pages : Fields → List (List ℕ) → Fields
@@ -69,7 +68,7 @@ module _ (old : Fields) (whole : IsWhole old) (rd page offset value : ℕ) (is :
       rd = (whole.each g).rd;
       rec = (whole.each g).rec;
     };
-    tables = λ g realm there. HasTables-alone old.pages old.granules new.pages new.granules g realm.root (whole.tables g realm there) (alone g);
+    tables = λ g. tables_stay old new whole g (alone g);
     recs = recs_beside old whole new.pages old.free;
     counted = whole.counted;
     vmids_used = whole.vmids_used;
@@ -78,8 +77,7 @@ module _ (old : Fields) (whole : IsWhole old) (rd page offset value : ℕ) (is :
   -- ---- the machine
 
   descriptor_is : (g : ℕ) → descriptor_of new g ≡ descriptor_of old g
-  descriptor_is g = descriptor_stays old new g refl refl
-      (λ realm there. rows-alone old.pages old.granules new.pages new.granules g realm.root (whole.tables g realm there) (alone g))
+  descriptor_is g = descriptor_stays old new g refl refl (rows_stay old new whole g (alone g))
 
   bytes_here : bytes_of (granule_at old.granules page).state (page_at new.pages page) ≡ set (bytes_of (granule_at old.granules page).state (page_at old.pages page)) offset value
   bytes_here =

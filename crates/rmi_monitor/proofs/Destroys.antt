@@ -13,7 +13,7 @@ use Rattle.realm_model.specs.declared.states.GranuleState.TheVariants.{Delegated
 use Rattle.realm_model.specs.Rows.{has_root_table}
 use Rattle.realm_model.specs.Machine.{RealmRow, left}
 use Rattle.realm_model.specs.Update.{Update, Outcome, Put, machine_after_all}
-use Rattle.realm_model.specs.Command.Check.{check, error_input, error_realm}
+use Rattle.realm_model.specs.Command.Check.{check, error_realm}
 use Rattle.realm_model.specs.Command.Realm.{realm_destroy}
 use Rattle.realm_model.specs.StepLaw.{set_each}
 use Rattle.realm_model.proofs.Booleans.{not_true, not_false}
@@ -28,15 +28,12 @@ use Rattle.rmi_monitor.specs.Inside.{Fields, realm_at, rec_at, rec_count_at, mac
 use Rattle.rmi_monitor.proofs.Granules.{machine_is, in_granules, in_pages, not_free, after_done}
 use Rattle.rmi_monitor.proofs.RealmPlaces.{in_rd}
 use Rattle.rmi_monitor.proofs.RealmDestroys.{rd_still, whole_destroyed, machine_destroyed}
-use Rattle.rmi_monitor.proofs.RealmFound.{row_of, nowhere, somewhere}
+use Rattle.rmi_monitor.proofs.RealmFound.{row_of, somewhere}
 use Rattle.rmi_monitor.proofs.RecReads.{kept_by, count_read, some_recs}
 
 module _ (monitor : MonitorView) (fields : Fields) (view_is : seen_as fields ≡ monitor) (whole : IsWhole fields) (rd : ℕ) (taken : IsTaken monitor rd) where
   abbrev outcome : Outcome
   outcome = realm_destroy (seen_in monitor rd)
-
-  pub destroy_none : realm_at fields rd ≡ None → outcome ≡ Err error_input
-  destroy_none none = nowhere monitor fields view_is whole rd taken.inside none _
 
   module _ (realm : RealmAttributes) (there : realm_at fields rd ≡ Some realm) where
     abbrev row : RealmRow

@@ -12,6 +12,7 @@ use Rattle.realm_model.specs.declared.states.GranuleState.TheVariants.{Data as I
 use Rattle.realm_model.specs.Sound.{is_host_state, is_rd_state}
 use Rattle.realm_model.specs.Machine.{RecRow}
 use Rattle.realm_objects.specs.Attributes.{RealmAttributes, RecAttributes, rec_row}
+use Rattle.rtt.specs.Tables.{rows}
 use Rattle.rtt.specs.Realm.{IsBacked, HasTables, LeavesAlone, LeavesOthers}
 use Rattle.rtt.proofs.FrameLaws.{rows-alone, HasTables-alone}
 use Rattle.rmi_monitor.specs.Inside.{Fields, realm_at, rec_count_at, rec_at, is_of_realm, rec_of, recs_of, cell_of, is_rec_state, IsSoundAt, IsRecOf, HasRecs, IsWhole}
@@ -167,6 +168,17 @@ recs_beside old whole pages free =
     (recs_stay old (record old { pages = pages; free = free }) (record { granule_count = refl; rec = λ g. refl; granule = λ g is. refl; auxiliary = λ g is. refl })
     whole refl (λ g rd rec realm at of there. (realm, there, omega arith)) 0).has
 
+-- ---- tables
+
+-- A realm whose tables are left alone has them still, and its rows.
+module _ (old new : Fields) (whole : IsWhole old) (rd : ℕ) (alone : LeavesAlone rd old.pages old.granules new.pages new.granules)
+    (realm : RealmAttributes) (there : realm_at old rd ≡ Some realm) where
+  pub tables_stay : HasTables new.pages new.granules rd realm.root
+  tables_stay = HasTables-alone old.pages old.granules new.pages new.granules rd realm.root (whole.tables rd realm there) alone
+
+  pub rows_stay : rows new.pages realm.root ≡ rows old.pages realm.root
+  rows_stay = rows-alone old.pages old.granules new.pages new.granules rd realm.root (whole.tables rd realm there) alone
+
 -- ---- all together
 
 -- One realm may change, come or go, and where it is there it has its tables. The granules that are touched are sound, and the other
@@ -202,7 +214,7 @@ module _ (old new : Fields) (rd : ℕ) (touched : ℕ → Bool) (leaves : Leaves
         subst (λ h. HasTables new.pages new.granules h realm.root) (sym same) (leaves.tables realm (ap (realm_at new) (sym same) ∙ at))
     | false ↦ λ e.
         let differs = eqb-false g rd e in
-        HasTables-alone old.pages old.granules new.pages new.granules g realm.root (whole.tables g realm (sym (leaves.realms g differs) ∙ at)) (leaves.alone g differs)
+        tables_stay old new whole g (leaves.alone g differs) realm (sym (leaves.realms g differs) ∙ at)
   ] refl
 
   -- what always holds, holds still
@@ -223,5 +235,4 @@ module _ (old new : Fields) (rd : ℕ) (touched : ℕ → Bool) (leaves : Leaves
   pub cell_after : (g : ℕ) → touched g ≡ false → g ≢ rd → cell_of new g ≡ cell_of old g
   cell_after g e differs =
       cell_stays old new g (leaves.stays.granule g e) (leaves.stays.page g e)
-      (descriptor_stays old new g (leaves.realms g differs) (leaves.recs.others g differs)
-      (λ realm there. rows-alone old.pages old.granules new.pages new.granules g realm.root (whole.tables g realm there) (leaves.alone g differs)))
+      (descriptor_stays old new g (leaves.realms g differs) (leaves.recs.others g differs) (rows_stay old new whole g (leaves.alone g differs)))

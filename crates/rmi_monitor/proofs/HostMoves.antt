@@ -13,10 +13,9 @@ use Rattle.realm_model.specs.Machine.{Cell}
 use Rattle.realm_model.specs.Sound.{is_host_state, is_rd_state}
 use Rattle.realm_model.proofs.Roles.{host_no_rd}
 use Rattle.rtt.specs.Realm.{LeavesAlone}
-use Rattle.rtt.proofs.FrameLaws.{HasTables-alone}
 use Rattle.rmi_monitor.specs.Inside.{Fields, bytes_of, cell_of, machine_of, is_rec_state, IsSoundAt, IsWhole}
 use Rattle.rmi_monitor.proofs.Machines.{one_put, cell_plain}
-use Rattle.rmi_monitor.proofs.Frames.{Stays, StayRecs, backed_after, alone_after, recs_stay, Leaves, whole_after, cell_after}
+use Rattle.rmi_monitor.proofs.Frames.{Stays, StayRecs, backed_after, alone_after, recs_stay, tables_stay, Leaves, whole_after, cell_after}
 use Rattle.rmi_monitor.proofs.RealmPlaces.{no_realm_there}
 
 -- the fields with another state and another page of a granule that belongs to no realm
@@ -124,7 +123,7 @@ module _ (old : Fields) (whole : IsWhole old) (g : ℕ) (inside : g < length old
     sound = λ h differs e. absurd (differs (eqb-true h g e));
     sound_rd = sound;
     realms = λ h differs. refl;
-    tables = λ realm there. HasTables-alone old.pages old.granules new.pages new.granules g realm.root (whole.tables g realm there) (alone g);
+    tables = tables_stay old new whole g (alone g);
     alone = λ h differs. alone h;
     recs = recs_stay old new stay_recs whole refl (λ h rd rec realm at of there. (realm, there, omega arith)) g;
     vmids_used = whole.vmids_used;

@@ -52,8 +52,8 @@ module _ {monitor : MonitorView} {fields : Fields} (kept : HasFields monitor fie
   rd_place : rd < length fields.realms
   rd_place = subst (λ k. rd < k) (as_many_granules monitor fields kept.view_is kept.whole ∙ sym kept.whole.realm_places) inside
 
-  pub realm_place : n < length fields.realms
-  realm_place = subst (λ k. k < length fields.realms) (sym same) rd_place
+  pub realm_place : {count : ℕ} → count ≡ length fields.realms → n < count
+  realm_place counted = subst (λ m. n < m) (sym counted) (subst (λ k. k < length fields.realms) (sym same) rd_place)
 
   pub realm_read : {x y : Option RealmAttributes} → x ≡ get_or fields.realms n x → x ≡ y → realm_at fields rd ≡ y
   realm_read {x} {y} read is = read_at fields.realms n rd None x y same rd_place read is

@@ -18,10 +18,9 @@ use Rattle.realm_model.proofs.Lists.{is_in_head, is_in_more}
 use Rattle.realm_objects.specs.Attributes.{RealmAttributes, RecAttributes, rec_row}
 use Rattle.rtt.specs.Tables.{rows}
 use Rattle.rtt.specs.Realm.{IsBacked, LeavesAlone}
-use Rattle.rtt.proofs.FrameLaws.{rows-alone, HasTables-alone}
 use Rattle.rmi_monitor.specs.Gathered.{gathered}
 use Rattle.rmi_monitor.specs.Inside.{Fields, realm_at, rec_count_at, rec_at, rec_of, recs_of, bytes_of, cell_of, is_rec_state, IsSoundAt, IsWhole}
-use Rattle.rmi_monitor.proofs.Frames.{Stays, backed_after, alone_after, LeavesRecs}
+use Rattle.rmi_monitor.proofs.Frames.{Stays, backed_after, alone_after, LeavesRecs, tables_stay, rows_stay}
 use Rattle.rmi_monitor.proofs.Gathered.{gathered-same}
 use Rattle.rmi_monitor.proofs.Machines.{cell_plain}
 use Rattle.rmi_monitor.proofs.Puts.{put_all, length-put_all, put_all-first, put_all-rest, put_all-out, out_of}
@@ -185,7 +184,7 @@ module _ (old : Fields) (whole : IsWhole old) (move : RecMove old) where
       (λ g at. move.page g (not_moved g (ap is_moved_state at))) (λ g at. not_moved g (ap is_moved_state at)) (λ g at. not_moved g (ap is_moved_state at))
 
   pub translation : rows new.pages move.realm.root ≡ rows old.pages move.realm.root
-  translation = rows-alone old.pages old.granules new.pages new.granules rd move.realm.root (whole.tables rd move.realm move.there) (alone rd)
+  translation = rows_stay old new whole rd (alone rd) move.realm move.there
 
   pub changes : ((g : ℕ) → moved g ≡ true → IsSoundAt new g) → LeavesRecs old new rd → Changes old new rd moved move.realm move.now
   changes sound recs = record {
@@ -201,7 +200,7 @@ module _ (old : Fields) (whole : IsWhole old) (move : RecMove old) where
     rd_stays = rd_stays;
     sound = sound;
     backed = backed;
-    tables = HasTables-alone old.pages old.granules new.pages new.granules rd move.realm.root (whole.tables rd move.realm move.there) (alone rd);
+    tables = tables_stay old new whole rd (alone rd) move.realm move.there;
     alone = λ r differs. alone r;
     recs = recs;
   }

@@ -1,5 +1,5 @@
 -- What is read of a REC by its granule, over the fields of a monitor.
-use Rattle.std.proofs.Common.{◌≡◌, ℕ, ◌<◌, length, get_or, Option, Some, None, option_map, refl, sym, ap, ◌∙◌, subst}
+use Rattle.std.proofs.Common.{◌≡◌, ℕ, Option, Some, None, option_map, refl, sym, ap, ◌∙◌}
 use Rattle.std.specs.Prelude.{option_and_then}
 use Rattle.std.specs.FinMap.{get}
 use Rattle.std.proofs.lemmas.Option.{same_Some, none-some}
@@ -8,8 +8,6 @@ use Rattle.realm_objects.specs.Attributes.{RealmAttributes, RecAttributes, rec_r
 use Rattle.rmi_monitor.specs.View.{MonitorView, IsRec, rec_in}
 use Rattle.rmi_monitor.specs.Inside.{Fields, rec_at, seen_as, IsWhole}
 use Rattle.rmi_monitor.specs.Named.{rec_named, rec_attributes_of, rec_attributes_at}
-use Rattle.rmi_monitor.proofs.Granules.{as_many_granules}
-use Rattle.rmi_monitor.proofs.Listed.{read_at}
 use Rattle.rmi_monitor.proofs.RealmFound.{row_of, descriptor_there}
 use Rattle.rmi_monitor.proofs.RecFound.{IsKept, kept_at, rec_found, row_found}
 use Rattle.rmi_monitor.proofs.RecNamed.{named_some, named_none}
@@ -50,12 +48,3 @@ module _ (monitor : MonitorView) (fields : Fields) (view_is : seen_as fields ≡
           let is = rec_found monitor fields view_is whole rd number granule (named_some monitor.machine granule rd number found) in
           absurd (none-some is.0 (sym at ∙ is.2.at))
       by None at None found = refl
-
-  module _ (inside : granule < length monitor.machine) (i : ℕ) where
-    -- the place, by the number that code reads it with
-    pub rec_place : i ≡ granule → i < length fields.recs
-    rec_place same = subst (λ k. i < k) (as_many_granules monitor fields view_is whole ∙ sym whole.rec_places) (subst (λ k. k < length monitor.machine) (sym same) inside)
-
-    pub rec_read : (x y : Option RecAttributes) → i ≡ granule → x ≡ get_or fields.recs i x → x ≡ y → rec_at fields granule ≡ y
-    rec_read x y same read is =
-        read_at fields.recs i granule None x y same (subst (λ k. k < length fields.recs) same (rec_place same)) read is

@@ -1,5 +1,5 @@
 -- The commands by which a REC runs and stops, over the fields of a monitor.
-use Rattle.std.proofs.Common.{◌≡◌, ℕ, Bool, true, false, List, [], ◌∷◌, set, Ok, Err, Option, Some, None, refl, sym, ap, ◌∙◌}
+use Rattle.std.proofs.Common.{◌≡◌, ℕ, ◌<◌, Bool, true, false, List, [], ◌∷◌, length, set, get_or, Ok, Err, Option, Some, None, refl, sym, ap, ◌∙◌}
 use Rattle.std.specs.Prelude.{not}
 use Rattle.realm_model.specs.declared.rmi.Rmi.{Rmi}
 use Rattle.realm_model.specs.declared.states.RecState.TheVariants.{Ready, Running}
@@ -10,23 +10,26 @@ use Rattle.realm_model.specs.Command.Rec.{rec_enter, rec_exit}
 use Rattle.realm_model.proofs.Outcomes.{check_true, check_false}
 use Rattle.realm_objects.specs.Attributes.{RealmAttributes, RecAttributes, rec_row}
 use Rattle.rmi_monitor.specs.View.{MonitorView, IsOnRec, seen_in}
-use Rattle.rmi_monitor.specs.Inside.{Fields, rec_at, seen_as, IsWhole}
+use Rattle.rmi_monitor.specs.Inside.{Fields, seen_as, IsWhole}
+use Rattle.rmi_monitor.proofs.Granules.{HasFields}
 use Rattle.rmi_monitor.proofs.RecFound.{IsKept, outcome_there, on_none, on_rec}
+use Rattle.rmi_monitor.proofs.RecReads.{rec_read}
 use Rattle.rmi_monitor.proofs.RecChanges.{with_recs, rec_put}
 use Rattle.rmi_monitor.proofs.RealmFound.{row_of}
 use Rattle.rmi_monitor.proofs.Listed.{put_back}
+
+-- a granule that is no REC: its place is written as it was
+pub refused_none : {A : Type 0} {monitor : MonitorView} {fields : Fields} → HasFields monitor fields → {granule : ℕ} → granule < length monitor.machine → (command : Seen → ℕ → Outcome)
+    → {i : ℕ} → i ≡ granule → {x : Option RecAttributes} → x ≡ get_or fields.recs i x → x ≡ None
+    → IsOnRec {A = A} command monitor granule (Err error_input) (seen_as (with_recs fields (set fields.recs i x)))
+refused_none {A} {monitor} {fields} has {granule} inside command {i} same {x} read is =
+    on_none monitor fields has.view_is has.whole command granule (seen_as (with_recs fields (set fields.recs i x))) (rec_read has inside same read is)
+    (ap (λ rs. seen_as (with_recs fields rs)) (put_back fields.recs i x x (sym read)) ∙ has.view_is)
 
 module _ (monitor : MonitorView) (fields : Fields) (view_is : seen_as fields ≡ monitor) (whole : IsWhole fields) (granule : ℕ)
     (recs : List (Option RecAttributes)) where
   abbrev new : MonitorView
   new = seen_as (with_recs fields recs)
-
-  -- a granule that is no REC
-  pub refused_none : {A : Type 0} (command : Seen → ℕ → Outcome) → rec_at fields granule ≡ None → recs ≡ set fields.recs granule None
-      → IsOnRec {A = A} command monitor granule (Err error_input) (seen_as (with_recs fields recs))
-  refused_none command gone back =
-      on_none monitor fields view_is whole command granule new gone
-      (ap (λ rs. seen_as (with_recs fields rs)) (back ∙ put_back fields.recs granule None None gone) ∙ view_is)
 
   module _ (rec : RecAttributes) (rd : ℕ) (realm : RealmAttributes) (kept : IsKept fields granule rec rd realm) where
     abbrev row : RealmRow

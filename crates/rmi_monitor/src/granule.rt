@@ -18,16 +18,17 @@ impl<S: PageStore> Monitor<S> {
         ensures answer { Answers result (command.granule_delegate (seen_in self.old granule)) }
         ensures machine { self.new ≡ after_command (command.granule_delegate (seen_in self.old granule)) self.old }
     {
-        if !self.granules.shift(
+        if self.granules.shift(
             granule,
             GranuleState::Undelegated,
             GranuleState::Delegated,
             None,
         ) {
-            return Err(Rmi::INPUT);
+            self.store.fill(granule, 0);
+            Ok(())
+        } else {
+            Err(Rmi::INPUT)
         }
-        self.store.fill(granule, 0);
-        Ok(())
     }
 
     /// Undelegates a granule: it is DELEGATED before, and UNDELEGATED after.

@@ -7,7 +7,6 @@
 
 mod data;
 mod granule;
-mod guest;
 mod inputs;
 mod locate;
 mod monitor;
@@ -16,6 +15,7 @@ mod reading;
 mod realm;
 mod rec;
 mod recs;
+mod run;
 mod table;
 
 pub use monitor::Monitor;

@@ -51,6 +51,25 @@ fn can_be_realm(granules: &GranuleTable, tables: &Tables, vmid: Vmid, vmids: u8)
 }
 
 impl<S: PageStore> Monitor<S> {
+    /// Makes a NEW realm ACTIVE.
+    ///
+    /// RMM 1.0, RMI_REALM_ACTIVATE. RMI_ERROR_INPUT comes where the granule is no RD, RMI_ERROR_REALM where the realm is
+    /// not NEW.
+    pub fn realm_activate(&mut self, rd: Gran) -> Result<(), Rmi>
+        requires { IsTaken self.old rd }
+        ensures answer { Answers result (command.realm_activate (seen_in self.old rd)) }
+        ensures machine { self.new ≡ after_command (command.realm_activate (seen_in self.old rd)) self.old }
+    {
+        let Some(realm) = &mut self.realms[rd.number() as usize] else {
+            return Err(Rmi::INPUT);
+        };
+        if !realm.is_new() {
+            return Err(Rmi::REALM);
+        }
+        realm.activate();
+        Ok(())
+    }
+
     /// Makes DELEGATED granules the RD and the starting tables of a new realm, whose IPAs have `width` bits.
     ///
     /// `root` is the first starting table; there are 2^(width - 39), one after another. RMM 1.0, RMI_REALM_CREATE.
@@ -80,25 +99,6 @@ impl<S: PageStore> Monitor<S> {
         let realm = RealmDesc::new(vmid, Root { first: root, width });
         self.realms[rd.number() as usize] = Some(realm);
         self.used.insert(vmid);
-        Ok(())
-    }
-
-    /// Makes a NEW realm ACTIVE.
-    ///
-    /// RMM 1.0, RMI_REALM_ACTIVATE. RMI_ERROR_INPUT comes where the granule is no RD, RMI_ERROR_REALM where the realm is
-    /// not NEW.
-    pub fn realm_activate(&mut self, rd: Gran) -> Result<(), Rmi>
-        requires { IsTaken self.old rd }
-        ensures answer { Answers result (command.realm_activate (seen_in self.old rd)) }
-        ensures machine { self.new ≡ after_command (command.realm_activate (seen_in self.old rd)) self.old }
-    {
-        let Some(realm) = &mut self.realms[rd.number() as usize] else {
-            return Err(Rmi::INPUT);
-        };
-        if !realm.is_new() {
-            return Err(Rmi::REALM);
-        }
-        realm.activate();
         Ok(())
     }
 

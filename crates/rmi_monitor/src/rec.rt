@@ -81,51 +81,6 @@ impl<S: PageStore> Monitor<S> {
         Ok(number)
     }
 
-    /// Lets a READY REC of an ACTIVE realm run.
-    ///
-    /// RMM 1.0, RMI_REC_ENTER. RMI_ERROR_INPUT comes where the granule is no REC, RMI_ERROR_REALM where its realm is not
-    /// ACTIVE, RMI_ERROR_REC where it is not READY.
-    pub fn rec_enter(&mut self, rec: Gran) -> Result<(), Rmi>
-        requires { IsTaken self.old rec }
-        ensures { IsOnRec command.rec_enter self.old rec result self.new }
-    {
-        let Some(kept) = &mut self.recs[rec.number() as usize] else {
-            return Err(Rmi::INPUT);
-        };
-        let Some(rd) = self.granules.realm_of(rec) else {
-            unreachable!()
-        };
-        let Some(realm) = &self.realms[rd.number() as usize] else {
-            unreachable!()
-        };
-        if realm.is_new() {
-            return Err(Rmi::REALM);
-        }
-        if !kept.is_ready() {
-            return Err(Rmi::REC);
-        }
-        kept.enter();
-        Ok(())
-    }
-
-    /// Stops a RUNNING REC: it is READY from now on.
-    ///
-    /// RMM 1.0, REC exit; as a command of its own it is this profile's. RMI_ERROR_INPUT comes where the granule is no REC,
-    /// RMI_ERROR_REC where it is not RUNNING.
-    pub fn rec_exit(&mut self, rec: Gran) -> Result<(), Rmi>
-        requires { IsTaken self.old rec }
-        ensures { IsOnRec command.rec_exit self.old rec result self.new }
-    {
-        let Some(kept) = &mut self.recs[rec.number() as usize] else {
-            return Err(Rmi::INPUT);
-        };
-        if kept.is_ready() {
-            return Err(Rmi::REC);
-        }
-        kept.exit();
-        Ok(())
-    }
-
     /// Removes a READY REC: its granule and its auxiliaries are zero and DELEGATED. Its number is not used again.
     ///
     /// RMM 1.0, RMI_REC_DESTROY. RMI_ERROR_INPUT comes where the granule is no REC, RMI_ERROR_REC where it is not READY.
@@ -139,9 +94,7 @@ impl<S: PageStore> Monitor<S> {
         if !kept.is_ready() {
             return Err(Rmi::REC);
         }
-        let Some(rd) = self.granules.realm_of(rec) else {
-            unreachable!()
-        };
+        let rd = self.granules.realm_of(rec).unwrap();
         release(&mut self.store, &mut self.granules, rec, GranuleState::Rec);
         release_all(
             &mut self.store,

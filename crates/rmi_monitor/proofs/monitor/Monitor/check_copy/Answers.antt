@@ -1,4 +1,4 @@
-use Rattle.std.proofs.Common.{◌<◌, sym, ◌∙◌, subst}
+use Rattle.std.proofs.Common.{sym, ◌∙◌}
 use Rattle.rmi_monitor.proofs.DataCreates.{fit_seen, create_no_realm, create_unprotected, create_unfit, create_not_new}
 use Rattle.rmi_monitor.proofs.Granules.{has_fields, in_granules}
 use Rattle.rmi_monitor.proofs.Located.{locates_new}
@@ -6,9 +6,7 @@ use Rattle.rmi_monitor.proofs.RealmFound.{realm_place, realm_read}
 use Rattle.rmi_monitor.proofs.monitor.Monitor.check_copy.Goals as goal
 
 pub index-requires : goal.index-requires
-index-requires g c =
-    subst (λ n. c.number.result < n) (sym c.self.inside.realms.ok.0)
-    (realm_place (has_fields c.self.view_is c.self.invariant) c.requires.rd_taken.inside c.number.ensures.value)
+index-requires g c = realm_place (has_fields c.self.view_is c.self.invariant) c.requires.rd_taken.inside c.number.ensures.value c.self.inside.realms.ok.0
 
 pub returns-in_default : goal.returns-in_default
 returns-in_default g c =

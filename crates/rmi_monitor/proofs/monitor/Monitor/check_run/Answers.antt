@@ -1,4 +1,4 @@
-use Rattle.std.proofs.Common.{◌<◌, sym, ◌∙◌, subst}
+use Rattle.std.proofs.Common.{sym, ◌∙◌}
 use Rattle.rmi_monitor.proofs.Granules.{has_fields}
 use Rattle.rmi_monitor.proofs.Located.{locates_new}
 use Rattle.rmi_monitor.proofs.RealmFound.{realm_place, realm_read}
@@ -6,9 +6,7 @@ use Rattle.rmi_monitor.proofs.TableRipas.{ripas_nowhere, ripas_no_run, ripas_not
 use Rattle.rmi_monitor.proofs.monitor.Monitor.check_run.Goals as goal
 
 pub index-requires : goal.index-requires
-index-requires g c =
-    subst (λ n. c.number.result < n) (sym c.self.inside.realms.ok.0)
-    (realm_place (has_fields c.self.view_is c.self.invariant) c.requires.inside c.number.ensures.value)
+index-requires g c = realm_place (has_fields c.self.view_is c.self.invariant) c.requires.inside c.number.ensures.value c.self.inside.realms.ok.0
 
 pub returns-in_default : goal.returns-in_default
 returns-in_default g c =

@@ -1,4 +1,4 @@
-use Rattle.std.proofs.Common.{◌<◌, Bool, List, set, sym, ap, ◌∙◌, subst}
+use Rattle.std.proofs.Common.{Bool, List, set, ap, ◌∙◌}
 use Rattle.page_arena.specs.Page.{is_free}
 use Rattle.realm_model.specs.Command.Data.{data_create}
 use Rattle.rmi_monitor.specs.View.{seen_in}
@@ -63,9 +63,7 @@ bytes-requires g c =
     (in_granules c.args.self.now _ c.self.view_is c.self.invariant c.args.source c.requires.source_taken))
 
 pub index_mut-requires : goal.index_mut-requires
-index_mut-requires g c =
-    subst (λ n. c.number.result < n) (sym c.self.inside.realms.ok.0)
-    (realm_place (has_fields c.self.view_is c.self.invariant) c.requires.rd_taken.inside c.number.ensures.value)
+index_mut-requires g c = realm_place (has_fields c.self.view_is c.self.invariant) c.requires.rd_taken.inside c.number.ensures.value c.self.inside.realms.ok.0
 
 done : (g : Over) (c : goal.After-self-1 g)
     → Done c.args.self.now (data_create (seen_in c.args.self.now c.args.rd) (seen_in c.args.self.now c.args.page) c.args.ipa (seen_in c.args.self.now c.args.source))

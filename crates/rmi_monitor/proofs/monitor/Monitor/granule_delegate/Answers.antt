@@ -12,14 +12,14 @@ use Rattle.rmi_monitor.proofs.monitor.Monitor.granule_delegate.Goals as goal
 pub shift-requires : goal.shift-requires
 shift-requires g c = in_granules c.args.self.now _ c.self.view_is c.self.invariant c.args.granule c.requires
 
-pub invariant_of-self : goal.invariant_of-self
-invariant_of-self g c = whole_refused c.self.invariant (refl, c.if-not-shift.ensures.unchanged) refl
+pub invariant_of-self-else-shift : goal.invariant_of-self-else-shift
+invariant_of-self-else-shift g c = whole_refused c.self.invariant (refl, c.if-shift.ensures.unchanged) refl
 
-pub returns-then-not-shift : goal.returns-then-not-shift
-returns-then-not-shift g c =
-    refused_call (has_fields c.self.view_is c.self.invariant) (refl, c.if-not-shift.ensures.unchanged) refl (Err error_input) refl
+pub returns-else-shift : goal.returns-else-shift
+returns-else-shift g c =
+    refused_call (has_fields c.self.view_is c.self.invariant) (refl, c.if-shift.ensures.unchanged) refl (Err error_input) refl
     (check_false _ error_input (Ok (Put c.args.granule left ∷ []))
-    (is_not_undelegated c.args.self.now _ c.self.view_is c.self.invariant c.args.granule c.requires (λ e. false≢true (c.if-not-shift.ensures.answer.1 e))))
+    (is_not_undelegated c.args.self.now _ c.self.view_is c.self.invariant c.args.granule c.requires (λ e. false≢true (c.if-shift.ensures.answer.1 e))))
 
 pub fill-requires : goal.fill-requires
 fill-requires g c = record {
@@ -27,17 +27,17 @@ fill-requires g c = record {
   taken = not_free c.args.self.now _ c.self.view_is c.self.invariant c.args.granule c.requires;
 }
 
-pub invariant_of-self-2 : goal.invariant_of-self-2
-invariant_of-self-2 g c =
-    whole_delegated c.args.self.now _ c.self.view_is c.self.invariant c.args.granule c.requires (c.if-not-shift.ensures.answer.0 refl) _ _ _ c.fill.ensures.flags c.if-not-shift.ensures.shifted
+pub invariant_of-self : goal.invariant_of-self
+invariant_of-self g c =
+    whole_delegated c.args.self.now _ c.self.view_is c.self.invariant c.args.granule c.requires (c.if-shift.ensures.answer.0 refl) _ _ _ c.fill.ensures.flags c.if-shift.ensures.shifted
     c.fill.ensures.filled
 
-pub returns-clause-answer : goal.returns-clause-answer
-returns-clause-answer g c =
+pub returns-then-shift-clause-answer : goal.returns-then-shift-clause-answer
+returns-then-shift-clause-answer g c =
     answers_ok {A = Unit {0}} tt (Put c.args.granule left ∷ []) _ (check_true _ error_input (Ok (Put c.args.granule left ∷ []))
-    (is_undelegated_there c.args.self.now _ c.self.view_is c.self.invariant c.args.granule c.requires (c.if-not-shift.ensures.answer.0 refl)))
+    (is_undelegated_there c.args.self.now _ c.self.view_is c.self.invariant c.args.granule c.requires (c.if-shift.ensures.answer.0 refl)))
 
-pub returns-clause-machine : goal.returns-clause-machine
-returns-clause-machine g c =
-    delegated_done c.args.self.now _ c.self.view_is c.self.invariant c.args.granule c.requires (c.if-not-shift.ensures.answer.0 refl) _ _ _ c.fill.ensures.flags c.if-not-shift.ensures.shifted
+pub returns-then-shift-clause-machine : goal.returns-then-shift-clause-machine
+returns-then-shift-clause-machine g c =
+    delegated_done c.args.self.now _ c.self.view_is c.self.invariant c.args.granule c.requires (c.if-shift.ensures.answer.0 refl) _ _ _ c.fill.ensures.flags c.if-shift.ensures.shifted
     c.fill.ensures.filled

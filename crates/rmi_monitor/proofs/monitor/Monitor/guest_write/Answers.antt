@@ -1,4 +1,5 @@
-use Rattle.std.proofs.Common.{None, refl, sym, ap, ◌∙◌, ◌<◌, subst}
+use Rattle.std.proofs.Common.{refl, sym, ap, ◌∙◌}
+use Rattle.std.specs.Option.{option_copied}
 use Rattle.realm_model.specs.Rows.{Walk, data_of}
 use Rattle.realm_model.specs.Command.Check.{error_rtt}
 use Rattle.realm_model.specs.Command.Rec.{guest_write}
@@ -7,61 +8,57 @@ use Rattle.rmi_monitor.proofs.Granules.{has_fields, in_granules}
 use Rattle.rmi_monitor.proofs.GuestWrites.{write_unprotected, write_ready, write_unassigned, write_done}
 use Rattle.rmi_monitor.proofs.Located.{located_tables, located_inside}
 use Rattle.rmi_monitor.proofs.RecFound.{on_none}
-use Rattle.rmi_monitor.proofs.RecReads.{rec_place, rec_read, no_rd, no_realm, realm_place, realm_read, kept_there}
+use Rattle.rmi_monitor.proofs.RecReads.{rec_place, rec_read, some_rd, realm_place, some_realm, kept_there}
 use Rattle.rmi_monitor.proofs.monitor.Monitor.guest_write.Goals as goal
 
 pub index-requires : goal.index-requires
-index-requires g c =
-    subst (λ n. c.number.result < n) (sym c.self.inside.recs.ok.0)
-    (rec_place (has_fields c.self.view_is c.self.invariant) c.requires c.number.ensures.value)
+index-requires g c = rec_place (has_fields c.self.view_is c.self.invariant) c.requires.inside c.number.ensures.value c.self.inside.recs.ok.0
 
 pub returns-in_default : goal.returns-in_default
 returns-in_default g c =
     on_none c.args.self.now _ c.self.view_is c.self.invariant (λ rd number. guest_write rd number c.args.ipa c.args.offset c.args.value) c.args.rec c.args.self.now
-    (rec_read (has_fields c.self.view_is c.self.invariant) c.requires c.number.ensures.value c.index.ensures c.in_default.is) refl
+    (rec_read (has_fields c.self.view_is c.self.invariant) c.requires.inside c.number.ensures.value c.index.ensures c.in_default.is) refl
 
 pub realm_of-requires : goal.realm_of-requires
 realm_of-requires g c = in_granules c.args.self.now _ c.self.view_is c.self.invariant c.args.rec c.requires
 
-pub unreachable-requires : goal.unreachable-requires
-unreachable-requires g c =
-    let at = rec_read (has_fields c.self.view_is c.self.invariant) c.requires c.number.ensures.value c.index.ensures c.in-Some.is in
-    no_rd _ c.self.invariant c.args.rec c.in-Some.kept at (sym c.realm_of.ensures ∙ c.in_default-realm_of.is)
+pub unwrap-rd-requires : goal.unwrap-rd-requires
+unwrap-rd-requires g c =
+    let at = rec_read (has_fields c.self.view_is c.self.invariant) c.requires.inside c.number.ensures.value c.index.ensures c.in-Some.is in
+    some_rd _ c.self.invariant c.args.rec c.in-Some.writer at c.realm_of.ensures
 
 pub index-requires-2 : goal.index-requires-2
 index-requires-2 g c =
-    let at = rec_read (has_fields c.self.view_is c.self.invariant) c.requires c.number.ensures.value c.index.ensures c.in-Some.is in
-    subst (λ n. c.number-2.result < n) (sym c.self.inside.realms.ok.0)
-    (realm_place _ c.self.invariant c.args.rec c.in-Some.kept at c.in-Some-realm_of.rd (sym c.realm_of.ensures ∙ c.in-Some-realm_of.is) c.number-2.result c.number-2.ensures.value)
+    let at = rec_read (has_fields c.self.view_is c.self.invariant) c.requires.inside c.number.ensures.value c.index.ensures c.in-Some.is in
+    realm_place _ c.self.invariant c.args.rec c.in-Some.writer at c.unwrap-rd.result (sym c.realm_of.ensures ∙ c.unwrap-rd.ensures) c.number-2.result c.number-2.ensures.value c.self.inside.realms.ok.0
 
-pub unreachable-requires-in_default-index : goal.unreachable-requires-in_default-index
-unreachable-requires-in_default-index g c =
-    let at = rec_read (has_fields c.self.view_is c.self.invariant) c.requires c.number.ensures.value c.index.ensures c.in-Some.is in
-    let of = sym c.realm_of.ensures ∙ c.in-Some-realm_of.is in
-    no_realm _ c.self.invariant c.args.rec c.in-Some.kept at c.in-Some-realm_of.rd of
-    (realm_read _ c.self.invariant c.args.rec c.in-Some.kept at c.in-Some-realm_of.rd of c.number-2.result c.number-2.ensures.value _ None c.index-2.ensures c.in_default-index.is)
+pub unwrap-realm-requires : goal.unwrap-realm-requires
+unwrap-realm-requires g c =
+    let at = rec_read (has_fields c.self.view_is c.self.invariant) c.requires.inside c.number.ensures.value c.index.ensures c.in-Some.is in
+    let of = sym c.realm_of.ensures ∙ c.unwrap-rd.ensures in
+    c.as_ref.ensures.variant ∙ some_realm _ c.self.invariant c.args.rec c.in-Some.writer at c.unwrap-rd.result of c.number-2.result c.number-2.ensures.value c.index-2.ensures
 
 pub returns-in_default-located : goal.returns-in_default-located
 returns-in_default-located g c =
-    let at = rec_read (has_fields c.self.view_is c.self.invariant) c.requires c.number.ensures.value c.index.ensures c.in-Some.is in
-    let kept = kept_there _ c.self.invariant c.args.rec c.in-Some.kept at c.in-Some-realm_of.rd (sym c.realm_of.ensures ∙ c.in-Some-realm_of.is)
-    c.number-2.result c.number-2.ensures.value _ c.in-Some-index.realm c.index-2.ensures c.in-Some-index.is in
-    write_unprotected c.args.self.now _ c.self.view_is c.self.invariant c.args.rec c.in-Some.kept c.in-Some-realm_of.rd c.in-Some-index.realm kept c.args.ipa c.args.offset c.args.value
+    let at = rec_read (has_fields c.self.view_is c.self.invariant) c.requires.inside c.number.ensures.value c.index.ensures c.in-Some.is in
+    let kept = kept_there _ c.self.invariant c.args.rec c.in-Some.writer at c.unwrap-rd.result (sym c.realm_of.ensures ∙ c.unwrap-rd.ensures)
+    c.number-2.result c.number-2.ensures.value c.index-2.ensures (sym c.as_ref.ensures.value ∙ ap option_copied c.unwrap-realm.ensures) in
+    write_unprotected c.args.self.now _ c.self.view_is c.self.invariant c.args.rec c.in-Some.writer c.unwrap-rd.result c.unwrap-realm.result.now kept c.args.ipa c.args.offset c.args.value
     c.in_default-located.ensures.none
 
 pub returns-then-is_ready : goal.returns-then-is_ready
 returns-then-is_ready g c =
-    let at = rec_read (has_fields c.self.view_is c.self.invariant) c.requires c.number.ensures.value c.index.ensures c.in-Some.is in
-    let kept = kept_there _ c.self.invariant c.args.rec c.in-Some.kept at c.in-Some-realm_of.rd (sym c.realm_of.ensures ∙ c.in-Some-realm_of.is)
-    c.number-2.result c.number-2.ensures.value _ c.in-Some-index.realm c.index-2.ensures c.in-Some-index.is in
-    write_ready c.args.self.now _ c.self.view_is c.self.invariant c.args.rec c.in-Some.kept c.in-Some-realm_of.rd c.in-Some-index.realm kept c.args.ipa c.args.offset c.args.value
+    let at = rec_read (has_fields c.self.view_is c.self.invariant) c.requires.inside c.number.ensures.value c.index.ensures c.in-Some.is in
+    let kept = kept_there _ c.self.invariant c.args.rec c.in-Some.writer at c.unwrap-rd.result (sym c.realm_of.ensures ∙ c.unwrap-rd.ensures)
+    c.number-2.result c.number-2.ensures.value c.index-2.ensures (sym c.as_ref.ensures.value ∙ ap option_copied c.unwrap-realm.ensures) in
+    write_ready c.args.self.now _ c.self.view_is c.self.invariant c.args.rec c.in-Some.writer c.unwrap-rd.result c.unwrap-realm.result.now kept c.args.ipa c.args.offset c.args.value
     c.in-Some-located.ensures.some (sym c.is_ready.ensures ∙ c.if-is_ready.true)
 
 pub walk-walk-requires : goal.walk-walk-requires
 walk-walk-requires g c =
-    let at = rec_read (has_fields c.self.view_is c.self.invariant) c.requires c.number.ensures.value c.index.ensures c.in-Some.is in
-    let kept = kept_there _ c.self.invariant c.args.rec c.in-Some.kept at c.in-Some-realm_of.rd (sym c.realm_of.ensures ∙ c.in-Some-realm_of.is)
-    c.number-2.result c.number-2.ensures.value _ c.in-Some-index.realm c.index-2.ensures c.in-Some-index.is in
+    let at = rec_read (has_fields c.self.view_is c.self.invariant) c.requires.inside c.number.ensures.value c.index.ensures c.in-Some.is in
+    let kept = kept_there _ c.self.invariant c.args.rec c.in-Some.writer at c.unwrap-rd.result (sym c.realm_of.ensures ∙ c.unwrap-rd.ensures)
+    c.number-2.result c.number-2.ensures.value c.index-2.ensures (sym c.as_ref.ensures.value ∙ ap option_copied c.unwrap-realm.ensures) in
     record {
       as_many = c.self.invariant.backed.as_many;
       tables = located_tables c.in-Some-located.ensures.some c.self.invariant kept.there;
@@ -70,10 +67,10 @@ walk-walk-requires g c =
 
 pub returns-in_default-page : goal.returns-in_default-page
 returns-in_default-page g c =
-    let at = rec_read (has_fields c.self.view_is c.self.invariant) c.requires c.number.ensures.value c.index.ensures c.in-Some.is in
-    let kept = kept_there _ c.self.invariant c.args.rec c.in-Some.kept at c.in-Some-realm_of.rd (sym c.realm_of.ensures ∙ c.in-Some-realm_of.is)
-    c.number-2.result c.number-2.ensures.value _ c.in-Some-index.realm c.index-2.ensures c.in-Some-index.is in
-    write_unassigned c.args.self.now _ c.self.view_is c.self.invariant c.args.rec c.in-Some.kept c.in-Some-realm_of.rd c.in-Some-index.realm kept c.args.ipa c.args.offset c.args.value
+    let at = rec_read (has_fields c.self.view_is c.self.invariant) c.requires.inside c.number.ensures.value c.index.ensures c.in-Some.is in
+    let kept = kept_there _ c.self.invariant c.args.rec c.in-Some.writer at c.unwrap-rd.result (sym c.realm_of.ensures ∙ c.unwrap-rd.ensures)
+    c.number-2.result c.number-2.ensures.value c.index-2.ensures (sym c.as_ref.ensures.value ∙ ap option_copied c.unwrap-realm.ensures) in
+    write_unassigned c.args.self.now _ c.self.view_is c.self.invariant c.args.rec c.in-Some.writer c.unwrap-rd.result c.unwrap-realm.result.now kept c.args.ipa c.args.offset c.args.value
     c.in-Some-located.ensures.some (sym c.is_ready.ensures ∙ c.if-is_ready.false) c.last.ensures c.walk-walk.result c.walk-walk.ensures.walk
     _ (c.from.ensures ∙ ap (λ (w : Walk). error_rtt w.level) c.walk.view_is)
     (ap (λ (w : Walk). data_of w.row) (sym c.walk.view_is) ∙ sym c.page.ensures ∙ c.in_default-page.is)
@@ -94,10 +91,10 @@ invariant_of-self g c =
 
 pub returns : goal.returns
 returns g c =
-    let at = rec_read (has_fields c.self.view_is c.self.invariant) c.requires c.number.ensures.value c.index.ensures c.in-Some.is in
-    let kept = kept_there _ c.self.invariant c.args.rec c.in-Some.kept at c.in-Some-realm_of.rd (sym c.realm_of.ensures ∙ c.in-Some-realm_of.is)
-    c.number-2.result c.number-2.ensures.value _ c.in-Some-index.realm c.index-2.ensures c.in-Some-index.is in
+    let at = rec_read (has_fields c.self.view_is c.self.invariant) c.requires.inside c.number.ensures.value c.index.ensures c.in-Some.is in
+    let kept = kept_there _ c.self.invariant c.args.rec c.in-Some.writer at c.unwrap-rd.result (sym c.realm_of.ensures ∙ c.unwrap-rd.ensures)
+    c.number-2.result c.number-2.ensures.value c.index-2.ensures (sym c.as_ref.ensures.value ∙ ap option_copied c.unwrap-realm.ensures) in
     let leads = ap (λ (w : Walk). data_of w.row) (sym c.walk.view_is) ∙ sym c.page.ensures ∙ c.in-Some-page.is in
-    write_done c.args.self.now _ c.self.view_is c.self.invariant c.args.rec c.in-Some.kept c.in-Some-realm_of.rd c.in-Some-index.realm kept c.args.ipa c.args.offset c.args.value
+    write_done c.args.self.now _ c.self.view_is c.self.invariant c.args.rec c.in-Some.writer c.unwrap-rd.result c.unwrap-realm.result.now kept c.args.ipa c.args.offset c.args.value
     c.in-Some-located.ensures.some (sym c.is_ready.ensures ∙ c.if-is_ready.false) c.last.ensures c.walk-walk.result c.walk-walk.ensures.walk
     c.in-Some-page.page leads (c.walk-walk.ensures.page c.in-Some-page.page leads) _ _ c.set.ensures.written c.set.ensures.flags

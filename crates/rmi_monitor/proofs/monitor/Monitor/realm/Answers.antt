@@ -1,12 +1,11 @@
-use Rattle.std.proofs.Common.{◌<◌, refl, sym, subst, ◌∙◌}
+use Rattle.std.proofs.Common.{refl, sym, ◌∙◌}
 use Rattle.rmi_monitor.proofs.Readings.{attributes_there}
 use Rattle.rmi_monitor.proofs.Granules.{has_fields}
 use Rattle.rmi_monitor.proofs.RealmFound.{realm_place, realm_read}
 use Rattle.rmi_monitor.proofs.monitor.Monitor.realm.Goals as goal
 
 pub index-requires : goal.index-requires
-index-requires g c =
-    subst (λ n. c.number.result < n) (sym c.self.inside.realms.ok.0) (realm_place (has_fields c.self.view_is c.self.invariant) c.requires c.number.ensures.value)
+index-requires g c = realm_place (has_fields c.self.view_is c.self.invariant) c.requires c.number.ensures.value c.self.inside.realms.ok.0
 
 pub returns : goal.returns
 returns g c =

@@ -1,15 +1,13 @@
-use Rattle.std.proofs.Common.{◌<◌, refl, sym, subst}
-use Rattle.rmi_monitor.proofs.Activates.{activate_none, activate_late, activate_done, whole_after_activate, seen_after_activate}
+use Rattle.std.proofs.Common.{refl, sym}
+use Rattle.rmi_monitor.proofs.Activates.{activate_late, activate_done, whole_after_activate, seen_after_activate}
 use Rattle.rmi_monitor.proofs.Granules.{has_fields}
 use Rattle.rmi_monitor.proofs.Outcomes.{answers_ok}
-use Rattle.rmi_monitor.proofs.RealmFound.{realm_place, realm_read}
+use Rattle.rmi_monitor.proofs.RealmFound.{nowhere, realm_place, realm_read}
 use Rattle.rmi_monitor.proofs.RealmCommands.{whole_back, refused_back}
 use Rattle.rmi_monitor.proofs.monitor.Monitor.realm_activate.Goals as goal
 
 pub index_mut-requires : goal.index_mut-requires
-index_mut-requires g c =
-    subst (λ n. c.number.result < n) (sym c.self.inside.realms.ok.0)
-    (realm_place (has_fields c.self.view_is c.self.invariant) c.requires.inside c.number.ensures.value)
+index_mut-requires g c = realm_place (has_fields c.self.view_is c.self.invariant) c.requires.inside c.number.ensures.value c.self.inside.realms.ok.0
 
 pub invariant_of-self : goal.invariant_of-self
 invariant_of-self g c = whole_back (has_fields c.self.view_is c.self.invariant) c.number.result c.index_mut.ensures.value refl
@@ -18,8 +16,8 @@ pub returns-in_default : goal.returns-in_default
 returns-in_default g c =
     let has = has_fields c.self.view_is c.self.invariant in
     refused_back has c.number.result c.index_mut.ensures.value refl
-    (activate_none c.args.self.now _ c.self.view_is c.self.invariant c.args.rd c.requires
-    (realm_read has c.requires.inside c.number.ensures.value c.index_mut.ensures.value c.in_default.is))
+    (nowhere c.args.self.now _ c.self.view_is c.self.invariant c.args.rd c.requires.inside
+    (realm_read has c.requires.inside c.number.ensures.value c.index_mut.ensures.value c.in_default.is) _)
 
 pub invariant_of-self-then-not-is_new : goal.invariant_of-self-then-not-is_new
 invariant_of-self-then-not-is_new g c = whole_back (has_fields c.self.view_is c.self.invariant) c.number.result c.index_mut.ensures.value c.in-Some.is

@@ -1,4 +1,4 @@
-use Rattle.std.proofs.Common.{◌<◌, sym, ap, ◌∙◌, subst}
+use Rattle.std.proofs.Common.{sym, ap, ◌∙◌}
 use Rattle.realm_objects.proofs.NewRealm.{new_vmid, new_root}
 use Rattle.realm_model.specs.Command.Check.{error_input}
 use Rattle.rmi_monitor.specs.View.{after_command}
@@ -64,9 +64,7 @@ open_root-requires-clause-delegated g c =
     c.shift.ensures.shifted)
 
 pub index_mut-requires : goal.index_mut-requires
-index_mut-requires g c =
-    subst (λ n. c.number.result < n) (sym c.self.inside.realms.ok.0)
-    (realm_place (has_fields c.self.view_is c.self.invariant) c.requires.inside c.number.ensures.value)
+index_mut-requires g c = realm_place (has_fields c.self.view_is c.self.invariant) c.requires.inside c.number.ensures.value c.self.inside.realms.ok.0
 
 pub shift-requires : goal.shift-requires
 shift-requires g c = in_granules c.args.self.now _ c.self.view_is c.self.invariant c.args.rd c.requires

@@ -1,29 +1,27 @@
-use Rattle.std.proofs.Common.{◌<◌, Err, refl, sym, ap, subst, ◌∙◌}
+use Rattle.std.proofs.Common.{Err, refl, sym, ap, subst, ◌∙◌}
 use Rattle.realm_model.specs.Command.Check.{error_realm}
 use Rattle.rtt.specs.Realm.{HasTables}
 use Rattle.rtt.specs.declared.tables.Tables.{Tables}
-use Rattle.rmi_monitor.proofs.Destroys.{destroy_none, destroy_with_rec, destroy_with_table, destroy_done, destroy_page, destroy_stands, whole_after_destroy, seen_after_destroy}
+use Rattle.rmi_monitor.proofs.Destroys.{destroy_with_rec, destroy_with_table, destroy_done, destroy_page, destroy_stands, whole_after_destroy, seen_after_destroy}
 use Rattle.rmi_monitor.proofs.Granules.{has_fields, in_granules}
 use Rattle.rmi_monitor.proofs.RecReads.{count_place}
 use Rattle.rmi_monitor.proofs.Outcomes.{answers_ok, refusal}
-use Rattle.rmi_monitor.proofs.RealmFound.{realm_place, realm_read}
+use Rattle.rmi_monitor.proofs.RealmFound.{nowhere, realm_place, realm_read}
 use Rattle.rmi_monitor.proofs.RealmCommands.{whole_refused, refused_call}
 use Rattle.rmi_monitor.proofs.monitor.Monitor.realm_destroy.Goals as goal
 
 pub index-requires : goal.index-requires
-index-requires g c =
-    subst (λ n. c.number.result < n) (sym c.self.inside.realms.ok.0)
-    (realm_place (has_fields c.self.view_is c.self.invariant) c.requires.inside c.number.ensures.value)
+index-requires g c = realm_place (has_fields c.self.view_is c.self.invariant) c.requires.inside c.number.ensures.value c.self.inside.realms.ok.0
 
 pub returns-in_default : goal.returns-in_default
 returns-in_default g c =
-    refusal (destroy_none c.args.self.now _ c.self.view_is c.self.invariant c.args.rd c.requires
-    (realm_read (has_fields c.self.view_is c.self.invariant) c.requires.inside c.number.ensures.value c.index.ensures c.in_default.is))
+    refusal (nowhere c.args.self.now _ c.self.view_is c.self.invariant c.args.rd c.requires.inside
+    (realm_read (has_fields c.self.view_is c.self.invariant) c.requires.inside c.number.ensures.value c.index.ensures c.in_default.is) _)
 
 pub index-recs-requires : goal.index-recs-requires
 index-recs-requires g c =
     let inside = in_granules c.args.self.now _ c.self.view_is c.self.invariant c.args.rd c.requires in
-    subst (λ n. c.number-2.result < n) (sym c.self.inside.rec_counts.ok.0) (count_place _ c.self.invariant c.args.rd inside c.number-2.result c.number-2.ensures.value)
+    count_place _ c.self.invariant c.args.rd inside c.number-2.result c.number-2.ensures.value c.self.inside.rec_counts.ok.0
 
 pub returns-then-recs-gt0 : goal.returns-then-recs-gt0
 returns-then-recs-gt0 g c =
@@ -67,9 +65,7 @@ release-requires-clause-stands g c =
     c.if-not-close_root.ensures.answer _ _ c.if-not-close_root.ensures.moved c.if-not-close_root.ensures.cleared
 
 pub index_mut-requires : goal.index_mut-requires
-index_mut-requires g c =
-    subst (λ n. c.number-3.result < n) (sym c.self.inside.realms.ok.0)
-    (realm_place (has_fields c.self.view_is c.self.invariant) c.requires.inside c.number-3.ensures.value)
+index_mut-requires g c = realm_place (has_fields c.self.view_is c.self.invariant) c.requires.inside c.number-3.ensures.value c.self.inside.realms.ok.0
 
 pub invariant_of-self-2 : goal.invariant_of-self-2
 invariant_of-self-2 g c =

@@ -1,4 +1,4 @@
-use Rattle.std.proofs.Common.{◌+◌, ◌<◌, set, Some, IsTrue, refl, sym, ◌∙◌, subst, arith}
+use Rattle.std.proofs.Common.{◌+◌, set, Some, IsTrue, refl, sym, ◌∙◌, subst, arith}
 use Rattle.realm_model.specs.Command.Check.{are_distinct}
 use Rattle.rmi_monitor.specs.Inside.{fields_of}
 use Rattle.rmi_monitor.proofs.Granules.{has_fields, in_granules}
@@ -11,9 +11,7 @@ use Rattle.rmi_monitor.proofs.monitor.Monitor.rec_create.Given.{Over}
 use Rattle.rmi_monitor.proofs.monitor.Monitor.rec_create.Goals as goal
 
 pub index_mut-requires : goal.index_mut-requires
-index_mut-requires g c =
-    subst (λ n. c.number.result < n) (sym c.self.inside.realms.ok.0)
-    (realm_place (has_fields c.self.view_is c.self.invariant) c.requires.rd_taken.inside c.number.ensures.value)
+index_mut-requires g c = realm_place (has_fields c.self.view_is c.self.invariant) c.requires.rd_taken.inside c.number.ensures.value c.self.inside.realms.ok.0
 
 -- ---- what is refused
 
@@ -82,14 +80,12 @@ number_rec-number-requires g c =
     (realm_read has c.requires.rd_taken.inside c.number.ensures.value c.index_mut.ensures.value c.in-Some.is))
 
 pub index_mut-requires-2 : goal.index_mut-requires-2
-index_mut-requires-2 g c =
-    subst (λ n. c.number-2.result < n) (sym c.self.inside.recs.ok.0)
-    (rec_place (has_fields c.self.view_is c.self.invariant) c.requires.rec_taken c.number-2.ensures.value)
+index_mut-requires-2 g c = rec_place (has_fields c.self.view_is c.self.invariant) c.requires.rec_taken.inside c.number-2.ensures.value c.self.inside.recs.ok.0
 
 pub index_mut-requires-3 : goal.index_mut-requires-3
 index_mut-requires-3 g c =
     let inside = in_granules c.args.self.now _ c.self.view_is c.self.invariant c.args.rd c.requires.rd_taken in
-    subst (λ n. c.number-3.result < n) (sym c.self.inside.rec_counts.ok.0) (count_place _ c.self.invariant c.args.rd inside c.number-3.result c.number-3.ensures.value)
+    count_place _ c.self.invariant c.args.rd inside c.number-3.result c.number-3.ensures.value c.self.inside.rec_counts.ok.0
 
 pub overflow_add-index_mut : goal.overflow_add-index_mut
 overflow_add-index_mut g c =

@@ -1,56 +1,50 @@
-use Rattle.std.proofs.Common.{Some, None, refl, sym, ◌∙◌, slice_set, ◌<◌, subst}
+use Rattle.std.proofs.Common.{Some, refl, sym, ap, ◌∙◌, slice_set}
+use Rattle.std.specs.Option.{option_copied}
 use Rattle.realm_model.specs.declared.states.RecState.TheVariants.{Running}
 use Rattle.realm_model.specs.Command.Rec.{rec_enter}
 use Rattle.rmi_monitor.proofs.Granules.{has_fields, in_granules}
-use Rattle.rmi_monitor.proofs.RecReads.{rec_place, rec_read, no_rd, no_realm, realm_place, realm_read, kept_there}
+use Rattle.rmi_monitor.proofs.RecReads.{rec_place, rec_read, some_rd, realm_place, some_realm, kept_there}
 use Rattle.rmi_monitor.proofs.RecChanges.{whole_recs, whole_rec_unmoved}
 use Rattle.rmi_monitor.proofs.RecRuns.{refused_none, enter_new, enter_running, enter_done}
 use Rattle.rmi_monitor.proofs.monitor.Monitor.rec_enter.Goals as goal
 
 pub index_mut-requires : goal.index_mut-requires
-index_mut-requires g c =
-    subst (λ n. c.number.result < n) (sym c.self.inside.recs.ok.0)
-    (rec_place (has_fields c.self.view_is c.self.invariant) c.requires c.number.ensures.value)
+index_mut-requires g c = rec_place (has_fields c.self.view_is c.self.invariant) c.requires.inside c.number.ensures.value c.self.inside.recs.ok.0
 
 pub invariant_of-self : goal.invariant_of-self
 invariant_of-self g c = whole_rec_unmoved _ c.self.invariant c.number.result c.index_mut.result.now _ c.index_mut.ensures.value refl
 
 pub returns-in_default : goal.returns-in_default
-returns-in_default g c =
-    refused_none c.args.self.now _ c.self.view_is c.self.invariant c.args.rec _ rec_enter
-    (rec_read (has_fields c.self.view_is c.self.invariant) c.requires c.number.ensures.value c.index_mut.ensures.value c.in_default.is)
-    (λ i. slice_set c.self.inside.recs.items (c.number.ensures.value i) (c.in_default.is i))
+returns-in_default g c = refused_none (has_fields c.self.view_is c.self.invariant) c.requires.inside rec_enter c.number.ensures.value c.index_mut.ensures.value c.in_default.is
 
 pub realm_of-requires : goal.realm_of-requires
 realm_of-requires g c = in_granules c.args.self.now _ c.self.view_is c.self.invariant c.args.rec c.requires
 
-pub unreachable-requires : goal.unreachable-requires
-unreachable-requires g c =
-    let at = rec_read (has_fields c.self.view_is c.self.invariant) c.requires c.number.ensures.value c.index_mut.ensures.value c.in-Some.is in
-    no_rd _ c.self.invariant c.args.rec c.in-Some.kept at (sym c.realm_of.ensures ∙ c.in_default-realm_of.is)
+pub unwrap-rd-requires : goal.unwrap-rd-requires
+unwrap-rd-requires g c =
+    let at = rec_read (has_fields c.self.view_is c.self.invariant) c.requires.inside c.number.ensures.value c.index_mut.ensures.value c.in-Some.is in
+    some_rd _ c.self.invariant c.args.rec c.in-Some.kept at c.realm_of.ensures
 
 pub index-requires : goal.index-requires
 index-requires g c =
-    let at = rec_read (has_fields c.self.view_is c.self.invariant) c.requires c.number.ensures.value c.index_mut.ensures.value c.in-Some.is in
-    subst (λ n. c.number-2.result < n) (sym c.self.inside.realms.ok.0)
-    (realm_place _ c.self.invariant c.args.rec c.in-Some.kept at c.in-Some-realm_of.rd (sym c.realm_of.ensures ∙ c.in-Some-realm_of.is) c.number-2.result c.number-2.ensures.value)
+    let at = rec_read (has_fields c.self.view_is c.self.invariant) c.requires.inside c.number.ensures.value c.index_mut.ensures.value c.in-Some.is in
+    realm_place _ c.self.invariant c.args.rec c.in-Some.kept at c.unwrap-rd.result (sym c.realm_of.ensures ∙ c.unwrap-rd.ensures) c.number-2.result c.number-2.ensures.value c.self.inside.realms.ok.0
 
-pub unreachable-requires-in_default-index : goal.unreachable-requires-in_default-index
-unreachable-requires-in_default-index g c =
-    let at = rec_read (has_fields c.self.view_is c.self.invariant) c.requires c.number.ensures.value c.index_mut.ensures.value c.in-Some.is in
-    let of = sym c.realm_of.ensures ∙ c.in-Some-realm_of.is in
-    no_realm _ c.self.invariant c.args.rec c.in-Some.kept at c.in-Some-realm_of.rd of
-    (realm_read _ c.self.invariant c.args.rec c.in-Some.kept at c.in-Some-realm_of.rd of c.number-2.result c.number-2.ensures.value _ None c.index.ensures c.in_default-index.is)
+pub unwrap-realm-requires : goal.unwrap-realm-requires
+unwrap-realm-requires g c =
+    let at = rec_read (has_fields c.self.view_is c.self.invariant) c.requires.inside c.number.ensures.value c.index_mut.ensures.value c.in-Some.is in
+    let of = sym c.realm_of.ensures ∙ c.unwrap-rd.ensures in
+    c.as_ref.ensures.variant ∙ some_realm _ c.self.invariant c.args.rec c.in-Some.kept at c.unwrap-rd.result of c.number-2.result c.number-2.ensures.value c.index.ensures
 
 pub invariant_of-self-then-is_new : goal.invariant_of-self-then-is_new
 invariant_of-self-then-is_new g c = whole_rec_unmoved _ c.self.invariant c.number.result c.index_mut.result.now _ c.index_mut.ensures.value c.in-Some.is
 
 pub returns-then-is_new : goal.returns-then-is_new
 returns-then-is_new g c =
-    let at = rec_read (has_fields c.self.view_is c.self.invariant) c.requires c.number.ensures.value c.index_mut.ensures.value c.in-Some.is in
-    let kept = kept_there _ c.self.invariant c.args.rec c.in-Some.kept at c.in-Some-realm_of.rd (sym c.realm_of.ensures ∙ c.in-Some-realm_of.is)
-    c.number-2.result c.number-2.ensures.value _ c.in-Some-index.realm c.index.ensures c.in-Some-index.is in
-    enter_new c.args.self.now _ c.self.view_is c.self.invariant c.args.rec _ c.in-Some.kept c.in-Some-realm_of.rd c.in-Some-index.realm kept
+    let at = rec_read (has_fields c.self.view_is c.self.invariant) c.requires.inside c.number.ensures.value c.index_mut.ensures.value c.in-Some.is in
+    let kept = kept_there _ c.self.invariant c.args.rec c.in-Some.kept at c.unwrap-rd.result (sym c.realm_of.ensures ∙ c.unwrap-rd.ensures)
+    c.number-2.result c.number-2.ensures.value c.index.ensures (sym c.as_ref.ensures.value ∙ ap option_copied c.unwrap-realm.ensures) in
+    enter_new c.args.self.now _ c.self.view_is c.self.invariant c.args.rec _ c.in-Some.kept c.unwrap-rd.result c.unwrap-realm.result.now kept
     c.is_new.result c.is_new.ensures c.if-is_new.true
     (λ i. slice_set c.self.inside.recs.items (c.number.ensures.value i) (Some c.in-Some.kept))
 
@@ -59,26 +53,26 @@ invariant_of-self-then-not-is_ready g c = whole_rec_unmoved _ c.self.invariant c
 
 pub returns-then-not-is_ready : goal.returns-then-not-is_ready
 returns-then-not-is_ready g c =
-    let at = rec_read (has_fields c.self.view_is c.self.invariant) c.requires c.number.ensures.value c.index_mut.ensures.value c.in-Some.is in
-    let kept = kept_there _ c.self.invariant c.args.rec c.in-Some.kept at c.in-Some-realm_of.rd (sym c.realm_of.ensures ∙ c.in-Some-realm_of.is)
-    c.number-2.result c.number-2.ensures.value _ c.in-Some-index.realm c.index.ensures c.in-Some-index.is in
-    enter_running c.args.self.now _ c.self.view_is c.self.invariant c.args.rec _ c.in-Some.kept c.in-Some-realm_of.rd c.in-Some-index.realm kept
+    let at = rec_read (has_fields c.self.view_is c.self.invariant) c.requires.inside c.number.ensures.value c.index_mut.ensures.value c.in-Some.is in
+    let kept = kept_there _ c.self.invariant c.args.rec c.in-Some.kept at c.unwrap-rd.result (sym c.realm_of.ensures ∙ c.unwrap-rd.ensures)
+    c.number-2.result c.number-2.ensures.value c.index.ensures (sym c.as_ref.ensures.value ∙ ap option_copied c.unwrap-realm.ensures) in
+    enter_running c.args.self.now _ c.self.view_is c.self.invariant c.args.rec _ c.in-Some.kept c.unwrap-rd.result c.unwrap-realm.result.now kept
     c.is_new.result c.is_new.ensures c.if-is_new.false (sym c.is_ready.ensures ∙ c.if-not-is_ready.true)
     (λ i. slice_set c.self.inside.recs.items (c.number.ensures.value i) (Some c.in-Some.kept))
 
 pub invariant_of-self-2 : goal.invariant_of-self-2
 invariant_of-self-2 g c =
-    let at = rec_read (has_fields c.self.view_is c.self.invariant) c.requires c.number.ensures.value c.index_mut.ensures.value c.in-Some.is in
-    let kept = kept_there _ c.self.invariant c.args.rec c.in-Some.kept at c.in-Some-realm_of.rd (sym c.realm_of.ensures ∙ c.in-Some-realm_of.is)
-    c.number-2.result c.number-2.ensures.value _ c.in-Some-index.realm c.index.ensures c.in-Some-index.is in
-    whole_recs _ c.self.invariant c.args.rec c.in-Some.kept c.in-Some-realm_of.rd c.in-Some-index.realm kept (record c.in-Some.kept { state = Running }) refl refl _
+    let at = rec_read (has_fields c.self.view_is c.self.invariant) c.requires.inside c.number.ensures.value c.index_mut.ensures.value c.in-Some.is in
+    let kept = kept_there _ c.self.invariant c.args.rec c.in-Some.kept at c.unwrap-rd.result (sym c.realm_of.ensures ∙ c.unwrap-rd.ensures)
+    c.number-2.result c.number-2.ensures.value c.index.ensures (sym c.as_ref.ensures.value ∙ ap option_copied c.unwrap-realm.ensures) in
+    whole_recs _ c.self.invariant c.args.rec c.in-Some.kept c.unwrap-rd.result c.unwrap-realm.result.now kept (record c.in-Some.kept { state = Running }) refl refl _
     (λ i. slice_set c.self.inside.recs.items (c.number.ensures.value i) (Some (c.enter.ensures i)))
 
 pub returns : goal.returns
 returns g c =
-    let at = rec_read (has_fields c.self.view_is c.self.invariant) c.requires c.number.ensures.value c.index_mut.ensures.value c.in-Some.is in
-    let kept = kept_there _ c.self.invariant c.args.rec c.in-Some.kept at c.in-Some-realm_of.rd (sym c.realm_of.ensures ∙ c.in-Some-realm_of.is)
-    c.number-2.result c.number-2.ensures.value _ c.in-Some-index.realm c.index.ensures c.in-Some-index.is in
-    enter_done c.args.self.now _ c.self.view_is c.self.invariant c.args.rec _ c.in-Some.kept c.in-Some-realm_of.rd c.in-Some-index.realm kept
+    let at = rec_read (has_fields c.self.view_is c.self.invariant) c.requires.inside c.number.ensures.value c.index_mut.ensures.value c.in-Some.is in
+    let kept = kept_there _ c.self.invariant c.args.rec c.in-Some.kept at c.unwrap-rd.result (sym c.realm_of.ensures ∙ c.unwrap-rd.ensures)
+    c.number-2.result c.number-2.ensures.value c.index.ensures (sym c.as_ref.ensures.value ∙ ap option_copied c.unwrap-realm.ensures) in
+    enter_done c.args.self.now _ c.self.view_is c.self.invariant c.args.rec _ c.in-Some.kept c.unwrap-rd.result c.unwrap-realm.result.now kept
     c.is_new.result c.is_new.ensures c.if-is_new.false (sym c.is_ready.ensures ∙ c.if-not-is_ready.false)
     (λ i. slice_set c.self.inside.recs.items (c.number.ensures.value i) (Some (c.enter.ensures i)))

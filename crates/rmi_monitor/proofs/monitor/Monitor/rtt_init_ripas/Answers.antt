@@ -1,4 +1,4 @@
-use Rattle.std.proofs.Common.{◌<◌, set, refl, sym, ap, ◌∙◌, subst}
+use Rattle.std.proofs.Common.{set, refl, ap, ◌∙◌}
 use Rattle.realm_model.specs.Rows.{is_page_run}
 use Rattle.realm_model.specs.Command.Table.{rtt_init_ripas}
 use Rattle.rmi_monitor.specs.View.{seen_in}
@@ -43,9 +43,7 @@ returns-in_err-init_ripas g c =
 -- ---- the pages are RAM
 
 pub index_mut-requires : goal.index_mut-requires
-index_mut-requires g c =
-    subst (λ n. c.number.result < n) (sym c.self.inside.realms.ok.0)
-    (realm_place (has_fields c.self.view_is c.self.invariant) c.requires.inside c.number.ensures.value)
+index_mut-requires g c = realm_place (has_fields c.self.view_is c.self.invariant) c.requires.inside c.number.ensures.value c.self.inside.realms.ok.0
 
 done : (g : Over) (c : goal.After-self-1 g) → Done c.args.self.now (rtt_init_ripas (seen_in c.args.self.now c.args.rd) c.args.ipa c.args.count)
     (fields_of c.self.inside.vmids c.self.inside.aux c.self.inside.used c.self.inside.granules (g.S.PageStore.page_bytes c.init_ripas.new.store)

@@ -1,0 +1,87 @@
+//! How RECs run: their entry, what their guests write, and their exit.
+ghost use Rattle.realm_model.specs.Command.Rec as command;
+ghost use Rattle.rmi_monitor.specs.View.{IsTaken, IsOnRec};
+
+use crate::Monitor;
+use crate::locate::located;
+use granule_addr::{Gran, Level, PageOff};
+use page_arena::PageStore;
+use realm_model::Rmi;
+use rtt::Rtt;
+
+impl<S: PageStore> Monitor<S> {
+    /// Lets a READY REC of an ACTIVE realm run.
+    ///
+    /// RMM 1.0, RMI_REC_ENTER. RMI_ERROR_INPUT comes where the granule is no REC, RMI_ERROR_REALM where its realm is not
+    /// ACTIVE, RMI_ERROR_REC where it is not READY.
+    pub fn rec_enter(&mut self, rec: Gran) -> Result<(), Rmi>
+        requires { IsTaken self.old rec }
+        ensures { IsOnRec command.rec_enter self.old rec result self.new }
+    {
+        let Some(kept) = &mut self.recs[rec.number() as usize] else {
+            return Err(Rmi::INPUT);
+        };
+        let rd = self.granules.realm_of(rec).unwrap();
+        let realm = self.realms[rd.number() as usize].as_ref().unwrap();
+        if realm.is_new() {
+            return Err(Rmi::REALM);
+        }
+        if !kept.is_ready() {
+            return Err(Rmi::REC);
+        }
+        kept.enter();
+        Ok(())
+    }
+
+    /// Lets a RUNNING REC write a byte of a page of its realm, under any RIPAS. This profile's own, for guest instructions.
+    ///
+    /// `ipa` is the number of an IPA granule. RMI_ERROR_INPUT comes where the granule is no REC or the IPA is not
+    /// protected, RMI_ERROR_REC where the REC is not RUNNING, RMI_ERROR_RTT with the level where the walk ended, unless
+    /// the entry there is ASSIGNED.
+    pub fn guest_write(
+        &mut self,
+        rec: Gran,
+        ipa: u32,
+        offset: PageOff,
+        value: u8,
+    ) -> Result<(), Rmi>
+        requires { IsTaken self.old rec }
+        ensures { IsOnRec (λ rd number. command.guest_write rd number ipa offset value) self.old rec result self.new }
+    {
+        let Some(writer) = &self.recs[rec.number() as usize] else {
+            return Err(Rmi::INPUT);
+        };
+        let rd = self.granules.realm_of(rec).unwrap();
+        let realm = self.realms[rd.number() as usize].as_ref().unwrap();
+        let Some((tables, granule)) = located(rd, realm, ipa) else {
+            return Err(Rmi::INPUT);
+        };
+        if writer.is_ready() {
+            return Err(Rmi::REC);
+        }
+        let walk = tables.walk(&self.store, &self.granules, granule, Level::last());
+        let Some(page) = walk.entry.page() else {
+            return Err(Rmi::from(Rtt { level: walk.level }));
+        };
+        self.store.set(page, offset, value);
+        Ok(())
+    }
+
+    /// Stops a RUNNING REC: it is READY from now on.
+    ///
+    /// RMM 1.0, REC exit; as a command of its own it is this profile's. RMI_ERROR_INPUT comes where the granule is no REC,
+    /// RMI_ERROR_REC where it is not RUNNING.
+    pub fn rec_exit(&mut self, rec: Gran) -> Result<(), Rmi>
+        requires { IsTaken self.old rec }
+        ensures { IsOnRec command.rec_exit self.old rec result self.new }
+    {
+        let Some(kept) = &mut self.recs[rec.number() as usize] else {
+            return Err(Rmi::INPUT);
+        };
+        if kept.is_ready() {
+            return Err(Rmi::REC);
+        }
+        kept.exit();
+        Ok(())
+    }
+}
