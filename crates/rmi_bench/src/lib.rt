@@ -8,12 +8,12 @@
 mod bench;
 mod data;
 mod granule;
-mod guest;
 mod open;
 mod open_error;
 mod reading;
 mod realm;
 mod rec;
+mod run;
 mod table;
 
 pub use bench::Bench;

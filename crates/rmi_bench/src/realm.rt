@@ -9,6 +9,16 @@ use granule_addr::Vmid;
 use realm_model::Rmi;
 
 impl Bench {
+    /// Makes a NEW realm ACTIVE.
+    ///
+    /// RMM 1.0, RMI_REALM_ACTIVATE.
+    pub fn realm_activate(&mut self, rd: u16) -> Result<(), Rmi>
+        ensures { Does (naming (rd ∷ []) self.old (command.realm_activate (seen_in self.old rd))) self.old result self.new }
+    {
+        let rd = self.granule(rd)?;
+        self.monitor.realm_activate(rd)
+    }
+
     /// Makes DELEGATED granules the RD and the starting tables of a new realm, whose IPAs have `width` bits.
     ///
     /// `root` is the first starting table; there are 2^(width - 39), one after another. RMM 1.0, RMI_REALM_CREATE.
@@ -22,16 +32,6 @@ impl Bench {
             return Err(Rmi::INPUT);
         };
         self.monitor.realm_create(rd, root, vmid, width)
-    }
-
-    /// Makes a NEW realm ACTIVE.
-    ///
-    /// RMM 1.0, RMI_REALM_ACTIVATE.
-    pub fn realm_activate(&mut self, rd: u16) -> Result<(), Rmi>
-        ensures { Does (naming (rd ∷ []) self.old (command.realm_activate (seen_in self.old rd))) self.old result self.new }
-    {
-        let rd = self.granule(rd)?;
-        self.monitor.realm_activate(rd)
     }
 
     /// Removes a realm that has no REC and no table below its starting tables.

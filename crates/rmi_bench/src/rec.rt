@@ -16,31 +16,6 @@ use realm_model::Rmi;
 const MOST_AUXILIARIES: usize = 16;
 
 impl Bench {
-    // The granules of these numbers: one that the machine has not got is an input error.
-    fn granules(&self, numbers: &[u16]) -> Result<ArrayVec<Gran, 16>, Rmi>
-        requires { length numbers.now ≤ 16 }
-        ensures inside { IfOk result (λ granules.
-            (granules.items ≡ numbers.now) × (list_all (is_inside self.now) numbers.now ≡ true)) }
-        ensures outside { IfErr result (λ refusal. (refusal ≡ error_input) × (list_all (is_inside self.now) numbers.now ≡ false)) }
-    {
-        let mut granules = ArrayVec::new();
-        'numbers: for number in numbers {
-            granules.push(self.granule(*number)?);
-        }
-        Ok(granules)
-    }
-
-    // Whether the realm, if there is one, has a number for another REC.
-    fn has_number(&self, rd: Gran) -> bool
-        requires { rd < length self.now.machine }
-        ensures { result ≡ has_number (seen_in self.now rd) }
-    {
-        match self.monitor.realm(rd) {
-            Some(realm) => realm.next_number().number() < 65_535,
-            None => true,
-        }
-    }
-
     /// Makes DELEGATED granules a REC of a NEW realm and its auxiliaries, and answers the number of the REC.
     ///
     /// RMM 1.0, RMI_REC_CREATE. A realm that has had 65,535 RECs gets no other: an input error.
@@ -65,26 +40,6 @@ impl Bench {
         }
     }
 
-    /// Lets a READY REC of an ACTIVE realm run.
-    ///
-    /// RMM 1.0, RMI_REC_ENTER.
-    pub fn rec_enter(&mut self, rec: u16) -> Result<(), Rmi>
-        ensures { Does (naming (rec ∷ []) self.old (on_rec command.rec_enter self.old rec)) self.old result self.new }
-    {
-        let rec = self.granule(rec)?;
-        self.monitor.rec_enter(rec)
-    }
-
-    /// Stops a RUNNING REC: it is READY from now on.
-    ///
-    /// RMM 1.0, REC exit; as a command of its own it is this profile's.
-    pub fn rec_exit(&mut self, rec: u16) -> Result<(), Rmi>
-        ensures { Does (naming (rec ∷ []) self.old (on_rec command.rec_exit self.old rec)) self.old result self.new }
-    {
-        let rec = self.granule(rec)?;
-        self.monitor.rec_exit(rec)
-    }
-
     /// Removes a READY REC: its granule and its auxiliaries are zero and DELEGATED. Its number is not used again.
     ///
     /// RMM 1.0, RMI_REC_DESTROY.
@@ -93,5 +48,30 @@ impl Bench {
     {
         let rec = self.granule(rec)?;
         self.monitor.rec_destroy(rec)
+    }
+
+    // The granules of these numbers: one that the machine has not got is an input error.
+    fn granules(&self, numbers: &[u16]) -> Result<ArrayVec<Gran, 16>, Rmi>
+        requires { length numbers.now ≤ 16 }
+        ensures inside { IfOk result (λ granules.
+            (granules.items ≡ numbers.now) × (list_all (is_inside self.now) numbers.now ≡ true)) }
+        ensures outside { IfErr result (λ refusal. (refusal ≡ error_input) × (list_all (is_inside self.now) numbers.now ≡ false)) }
+    {
+        let mut granules = ArrayVec::new();
+        'numbers: for number in numbers {
+            granules.push(self.granule(*number)?);
+        }
+        Ok(granules)
+    }
+
+    // Whether the realm, if there is one, has a number for another REC.
+    fn has_number(&self, rd: Gran) -> bool
+        requires { rd < length self.now.machine }
+        ensures { result ≡ has_number (seen_in self.now rd) }
+    {
+        match self.monitor.realm(rd) {
+            Some(realm) => realm.next_number().number() < 65_535,
+            None => true,
+        }
     }
 }

@@ -1,4 +1,4 @@
-//! What guests do.
+//! How RECs run: their entry, what their guests write, and their exit.
 ghost use Rattle.std.specs.Prelude.{[], ◌∷◌, nat_lt};
 ghost use Rattle.realm_model.specs.Command.Rec as command;
 ghost use Rattle.realm_model.specs.Command.Check.{check, error_input};
@@ -9,6 +9,16 @@ use granule_addr::PageOff;
 use realm_model::Rmi;
 
 impl Bench {
+    /// Lets a READY REC of an ACTIVE realm run.
+    ///
+    /// RMM 1.0, RMI_REC_ENTER.
+    pub fn rec_enter(&mut self, rec: u16) -> Result<(), Rmi>
+        ensures { Does (naming (rec ∷ []) self.old (on_rec command.rec_enter self.old rec)) self.old result self.new }
+    {
+        let rec = self.granule(rec)?;
+        self.monitor.rec_enter(rec)
+    }
+
     /// Lets a RUNNING REC write a byte of a page of its realm, under any RIPAS. This profile's own, for guest instructions.
     ///
     /// `ipa` is the number of an IPA granule. An offset above 4,095 is an input error.
@@ -21,5 +31,15 @@ impl Bench {
         };
         let rec = self.granule(rec)?;
         self.monitor.guest_write(rec, ipa, offset, value)
+    }
+
+    /// Stops a RUNNING REC: it is READY from now on.
+    ///
+    /// RMM 1.0, REC exit; as a command of its own it is this profile's.
+    pub fn rec_exit(&mut self, rec: u16) -> Result<(), Rmi>
+        ensures { Does (naming (rec ∷ []) self.old (on_rec command.rec_exit self.old rec)) self.old result self.new }
+    {
+        let rec = self.granule(rec)?;
+        self.monitor.rec_exit(rec)
     }
 }
