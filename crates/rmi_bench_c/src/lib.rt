@@ -16,6 +16,7 @@ mod peek;
 mod reading;
 mod realm;
 mod rec;
+mod run;
 mod table;
 mod told;
 mod word;

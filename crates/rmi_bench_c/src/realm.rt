@@ -10,6 +10,15 @@ use crate::operands::{narrow, serve};
 use rmi_bench::Bench;
 use std::alloc::Global;
 
+/// RMI_REALM_ACTIVATE.
+#[unsafe(no_mangle)]
+pub extern "C" fn rmi_realm_activate(alloc: Global, handle: &mut Handle, rd: u64) -> u64
+    ensures { Serves (fits_u16 rd) (λ m. naming (rd ∷ []) m (command.realm_activate (seen_in m rd)))
+        handle.old.held.bench result handle.new.held.bench }
+{
+    handle.on_granule(alloc, rd, Bench::realm_activate)
+}
+
 /// RMI_REALM_CREATE. `root` is the first of 2^(width - 39) starting tables.
 #[unsafe(no_mangle)]
 pub extern "C" fn rmi_realm_create(
@@ -24,15 +33,6 @@ pub extern "C" fn rmi_realm_create(
         (make_realm m rd (record { first = root; width = width }) vmid)) handle.old.held.bench result handle.new.held.bench }
 {
     serve!(handle, alloc, realm_create(rd: u16, root: u16, vmid: u8, width: u8))
-}
-
-/// RMI_REALM_ACTIVATE.
-#[unsafe(no_mangle)]
-pub extern "C" fn rmi_realm_activate(alloc: Global, handle: &mut Handle, rd: u64) -> u64
-    ensures { Serves (fits_u16 rd) (λ m. naming (rd ∷ []) m (command.realm_activate (seen_in m rd)))
-        handle.old.held.bench result handle.new.held.bench }
-{
-    handle.on_granule(alloc, rd, Bench::realm_activate)
 }
 
 /// RMI_REALM_DESTROY.
