@@ -6,6 +6,7 @@ pub mod Maps
 pub mod Roots
 pub mod Same
 pub mod SameAct
+pub mod PairedKinds
 -- what a command yields, and its updates do
 pub mod Outcomes
 pub mod Walks

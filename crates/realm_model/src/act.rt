@@ -1,6 +1,7 @@
 //! Events: what the accepted commands of builds did.
 ghost use Rattle.std.specs.Prelude.{◌≡◌, ◌↔◌, true};
 
+use crate::kind::kind_of;
 use arrayvec::ArrayVec;
 use granule_addr::{BuildId, Gran, IpaGran, Level, Order, PageOff, RecNo, Root, Vmid};
 
@@ -154,17 +155,15 @@ impl Act {
     }
 
     /// The same act again. No memory is taken.
-    #[tactic(auto, unfolding(crate::specs::Act::is_reverse, crate::specs::Act::reverse_of))]
+    #[tactic(auto, unfolding(crate::specs::Act::reverse_of))]
     pub fn again(&self) -> Act
         ensures { result ≡ self.now }
     {
         if let Some(paired) = self.paired_again() {
             return paired;
         }
-        if let Some(back) = self.reverse_again() {
-            return back;
-        }
         match *self {
+            Act::UnTake { order, first } => Act::UnTake { order, first },
             Act::Fill { granule, value } => Act::Fill { granule, value },
             Act::Peek {
                 granule,
@@ -175,8 +174,29 @@ impl Act {
                 offset,
                 byte,
             },
+            Act::Undelegate { granule } => Act::Undelegate { granule },
+            Act::UnRealm { rd, root, vmid } => Act::UnRealm { rd, root, vmid },
             Act::Activate => Act::Activate,
+            Act::UnRtt {
+                granule,
+                ipa,
+                level,
+            } => Act::UnRtt {
+                granule,
+                ipa,
+                level,
+            },
             Act::Ripas { ipa, count } => Act::Ripas { ipa, count },
+            Act::UnData { granule, ipa } => Act::UnData { granule, ipa },
+            Act::UnRec {
+                granule,
+                ref auxiliaries,
+                number,
+            } => Act::UnRec {
+                granule,
+                auxiliaries: granules_again(auxiliaries),
+                number,
+            },
             Act::Enter { number } => Act::Enter { number },
             Act::Exit { number } => Act::Exit { number },
             Act::Poke {
@@ -236,54 +256,12 @@ impl Act {
         Some(paired)
     }
 
-    // The same act again, where it is the reverse of another.
-    #[tactic(auto, unfolding(crate::specs::Act::is_reverse))]
-    fn reverse_again(&self) -> Option<Act>
-        ensures { result ≡ (if acts.is_reverse self.now then Some self.now else None) }
-    {
-        let back = match *self {
-            Act::UnTake { order, first } => Act::UnTake { order, first },
-            Act::Undelegate { granule } => Act::Undelegate { granule },
-            Act::UnRealm { rd, root, vmid } => Act::UnRealm { rd, root, vmid },
-            Act::UnRtt {
-                granule,
-                ipa,
-                level,
-            } => Act::UnRtt {
-                granule,
-                ipa,
-                level,
-            },
-            Act::UnData { granule, ipa } => Act::UnData { granule, ipa },
-            Act::UnRec {
-                granule,
-                ref auxiliaries,
-                number,
-            } => Act::UnRec {
-                granule,
-                auxiliaries: granules_again(auxiliaries),
-                number,
-            },
-            _ => return None,
-        };
-        Some(back)
-    }
-
     /// Whether the act has a reverse.
-    #[tactic(auto, unfolding(crate::specs::Act::reverse_of))]
+    #[tactic(auto, using(crate::proofs::PairedKinds::paired_by_kind))]
     pub fn is_paired(&self) -> bool
         ensures { result ≡ acts.is_paired self.now }
     {
-        matches!(
-            self,
-            Act::Take { .. }
-                | Act::Delegate { .. }
-                | Act::Realm { .. }
-                | Act::Rtt { .. }
-                | Act::Data { .. }
-                | Act::Unknown { .. }
-                | Act::Rec { .. }
-        )
+        kind_of(self).is_some()
     }
 
     /// Whether the act is the reverse of another.

@@ -59,6 +59,11 @@ pub fn reached_worlds_are_sound()
     ensures { (limits : Limits) (history : List Event) (world : World) → replay limits history ≡ Some world → IsReachable limits world }
 {}
 
+/// The number of the next REC of a build's realm is at most that of the build's events.
+pub fn numbers_are_few()
+    ensures { (limits : Limits) (history : List Event) (world : World) (build : ℕ) → IsLegal limits history → replay limits history ≡ Some world → NumbersAreFew history world build }
+{}
+
 /// No REC of a build runs exactly where none is counted.
 pub fn at_rest_is_none_running()
     ensures { (limits : Limits) (history : List Event) (world : World) (build : ℕ) → replay limits history ≡ Some world → RestIsOfAll world build }
@@ -93,11 +98,6 @@ pub fn realms_are_open_acts()
 /// The VMIDs in use are those of the Realm acts that builds have open.
 pub fn vmids_are_of_open_acts()
     ensures { (limits : Limits) (history : List Event) (world : World) (vmid : ℕ) → IsLegal limits history → replay limits history ≡ Some world → VmidIsOpen history world vmid }
-{}
-
-/// The number of the next REC of a build's realm is at most that of the build's events.
-pub fn numbers_are_few()
-    ensures { (limits : Limits) (history : List Event) (world : World) (build : ℕ) → IsLegal limits history → replay limits history ≡ Some world → NumbersAreFew history world build }
 {}
 
 /// A paired act can be taken back right after it, and that leads back to a world that owns the same.

@@ -1,10 +1,10 @@
 -- Pages of data under a table of level 3, measured, written by a guest, and gone.
-use Rattle.std.proofs.Common.{◌≡◌, ℕ, false, cond, ◌&&◌, List, [], ◌∷◌, ◌++◌, Some, None, set, refl, ap, ◌∙◌, lit≤}
-use Rattle.std.specs.FinMap.{get, insert, remove, empty, get-insert, get-remove}
+use Rattle.std.proofs.Common.{◌≡◌, ℕ, true, false, cond, ◌&&◌, List, [], ◌∷◌, ◌++◌, Some, None, set, refl, ap, ◌∙◌, lit≤}
+use Rattle.std.specs.FinMap.{get, insert, empty, get-insert, get-remove}
 use Rattle.std.specs.Cmp.{nat_cmp_total}
-use Rattle.std.specs.Option.{option_eq}
 use Rattle.std.specs.Str.{bytes_eq}
-use Rattle.std.specs.Prelude.{◌==◌, is_some, nat_eq, option_and_then}
+use Rattle.std.specs.Prelude.{◌==◌, is_some, option_and_then}
+use Rattle.granule_addr.specs.Ipa.{first_covered, is_protected_at}
 use Rattle.granule_addr.specs.Root.{starting_tables}
 use Rattle.granule_addr.specs.Page.{zero_page, page_of}
 use Rattle.realm_model.specs.declared.act.Act.TheVariants.{Take, Fill, Delegate, Realm, Activate, Rtt, Ripas, Data, Unknown, UnData, Rec, UnRec, Enter, Exit, Poke}
@@ -16,13 +16,13 @@ use Rattle.realm_model.specs.declared.states.RecState.{RecState}
 use Rattle.realm_model.specs.declared.states.RecState.TheVariants.{Ready, Running}
 use Rattle.realm_model.specs.declared.states.Ripas.{Ripas as RipasOf}
 use Rattle.realm_model.specs.declared.states.Ripas.TheVariants.{Empty, Ram, Destroyed}
-use Rattle.realm_model.specs.Rows.{Row, Rows}
+use Rattle.realm_model.specs.Rows.{Row, Rows, put_row, row_at, unmapped_ripas}
 use Rattle.realm_model.specs.Measurement.{zero_measurement, measurement_after, data_event, ripas_event, rec_event}
 use Rattle.realm_model.specs.Machine.{Limits, RecRow, RealmRow, Cell}
 use Rattle.realm_model.specs.Act.{named, reverse_of, is_reverse}
 use Rattle.realm_model.specs.Command.Check.{check, with_realm, with_granule}
 use Rattle.realm_model.specs.Command.Realm.{new_realm}
-use Rattle.realm_model.specs.Outcome.{outcome_of, fits}
+use Rattle.realm_model.specs.Outcome.{outcome_of, fits, leads_to}
 use Rattle.realm_model.specs.World.{World, realm_from, updated_all, opening}
 use Rattle.realm_model.specs.Step.{step}
 use Rattle.realm_model.specs.History.{after, replay, open_entries, IsLegal}
@@ -30,9 +30,9 @@ use Rattle.realm_model.specs.Undoing.{by}
 use Rattle.realm_model.proofs.HistoryParts.{after_append}
 use Rattle.realm_model.proofs.Maps.{place_total}
 use Rattle.realm_model.proofs.Outcomes.{check_true, end_there, rec_there}
-use Rattle.realm_model.proofs.Rows.{place_self}
+use Rattle.realm_model.proofs.Rows.{place_self, differs, get-put_row_other}
 use Rattle.realm_model.proofs.Walks.{walk_there}
-use Rattle.realm_model.proofs.Examples.Worlds.{machine_of, page, delegated, rd, of_realm, table_page, start, start_rows, fresh, world_of, Recs, latest, step_by, and_then, at_end, forward, joined}
+use Rattle.realm_model.proofs.Examples.Worlds.{machine_of, page, delegated, rd, of_realm, table_page, start, start_rows, fresh, world_of, OneRec, ready, running, stopped, gone, latest, step_by, and_then, at_end, forward, joined}
 use Rattle.realm_model.proofs.Examples.Tables.{vacant, root-walk, tabled, tabled-first}
 use Rattle.realm_model.proofs.Examples.Ram.{mapped, mapped-row, ram, ram-first, ram-zero, ram-one, all_free}
 
@@ -48,43 +48,42 @@ assigned ripas granule = record { state = Assigned; ripas = ripas; granule = Som
 pub put_here : (rows : Rows) (ipa : ℕ) (row : Row) → get (insert rows (3, ipa) row) (3, ipa) ≡ Some row
 put_here rows ipa row = get-insert place_total rows (3, ipa) row (3, ipa) ∙ ap (λ t. cond t (Some row) (get rows (3, ipa))) (place_self (3, ipa))
 
+-- with a page at granule 4, and without it again
+abbrev with_page : Rows → ℕ → RipasOf → Rows
+with_page rows ipa ripas = put_row rows 3 ipa (assigned ripas 4)
+
+abbrev without_page : Rows → ℕ → RipasOf → Rows
+without_page rows ipa ripas = put_row (with_page rows ipa ripas) 3 ipa (vacant (unmapped_ripas ripas))
+
+other_stays : (rows : Rows) (ipa : ℕ) (ripas : RipasOf) (q : ℕ × ℕ) → differs q (3, first_covered 3 ipa) → get (without_page rows ipa ripas) q ≡ get rows q
+other_stays rows ipa ripas q other =
+    let place : ℕ × ℕ = (3, first_covered 3 ipa) in
+    get-put_row_other (with_page rows ipa ripas) place q _ other ∙ get-put_row_other rows place q _ other
+
 abbrev with_data : Rows
-with_data = insert ram (3, 0) (assigned Ram 4)
+with_data = with_page ram 0 Ram
 
 abbrev without_data : Rows
-without_data = insert with_data (3, 0) (vacant Destroyed)
+without_data = without_page ram 0 Ram
 
 without_data-eight : get without_data (3, 8) ≡ Some (vacant Ram)
-without_data-eight = get-insert place_total with_data (3, 0) (vacant Destroyed) (3, 8) ∙ get-insert place_total ram (3, 0) (assigned Ram 4) (3, 8) ∙ ram-first
-
-abbrev with_unknown : Rows
-with_unknown = insert without_data (3, 8) (assigned Ram 4)
+without_data-eight = other_stays ram 0 Ram (3, 8) refl ∙ ram-first
 
 abbrev without_unknown : Rows
-without_unknown = insert with_unknown (3, 8) (vacant Destroyed)
+without_unknown = without_page without_data 8 Ram
 
 without_unknown-one : get without_unknown (3, 1) ≡ Some (vacant Empty)
-without_unknown-one =
-    get-insert place_total with_unknown (3, 8) (vacant Destroyed) (3, 1) ∙ get-insert place_total without_data (3, 8) (assigned Ram 4) (3, 1)
-    ∙ get-insert place_total with_data (3, 0) (vacant Destroyed) (3, 1) ∙ get-insert place_total ram (3, 0) (assigned Ram 4) (3, 1) ∙ ram-one
-
-abbrev with_other : Rows
-with_other = insert without_unknown (3, 1) (assigned Empty 4)
+without_unknown-one = other_stays without_data 8 Ram (3, 1) refl ∙ other_stays ram 0 Ram (3, 1) refl ∙ ram-one
 
 abbrev without_other : Rows
-without_other = insert with_other (3, 1) (vacant Empty)
+without_other = without_page without_unknown 1 Empty
 
 without_other-zero : get without_other (3, 0) ≡ Some (vacant Destroyed)
 without_other-zero =
-    get-insert place_total with_other (3, 1) (vacant Empty) (3, 0) ∙ get-insert place_total without_unknown (3, 1) (assigned Empty 4) (3, 0)
-    ∙ get-insert place_total with_unknown (3, 8) (vacant Destroyed) (3, 0) ∙ get-insert place_total without_data (3, 8) (assigned Ram 4) (3, 0)
-    ∙ put_here with_data 0 (vacant Destroyed)
-
-abbrev with_third : Rows
-with_third = insert without_other (3, 0) (assigned Destroyed 4)
+    other_stays without_unknown 1 Empty (3, 0) refl ∙ other_stays without_data 8 Ram (3, 0) refl ∙ put_here with_data 0 (vacant Destroyed)
 
 abbrev without_third : Rows
-without_third = insert with_third (3, 0) (vacant Destroyed)
+without_third = without_page without_other 0 Destroyed
 
 -- ---- a realm on a machine of eight pages: table pages 1 to 3, a page of data at 4, and its source at 5
 
@@ -144,25 +143,13 @@ loaded = step_by eight _ _ (by 0 (Data 4 0 5)) _ refl (end_there ram 0 3 _ _ (wa
 abbrev rec : RecState → RecRow
 rec state = record { granule = 6; auxiliaries = 7 ∷ []; state = state }
 
-abbrev ready : Recs
-ready = insert empty 0 (rec Ready)
+gone-rec : get (gone rec) 0 ≡ None
+gone-rec = get-remove nat_cmp_total (stopped rec) 0 0
 
-abbrev running : Recs
-running = insert ready 0 (rec Running)
+abbrev measured_realm : Rows → OneRec → RealmRow
+measured_realm rows recs = record second { rows = rows; measurement = m3; next = 1; recs = recs rec }
 
-abbrev stopped : Recs
-stopped = insert running 0 (rec Ready)
-
-abbrev gone : Recs
-gone = remove stopped 0
-
-gone-rec : get gone 0 ≡ None
-gone-rec = get-remove nat_cmp_total stopped 0 0
-
-abbrev measured_realm : Rows → Recs → RealmRow
-measured_realm rows recs = record second { rows = rows; measurement = m3; next = 1; recs = recs }
-
-abbrev active : Rows → Recs → RealmRow
+abbrev active : Rows → OneRec → RealmRow
 active rows recs = record (measured_realm rows recs) { state = Active }
 
 abbrev with_rec_pages : RealmRow → List ℕ → World
@@ -188,13 +175,13 @@ written = set (page_of 7) 4095 1
 poked : step eight (with_rec_pages (active with_data running) (page_of 7)) (by 0 (Poke 0 0 4095 1)) ≡ Some (with_rec_pages (active with_data running) written)
 unfolding named outcome_of fits updated_all realm_from with_realm with_granule starting_tables
 poked = step_by eight _ _ (by 0 (Poke 0 0 4095 1)) _ refl
-    (rec_there (active with_data running) 0 _ (rec Running) (latest ready (rec Running)) ∙ check_true _ _ _ refl ∙ check_true _ _ _ refl
+    (rec_there (active with_data running) 0 _ (rec Running) (latest (ready rec) (rec Running)) ∙ check_true _ _ _ refl ∙ check_true _ _ _ refl
     ∙ end_there with_data 0 3 _ _ (walk_there with_data 0 3 (assigned Ram 4) (lit≤ tt) (put_here ram 0 (assigned Ram 4))) ∙ check_true _ _ _ refl)
     refl
 
 exited : step eight (with_rec_pages (active with_data running) written) (by 0 (Exit 0)) ≡ Some (with_rec_pages (active with_data stopped) written)
 unfolding named outcome_of fits updated_all check realm_from with_realm starting_tables
-exited = step_by eight _ _ (by 0 (Exit 0)) _ refl (rec_there (active with_data running) 0 _ (rec Running) (latest ready (rec Running))) refl
+exited = step_by eight _ _ (by 0 (Exit 0)) _ refl (rec_there (active with_data running) 0 _ (rec Running) (latest (ready rec) (rec Running))) refl
 
 -- ---- and what was made last goes first
 
@@ -202,48 +189,28 @@ unmade : step eight (with_rec_pages (active with_data stopped) written) (by 0 (U
     (late (active with_data gone) (of_realm InData written) delegated delegated)
 unfolding named outcome_of fits updated_all check realm_from with_realm starting_tables
 unmade = step_by eight _ _ (by 0 (UnRec 6 (record { items = 7 ∷ [] }) 0)) _
-    (ap (λ o. elim o [ Some r ↦ r.granule == 6 && bytes_eq r.auxiliaries (7 ∷ []) | None ↦ false ]) (latest running (rec Ready)))
-    (rec_there (active with_data stopped) 0 _ (rec Ready) (latest running (rec Ready))) refl
+    (ap (λ o. elim o [ Some r ↦ r.granule == 6 && bytes_eq r.auxiliaries (7 ∷ []) | None ↦ false ]) (latest (running rec) (rec Ready)))
+    (rec_there (active with_data stopped) 0 _ (rec Ready) (latest (running rec) (rec Ready))) refl
 
--- the page was RAM, and is DESTROYED
-unloaded : step eight (late (active with_data gone) (of_realm InData written) delegated delegated) (by 0 (UnData 4 0)) ≡ Some (late (active without_data gone) delegated delegated delegated)
-unfolding named outcome_of fits updated_all check realm_from with_realm with_granule starting_tables
-unloaded = step_by eight _ _ (by 0 (UnData 4 0)) _
-    (ap (λ o. elim o [ Some r ↦ option_eq nat_eq r.granule (Some 4) | None ↦ false ]) (put_here ram 0 (assigned Ram 4)))
-    (end_there with_data 0 3 _ _ (walk_there with_data 0 3 (assigned Ram 4) (lit≤ tt) (put_here ram 0 (assigned Ram 4)))) refl
+-- A page is gone: where it was RAM, it is DESTROYED. One of zeros comes, and the RIPAS stays; the realm is ACTIVE, and it is
+-- not measured.
+module _ (rows : Rows) (ipa : ℕ) (ripas : RipasOf) (inside : is_protected_at ipa 39 ≡ true) where
+  emptied : (bytes : List ℕ) → step eight (late (active (with_page rows ipa ripas) gone) (of_realm InData bytes) delegated delegated) (by 0 (UnData 4 ipa))
+      ≡ Some (late (active (without_page rows ipa ripas) gone) delegated delegated delegated)
+  unfolding named outcome_of fits updated_all realm_from with_realm with_granule starting_tables
+  emptied bytes =
+      let here = put_here rows (first_covered 3 ipa) (assigned ripas 4) in
+      step_by eight _ _ (by 0 (UnData 4 ipa)) _ (ap (λ o. leads_to o 4) here)
+      (check_true _ _ _ inside ∙ end_there (with_page rows ipa ripas) ipa 3 _ _ (walk_there (with_page rows ipa ripas) ipa 3 (assigned ripas 4) (lit≤ tt) here)
+      ∙ check_true _ _ _ refl ∙ check_true _ _ _ refl)
+      refl
 
--- a page of zeros, where the RIPAS stays; the realm is ACTIVE, and it is not measured
-filled : step eight (late (active without_data gone) delegated delegated delegated) (by 0 (Unknown 4 8)) ≡ Some (late (active with_unknown gone) (of_realm InData zero_page) delegated delegated)
-unfolding named outcome_of fits updated_all check realm_from with_realm starting_tables
-filled = step_by eight _ _ (by 0 (Unknown 4 8)) _ refl (end_there without_data 8 3 _ _ (walk_there without_data 8 3 (vacant Ram) (lit≤ tt) without_data-eight)) refl
-
-emptied : step eight (late (active with_unknown gone) (of_realm InData zero_page) delegated delegated) (by 0 (UnData 4 8)) ≡ Some (late (active without_unknown gone) delegated delegated delegated)
-unfolding named outcome_of fits updated_all check realm_from with_realm with_granule starting_tables
-emptied = step_by eight _ _ (by 0 (UnData 4 8)) _
-    (ap (λ o. elim o [ Some r ↦ option_eq nat_eq r.granule (Some 4) | None ↦ false ]) (put_here without_data 8 (assigned Ram 4)))
-    (end_there with_unknown 8 3 _ _ (walk_there with_unknown 8 3 (assigned Ram 4) (lit≤ tt) (put_here without_data 8 (assigned Ram 4)))) refl
-
--- the same where it was EMPTY, which stays
-filled-other : step eight (late (active without_unknown gone) delegated delegated delegated) (by 0 (Unknown 4 1)) ≡ Some (late (active with_other gone) (of_realm InData zero_page) delegated delegated)
-unfolding named outcome_of fits updated_all check realm_from with_realm starting_tables
-filled-other = step_by eight _ _ (by 0 (Unknown 4 1)) _ refl (end_there without_unknown 1 3 _ _ (walk_there without_unknown 1 3 (vacant Empty) (lit≤ tt) without_unknown-one)) refl
-
-emptied-other : step eight (late (active with_other gone) (of_realm InData zero_page) delegated delegated) (by 0 (UnData 4 1)) ≡ Some (late (active without_other gone) delegated delegated delegated)
-unfolding named outcome_of fits updated_all check realm_from with_realm with_granule starting_tables
-emptied-other = step_by eight _ _ (by 0 (UnData 4 1)) _
-    (ap (λ o. elim o [ Some r ↦ option_eq nat_eq r.granule (Some 4) | None ↦ false ]) (put_here without_unknown 1 (assigned Empty 4)))
-    (end_there with_other 1 3 _ _ (walk_there with_other 1 3 (assigned Empty 4) (lit≤ tt) (put_here without_unknown 1 (assigned Empty 4)))) refl
-
--- and where it was DESTROYED
-filled-third : step eight (late (active without_other gone) delegated delegated delegated) (by 0 (Unknown 4 0)) ≡ Some (late (active with_third gone) (of_realm InData zero_page) delegated delegated)
-unfolding named outcome_of fits updated_all check realm_from with_realm starting_tables
-filled-third = step_by eight _ _ (by 0 (Unknown 4 0)) _ refl (end_there without_other 0 3 _ _ (walk_there without_other 0 3 (vacant Destroyed) (lit≤ tt) without_other-zero)) refl
-
-emptied-third : step eight (late (active with_third gone) (of_realm InData zero_page) delegated delegated) (by 0 (UnData 4 0)) ≡ Some (late (active without_third gone) delegated delegated delegated)
-unfolding named outcome_of fits updated_all check realm_from with_realm with_granule starting_tables
-emptied-third = step_by eight _ _ (by 0 (UnData 4 0)) _
-    (ap (λ o. elim o [ Some r ↦ option_eq nat_eq r.granule (Some 4) | None ↦ false ]) (put_here without_other 0 (assigned Destroyed 4)))
-    (end_there with_third 0 3 _ _ (walk_there with_third 0 3 (assigned Destroyed 4) (lit≤ tt) (put_here without_other 0 (assigned Destroyed 4)))) refl
+  filled : row_at rows 3 ipa ≡ Some (vacant ripas)
+      → step eight (late (active rows gone) delegated delegated delegated) (by 0 (Unknown 4 ipa)) ≡ Some (late (active (with_page rows ipa ripas) gone) (of_realm InData zero_page) delegated delegated)
+  unfolding named outcome_of fits updated_all realm_from with_realm starting_tables
+  filled free = step_by eight _ _ (by 0 (Unknown 4 ipa)) _ refl
+      (check_true _ _ _ inside ∙ end_there rows ipa 3 _ _ (walk_there rows ipa 3 (vacant ripas) (lit≤ tt) free) ∙ check_true _ _ _ refl ∙ check_true _ _ _ refl)
+      refl
 
 -- ---- the whole history
 
@@ -263,10 +230,11 @@ then-world =
     after_append eight begun then (opening eight) ∙ ap (option_and_then (after eight then)) begun-world
     ∙ and_then eight _ _ _ _ _ upper (and_then eight _ _ _ _ _ lower (and_then eight _ _ _ _ _ rammed (and_then eight _ _ _ _ _ loaded
     (and_then eight _ _ _ _ _ made (and_then eight _ _ _ _ _ activated (and_then eight _ _ _ _ _ entered (and_then eight _ _ _ _ _ poked
-    (and_then eight _ _ _ _ _ exited (and_then eight _ _ _ _ _ unmade (and_then eight _ _ _ _ _ unloaded (and_then eight _ _ _ _ _ filled
-    (and_then eight _ _ _ _ _ emptied
-    (and_then eight _ _ _ _ _ filled-other (and_then eight _ _ _ _ _ emptied-other
-    (and_then eight _ _ _ _ _ filled-third (and_then eight _ _ _ _ _ emptied-third (at_end eight _)))))))))))))))))
+    (and_then eight _ _ _ _ _ exited (and_then eight _ _ _ _ _ unmade (and_then eight _ _ _ _ _ (emptied ram 0 Ram refl written)
+    (and_then eight _ _ _ _ _ (filled without_data 8 Ram refl without_data-eight) (and_then eight _ _ _ _ _ (emptied without_data 8 Ram refl zero_page)
+    (and_then eight _ _ _ _ _ (filled without_unknown 1 Empty refl without_unknown-one) (and_then eight _ _ _ _ _ (emptied without_unknown 1 Empty refl zero_page)
+    (and_then eight _ _ _ _ _ (filled without_other 0 Destroyed refl without_other-zero) (and_then eight _ _ _ _ _ (emptied without_other 0 Destroyed refl zero_page)
+    (at_end eight _)))))))))))))))))
 
 then-legal : IsLegal eight (begun ++ then)
 unfolding is_reverse open_entries reverse_of

@@ -1,7 +1,7 @@
 -- A REC that runs, stops and is gone, and with it all that its build had.
 use Rattle.std.proofs.Common.{◌≡◌, ℕ, true, false, cond, ◌&&◌, ◌||◌, not, List, [], ◌∷◌, ◌++◌, length, Some, None, Err, refl, sym, ap, ◌∙◌}
 use Rattle.std.specs.Prelude.{◌==◌, is_some, option_and_then}
-use Rattle.std.specs.FinMap.{get, insert, remove, empty, len, get-insert, get-remove, get-empty}
+use Rattle.std.specs.FinMap.{get, insert, empty, len, get-insert, get-remove, get-empty}
 use Rattle.std.specs.Cmp.{nat_cmp_total}
 use Rattle.std.specs.List.{list_any}
 use Rattle.std.specs.Ordering.{nat_cmp, eq_by_cmp}
@@ -37,7 +37,7 @@ use Rattle.realm_model.proofs.Outcomes.{check_true, rec_there}
 use Rattle.realm_model.proofs.Reversal.{no_recs}
 use Rattle.realm_model.proofs.RowKinds.{Vacant}
 use Rattle.realm_model.proofs.Rows.{all_rows_from, put_there}
-use Rattle.realm_model.proofs.Examples.Worlds.{machine_of, page, delegated, rd, table_page, of_realm, start, start_rows, fresh, world_of, Recs, latest, step_by, and_then, at_end, forward, joined}
+use Rattle.realm_model.proofs.Examples.Worlds.{machine_of, page, delegated, rd, table_page, of_realm, start, start_rows, fresh, world_of, Recs, OneRec, ready, running, stopped, gone, latest, step_by, and_then, at_end, forward, joined}
 use Rattle.realm_model.proofs.Examples.Realms.{on_four}
 
 -- ---- the REC of number 0
@@ -51,24 +51,12 @@ unmade = UnRec 2 (record { items = [] }) 0
 abbrev rec : RecState → RecRow
 rec state = record { granule = 2; auxiliaries = []; state = state }
 
-abbrev ready : Recs
-ready = insert empty 0 (rec Ready)
-
-abbrev running : Recs
-running = insert ready 0 (rec Running)
-
-abbrev stopped : Recs
-stopped = insert running 0 (rec Ready)
-
-abbrev gone : Recs
-gone = remove stopped 0
-
-none_gone : (n : ℕ) → get gone n ≡ None
+none_gone : (n : ℕ) → get (gone rec) n ≡ None
 none_gone n =
-    get-remove nat_cmp_total stopped 0 n
-    ∙ elim (eq_by_cmp nat_cmp n 0) as (λ t. eq_by_cmp nat_cmp n 0 ≡ t → cond t None (get stopped n) ≡ None) [
+    get-remove nat_cmp_total (stopped rec) 0 n
+    ∙ elim (eq_by_cmp nat_cmp n 0) as (λ t. eq_by_cmp nat_cmp n 0 ≡ t → cond t None (get (stopped rec) n) ≡ None) [
       | true ↦ λ e. refl
-      | false ↦ λ e. under running (rec Ready) e ∙ under ready (rec Running) e ∙ under empty (rec Ready) e ∙ get-empty nat_cmp n
+      | false ↦ λ e. under (running rec) (rec Ready) e ∙ under (ready rec) (rec Running) e ∙ under empty (rec Ready) e ∙ get-empty nat_cmp n
     ] refl
   where
     under : (recs : Recs) (x : RecRow) → eq_by_cmp nat_cmp n 0 ≡ false → get (insert recs 0 x) n ≡ get recs n
@@ -76,10 +64,10 @@ none_gone n =
 
 -- ---- its realm, and the machine of four pages
 
-abbrev realm : Recs → RealmRow
-realm recs = record fresh { state = Active; next = 1; measurement = measurement_after zero_measurement (rec_event 0); recs = recs }
+abbrev realm : OneRec → RealmRow
+realm recs = record fresh { state = Active; next = 1; measurement = measurement_after zero_measurement (rec_event 0); recs = recs rec }
 
-abbrev world : Recs → Cell → World
+abbrev world : OneRec → Cell → World
 world recs third = world_of (rd (realm recs) ∷ table_page ∷ third ∷ page zero_page ∷ [])
 
 abbrev entered : List Event
@@ -97,27 +85,27 @@ runs = step_by (machine_of 4) _ _ (by 0 (Enter 0)) _ refl (rec_there (realm read
 -- one REC is counted then, and its reverse is refused
 runs-count : running_count (realm_of 0 (world running (of_realm InRec zero_page))) ≡ 1
 unfolding running_count realm_from starting_tables
-runs-count = ap (λ o. length {A = ℕ} (cond (is_rec_running o) (0 ∷ []) [])) (latest ready (rec Running))
+runs-count = ap (λ o. length {A = ℕ} (cond (is_rec_running o) (0 ∷ []) [])) (latest (ready rec) (rec Running))
 
 runs-act : is_running (realm_of 0 (world running (of_realm InRec zero_page))) made ≡ true
 unfolding realm_from starting_tables
-runs-act = ap is_rec_running (latest ready (rec Running))
+runs-act = ap is_rec_running (latest (ready rec) (rec Running))
 
 runs-refused : outcome_in (machine_of 4) (world running (of_realm InRec zero_page)) (by 0 unmade) ≡ Err (record { status = OfRec; index = 0 })
 unfolding named outcome_of check realm_from with_realm starting_tables
-runs-refused = rec_there (realm running) 0 _ (rec Running) (latest ready (rec Running))
+runs-refused = rec_there (realm running) 0 _ (rec Running) (latest (ready rec) (rec Running))
 
 -- it stops
 stops : step (machine_of 4) (world running (of_realm InRec zero_page)) (by 0 (Exit 0)) ≡ Some (world stopped (of_realm InRec zero_page))
 unfolding named outcome_of fits updated_all check realm_from with_realm starting_tables
-stops = step_by (machine_of 4) _ _ (by 0 (Exit 0)) _ refl (rec_there (realm running) 0 _ (rec Running) (latest ready (rec Running))) refl
+stops = step_by (machine_of 4) _ _ (by 0 (Exit 0)) _ refl (rec_there (realm running) 0 _ (rec Running) (latest (ready rec) (rec Running))) refl
 
 -- it is gone, and its granule is DELEGATED
 goes : step (machine_of 4) (world stopped (of_realm InRec zero_page)) (by 0 unmade) ≡ Some (world gone delegated)
 unfolding named outcome_of fits updated_all check realm_from with_realm starting_tables
 goes = step_by (machine_of 4) _ _ (by 0 unmade) _
-    (ap (λ o. elim o [ Some r ↦ r.granule == 2 && bytes_eq r.auxiliaries [] | None ↦ false ]) (latest running (rec Ready)))
-    (rec_there (realm stopped) 0 _ (rec Ready) (latest running (rec Ready))) refl
+    (ap (λ o. elim o [ Some r ↦ r.granule == 2 && bytes_eq r.auxiliaries [] | None ↦ false ]) (latest (running rec) (rec Ready)))
+    (rec_there (realm stopped) 0 _ (rec Ready) (latest (running rec) (rec Ready))) refl
 
 -- ---- all of it undone
 
@@ -135,7 +123,7 @@ back-is = refl
 ends : step (machine_of 4) (world gone delegated) (by 0 (UnRealm 0 start 1)) ≡ Some (world_of (delegated ∷ delegated ∷ delegated ∷ page zero_page ∷ []))
 unfolding named outcome_of fits updated_all realm_from with_realm root_rows starting_tables
 ends = step_by (machine_of 4) _ _ (by 0 (UnRealm 0 start 1)) _ refl
-    (check_true _ _ _ (and_from _ _ (eq-eqb (len gone) 0 (no_recs gone none_gone)) (ap (λ t. not (not t)) no_table)))
+    (check_true _ _ _ (and_from _ _ (eq-eqb (len (gone rec)) 0 (no_recs (gone rec) none_gone)) (ap (λ t. not (not t)) no_table)))
     refl
   where
     passes : (row : Row) → mapping_of_row row ≡ Vacant → not (is_table row) ≡ true
@@ -199,7 +187,7 @@ marked-left = refl
 -- not while it runs
 marked-runs : list_any (is_running (realm_of 0 (world running (of_realm InRec zero_page)))) (above (mark_at 0 on_four) (entered ++ by 0 (Enter 0) ∷ [])) ≡ true
 unfolding realm_from open_entries reverse_of is_reverse starting_tables
-marked-runs = ap (λ o. is_rec_running o || false) (latest ready (rec Running))
+marked-runs = ap (λ o. is_rec_running o || false) (latest (ready rec) (rec Running))
 
 -- the realm stays ACTIVE, so no other REC is made
 marked-refused : outcome_in (machine_of 4) (world gone delegated) (by 0 (Rec 2 (record { items = [] }) 1)) ≡ Err (record { status = OfRealm; index = 0 })

@@ -6,6 +6,7 @@ use Rattle.std.specs.Ordering.{eq_by_cmp}
 use Rattle.std.specs.Prelude.{nat_eq, is_some, option_and_then}
 use Rattle.granule_addr.specs.Ipa.{covered_count, first_covered}
 use Rattle.granule_addr.specs.Page.{zero_page}
+use Rattle.granule_addr.specs.Root.{start_count}
 use Rattle.realm_model.specs.declared.act.Act.TheVariants.{Rtt, UnRtt, Data}
 use Rattle.realm_model.specs.declared.rmi.Status.TheVariants.{Rtt as OfRtt}
 use Rattle.realm_model.specs.declared.states.EntryState.TheVariants.{Unassigned, Table}
@@ -67,32 +68,36 @@ module _ (rows : Rows) (level ipa : ℕ) where
       get-insert place_total (drop_rows rows level ipa (512 * covered_count level)) up (unassigned Destroyed) q
       ∙ ap (cond (eq_by_cmp place_cmp q up) (Some (unassigned Destroyed))) (get-drop_rows rows level ipa (512 * covered_count level) q)
 
--- ---- the rows of a new realm: 512 of level 1
+-- ---- the rows of a new realm: 512 of level 1 for each starting table
+
+module _ (width : ℕ) where
+  pub root-row : (k : ℕ) → k < 512 * start_count width → get (root_rows width) (1, 0 + k * 262144) ≡ Some (vacant Empty)
+  unfolding root_rows
+  root-row k less = get-put_rows (λ _. unassigned Empty) empty 1 0 (512 * start_count width) k less
+
+  pub beside_root : (q : ℕ × ℕ) → ((k : ℕ) → k < 512 * start_count width → differs q (1, 0 + k * 262144)) → get (root_rows width) q ≡ None
+  unfolding root_rows
+  beside_root q apart = get-put_rows_other (λ _. unassigned Empty) empty 1 0 (512 * start_count width) q apart ∙ get-empty place_cmp q
+
+-- where that is one
 
 root-first : get start_rows (1, 0) ≡ Some (vacant Empty)
-unfolding root_rows
-root-first = get-put_rows (λ _. unassigned Empty) empty 1 0 512 0 (lit≤ tt)
+root-first = root-row 39 0 (lit≤ tt)
 
 root-second : get start_rows (1, 262144) ≡ Some (vacant Empty)
-unfolding root_rows
-root-second = get-put_rows (λ _. unassigned Empty) empty 1 0 512 1 (lit≤ tt)
+root-second = root-row 39 1 (lit≤ tt)
 
 root-last : get start_rows (1, 133955584) ≡ Some (vacant Empty)
-unfolding root_rows
-root-last = get-put_rows (λ _. unassigned Empty) empty 1 0 512 511 (lit≤ tt)
+root-last = root-row 39 511 (lit≤ tt)
 
 root-past : get start_rows (1, 134217728) ≡ None
-unfolding root_rows
-root-past = get-put_rows_other (λ _. unassigned Empty) empty 1 0 512 (1, 134217728) (λ k less. apart 1 134217728 (0 + k * 262144) (λ e. omega arith))
-    ∙ get-empty place_cmp (1, 134217728)
+root-past = beside_root 39 (1, 134217728) (λ k less. apart 1 134217728 (0 + k * 262144) (λ e. omega arith))
 
 root-two : get start_rows (2, 0) ≡ None
-unfolding root_rows
-root-two = get-put_rows_other (λ _. unassigned Empty) empty 1 0 512 (2, 0) (λ k less. refl) ∙ get-empty place_cmp (2, 0)
+root-two = beside_root 39 (2, 0) (λ k less. refl)
 
 root-three : get start_rows (3, 0) ≡ None
-unfolding root_rows
-root-three = get-put_rows_other (λ _. unassigned Empty) empty 1 0 512 (3, 0) (λ k less. refl) ∙ get-empty place_cmp (3, 0)
+root-three = beside_root 39 (3, 0) (λ k less. refl)
 
 pub root-walk : walk start_rows 0 1 ≡ Some (record { level = 1; row = vacant Empty })
 root-walk = walk_there start_rows 0 1 (vacant Empty) (lit≤ tt) root-first
@@ -127,10 +132,7 @@ pub tabled-last : get tabled (2, 261632) ≡ Some (vacant Empty)
 tabled-last = within_table start_rows 2 0 2 Empty 511 (lit≤ tt)
 
 tabled-past : get tabled (2, 262144) ≡ None
-unfolding root_rows
-tabled-past =
-    beside_table start_rows 2 0 2 Empty (2, 262144) (λ k less. apart 2 262144 (0 + k * 512) (λ e. omega arith))
-    ∙ get-put_rows_other (λ _. unassigned Empty) empty 1 0 512 (2, 262144) (λ k less. refl) ∙ get-empty place_cmp (2, 262144)
+tabled-past = beside_table start_rows 2 0 2 Empty (2, 262144) (λ k less. apart 2 262144 (0 + k * 512) (λ e. omega arith)) ∙ beside_root 39 (2, 262144) (λ k less. refl)
 
 made : step (machine_of 4) (world start_rows delegated) (by 0 (Rtt 2 0 2)) ≡ Some (world tabled table_page)
 unfolding named outcome_of fits updated_all check realm_from with_realm

@@ -62,14 +62,14 @@ second_left-above = without two 2 0 (1, 0)
 second_left-beside : get second_left (1, 262144) ≡ Some (leads 3)
 second_left-beside = without two 2 0 (1, 262144) ∙ two-beside
 
-second_left-gone : get second_left (2, 0) ≡ None
-second_left-gone = without two 2 0 (2, 0)
-
 second_left-first : get second_left (2, 262144) ≡ Some (vacant Empty)
 second_left-first = without two 2 0 (2, 262144) ∙ other-first
 
 second_left-last : get second_left (2, 523776) ≡ Some (vacant Empty)
 second_left-last = without two 2 0 (2, 523776) ∙ other-last
+
+second_left-gone : get second_left (2, 0) ≡ None
+second_left-gone = without two 2 0 (2, 0)
 
 unused : is_table_unused two 2 0 ≡ true
 unfolding is_table_unused with_table

@@ -40,13 +40,9 @@ unfolding after step named outcome_of fits updated_all check realm_from starting
 askew = refl
 
 -- none of them is the RD, not the last one either
-rd_first : is_some (replay (machine_of 8) (wide 4 4 41)) ≡ false
+rd_apart : (is_some (replay (machine_of 8) (wide 4 4 41)) ≡ false) × (is_some (replay (machine_of 8) (wide 7 4 41)) ≡ false)
 unfolding after step named outcome_of fits updated_all check realm_from starting_tables
-rd_first = refl
-
-rd_last : is_some (replay (machine_of 8) (wide 7 4 41)) ≡ false
-unfolding after step named outcome_of fits updated_all check realm_from starting_tables
-rd_last = refl
+rd_apart = (refl, refl)
 
 -- each of them is DELEGATED
 abbrev but_one : ℕ → List Event

@@ -3,7 +3,7 @@ use Rattle.std.proofs.Common.{◌≡◌, ℕ, ◌+◌, ◌*◌, Bool, true, fals
 use Rattle.std.specs.Prelude.{is_some, nat_eq, option_map, option_and_then}
 use Rattle.std.specs.Option.{option_eq}
 use Rattle.std.specs.Ordering.{nat_cmp}
-use Rattle.std.specs.FinMap.{get, insert, empty, len, get-insert, get-empty, len-empty}
+use Rattle.std.specs.FinMap.{get, insert, empty, len, get-insert, len-empty}
 use Rattle.std.proofs.lemmas.Bool.{and_from, eq-eqb}
 use Rattle.std.proofs.lemmas.Option.{same_Some}
 use Rattle.granule_addr.specs.Ipa.{covered_count}
@@ -16,7 +16,7 @@ use Rattle.realm_model.specs.declared.rmi.Status.TheVariants.{Input, Realm as Of
 use Rattle.realm_model.specs.declared.states.GranuleState.TheVariants.{Data as InData}
 use Rattle.realm_model.specs.declared.states.EntryState.TheVariants.{Assigned}
 use Rattle.realm_model.specs.declared.states.Ripas.TheVariants.{Empty, Destroyed}
-use Rattle.realm_model.specs.Rows.{Row, Rows, place_cmp, root_rows, put_row, with_table, without_table, is_unassigned, is_table, is_table_unused, all_rows, unassigned, table, is_unassigned_state, is_table_state}
+use Rattle.realm_model.specs.Rows.{Row, Rows, root_rows, put_row, with_table, without_table, is_unassigned, is_table, is_table_unused, all_rows, unassigned, table, is_unassigned_state, is_table_state}
 use Rattle.realm_model.specs.Ownership.{mapping_of_row, Mapping}
 use Rattle.realm_model.specs.Sound.{look, IsSoundRows}
 use Rattle.realm_model.specs.Machine.{Limits, RecRow, Cell}
@@ -34,13 +34,13 @@ use Rattle.realm_model.proofs.HistoryParts.{after_append}
 use Rattle.realm_model.proofs.Maps.{place_total, same_place}
 use Rattle.realm_model.proofs.Outcomes.{check_true, end_there}
 use Rattle.realm_model.proofs.RowKinds.{Vacant}
-use Rattle.realm_model.proofs.Rows.{is_place, get-put_rows, get-put_rows_other, look-insert, put_there, all_rows_from, all_rows_at}
+use Rattle.realm_model.proofs.Rows.{is_place, look-insert, put_there, all_rows_from, all_rows_at}
 use Rattle.realm_model.proofs.SoundRows.{root_sound, with_table_sound, none_among}
 use Rattle.realm_model.proofs.TableBack.{table_back}
 use Rattle.realm_model.proofs.TablePlaces.{table_place}
 use Rattle.realm_model.proofs.Walks.{walk_there, walk_above}
 use Rattle.realm_model.proofs.Examples.Worlds.{machine_of, delegated, rd, table_page, of_realm, fresh, world_of, Recs, step_by, and_then, forward, joined}
-use Rattle.realm_model.proofs.Examples.Tables.{vacant, leads, apart, within_table, beside_table, without}
+use Rattle.realm_model.proofs.Examples.Tables.{vacant, leads, apart, within_table, beside_table, without, root-row, beside_root}
 
 abbrev eight : Limits
 eight = machine_of 8
@@ -61,17 +61,13 @@ abbrev wide : Rows
 wide = root_rows 41
 
 wide-second : get wide (1, second) ≡ Some (vacant Empty)
-unfolding root_rows
-wide-second = get-put_rows (λ _. unassigned Empty) empty 1 0 2048 512 (lit≤ tt)
+wide-second = root-row 41 512 (lit≤ tt)
 
 wide-last : get wide (1, 536608768) ≡ Some (vacant Empty)
-unfolding root_rows
-wide-last = get-put_rows (λ _. unassigned Empty) empty 1 0 2048 2047 (lit≤ tt)
+wide-last = root-row 41 2047 (lit≤ tt)
 
 wide-past : get wide (1, 536870912) ≡ None
-unfolding root_rows
-wide-past = get-put_rows_other (λ _. unassigned Empty) empty 1 0 2048 (1, 536870912) (λ k less. apart 1 536870912 (0 + k * 262144) (λ e. omega arith))
-    ∙ get-empty place_cmp (1, 536870912)
+wide-past = beside_root 41 (1, 536870912) (λ k less. apart 1 536870912 (0 + k * 262144) (λ e. omega arith))
 
 -- ---- a table of level 2, one of level 3, and a page
 
@@ -98,25 +94,22 @@ lower-first = within_table upper 3 second 2 Empty 0 (lit≤ tt)
 
 -- no table covers the last protected IPA granule
 lower-three : get lower (3, 268435455) ≡ None
-unfolding root_rows
 lower-three =
     beside_table upper 3 second 2 Empty (3, 268435455) (λ k less. apart 3 268435455 (second + k * 1) (λ e. omega arith))
     ∙ beside_table wide 2 second 1 Empty (3, 268435455) (λ k less. refl)
-    ∙ get-put_rows_other (λ _. unassigned Empty) empty 1 0 2048 (3, 268435455) (λ k less. refl) ∙ get-empty place_cmp (3, 268435455)
+    ∙ beside_root 41 (3, 268435455) (λ k less. refl)
 
 lower-two : get lower (2, 268434944) ≡ None
-unfolding root_rows
 lower-two =
     beside_table upper 3 second 2 Empty (2, 268434944) (λ k less. refl)
     ∙ beside_table wide 2 second 1 Empty (2, 268434944) (λ k less. apart 2 268434944 (second + k * 512) (λ e. omega arith))
-    ∙ get-put_rows_other (λ _. unassigned Empty) empty 1 0 2048 (2, 268434944) (λ k less. refl) ∙ get-empty place_cmp (2, 268434944)
+    ∙ beside_root 41 (2, 268434944) (λ k less. refl)
 
 lower-one : get lower (1, 268173312) ≡ Some (vacant Empty)
-unfolding root_rows
 lower-one =
     beside_table upper 3 second 2 Empty (1, 268173312) (λ k less. refl)
     ∙ beside_table wide 2 second 1 Empty (1, 268173312) (λ k less. refl)
-    ∙ get-put_rows (λ _. unassigned Empty) empty 1 0 2048 1023 (lit≤ tt)
+    ∙ root-row 41 1023 (lit≤ tt)
 
 abbrev page_row : Row
 page_row = record { state = Assigned; ripas = Empty; granule = Some 3 }

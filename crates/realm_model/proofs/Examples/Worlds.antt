@@ -3,7 +3,7 @@ use Rattle.std.proofs.Common.{◌≡◌, ℕ, true, false, cond, List, [], ◌�
 use Rattle.std.specs.Prelude.{option_map, option_and_then}
 use Rattle.std.specs.List.{list_any}
 use Rattle.std.specs.Cmp.{nat_cmp_total}
-use Rattle.std.specs.FinMap.{FinMap, get, insert, empty, get-insert}
+use Rattle.std.specs.FinMap.{FinMap, get, insert, remove, empty, get-insert}
 use Rattle.std.specs.Ordering.{nat_cmp}
 use Rattle.std.proofs.lemmas.List.{append_assoc, append-nil}
 use Rattle.granule_addr.specs.Page.{zero_page}
@@ -12,6 +12,8 @@ use Rattle.realm_model.specs.declared.act.Event.{Event}
 use Rattle.realm_model.specs.declared.states.GranuleState.{GranuleState}
 use Rattle.realm_model.specs.declared.states.GranuleState.TheVariants.{Undelegated, Delegated, Rd, Rtt as InRtt}
 use Rattle.realm_model.specs.declared.states.RealmState.TheVariants.{New}
+use Rattle.realm_model.specs.declared.states.RecState.{RecState}
+use Rattle.realm_model.specs.declared.states.RecState.TheVariants.{Ready, Running}
 use Rattle.realm_model.specs.Rows.{Rows, root_rows}
 use Rattle.realm_model.specs.Measurement.{zero_measurement}
 use Rattle.realm_model.specs.Machine.{Limits, RecRow, RealmRow, Cell}
@@ -63,6 +65,23 @@ Recs = FinMap nat_cmp RecRow
 
 pub latest : (recs : Recs) (rec : RecRow) → get (insert recs 0 rec) 0 ≡ Some rec
 latest recs rec = get-insert nat_cmp_total recs 0 rec 0
+
+-- the RECs of a realm that has one, of number 0: it is made, runs, stops and is gone
+abbrev pub OneRec : Type 0
+OneRec = (RecState → RecRow) → Recs
+
+module _ (rec : RecState → RecRow) where
+  abbrev pub ready : Recs
+  ready = insert empty 0 (rec Ready)
+
+  abbrev pub running : Recs
+  running = insert ready 0 (rec Running)
+
+  abbrev pub stopped : Recs
+  stopped = insert running 0 (rec Ready)
+
+  abbrev pub gone : Recs
+  gone = remove stopped 0
 
 -- all is leased by build 0
 abbrev pub world_of : List Cell → World
