@@ -154,34 +154,42 @@ module _ (E : El) {M : Type 1} {𝓤 : Ura M} (𝓛 : Logic 𝓤) (t : Ty → Pt
     pub out : (d : el_x E) → ent 𝓤 (sem 𝓛 (All xs)) (sep 𝓤 (sem 𝓛 (one i (get_or xs i d))) (sep 𝓤 (sem 𝓛 (one j (get_or xs j d))) (sem 𝓛 besides)))
     pub back : (d w : el_x E) → ent 𝓤 (sep 𝓤 (sem 𝓛 (one i (get_or xs i d))) (sep 𝓤 (sem 𝓛 (one j w)) (sem 𝓛 besides))) (sem 𝓛 (All (set xs j w)))
 
+  -- they leave by their places, the lower first, and two others come back
+  module _ (xs : List (el_x E)) (i j : ℕ) (lt : i < j) (j_in : j < length xs) where
+    abbrev Apart : Fml
+    Apart = fsep (Beside E 𝓛 b o xs i j) (Behind (length xs))
+
+    both_out : (d : el_x E) → ent 𝓤 (sem 𝓛 (All xs)) (sep 𝓤 (sem 𝓛 (one i (get_or xs i d))) (sep 𝓤 (sem 𝓛 (one j (get_or xs j d))) (sem 𝓛 Apart)))
+    both_out d =
+        qed 𝓛 (‵ (All xs) ∷ []) ∵ fsplit ! $
+        use1 𝓛 (‵ (one i (get_or xs i d)) ⊛ ‵ (one j (get_or xs j d)) ⊛ ‵ (Beside E 𝓛 b o xs i j)) (two_out E 𝓛 b o (length xs) i j xs d lt j_in) $ split3 ! $
+        move ! (2 ∷ 3 ∷ []) $ fjoin ! $ move ! (1 ∷ 2 ∷ 0 ∷ []) $ done !
+
+    both_in : (x y : el_x E) (zs : List (el_x E)) → set (set xs i x) j y ≡ zs → length zs ≡ length xs → ent 𝓤 (sep 𝓤 (sem 𝓛 (one i x)) (sep 𝓤 (sem 𝓛 (one j y)) (sem 𝓛 Apart))) (sem 𝓛 (All zs))
+    both_in x y zs same many =
+        qed 𝓛 (‵ (one i x) ∷ ‵ (one j y) ∷ ‵ Apart ∷ []) ∵ move ! (2 ∷ []) $ fsplit ! $ move ! (2 ∷ 3 ∷ 0 ∷ []) $
+        use3 𝓛 (‵ (part_at (Array (R E) (length xs)) full_share (set (set xs i x) j y) b o)) (two_in E 𝓛 b o (length xs) i j xs x y lt j_in refl) $
+        rewrite ! 0 (λ (ys : List (el_x E)). ‵ (part_at (Array (R E) (length xs)) full_share ys b o)) same refl $ by ! (same_many xs zs many)
+
   reads_first : (xs : List (el_x E)) (i j : ℕ) → i < j → j < length xs → Pair xs i j
-  reads_first xs i j lt j_in =
-      let n = length xs in let Rest : Fml = fsep (Beside E 𝓛 b o xs i j) (Behind n) in
-      record {
-        besides = Rest;
-        out = λ d. qed 𝓛 (‵ (All xs) ∷ []) ∵ fsplit ! $
-            use1 𝓛 (‵ (one i (get_or xs i d)) ⊛ ‵ (one j (get_or xs j d)) ⊛ ‵ (Beside E 𝓛 b o xs i j)) (two_out E 𝓛 b o n i j xs d lt j_in) $ split3 ! $
-            move ! (2 ∷ 3 ∷ []) $ fjoin ! $ move ! (1 ∷ 2 ∷ 0 ∷ []) $ done !;
-        back = λ d w. let same : set (set xs i (get_or xs i d)) j w ≡ set xs j w = ap (λ (zs : List (el_x E)). set zs j w) (set-get_or xs i d) in
-            qed 𝓛 (‵ (one i (get_or xs i d)) ∷ ‵ (one j w) ∷ ‵ Rest ∷ []) ∵ move ! (2 ∷ []) $ fsplit ! $ move ! (2 ∷ 3 ∷ 0 ∷ []) $
-            use3 𝓛 (‵ (part_at (Array (R E) n) full_share (set (set xs i (get_or xs i d)) j w) b o)) (two_in E 𝓛 b o n i j xs (get_or xs i d) w lt j_in refl) $
-            rewrite ! 0 (λ (zs : List (el_x E)). ‵ (part_at (Array (R E) n) full_share zs b o)) same refl $ by ! (same_many xs (set xs j w) (length-set xs j w));
-      }
+  reads_first xs i j lt j_in = record {
+    besides = Apart xs i j lt j_in;
+    out = both_out xs i j lt j_in;
+    back = λ d w. both_in xs i j lt j_in (get_or xs i d) w (set xs j w) (ap (λ (zs : List (el_x E)). set zs j w) (set-get_or xs i d)) (length-set xs j w);
+  }
 
   reads_second : (xs : List (el_x E)) (i j : ℕ) → j < i → i < length xs → Pair xs i j
   reads_second xs i j lt i_in =
-      let n = length xs in let Rest : Fml = fsep (Beside E 𝓛 b o xs j i) (Behind n) in
+      let Rest = Apart xs j i lt i_in in
+      let other : i ≢ j = λ (e : i ≡ j). omega arith in
       record {
         besides = Rest;
-        out = λ d. qed 𝓛 (‵ (All xs) ∷ []) ∵ fsplit ! $
-            use1 𝓛 (‵ (one j (get_or xs j d)) ⊛ ‵ (one i (get_or xs i d)) ⊛ ‵ (Beside E 𝓛 b o xs j i)) (two_out E 𝓛 b o n j i xs d lt i_in) $ split3 ! $
-            move ! (2 ∷ 3 ∷ []) $ fjoin ! $ move ! (2 ∷ 1 ∷ 0 ∷ []) $ done !;
+        out = λ d. qed 𝓛 (‵ (All xs) ∷ []) ∵
+            use1 𝓛 (‵ (one j (get_or xs j d)) ⊛ ‵ (one i (get_or xs i d)) ⊛ ‵ Rest) (both_out xs j i lt i_in d) $ split3 ! $ move ! (1 ∷ 0 ∷ 2 ∷ []) $ done !;
         back = λ d w. let ys : List (el_x E) = set xs j w in
-            let other : i ≢ j = λ (e : i ≡ j). omega arith in
             let kept : set ys i (get_or xs i d) ≡ ys = ap (set ys i) (sym (get_or-set_other xs j i w d other)) ∙ set-get_or ys i d in
-            qed 𝓛 (‵ (one i (get_or xs i d)) ∷ ‵ (one j w) ∷ ‵ Rest ∷ []) ∵ move ! (2 ∷ []) $ fsplit ! $ move ! (3 ∷ 2 ∷ 0 ∷ []) $
-            use3 𝓛 (‵ (part_at (Array (R E) n) full_share (set ys i (get_or xs i d)) b o)) (two_in E 𝓛 b o n j i xs w (get_or xs i d) lt i_in refl) $
-            rewrite ! 0 (λ (zs : List (el_x E)). ‵ (part_at (Array (R E) n) full_share zs b o)) kept refl $ by ! (same_many xs ys (length-set xs j w));
+            qed 𝓛 (‵ (one i (get_or xs i d)) ∷ ‵ (one j w) ∷ ‵ Rest ∷ []) ∵ move ! (1 ∷ 0 ∷ 2 ∷ []) $
+            use3 𝓛 (‵ (All ys)) (both_in xs j i lt i_in w (get_or xs i d) ys kept (length-set xs j w)) $ done !;
       }
 
   pub pair : (xs : List (el_x E)) (i j : ℕ) → i < length xs → j < length xs → i ≢ j → Pair xs i j

@@ -16,25 +16,19 @@ use Rattle.raw_pages.specs.contracts.row.Row.get as f
 use Rattle.raw_pages.proofs.row.Row.get.Statement.{statement}
 use Rattle.raw_pages.proofs.row.Row.get.Code as code
 
-module _ (E : El) where
-  abbrev T : Ended
-  T = f.ended E.row E.al.row E.al.g E.al.d E.al.drops
-
-  abbrev stayed : Stays T.signature.params T.kept
-  stayed = (stay_dropped _ yes, (stay_dropped _ no, (stay_dropped _ yes, tt)))
-
 pub get_spec : {M : Type 1} → statement M
 get_spec 𝓤 𝓛 𝓜 𝓡 wired X W LX LW g d dd met md =
     let E : El = record { row = X; laws = LX; al = record { row = W; laws = LW; g = g; d = d; drops = dd } } in
+    let T : Ended = f.ended X W g d dd in let stayed : Stays T.signature.params T.kept = (stay_dropped _ yes, (stay_dropped _ no, (stay_dropped _ yes, tt))) in
     let c = f.clauses X W g d dd 𝓛 𝓜.mem 𝓡.returns in let 𝓣 = tables 𝓤 𝓛.H 𝓜 𝓡 𝓡.env in
-    proved 𝓛 (T E) (stayed E) c 𝓜 𝓡 (
+    proved 𝓛 T stayed c 𝓜 𝓡 (
       Goes-dropped 𝓛 3 (RefOf (0 ∷ []) tt (plain (λ _. Owner E)) (λ _. tt)) yes (λ κs x w. refl),
       (Goes-dropped 𝓛 3 (plain (λ _. Starts E)) no (λ κs x w. refl), (Goes-dropped 𝓛 3 (plain (λ _. usize)) yes (λ κs x w. refl), tt)),
     )
     (f.Key.name (args E)) (inst_fn (args E) code.function) (code.unfolded 𝓤 𝓛.H 𝓜 𝓡 wired (X, (W, tt)) d dd)
     (λ κs. (shr_vals, (start_val E, (uint_vals w64, tt)))) (λ κs. (shr_Tells (named 0) κs.0 (Owner E), ((start_lowers E).val_is, (uint_Tells w64, tt)))) (λ κs qs bounds a n are.
-    let self = a.0 in let start = a.1.0 in let index = a.1.1.0 in let row = self.now in let κ = κs.0 in let S = (T E).signature in
-    let vss : Vals S κs = (shr_vals self, (start_val E start, (uint_vals w64 index, tt))) in let W' = walk_of 𝓛 (T E) (stayed E) c in
+    let self = a.0 in let start = a.1.0 in let index = a.1.1.0 in let row = self.now in let κ = κs.0 in let S = T.signature in
+    let vss : Vals S κs = (shr_vals self, (start_val E start, (uint_vals w64 index, tt))) in let W' = walk_of 𝓛 T stayed c in
     let y : W'.Ghost = ((κs, qs, bounds, a, vss), tt) in
     qed 𝓛 ((raw (alive 𝓛 S κs qs) ⊛ ‵ (owns (types_at S.params κs) a vss)) ∷ (raw (fact 𝓤 (κs.1.0 ⊑ X.lives)) ⊛ raw (fact 𝓤 (κs.1.1.0 ⊑ W.lives)) ⊛ raw
     (fact 𝓤 (HasItem (R E) start row index))) ∷ []) ∵
@@ -53,5 +47,5 @@ get_spec 𝓤 𝓛 𝓜 𝓡 wired X W LX LW g d dd met md =
     sets_last ! (addr ! (through ! refl (stop !))) refl (tt, tt) $ exec ! 𝓣.C 𝓣.Λ (env code.Mir.locals l) code.Mir.t-2 (at_ret _ (W'.post y)) $
     sets ! (of_opd ! (get ! refl)) refl (tt, tt) $ feq_i ! (List Val) (vptr b at ∷ []) (vptr b at ∷ []) refl $ fjoin ! $
     returns ! (look_at ! 0 refl) $ free_all ! refl $ keep ! (0 ∷ 1 ∷ []) $
-    suffices ! _ (ends_at 𝓛 (T E) (stayed E) c y (vptr b at) shown (tt, (tt, (tt, tt))) (tt, (tt, (tt, tt)))) $ says ! (sym (it.1 it.0)) $
+    suffices ! _ (ends_at 𝓛 T stayed c y (vptr b at) shown (tt, (tt, (tt, tt))) (tt, (tt, (tt, tt)))) $ says ! (sym (it.1 it.0)) $
     nothing ! $ nothing ! $ fjoin ! $ nothing ! $ fjoin ! $ nothing ! $ fjoin ! $ join ! $ move ! (1 ∷ 0 ∷ []) $ join ! $ done !))))

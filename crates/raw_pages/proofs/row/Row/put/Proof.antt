@@ -18,20 +18,15 @@ use Rattle.raw_pages.proofs.row.Row.put.Statement.{statement}
 use Rattle.raw_pages.proofs.row.Row.put.Code as code
 
 module _ (E : El) where
-  abbrev T : Ended
-  T = f.ended E.row E.al.row E.al.g E.al.d E.al.drops
-
-  abbrev stayed : Stays T.signature.params T.kept
-  stayed = (stay_ref (0 ∷ []) tt (plain (λ _. Owner E)), (stay_dropped _ no, (stay_dropped _ yes, (stay_dropped _ no, tt))))
-
   abbrev Asks : (Owner E).Denot → (Starts E).Denot → ℕ → Type 0
   Asks row start index = (start.first ≡ row.at) × (index ≤ length row.items) × (index < row.room) × Reaches (R E) row.room
 
 pub put_spec : {M : Type 1} → statement M
 put_spec 𝓤 𝓛 𝓜 𝓡 wired X W LX LW g d dd met md =
     let E : El = record { row = X; laws = LX; al = record { row = W; laws = LW; g = g; d = d; drops = dd } } in
+    let T : Ended = f.ended X W g d dd in let stayed : Stays T.signature.params T.kept = (stay_ref (0 ∷ []) tt (plain (λ _. Owner E)), (stay_dropped _ no, (stay_dropped _ yes, (stay_dropped _ no, tt)))) in
     let c = f.clauses X W g d dd 𝓛 𝓜.mem 𝓡.returns in let 𝓣 = tables 𝓤 𝓛.H 𝓜 𝓡 𝓡.env in let fn = inst_fn (args E) code.function in
-    proved_at 𝓛 (T E) (stayed E) c 𝓜 𝓡 (
+    proved_at 𝓛 T stayed c 𝓜 𝓡 (
       Goes-ref 𝓛 3 0 tt (plain (λ _. Owner E)),
       (
         Goes-dropped 𝓛 3 (plain (λ _. Starts E)) no (λ κs x w. refl),
@@ -39,9 +34,9 @@ put_spec 𝓤 𝓛 𝓜 𝓡 wired X W LX LW g d dd met md =
       ),
     )
     (f.Key.name (args E)) fn (code.unfolded 𝓤 𝓛.H 𝓜 𝓡 wired (X, (W, tt)) d dd) (λ y are.
-    let κs = y.0.0 in let qs = y.0.1 in let a = y.0.3 in let vss = y.0.4 in let κ = κs.0 in let q = qs.0 in let S = (T E).signature in
+    let κs = y.0.0 in let qs = y.0.1 in let a = y.0.3 in let vss = y.0.4 in let κ = κs.0 in let q = qs.0 in let S = T.signature in
     let self = a.0 in let start = a.1.0 in let index = a.1.1.0 in let item = a.1.1.1.0 in let row = self.now in let γ = self.ghost_name in
-    let rb = self.ref_ptr.0 in let ro = self.ref_ptr.1 in let W' = walk_of 𝓛 (T E) (stayed E) c in
+    let rb = self.ref_ptr.0 in let ro = self.ref_ptr.1 in let W' = walk_of 𝓛 T stayed c in
     let e0 : vss.0 ≡ mut_vals self = mut_Tells (named 0) κ (Owner E) self vss.0 are.0 in
     let e1 : vss.1.0 ≡ start_val E start = (start_lowers E).val_is start vss.1.0 are.1.0 in
     let e2 : vss.1.1.0 ≡ uint_vals w64 index = are.1.1.0.0 in
@@ -71,6 +66,6 @@ put_spec 𝓤 𝓛 𝓜 𝓡 wired X W LX LW g d dd met md =
     use2 𝓛 (‵ (All E 𝓛 (right E row.alloc) b o row.room items)) (here.back item) $
     rewrite ! 0 (λ (p : Ptr). ‵ (row_owns (right E row.alloc) (R E) p row.room items)) (sym e) refl $ move ! (1 ∷ 0 ∷ []) $ fjoin ! $ move ! (1 ∷ []) $ closes ! tt (Owner E) new us rb ro $
     returns ! (look_at ! 0 refl) $ free_all ! refl $ keep ! (0 ∷ 1 ∷ 2 ∷ 3 ∷ []) $
-    suffices ! _ (ends_at 𝓛 (T E) (stayed E) c y vunit tt (new, (tt, (tt, (tt, tt)))) (tt, (tt, (tt, (tt, tt))))) $ says ! (refl, refl, refl, refl) $
+    suffices ! _ (ends_at 𝓛 T stayed c y vunit tt (new, (tt, (tt, (tt, tt)))) (tt, (tt, (tt, (tt, tt))))) $ says ! (refl, refl, refl, refl) $
     feq_i ! (List Val) vss.0 (vptr rb ro ∷ []) e0 $ fjoin3 ! $ nothing ! $ nothing ! $ fjoin ! $ nothing ! $ fjoin ! $ nothing ! $ fjoin ! $ move ! (1 ∷ 0 ∷ []) $ fjoin ! $
     feq_i ! (List Val) (vunit ∷ []) (vunit ∷ []) refl $ move ! (1 ∷ 0 ∷ []) $ join ! $ move ! (1 ∷ 2 ∷ []) $ join ! $ join ! $ done !))))))

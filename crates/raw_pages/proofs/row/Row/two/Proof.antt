@@ -23,13 +23,6 @@ use Rattle.raw_pages.specs.contracts.row.Row.two as f
 use Rattle.raw_pages.proofs.row.Row.two.Statement.{statement}
 use Rattle.raw_pages.proofs.row.Row.two.Code as code
 
-module _ (E : El) where
-  abbrev T : Ended
-  T = f.ended E.row E.al.row E.al.g E.al.d E.al.drops
-
-  abbrev stayed : Stays T.signature.params T.kept
-  stayed = (stay_dropped _ no, (stay_dropped _ no, (stay_dropped _ yes, (stay_dropped _ yes, tt))))
-
 kept : {M : Type 1} {𝓤 : Ura M} (𝓛 : Logic 𝓤) (P : Fml) → ent 𝓤 (sem 𝓛 (fsep P ftrue)) (sem 𝓛 (fseps (P ∷ [])))
 unfolding fseps
 kept {𝓤 = 𝓤} 𝓛 P = id⊢ 𝓤 (sem 𝓛 (fsep P ftrue))
@@ -37,8 +30,9 @@ kept {𝓤 = 𝓤} 𝓛 P = id⊢ 𝓤 (sem 𝓛 (fsep P ftrue))
 pub two_spec : {M : Type 1} → statement M
 two_spec 𝓤 𝓛 𝓜 𝓡 wired X W LX LW g d dd met md =
     let E : El = record { row = X; laws = LX; al = record { row = W; laws = LW; g = g; d = d; drops = dd } } in
+    let T : Ended = f.ended X W g d dd in let stayed : Stays T.signature.params T.kept = (stay_dropped _ no, (stay_dropped _ no, (stay_dropped _ yes, (stay_dropped _ yes, tt)))) in
     let c = f.clauses X W g d dd 𝓛 𝓜.mem 𝓡.returns in let 𝓣 = tables 𝓤 𝓛.H 𝓜 𝓡 𝓡.env in
-    proved 𝓛 (T E) (stayed E) c 𝓜 𝓡 (
+    proved 𝓛 T stayed c 𝓜 𝓡 (
       Goes-spent_ref 𝓛 3 (0 ∷ []) tt (plain (λ _. Owner E)),
       (
         Goes-dropped 𝓛 3 (plain (λ _. Starts E)) no (λ κs x w. refl),
@@ -49,8 +43,8 @@ two_spec 𝓤 𝓛 𝓜 𝓡 wired X W LX LW g d dd met md =
     (λ κs. (mut_vals, (start_val E, (uint_vals w64, (uint_vals w64, tt)))))
     (λ κs. (mut_Tells (named 0) κs.0 (Owner E), ((start_lowers E).val_is, (uint_Tells w64, (uint_Tells w64, tt))))) (λ κs qs bounds a n are.
     let self = a.0 in let start = a.1.0 in let read = a.1.1.0 in let write = a.1.1.1.0 in let row = self.now in let κ = κs.0 in let q = qs.0 in let γ = self.ghost_name in
-    let rb = self.ref_ptr.0 in let ro = self.ref_ptr.1 in let S = (T E).signature in
-    let vss : Vals S κs = (mut_vals self, (start_val E start, (uint_vals w64 read, (uint_vals w64 write, tt)))) in let W' = walk_of 𝓛 (T E) (stayed E) c in
+    let rb = self.ref_ptr.0 in let ro = self.ref_ptr.1 in let S = T.signature in
+    let vss : Vals S κs = (mut_vals self, (start_val E start, (uint_vals w64 read, (uint_vals w64 write, tt)))) in let W' = walk_of 𝓛 T stayed c in
     let y : W'.Ghost = ((κs, qs, bounds, a, vss), tt) in
     qed 𝓛 (((‵ (flft κ q) ⊛ Others 𝓛 κs qs) ⊛ ‵ (owns (types_at S.params κs) a vss))
     ∷ (raw (fact 𝓤 (κs.1.0 ⊑ X.lives)) ⊛ raw (fact 𝓤 (κs.1.1.0 ⊑ W.lives)) ⊛ raw (fact 𝓤 (HasItem (R E) start row read × HasItem (R E) start row write × (read ≢ write)))) ∷ []) ∵
@@ -89,6 +83,6 @@ two_spec 𝓤 𝓛 𝓜 𝓡 wired X W LX LW g d dd met md =
     use2 𝓛 (‵ ((Tuple (ShrRef (named 0) κ (R E) ∷ MutRef (named 0) κ (R E) ∷ [])).own_val (r, w) (pair_val (vptr b from) (vptr b to) ∷ [])))
     (pair_of 𝓛 (ShrRef (named 0) κ (R E)) (MutRef (named 0) κ (R E)) r w (vptr b from) (vptr b to)) $
     returns ! (look_at ! 0 refl) $ free_all ! refl $ keep ! (0 ∷ 1 ∷ 2 ∷ 3 ∷ []) $
-    suffices ! _ (ends_at 𝓛 (T E) (stayed E) c y (pair_val (vptr b from) (vptr b to)) (r, w) (tt, (tt, (tt, (tt, tt)))) (tt, (tt, (tt, (tt, tt))))) $
+    suffices ! _ (ends_at 𝓛 T stayed c y (pair_val (vptr b from) (vptr b to)) (r, w) (tt, (tt, (tt, (tt, tt)))) (tt, (tt, (tt, (tt, tt))))) $
     nothing ! $ nothing ! $ fjoin ! $ nothing ! $ fjoin ! $ nothing ! $ fjoin ! $ nothing ! $ fjoin ! $ join ! $ move ! (1 ∷ 3 ∷ []) $ join ! $ join ! $ frame ! $
     says ! (shown.1 shown.0 ∙ sym (shown.1 x), lent.1 shown.0 ∙ sym (lent.1 z)) $ done !)))))))
