@@ -18,9 +18,12 @@ module _ (rows : Rows) (ipa level wanted ended : ℕ) (row : Row) (at : wanted �
   ended_there there f = ended_so f ∙ check_true (ended == level) (error_rtt ended) (f row) (eq-eqb ended level (there ∙ at))
 
   module _ (passes : Row → Bool) where
+    found_so : ended ≡ wanted → passes row ≡ true → (f : Row → Outcome) → with_row rows ipa level (λ r. check (passes r) (error_rtt level) (f r)) ≡ f row
+    found_so there holds f = ended_there there (λ r. check (passes r) (error_rtt level) (f r)) ∙ check_true (passes row) (error_rtt level) (f row) holds
+
     -- A command goes on with the row where its walk ended, if that is at the level wanted and the row passes.
-    pub row_passed : ended ≡ wanted → passes row ≡ true → (f : Row → Outcome) → with_row rows ipa level (λ r. check (passes r) (error_rtt level) (f r)) ≡ f row
-    row_passed there holds f = ended_there there (λ r. check (passes r) (error_rtt level) (f r)) ∙ check_true (passes row) (error_rtt level) (f row) holds
+    pub row_passed : ended ≡ wanted → passes row ≡ true → (found : Row) × ((f : Row → Outcome) → with_row rows ipa level (λ r. check (passes r) (error_rtt level) (f r)) ≡ f found)
+    row_passed there holds = (row, found_so there holds)
 
     -- Else it is refused with the level where the walk ended.
     pub row_refused : (ended ≢ wanted) ⊎ (passes row ≡ false) → (f : Row → Outcome) → with_row rows ipa level (λ r. check (passes r) (error_rtt level) (f r)) ≡ Err (error_rtt ended)
@@ -45,12 +48,14 @@ module _ (rows : Rows) (ipa level wanted ended : ℕ) (row : Row) (at : wanted �
   unfolding on_table
   table_missed fails f = row_refused rows ipa (level - 1) wanted ended row at ends is_table fails (on_table f)
 
-  pub table_passed : ended ≡ wanted → is_table row ≡ true → is_table_unused rows level ipa ≡ true → (f : Row → Outcome) → with_unused_table rows ipa level f ≡ f row
+  leads_so : ended ≡ wanted → is_table row ≡ true → (f : Row → Outcome) → with_unused_table rows ipa level f ≡ on_table f row
   unfolding on_table
-  table_passed there leads unused f =
-      row_passed rows ipa (level - 1) wanted ended row at ends is_table there leads (on_table f) ∙ check_true (is_table_unused rows level ipa) (error_rtt level) (f row) unused
+  leads_so there leads f = found_so rows ipa (level - 1) wanted ended row at ends is_table there leads (on_table f)
+
+  pub table_passed : ended ≡ wanted → is_table row ≡ true → is_table_unused rows level ipa ≡ true → (found : Row) × ((f : Row → Outcome) → with_unused_table rows ipa level f ≡ f found)
+  unfolding on_table
+  table_passed there leads unused = (row, λ f. leads_so there leads f ∙ check_true (is_table_unused rows level ipa) (error_rtt level) (f row) unused)
 
   pub table_refused : ended ≡ wanted → is_table row ≡ true → is_table_unused rows level ipa ≡ false → (f : Row → Outcome) → with_unused_table rows ipa level f ≡ Err (error_rtt level)
   unfolding on_table
-  table_refused there leads used f =
-      row_passed rows ipa (level - 1) wanted ended row at ends is_table there leads (on_table f) ∙ check_false (is_table_unused rows level ipa) (error_rtt level) (f row) used
+  table_refused there leads used f = leads_so there leads f ∙ check_false (is_table_unused rows level ipa) (error_rtt level) (f row) used

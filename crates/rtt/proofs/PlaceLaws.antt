@@ -125,23 +125,13 @@ pub below_is_place : (width level ipa index : ℕ) → IsInside width level ipa 
     × (entry_index (suc level) (first_covered level ipa + index * covered_count (suc level)) ≡ index)
 below_is_place width zero ipa index inside high few = let low : 1 ≤ 0 = inside.least in absurd (omega arith)
 below_is_place width (suc zero) ipa index inside high few =
-    let b = ipa / 262144 in
     let lt : ipa < served_space width = inside.below in
-    let n = b * 262144 + index * 512 in
-    let q : n / 262144 ≡ b = div-mul-add b 262144 (index * 512) (omega arith) in
-    let m : n < served_space width = omega arith in
-    let f : n / 512 * 512 ≡ n = omega arith in
-    let i : n / 512 % 512 ≡ index = omega arith in
-    (q, is_place_from width 2 n (record { least = lit≤ tt; most = lit≤ tt; below = m }) f, i)
+    let n = ipa / 262144 * 262144 + index * 512 in
+    (div-mul-add (ipa / 262144) 262144 (index * 512) (omega arith), is_place_from width 2 n (record { least = lit≤ tt; most = lit≤ tt; below = omega arith }) (omega arith), omega arith)
 below_is_place width (suc (suc zero)) ipa index inside high few =
-    let b = ipa / 512 in
     let lt : ipa < served_space width = inside.below in
-    let n = b * 512 + index * 1 in
-    let q : n / 512 ≡ b = div-mul-add b 512 (index * 1) (omega arith) in
-    let m : n < served_space width = omega arith in
-    let f : n / 1 * 1 ≡ n = omega arith in
-    let i : n / 1 % 512 ≡ index = omega arith in
-    (q, is_place_from width 3 n (record { least = lit≤ tt; most = lit≤ tt; below = m }) f, i)
+    let n = ipa / 512 * 512 + index * 1 in
+    (div-mul-add (ipa / 512) 512 (index * 1) (omega arith), is_place_from width 3 n (record { least = lit≤ tt; most = lit≤ tt; below = omega arith }) (omega arith), omega arith)
 below_is_place width (suc (suc (suc level))) ipa index inside high few = absurd (omega arith)
 
 pub place_is_below : (level ipa other : ℕ) → 1 ≤ level → level < 3 → first_covered (suc level) other ≡ other → other / covered_count level ≡ ipa / covered_count level

@@ -79,6 +79,16 @@ impl Entry {
         matches!(self.state, EntryState::Assigned)
     }
 
+    /// The granule of the page of data that the entry leads to.
+    pub fn page(self) -> Option<Gran>
+        ensures { result ≡ rows.data_of self }
+    {
+        match self.state {
+            EntryState::Assigned => self.granule,
+            _ => None,
+        }
+    }
+
     pub(crate) fn is_table(self) -> bool
         ensures { result ≡ rows.is_table self }
     {
@@ -91,16 +101,6 @@ impl Entry {
     {
         match self.state {
             EntryState::Table => self.granule,
-            _ => None,
-        }
-    }
-
-    /// The granule of the page of data that the entry leads to.
-    pub fn page(self) -> Option<Gran>
-        ensures { result ≡ rows.data_of self }
-    {
-        match self.state {
-            EntryState::Assigned => self.granule,
             _ => None,
         }
     }

@@ -62,12 +62,9 @@ returns g c =
     ∙ length-with_word (g.S.PageStore.page_bytes c.fill_entries.new.store) c.find-upper.result.table c.index_at.result (entry_word c.table.result) ∙ c.fill_entries.ensures.pages in
     let flags_are = c.write.ensures.flags ∙ c.fill_entries.ensures.flags in
     record {
-      answer = (
-        c.find-upper.result.entry,
-        row_passed (rows (g.S.PageStore.page_bytes c.args.store.now) c.args.self.now.root) c.args.ipa (c.args.level - 1) c.above-wanted.result c.find-upper.result.level
-            c.find-upper.result.entry (omega arith) c.find-upper.ensures.walk (λ row. not (is_table row))
-            (omega arith) (ap not (sym c.if-is_table.ensures)),
-      );
+      answer = row_passed (rows (g.S.PageStore.page_bytes c.args.store.now) c.args.self.now.root) c.args.ipa (c.args.level - 1) c.above-wanted.result c.find-upper.result.level
+          c.find-upper.result.entry (omega arith) c.find-upper.ensures.walk (λ row. not (is_table row))
+          (omega arith) (ap not (sym c.if-is_table.ensures));
       rows = is.rows_are;
       moved = granules_are g c;
       unchanged = tt;

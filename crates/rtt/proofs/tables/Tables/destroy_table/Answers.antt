@@ -71,39 +71,18 @@ returns g c =
     ∙ ap length c.fill.ensures.filled ∙ length-set pages c.in-Some.table zero_page in
     let lies = c.find-upper.ensures.child c.in-Some.table (omega arith) (sym c.in-Some.ensures) in
     record {
-      answer = (
-        c.find-upper.result.entry,
-        table_passed (rows pages c.args.self.now.root) c.args.ipa c.args.level c.above-wanted.result c.find-upper.result.level
-            c.find-upper.result.entry (omega arith) c.find-upper.ensures.walk (omega arith)
-            (table_of-leads c.find-upper.result.entry c.in-Some.table (sym c.in-Some.ensures)).0
-            (is_unused pages c.args.self.now.root c.args.level c.above-wanted.result c.find-upper.result.level c.args.ipa
-            c.find-upper.result.table c.in-Some.table c.find-upper.result.entry true
-            c.above-wanted.ensures c.requires.place c.find-upper.ensures.inside (omega arith) c.find-upper.ensures.table c.find-upper.ensures.entry c.in-Some.ensures c.if-not-all_unassigned.ensures),
-      );
+      answer = table_passed (rows pages c.args.self.now.root) c.args.ipa c.args.level c.above-wanted.result c.find-upper.result.level
+          c.find-upper.result.entry (omega arith) c.find-upper.ensures.walk (omega arith)
+          (table_of-leads c.find-upper.result.entry c.in-Some.table (sym c.in-Some.ensures)).0
+          (is_unused pages c.args.self.now.root c.args.level c.above-wanted.result c.find-upper.result.level c.args.ipa
+          c.find-upper.result.table c.in-Some.table c.find-upper.result.entry true
+          c.above-wanted.ensures c.requires.place c.find-upper.ensures.inside (omega arith) c.find-upper.ensures.table c.find-upper.ensures.entry c.in-Some.ensures c.if-not-all_unassigned.ensures);
       rows = is.rows_are;
       moved = is.moved;
       cleared = is.cleared;
       unchanged = tt;
       others = is.others;
       keeps = keeps_moved c.requires.backed c.in-Some.table _ as_many (c.write.ensures.flags ∙ c.fill.ensures.flags) lies rtt_used (granules_are g c) is.tables is.other_realms;
-    }
-
-pub returns-then-not-all_unassigned : goal.returns-then-not-all_unassigned
-returns-then-not-all_unassigned g c =
-    let pages = g.S.PageStore.page_bytes c.args.store.now in
-    record {
-      answer = table_refused (rows pages c.args.self.now.root) c.args.ipa c.args.level c.above-wanted.result c.find-upper.result.level
-          c.find-upper.result.entry (omega arith) c.find-upper.ensures.walk (omega arith)
-          (table_of-leads c.find-upper.result.entry c.in-Some.table (sym c.in-Some.ensures)).0
-          (is_unused pages c.args.self.now.root c.args.level c.above-wanted.result c.find-upper.result.level c.args.ipa
-          c.find-upper.result.table c.in-Some.table c.find-upper.result.entry false
-          c.above-wanted.ensures c.requires.place c.find-upper.ensures.inside (omega arith) c.find-upper.ensures.table c.find-upper.ensures.entry c.in-Some.ensures c.if-not-all_unassigned.ensures);
-      rows = tt;
-      moved = tt;
-      cleared = tt;
-      unchanged = (refl, refl);
-      others = λ granule apart. refl;
-      keeps = all_kept c.requires.backed c.requires.tables;
     }
 
 pub returns-then-number : goal.returns-then-number
@@ -130,3 +109,21 @@ returns-in_default g c = record {
   others = λ granule apart. refl;
   keeps = all_kept c.requires.backed c.requires.tables;
 }
+
+pub returns-then-not-all_unassigned : goal.returns-then-not-all_unassigned
+returns-then-not-all_unassigned g c =
+    let pages = g.S.PageStore.page_bytes c.args.store.now in
+    record {
+      answer = table_refused (rows pages c.args.self.now.root) c.args.ipa c.args.level c.above-wanted.result c.find-upper.result.level
+          c.find-upper.result.entry (omega arith) c.find-upper.ensures.walk (omega arith)
+          (table_of-leads c.find-upper.result.entry c.in-Some.table (sym c.in-Some.ensures)).0
+          (is_unused pages c.args.self.now.root c.args.level c.above-wanted.result c.find-upper.result.level c.args.ipa
+          c.find-upper.result.table c.in-Some.table c.find-upper.result.entry false
+          c.above-wanted.ensures c.requires.place c.find-upper.ensures.inside (omega arith) c.find-upper.ensures.table c.find-upper.ensures.entry c.in-Some.ensures c.if-not-all_unassigned.ensures);
+      rows = tt;
+      moved = tt;
+      cleared = tt;
+      unchanged = (refl, refl);
+      others = λ granule apart. refl;
+      keeps = all_kept c.requires.backed c.requires.tables;
+    }

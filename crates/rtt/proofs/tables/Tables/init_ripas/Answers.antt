@@ -38,16 +38,13 @@ returns g c =
     let pages = g.S.PageStore.page_bytes c.args.store.now in
     let is = done g c in
     record {
-      answer = (
-        c.find-place.result.entry,
-        row_passed (rows pages c.args.self.now.root) c.args.ipa 3 c.last.result c.find-place.result.level c.find-place.result.entry
-            c.last.ensures c.find-place.ensures.walk (λ _. all_rows is_unassigned (rows pages c.args.self.now.root) 3 c.args.ipa c.args.count) (omega arith)
-            (pages_unused pages c.args.self.now.root c.find-place.result.level c.args.ipa c.find-place.result.table
-            c.index_at-first.result c.args.count true c.find-place.ensures.inside (omega arith) c.find-place.ensures.table
-            c.index_at-first.ensures.value
-            (fits_table c.args.ipa c.find-place.result.level c.index_at-first.result c.args.count (omega arith) c.index_at-first.ensures.value c.requires.run)
-            c.if-not-all_unassigned.ensures),
-      );
+      answer = row_passed (rows pages c.args.self.now.root) c.args.ipa 3 c.last.result c.find-place.result.level c.find-place.result.entry
+          c.last.ensures c.find-place.ensures.walk (λ _. all_rows is_unassigned (rows pages c.args.self.now.root) 3 c.args.ipa c.args.count) (omega arith)
+          (pages_unused pages c.args.self.now.root c.find-place.result.level c.args.ipa c.find-place.result.table
+          c.index_at-first.result c.args.count true c.find-place.ensures.inside (omega arith) c.find-place.ensures.table
+          c.index_at-first.ensures.value
+          (fits_table c.args.ipa c.find-place.result.level c.index_at-first.result c.args.count (omega arith) c.index_at-first.ensures.value c.requires.run)
+          c.if-not-all_unassigned.ensures);
       rows = is.rows_are;
       unchanged = tt;
       others = is.others;

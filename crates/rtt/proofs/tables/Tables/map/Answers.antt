@@ -49,11 +49,8 @@ returns g c =
     let is = done g c in
     let as_many = ap length c.write.ensures.written ∙ length-with_word pages c.find-table.result.table c.index_at.result (entry_word c.assigned.result) in
     record {
-      answer = (
-        c.find-table.result.entry,
-        row_passed (rows pages c.args.self.now.root) c.args.ipa 3 c.last.result c.find-table.result.level c.find-table.result.entry
-            c.last.ensures c.find-table.ensures.walk is_unassigned (omega arith) (sym c.if-not-is_unassigned.ensures),
-      );
+      answer = row_passed (rows pages c.args.self.now.root) c.args.ipa 3 c.last.result c.find-table.result.level c.find-table.result.entry
+          c.last.ensures c.find-table.ensures.walk is_unassigned (omega arith) (sym c.if-not-is_unassigned.ensures);
       rows = λ row at. is.rows_are
           ∙ ap (λ (r : Ripas). put_row (rows pages c.args.self.now.root) 3 c.args.ipa (assigned r c.args.page))
           (c.unwrap_or-ripas.ensures ∙ ap (λ (r : Row). unwrap_or c.args.ripas r.ripas) (c.entry.view_is ∙ same_Some _ _ (sym is.was ∙ at)));

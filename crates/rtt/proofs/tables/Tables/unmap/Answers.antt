@@ -61,12 +61,9 @@ returns g c =
     ∙ ap length c.fill.ensures.filled ∙ length-set pages c.in-Some.page zero_page in
     let lies = c.find-table.ensures.page c.in-Some.page (sym c.in-Some.ensures) in
     record {
-      answer = (
-        c.find-table.result.entry,
-        row_passed (rows pages c.args.self.now.root) c.args.ipa 3 c.last.result c.find-table.result.level c.find-table.result.entry
-            c.last.ensures c.find-table.ensures.walk is_assigned
-            (omega arith) (ap is_assigned (data_of-leads c.find-table.result.entry c.in-Some.page (sym c.in-Some.ensures))),
-      );
+      answer = row_passed (rows pages c.args.self.now.root) c.args.ipa 3 c.last.result c.find-table.result.level c.find-table.result.entry
+          c.last.ensures c.find-table.ensures.walk is_assigned
+          (omega arith) (ap is_assigned (data_of-leads c.find-table.result.entry c.in-Some.page (sym c.in-Some.ensures)));
       rows = is.rows_are;
       moved = is.moved;
       cleared = is.cleared;
