@@ -76,17 +76,18 @@ impl RawPages {
         self.row.get_mut(self.start, slot)
     }
 
-    /// Writes one value to every byte of a page. A page that was never written is not cleared first.
+    /// Writes one value to every byte of a page. A page that was never written is not cleared first, and zeros are not
+    /// written to it at all.
     pub fn fill(&mut self, index: usize, value: u8)
         requires { index < length self.old }
         ensures { self.new ≡ slice_set self.old index (page_of value) }
     {
         let slot = self.slots.slot(index);
-        if slot == 0 {
+        if slot != 0 {
+            self.row.put(self.start, slot, [value; 4096]);
+        } else if value != 0 {
             let next = self.slots.own(index);
             self.row.put(self.start, next, [value; 4096]);
-        } else {
-            self.row.put(self.start, slot, [value; 4096]);
         }
     }
 
