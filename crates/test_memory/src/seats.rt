@@ -59,31 +59,7 @@ fn built_again<L: Ledgers>(
     }
 }
 
-// The worker of a seat that has asked nothing, built once more of what came back where there was no memory.
-fn worker_of<L: Ledgers>(
-    rt: &impl Print,
-    alloc: Global,
-    seat: Seat<L>,
-    steps: Vec<Step>,
-) -> Result<Worker<L>, Fault>
-    requires trail { seat.trail ≡ [] }
-    requires few { vec_len steps ≤ 1024 }
-    ensures { IfOk result (λ worker. worker.lines ≡ []) }
-{
-    match Worker::build(alloc, seat, steps) {
-        Ok(worker) => {
-            tell_try(rt, "built", false);
-            Ok(worker)
-        }
-        Err(back) => {
-            let worker = built_again(alloc, back)?;
-            tell_try(rt, "built", true);
-            Ok(worker)
-        }
-    }
-}
-
-// A worker for the last of the seats.
+// A worker for the last of the seats, built once more of what came back where there was no memory.
 fn last_worker<L: Ledgers>(
     rt: &impl Print,
     alloc: Global,
@@ -96,7 +72,12 @@ fn last_worker<L: Ledgers>(
     if seat.count() > 0 || steps.len() > 1024 {
         return Err(Fault::Other);
     }
-    worker_of(rt, alloc, seat, steps)
+    let (worker, is_second) = match Worker::build(alloc, seat, steps) {
+        Ok(worker) => (worker, false),
+        Err(back) => (built_again(alloc, back)?, true),
+    };
+    tell_try(rt, "built", is_second);
+    Ok(worker)
 }
 
 // One build asks through its seat, and the others' workers run. The answers are told.
@@ -163,17 +144,12 @@ fn started<L: Ledgers>(
     requires opened { host ≡ L.opened }
     requires named { AreNamed L.names blanks }
 {
-    match Shared::start(alloc, blanks, host) {
-        Ok(started) => {
-            tell_try(rt, "shared", false);
-            Ok(started)
-        }
-        Err(back) => {
-            let started = shared_again(alloc, back)?;
-            tell_try(rt, "shared", true);
-            Ok(started)
-        }
-    }
+    let (started, is_second) = match Shared::start(alloc, blanks, host) {
+        Ok(started) => (started, false),
+        Err(back) => (shared_again(alloc, back)?, true),
+    };
+    tell_try(rt, "shared", is_second);
+    Ok(started)
 }
 
 fn tell_events(rt: &impl Print, host: &Host<BuddyArena>) {
