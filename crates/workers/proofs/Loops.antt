@@ -13,36 +13,61 @@ use Rattle.workers.specs.declared.ask.Question.{Question}
 use Rattle.workers.specs.declared.ask.Question.TheVariants as question
 use Rattle.workers.specs.declared.ask.Ending.{Ending}
 use Rattle.workers.specs.declared.ask.Ending.TheVariants as ending
-use Rattle.workers.proofs.Questions.{Questions, Leads, Leads-none, Leads-next, Leads-stop, Leads-whole, ArePut-append, ArePut-append_stop}
-use Rattle.workers.proofs.Stretches.{IsStretch-append, IsStretch-so}
+use Rattle.workers.proofs.Growth.{IsCloser, closed_by}
+use Rattle.workers.proofs.Questions.{Questions, Leads, Leads-none, Leads-next, Leads-stop, Leads-whole, ArePut-append, ArePut-append_stop, grown}
+use Rattle.workers.proofs.Stretches.{IsStretch-none, IsStretch-append, IsStretch-so}
+
+-- So many questions of a list are put and accepted. What has grown has not grown by more.
+pub record IsUnderWay (before now : List Exchange → Type 0) (passes stops : ℕ → Type 0) (old new : StandingView) (old_lines new_lines : List Line)
+    (done : ℕ) (rest all : Questions) : Type 0 where
+  pub stretch : IsStretch before now passes stops old new old_lines new_lines ending.Done (Leads rest all)
+  pub lines : length new_lines ≤ length old_lines + done
+  pub turns : new.turn ≤ old.turn + done
+  pub left : left_to_clear new ≤ left_to_clear old
+
+-- none is put yet
+pub loop_none : {before : List Exchange → Type 0} {passes stops : ℕ → Type 0} {standing : StandingView} {lines : List Line} {from all : Questions}
+    → Leads from all [] []
+    → IsUnderWay before before passes stops standing standing lines lines 0 from all
+loop_none leads = record { stretch = IsStretch-none leads; lines = omega arith; turns = omega arith; left = omega arith }
 
 -- the next question of the list is accepted
 pub loop_next : {before between after : List Exchange → Type 0} {passes stops : ℕ → Type 0} {old mid new : StandingView} {old_lines mid_lines new_lines : List Line}
-    {first : Asked × Question} {from all : Questions} (rest : Questions)
-    → from ≡ first ∷ rest
-    → IsStretch before between passes stops old mid old_lines mid_lines ending.Done (Leads from all)
-    → IsStretch between after passes stops mid new mid_lines new_lines ending.Done (λ exchanges lines. ArePut (first ∷ []) exchanges lines ending.Done)
-    → IsStretch before after passes stops old new old_lines new_lines ending.Done (Leads rest all)
-loop_next {all = all} rest is so_far put =
-    IsStretch-append so_far put (λ exchanges lines more its _ _ leads one. Leads-next (subst (λ qs. Leads qs all exchanges lines) is leads) one)
+    {asked : Asked} {question : Question} {from all : Questions} {done : ℕ} (rest : Questions)
+    → from ≡ (asked, question) ∷ rest
+    → IsCloser question
+    → IsUnderWay before between passes stops old mid old_lines mid_lines done from all
+    → IsStretch between after passes stops mid new mid_lines new_lines ending.Done (λ exchanges lines. ArePut ((asked, question) ∷ []) exchanges lines ending.Done)
+    → IsUnderWay before after passes stops old new old_lines new_lines (done + 1) rest all
+loop_next {all = all} rest is closes so_far put =
+    let grows = grown put in
+    let less = closed_by closes put in
+    record {
+      stretch =
+          IsStretch-append so_far.stretch put (λ exchanges lines more its _ _ leads one.
+          Leads-next (subst (λ qs. Leads qs all exchanges lines) is leads) one);
+      lines = omega (arith, grows.0, so_far.lines);
+      turns = omega (arith, grows.1, so_far.turns);
+      left = omega (arith, less, so_far.left);
+    }
 
 -- the next question of the list ends it
 pub loop_stop : {before between after : List Exchange → Type 0} {passes stops : ℕ → Type 0} {old mid new : StandingView} {old_lines mid_lines new_lines : List Line}
-    {end : Ending} {first : Asked × Question} {from all : Questions} (rest : Questions)
+    {end : Ending} {first : Asked × Question} {from all : Questions} {done : ℕ} (rest : Questions)
     → from ≡ first ∷ rest
     → (end ≡ ending.Done → ⊥)
-    → IsStretch before between passes stops old mid old_lines mid_lines ending.Done (Leads from all)
+    → IsUnderWay before between passes stops old mid old_lines mid_lines done from all
     → IsStretch between after passes stops mid new mid_lines new_lines end (λ exchanges lines. ArePut (first ∷ []) exchanges lines end)
     → IsStretch before after passes stops old new old_lines new_lines end (λ exchanges lines. ArePut all exchanges lines end)
 loop_stop {all = all} rest is goes so_far put =
-    IsStretch-append so_far put (λ exchanges lines more its _ _ leads one. Leads-stop {rest = rest} goes (subst (λ qs. Leads qs all exchanges lines) is leads) one)
+    IsStretch-append so_far.stretch put (λ exchanges lines more its _ _ leads one. Leads-stop {rest = rest} goes (subst (λ qs. Leads qs all exchanges lines) is leads) one)
 
 -- no question is left
-pub loop_whole : {before after : List Exchange → Type 0} {passes stops : ℕ → Type 0} {old new : StandingView} {old_lines new_lines : List Line} {from all : Questions}
+pub loop_whole : {before after : List Exchange → Type 0} {passes stops : ℕ → Type 0} {old new : StandingView} {old_lines new_lines : List Line} {from all : Questions} {done : ℕ}
     → from ≡ []
-    → IsStretch before after passes stops old new old_lines new_lines ending.Done (Leads from all)
+    → IsUnderWay before after passes stops old new old_lines new_lines done from all
     → IsStretch before after passes stops old new old_lines new_lines ending.Done (λ exchanges lines. ArePut all exchanges lines ending.Done)
-loop_whole {all = all} is so_far = IsStretch-so so_far (λ exchanges lines _ leads. Leads-whole (subst (λ qs. Leads qs all exchanges lines) is leads))
+loop_whole {all = all} is so_far = IsStretch-so so_far.stretch (λ exchanges lines _ leads. Leads-whole (subst (λ qs. Leads qs all exchanges lines) is leads))
 
 -- ---- so many times the same question
 

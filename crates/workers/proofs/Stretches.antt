@@ -1,14 +1,16 @@
 -- Stretches of a worker's time, one after the other.
 use Rattle.std.proofs.Common.{◌≡◌, ℕ, ◌+◌, Bool, true, false, List, [], ◌∷◌, ◌++◌, length, refl, sym, ap, subst, ◌∙◌, arith, append_assoc, cond, ltb}
-use Rattle.std.specs.Prelude.{Some, Ok, Err}
+use Rattle.std.specs.Prelude.{Some, Result, Ok, Err, MatchResult}
 use Rattle.std.proofs.lemmas.List.{append-nil}
 use Rattle.std.proofs.lemmas.Bool.{ltb-true, ltb-false}
-use Rattle.workers.specs.Asked.{told, question_of, is_refused, line, ArePut, refused, accepted, all_put}
+use Rattle.build_commands.specs.declared.refusal.Refusal.{Refusal}
+use Rattle.workers.specs.Asked.{told, answer_of, question_of, is_refused, line, ArePut, refused, accepted, all_put}
 use Rattle.workers.specs.Exchange.{Exchange, Did, Undid, KeptMark, LookedBack}
 use Rattle.workers.specs.Report.{ending_of}
 use Rattle.workers.specs.Standing.{StandingView, after_answer, after_exchange, standing_after_command, standing_after}
 use Rattle.workers.specs.Stretch.{IsExchange, IsStretch}
 use Rattle.workers.specs.declared.report.Answer.{Answer}
+use Rattle.workers.specs.declared.report.Answer.TheVariants.{Refused}
 use Rattle.workers.specs.declared.report.Asked.{Asked}
 use Rattle.workers.specs.declared.report.Line.{Line}
 use Rattle.workers.specs.declared.ask.Question.{Question}
@@ -52,6 +54,26 @@ cut_at false is = cc
 pub not_cut : (answer : Answer) → ending_of answer ≡ ending.Cut → ⊥
 not_cut answer is = cut_at (is_refused answer) is
 
+-- what was answered, or was a refusal
+pub answered : (result : Result Answer Refusal) (answer : Answer) → MatchResult result (λ said. answer ≡ said) (λ refusal. answer ≡ Refused refusal) → answer ≡ answer_of result
+answered (Ok said) answer is = is
+answered (Err refusal) answer is = is
+
+-- An exchange is of a question, and was told and counted.
+pub IsExchange-of : {before after : List Exchange → Type 0} {question : Question} {old new : StandingView} {answer : Answer} (exchange : Exchange)
+    → question_of exchange ≡ Some question
+    → ((earlier : List Exchange) → before earlier → after (earlier ++ exchange ∷ []))
+    → new ≡ after_exchange exchange old
+    → answer ≡ told exchange
+    → IsExchange before after question old new answer
+IsExchange-of exchange of_question tells counts is = record {
+  exchange = exchange;
+  of_question = of_question;
+  told_after = tells;
+  counted = counts;
+  answer_is = is;
+}
+
 -- One exchange after its turn had passed, and these lines are added.
 pub IsStretch-exchange : {before after : List Exchange → Type 0} {passes stops : ℕ → Type 0} {old new : StandingView} {end : Ending} {old_lines new_lines : List Line}
     {AreThose : List Exchange → List Line → Type 0} {turn : ℕ} (exchange : Exchange) (its : List Line)
@@ -77,18 +99,20 @@ IsStretch-exchange {passes = passes} {old = old} {new = new} {turn = turn} excha
     }
 
 -- A question that was put after its turn had passed, with its line.
-pub IsStretch-one : {before after : List Exchange → Type 0} {passes stops : ℕ → Type 0} {question : Question} {old new : StandingView} {answer : Answer}
+pub IsStretch-one : {before after : List Exchange → Type 0} {passes stops : ℕ → Type 0} {question : Question} {old new : StandingView} {answer said : Answer}
     {asked : Asked} {end : Ending} {old_lines new_lines : List Line} {turn : ℕ}
     → turn ≡ old.turn
     → passes turn
-    → IsExchange before after question old new answer
+    → IsExchange before after question old new said
+    → answer ≡ said
     → end ≡ ending_of answer
     → new_lines ≡ old_lines ++ line asked answer ∷ []
     → IsStretch before after passes stops old new old_lines new_lines end (λ exchanges lines. ArePut ((asked, question) ∷ []) exchanges lines end)
-IsStretch-one {question = question} {answer = answer} {asked = asked} {end = end} {old_lines = old_lines} at pass put is adds =
+IsStretch-one {question = question} {answer = answer} {asked = asked} {end = end} {old_lines = old_lines} at pass put says is adds =
     let its = line asked (told put.exchange) ∷ [] in
-    IsStretch-exchange put.exchange its at pass put.told_after put.counted (λ cut. not_cut answer (sym is ∙ cut)) (adds ∙ ap (λ a. old_lines ++ line asked a ∷ []) put.answer_is)
-    (subst (λ e. ArePut ((asked, question) ∷ []) (put.exchange ∷ []) its e) (ap (λ a. ending_of a) (sym put.answer_is) ∙ sym is)
+    let tells : answer ≡ told put.exchange = says ∙ put.answer_is in
+    IsStretch-exchange put.exchange its at pass put.told_after put.counted (λ cut. not_cut answer (sym is ∙ cut)) (adds ∙ ap (λ a. old_lines ++ line asked a ∷ []) tells)
+    (subst (λ e. ArePut ((asked, question) ∷ []) (put.exchange ∷ []) its e) (ap (λ a. ending_of a) (sym tells) ∙ sym is)
     (put_alone asked question put.exchange (is_refused (told put.exchange)) put.of_question refl))
 
 -- The next turn does not come.

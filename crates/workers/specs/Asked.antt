@@ -1,5 +1,6 @@
 -- How questions are put, and what is told of their answers.
-use Rattle.std.specs.Prelude.{◌≡◌, Bool, true, false, List, [], ◌∷◌, Option, Some, None, Ok, Err}
+use Rattle.std.specs.Prelude.{◌≡◌, Bool, true, false, List, [], ◌∷◌, Option, Some, None, Result, Ok, Err}
+use Rattle.build_commands.specs.declared.refusal.Refusal.{Refusal}
 use Rattle.workers.specs.Exchange.{Exchange, Did, Undid, KeptMark, LookedBack}
 use Rattle.workers.specs.declared.report.Asked.{Asked}
 use Rattle.workers.specs.declared.report.Answer.{Answer}
@@ -20,6 +21,11 @@ told (KeptMark (Ok mark)) = Marked mark.length
 told (KeptMark (Err refusal)) = Refused refusal
 told (LookedBack mark (Ok count)) = Nothing
 told (LookedBack mark (Err refusal)) = Refused refusal
+
+-- what is answered, where a refusal is an answer too
+abbrev pub answer_of : Result Answer Refusal → Answer
+answer_of (Ok answer) = answer
+answer_of (Err refusal) = Refused refusal
 
 abbrev pub is_refused : Answer → Bool
 is_refused (Replied reply) = false

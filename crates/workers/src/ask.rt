@@ -1,6 +1,6 @@
 //! One question at a time.
 ghost use Rattle.std.specs.Prelude.{◌≡◌, ◌+◌, ◌^◌, ◌<◌, [], ◌∷◌, ◌++◌, vec_len, vec_capacity};
-ghost use Rattle.workers.specs.Asked.{line, ArePut};
+ghost use Rattle.workers.specs.Asked.{answer_of, line, ArePut};
 ghost use Rattle.workers.specs.Report.{ending_of};
 ghost use Rattle.workers.specs.Standing.{left_to_clear};
 ghost use Rattle.workers.specs.Stretch.{IsExchange, IsStretch};
@@ -8,7 +8,7 @@ ghost use Rattle.workers.specs.Stretch.{IsExchange, IsStretch};
 use crate::report::{Answer, Asked, Line, Report};
 use crate::standing::Standing;
 use crate::teller::{Gate, Teller};
-use build_commands::Cmd;
+use build_commands::{Cmd, Refusal};
 
 /// A question whose answer has a line.
 #[derive(Drop)]
@@ -29,63 +29,34 @@ pub enum Ending {
     Cut,
 }
 
-fn put_command<T: Teller>(cmd: Cmd, standing: &mut Standing, teller: &mut T) -> Answer
+// Puts a question to the teller, and counts it. At `Ok` is what the teller accepted.
+fn put<T: Teller>(
+    question: Question,
+    standing: &mut Standing,
+    teller: &mut T,
+) -> Result<Answer, Refusal>
     requires turns { standing.old.turn + 1 < 2 ^ 64 }
     requires few { left_to_clear standing.old < 1024 }
-    ensures exchange { IsExchange (T.tells teller.old) (T.tells teller.new) (Question.Do cmd) standing.old standing.new result }
+    ensures exchange { IsExchange (T.tells teller.old) (T.tells teller.new) question standing.old standing.new (answer_of result) }
     ensures loan { T.loan teller.new ≡ T.loan teller.old }
 {
     standing.take_turn();
-    match teller.ask(cmd.again()) {
-        Ok(reply) => {
-            standing.count_command(&cmd);
-            Answer::Replied(reply)
-        }
-        Err(refusal) => Answer::Refused(refusal),
-    }
-}
-
-fn put_undo<T: Teller>(standing: &mut Standing, teller: &mut T) -> Answer
-    requires { standing.old.turn + 1 < 2 ^ 64 }
-    ensures exchange { IsExchange (T.tells teller.old) (T.tells teller.new) Question.Undo standing.old standing.new result }
-    ensures loan { T.loan teller.new ≡ T.loan teller.old }
-{
-    standing.take_turn();
-    match teller.undo() {
-        Ok(undone) => {
-            standing.count_undo();
-            Answer::Undone(undone)
-        }
-        Err(refusal) => Answer::Refused(refusal),
-    }
-}
-
-fn put_mark<T: Teller>(standing: &mut Standing, teller: &mut T) -> Answer
-    requires { standing.old.turn + 1 < 2 ^ 64 }
-    ensures exchange { IsExchange (T.tells teller.old) (T.tells teller.new) Question.Mark standing.old standing.new result }
-    ensures loan { T.loan teller.new ≡ T.loan teller.old }
-{
-    standing.take_turn();
-    match teller.mark() {
-        Ok(mark) => {
-            standing.count_mark(mark);
-            Answer::Marked(mark.length())
-        }
-        Err(refusal) => Answer::Refused(refusal),
-    }
-}
-
-// Puts a question to the teller.
-fn put<T: Teller>(question: Question, standing: &mut Standing, teller: &mut T) -> Answer
-    requires turns { standing.old.turn + 1 < 2 ^ 64 }
-    requires few { left_to_clear standing.old < 1024 }
-    ensures exchange { IsExchange (T.tells teller.old) (T.tells teller.new) question standing.old standing.new result }
-    ensures loan { T.loan teller.new ≡ T.loan teller.old }
-{
     match question {
-        Question::Do(cmd) => put_command(cmd, standing, teller),
-        Question::Undo => put_undo(standing, teller),
-        Question::Mark => put_mark(standing, teller),
+        Question::Do(cmd) => {
+            let reply = teller.ask(cmd.again())?;
+            standing.count_command(&cmd);
+            Ok(Answer::Replied(reply))
+        }
+        Question::Undo => {
+            let undone = teller.undo()?;
+            standing.count_undo();
+            Ok(Answer::Undone(undone))
+        }
+        Question::Mark => {
+            let mark = teller.mark()?;
+            standing.count_mark(mark);
+            Ok(Answer::Marked(mark.length()))
+        }
     }
 }
 
@@ -132,7 +103,7 @@ pub fn ask<T: Teller, G: Gate>(
 {
     match gate.pass(report.build, standing.turn()) {
         Ok(()) => {
-            let answer = put(question, standing, teller);
+            let answer = put(question, standing, teller).unwrap_or_else(Answer::Refused);
             tell(report, asked, answer)
         }
         Err(_) => Ending::Cut,

@@ -80,18 +80,12 @@ impl Standing {
         self.turn
     }
 
-    /// How many acts are open.
-    pub fn journal(&self) -> usize
-        ensures { result ≡ self.now.journal }
+    /// A question is put.
+    pub(crate) fn take_turn(&mut self)
+        requires { self.old.turn + 1 < 2 ^ 64 }
+        ensures { self.new ≡ record self.old { turn = self.old.turn + 1 } }
     {
-        self.journal
-    }
-
-    /// The last mark.
-    pub fn mark(&self) -> Option<Mark>
-        ensures { result ≡ self.now.mark }
-    {
-        self.mark
+        self.turn += 1;
     }
 
     /// The RECs that run, in rising number.
@@ -100,14 +94,6 @@ impl Standing {
         ensures few { length result.now ≤ 1024 }
     {
         self.running.as_slice()
-    }
-
-    /// A question is put.
-    pub(crate) fn take_turn(&mut self)
-        requires { self.old.turn + 1 < 2 ^ 64 }
-        ensures { self.new ≡ record self.old { turn = self.old.turn + 1 } }
-    {
-        self.turn += 1;
     }
 
     /// A command is accepted.
@@ -126,11 +112,25 @@ impl Standing {
         }
     }
 
+    /// How many acts are open.
+    pub fn journal(&self) -> usize
+        ensures { result ≡ self.now.journal }
+    {
+        self.journal
+    }
+
     /// An undo is accepted.
     pub(crate) fn count_undo(&mut self)
         ensures { self.new ≡ record self.old { journal = self.old.journal - 1 } }
     {
         self.journal = self.journal.saturating_sub(1);
+    }
+
+    /// The last mark.
+    pub fn mark(&self) -> Option<Mark>
+        ensures { result ≡ self.now.mark }
+    {
+        self.mark
     }
 
     /// A mark is accepted.

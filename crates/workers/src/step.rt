@@ -2,7 +2,7 @@
 ghost use Rattle.std.specs.Prelude.{◌≡◌, ◌+◌, ◌^◌, ◌<◌, ◌≤◌, List, [], ◌∷◌, ◌++◌, replicate, vec_len, vec_capacity};
 ghost use Rattle.workers.specs.Asked.{ArePut};
 ghost use Rattle.workers.specs.Exchange.{Exchange, LookedBack};
-ghost use Rattle.workers.specs.Report.{AreUndone, IsAbort, IsWayBack, IsStepBack, IsStepTold};
+ghost use Rattle.workers.specs.Report.{AreUndone, IsAbort, IsStepBack, IsStepTold};
 ghost use Rattle.workers.specs.Standing.{left_to_clear, after_exchange};
 ghost use Rattle.workers.specs.Stretch.{IsStretch};
 
@@ -107,13 +107,14 @@ fn look_back<T: Teller>(standing: &mut Standing, teller: &mut T, mark: Mark) -> 
     teller.check_back(mark)
 }
 
+// The way back to a mark, where there is one.
 fn go_back<T: Teller, G: Gate>(
     report: &mut Report,
     standing: &mut Standing,
     teller: &mut T,
     gate: &G,
     place: usize,
-    mark: Mark,
+    mark: Option<Mark>,
 ) -> Ending
     requires room { vec_len report.old.lines + standing.old.journal < vec_capacity report.old.lines }
     requires turns { standing.old.turn + standing.old.journal + 1 < 2 ^ 64 }
@@ -121,10 +122,17 @@ fn go_back<T: Teller, G: Gate>(
     ensures gone { IsStretch (T.tells teller.old) (T.tells teller.new)
         (G.passes gate.now report.old.build) (G.stops gate.now report.old.build)
         standing.old standing.new report.old.lines.items report.new.lines.items result
-        (λ exchanges lines. IsWayBack place mark standing.old.journal exchanges lines result) }
+        (λ exchanges lines. IsStepBack place mark standing.old.journal exchanges lines result) }
     ensures loan { T.loan teller.new ≡ T.loan teller.old }
     ensures same { (report.new.build ≡ report.old.build) × (vec_capacity report.new.lines ≡ vec_capacity report.old.lines) }
 {
+    let Some(mark) = mark else {
+        return tell(
+            report,
+            Asked::Step(place),
+            Answer::Refused(Refusal::NothingToUndo),
+        );
+    };
     match gate.pass(report.build, standing.turn()) {
         Ok(()) => match look_back(standing, teller, mark) {
             Ok(count) => {
@@ -134,33 +142,6 @@ fn go_back<T: Teller, G: Gate>(
             Err(refusal) => tell(report, Asked::Step(place), Answer::Refused(refusal)),
         },
         Err(_) => Ending::Cut,
-    }
-}
-
-fn back<T: Teller, G: Gate>(
-    report: &mut Report,
-    standing: &mut Standing,
-    teller: &mut T,
-    gate: &G,
-    place: usize,
-) -> Ending
-    requires room { vec_len report.old.lines + standing.old.journal < vec_capacity report.old.lines }
-    requires turns { standing.old.turn + standing.old.journal + 1 < 2 ^ 64 }
-    requires few { left_to_clear standing.old < 1024 }
-    ensures gone { IsStretch (T.tells teller.old) (T.tells teller.new)
-        (G.passes gate.now report.old.build) (G.stops gate.now report.old.build)
-        standing.old standing.new report.old.lines.items report.new.lines.items result
-        (λ exchanges lines. IsStepBack place standing.old.mark standing.old.journal exchanges lines result) }
-    ensures loan { T.loan teller.new ≡ T.loan teller.old }
-    ensures same { (report.new.build ≡ report.old.build) × (vec_capacity report.new.lines ≡ vec_capacity report.old.lines) }
-{
-    match standing.mark() {
-        Some(mark) => go_back(report, standing, teller, gate, place, mark),
-        None => tell(
-            report,
-            Asked::Step(place),
-            Answer::Refused(Refusal::NothingToUndo),
-        ),
     }
 }
 
@@ -205,6 +186,9 @@ pub(crate) fn take_step<T: Teller, G: Gate>(
             Asked::Step(place),
             Question::Mark,
         ),
-        Step::Back => back(report, standing, teller, gate, place),
+        Step::Back => {
+            let mark = standing.mark();
+            go_back(report, standing, teller, gate, place, mark)
+        }
     }
 }

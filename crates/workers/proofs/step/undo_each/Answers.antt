@@ -1,20 +1,16 @@
-use Rattle.std.proofs.Common.{refl, arith, replicate, ◌-◌, ◌+◌}
+use Rattle.std.proofs.Common.{refl, replicate, ◌-◌, ◌+◌}
 use Rattle.workers.specs.declared.report.Asked.{Asked}
 use Rattle.workers.specs.declared.ask.Question.{Question}
 use Rattle.workers.specs.declared.ask.Question.TheVariants.{Undo}
-use Rattle.workers.proofs.Questions.{grown}
-use Rattle.workers.proofs.Growth.{undo_closes, closed_by}
-use Rattle.workers.proofs.Loops.{Leads-all, loop_next, loop_stop, loop_whole, replicate-next, replicate-none}
-use Rattle.workers.proofs.Stretches.{IsStretch-none, IsStretch-build}
+use Rattle.workers.proofs.Growth.{undo_closes}
+use Rattle.workers.proofs.Loops.{Leads-all, loop_none, loop_next, loop_stop, loop_whole, replicate-next, replicate-none}
+use Rattle.workers.proofs.Stretches.{IsStretch-build}
 use Rattle.workers.proofs.step.undo_each.Goals as goal
 
 pub undos-init : goal.undos-init
 undos-init g c = record {
-  so_far = IsStretch-none (Leads-all c.args.count (c.args.asked.now, Undo));
+  so_far = loop_none (Leads-all c.args.count (c.args.asked.now, Undo));
   loan = refl;
-  lines = omega arith;
-  turns = omega arith;
-  left = omega arith;
   build = refl;
   capacity = refl;
 }
@@ -22,16 +18,12 @@ undos-init g c = record {
 pub undos-preserved : goal.undos-preserved
 undos-preserved g c =
     let question : Asked × Question = (c.args.asked.now, Undo) in
-    let so_far = c.undos.invariant in
-    let grows = grown c.in-Done.ensures.asked in
-    let less = closed_by undo_closes c.in-Done.ensures.asked in
+    let before = c.undos.invariant in
     record {
-      so_far = loop_next (replicate (c.args.count - (c.undos._done + 1)) question) (replicate-next question c.args.count c.undos._done c.undos-test.true) so_far.so_far
-          (IsStretch-build (g.G.Gate.passes c.args.gate.now) (g.G.Gate.stops c.args.gate.now) so_far.build c.in-Done.ensures.asked);
+      so_far = loop_next (replicate (c.args.count - (c.undos._done + 1)) question) (replicate-next question c.args.count c.undos._done c.undos-test.true)
+          undo_closes before.so_far
+          (IsStretch-build (g.G.Gate.passes c.args.gate.now) (g.G.Gate.stops c.args.gate.now) before.build c.in-Done.ensures.asked);
       loan = cc;
-      lines = omega (arith, grows.0, so_far.lines);
-      turns = omega (arith, grows.1, so_far.turns);
-      left = omega (arith, less, so_far.left);
       build = cc;
       capacity = cc;
     }

@@ -1,18 +1,15 @@
 use Rattle.std.proofs.Common.{refl, arith, ◌+◌, map, drop}
 use Rattle.workers.specs.Report.{exit_of}
-use Rattle.workers.proofs.Questions.{Leads-none, grown}
+use Rattle.workers.proofs.Questions.{Leads-none}
 use Rattle.workers.proofs.Growth.{exit_closes, closed_by}
-use Rattle.workers.proofs.Loops.{loop_next, loop_stop, loop_whole, exits-next, exits-none}
-use Rattle.workers.proofs.Stretches.{IsStretch-none, IsStretch-build}
+use Rattle.workers.proofs.Loops.{loop_none, loop_next, loop_stop, loop_whole, exits-next, exits-none}
+use Rattle.workers.proofs.Stretches.{IsStretch-build}
 use Rattle.workers.proofs.worker.exit_each.Goals as goal
 
 pub exits-init : goal.exits-init
 exits-init g c = record {
-  so_far = IsStretch-none (Leads-none (map exit_of c.args.numbers.now));
+  so_far = loop_none (Leads-none (map exit_of c.args.numbers.now));
   loan = refl;
-  lines = omega arith;
-  turns = omega arith;
-  left = omega arith;
   build = refl;
   capacity = refl;
 }
@@ -21,16 +18,12 @@ pub exits-preserved : goal.exits-preserved
 exits-preserved g c =
     let numbers = c.args.numbers.now in
     let at = c.exits.number-index in
-    let so_far = c.exits.invariant in
-    let grows = grown c.in-Done.ensures.asked in
-    let less = closed_by (exit_closes c.new-number.result) c.in-Done.ensures.asked in
+    let before = c.exits.invariant in
     record {
-      so_far = loop_next (map exit_of (drop (at + 1) numbers)) (exits-next numbers c.new-number.result at c.exits-test.true c.new-number.ensures) so_far.so_far
-          (IsStretch-build (g.G.Gate.passes c.args.gate.now) (g.G.Gate.stops c.args.gate.now) so_far.build c.in-Done.ensures.asked);
+      so_far = loop_next (map exit_of (drop (at + 1) numbers)) (exits-next numbers c.new-number.result at c.exits-test.true c.new-number.ensures)
+          (exit_closes c.new-number.result) before.so_far
+          (IsStretch-build (g.G.Gate.passes c.args.gate.now) (g.G.Gate.stops c.args.gate.now) before.build c.in-Done.ensures.asked);
       loan = cc;
-      lines = omega (arith, grows.0, so_far.lines);
-      turns = omega (arith, grows.1, so_far.turns);
-      left = omega (arith, less, so_far.left);
       build = cc;
       capacity = cc;
     }
@@ -44,7 +37,7 @@ returns-in_default-clause-exited g c =
 
 pub returns-in_default-clause-no_more : goal.returns-in_default-clause-no_more
 returns-in_default-clause-no_more g c =
-    let less = closed_by (exit_closes c.new-number.result) c.ask.ensures.asked in omega (arith, less, c.exits.invariant.left)
+    let less = closed_by (exit_closes c.new-number.result) c.ask.ensures.asked in omega (arith, less, c.exits.invariant.so_far.left)
 
 pub returns-clause-exited : goal.returns-clause-exited
 returns-clause-exited g c = loop_whole (exits-none c.args.numbers.now c.exits.number-index c.exits-test.false) c.exits.invariant.so_far
