@@ -1,9 +1,9 @@
 //! The act of a command.
-ghost use Rattle.std.specs.Prelude.{◌≡◌, ◌≤◌, ◌&&◌, length, slice_get, drop, true, Some, None, IfSome, if◌then◌else◌};
+ghost use Rattle.std.specs.Prelude.{◌≡◌, ◌≤◌, length, slice_get, drop, true, Some, None, IfSome, if◌then◌else◌};
 ghost use Rattle.realm_model.specs.Outcome.{is_in_range};
 ghost use Rattle.realm_model.specs.declared.act.Act.TheVariants as acts;
 ghost use Rattle.build_commands.specs.Needs.{operands};
-ghost use Rattle.build_commands.specs.Acts.{is_ipa, is_level, act_if, root_of, act_of};
+ghost use Rattle.build_commands.specs.Acts.{is_ipa, act_if, root_of, act_of};
 
 use crate::{Cmd, Picked};
 use arrayvec::ArrayVec;
@@ -70,47 +70,6 @@ fn peek_act(granule: Gran, offset: PageOff, byte: u8) -> Act
     }
 }
 
-fn rtt_act(granule: Gran, ipa: u32, level: u8) -> Option<Act>
-    ensures act { result ≡ act_if (is_ipa ipa && is_level level) (acts.Rtt granule ipa level) }
-    ensures in_range { IfSome result (λ act. is_in_range act ≡ true) }
-{
-    let ipa = ipa_of(ipa)?;
-    let level = Level::new(level)?;
-    Some(Act::Rtt {
-        granule,
-        ipa,
-        level,
-    })
-}
-
-fn ripas_act(ipa: u32, count: u16) -> Option<Act>
-    ensures act { result ≡ act_if (is_ipa ipa) (acts.Ripas ipa count) }
-    ensures in_range { IfSome result (λ act. is_in_range act ≡ true) }
-{
-    let ipa = ipa_of(ipa)?;
-    Some(Act::Ripas { ipa, count })
-}
-
-fn data_act(granule: Gran, ipa: u32, source: Gran) -> Option<Act>
-    ensures act { result ≡ act_if (is_ipa ipa) (acts.Data granule ipa source) }
-    ensures in_range { IfSome result (λ act. is_in_range act ≡ true) }
-{
-    let ipa = ipa_of(ipa)?;
-    Some(Act::Data {
-        granule,
-        ipa,
-        source,
-    })
-}
-
-fn unknown_act(granule: Gran, ipa: u32) -> Option<Act>
-    ensures act { result ≡ act_if (is_ipa ipa) (acts.Unknown granule ipa) }
-    ensures in_range { IfSome result (λ act. is_in_range act ≡ true) }
-{
-    let ipa = ipa_of(ipa)?;
-    Some(Act::Unknown { granule, ipa })
-}
-
 fn poke_act(number: RecNo, ipa: u32, offset: PageOff, value: u8) -> Option<Act>
     ensures act { result ≡ act_if (is_ipa ipa) (acts.Poke number ipa offset value) }
     ensures in_range { IfSome result (λ act. is_in_range act ≡ true) }
@@ -149,9 +108,20 @@ fn act_on_pages(cmd: &Cmd, granules: &[Gran], picked: Picked) -> Option<Act>
                 vmid: picked.vmid,
             })
         }
-        Cmd::Rtt { ipa, level, .. } => rtt_act(granule, *ipa, *level),
-        Cmd::Data { ipa, .. } => data_act(granule, *ipa, granule_at(granules, 1)?),
-        Cmd::Unknown { ipa, .. } => unknown_act(granule, *ipa),
+        Cmd::Rtt { ipa, level, .. } => Some(Act::Rtt {
+            granule,
+            ipa: ipa_of(*ipa)?,
+            level: Level::new(*level)?,
+        }),
+        Cmd::Data { ipa, .. } => Some(Act::Data {
+            granule,
+            ipa: ipa_of(*ipa)?,
+            source: granule_at(granules, 1)?,
+        }),
+        Cmd::Unknown { ipa, .. } => Some(Act::Unknown {
+            granule,
+            ipa: ipa_of(*ipa)?,
+        }),
         Cmd::Rec { .. } => Some(Act::Rec {
             granule,
             auxiliaries: auxiliaries_of(granules),
@@ -174,7 +144,10 @@ pub fn act_of(cmd: &Cmd, granules: &ArrayVec<Gran, 17>, picked: Picked) -> Optio
 {
     match cmd {
         Cmd::Take { .. } => None,
-        Cmd::Ripas { ipa, count } => ripas_act(*ipa, *count),
+        Cmd::Ripas { ipa, count } => Some(Act::Ripas {
+            ipa: ipa_of(*ipa)?,
+            count: *count,
+        }),
         Cmd::Activate => Some(Act::Activate),
         Cmd::Enter { number } => Some(Act::Enter { number: *number }),
         Cmd::Exit { number } => Some(Act::Exit { number: *number }),
