@@ -56,13 +56,6 @@ impl RealmDesc {
         }
     }
 
-    /// NEW or ACTIVE. RMM 1.0, Realm state.
-    pub fn state(&self) -> RealmState
-        ensures { result ≡ self.now.state }
-    {
-        self.state
-    }
-
     /// Whether the realm is NEW.
     pub fn is_new(&self) -> bool
         ensures { result ≡ checks.is_new self.now.state }
@@ -70,11 +63,18 @@ impl RealmDesc {
         matches!(self.state, RealmState::New)
     }
 
-    /// The VMID.
-    pub fn vmid(&self) -> Vmid
-        ensures { result ≡ self.now.vmid }
+    /// NEW or ACTIVE. RMM 1.0, Realm state.
+    pub fn state(&self) -> RealmState
+        ensures { result ≡ self.now.state }
     {
-        self.vmid
+        self.state
+    }
+
+    /// The realm is ACTIVE from now on. That it is NEW is for the caller to check. RMM 1.0, RMI_REALM_ACTIVATE.
+    pub fn activate(&mut self)
+        ensures { self.new ≡ record self.old { state = Active } }
+    {
+        self.state = RealmState::Active;
     }
 
     /// The starting tables, and with them the IPA width.
@@ -84,13 +84,6 @@ impl RealmDesc {
         self.root
     }
 
-    /// The number that the realm's next REC gets. RMM 1.0, REC index.
-    pub fn next_number(&self) -> RecNo
-        ensures { result ≡ self.now.next }
-    {
-        self.next
-    }
-
     /// The measurement of what the realm was made of so far. RMM 1.0, Realm measurement.
     pub fn measurement(&self) -> &[u8; 32]
         ensures { result.now ≡ self.now.measurement }
@@ -98,11 +91,20 @@ impl RealmDesc {
         &self.measurement
     }
 
-    /// The realm is ACTIVE from now on. That it is NEW is for the caller to check. RMM 1.0, RMI_REALM_ACTIVATE.
-    pub fn activate(&mut self)
-        ensures { self.new ≡ record self.old { state = Active } }
+    /// Extends the measurement by the bytes of an event. RMM 1.0, Realm measurement.
+    pub fn measure(&mut self, event: &[u8])
+        ensures { self.new ≡ record self.old {
+          measurement = measurement_after self.old.measurement event.now;
+        } }
     {
-        self.state = RealmState::Active;
+        self.measurement = extend_measurement(&self.measurement, event);
+    }
+
+    /// The number that the realm's next REC gets. RMM 1.0, REC index.
+    pub fn next_number(&self) -> RecNo
+        ensures { result ≡ self.now.next }
+    {
+        self.next
     }
 
     /// Answers the number of the realm's next REC, and raises it by one.
@@ -118,12 +120,10 @@ impl RealmDesc {
         number
     }
 
-    /// Extends the measurement by the bytes of an event. RMM 1.0, Realm measurement.
-    pub fn measure(&mut self, event: &[u8])
-        ensures { self.new ≡ record self.old {
-          measurement = measurement_after self.old.measurement event.now;
-        } }
+    /// The VMID.
+    pub fn vmid(&self) -> Vmid
+        ensures { result ≡ self.now.vmid }
     {
-        self.measurement = extend_measurement(&self.measurement, event);
+        self.vmid
     }
 }

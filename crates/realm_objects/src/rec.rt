@@ -55,6 +55,14 @@ impl Rec {
         self.number
     }
 
+    /// The auxiliary granules, in the order in which the REC got them. RMM 1.0, Auxiliary granules.
+    pub fn auxiliaries(&self) -> &[Gran]
+        ensures value { result.now ≡ self.now.auxiliaries }
+        ensures few { length result.now ≤ 16 }
+    {
+        self.auxiliaries.as_slice()
+    }
+
     /// READY or RUNNING. RMM 1.0, REC state.
     pub fn state(&self) -> RecState
         ensures { result ≡ self.now.state }
@@ -67,14 +75,6 @@ impl Rec {
         ensures { result ≡ checks.is_ready self.now.state }
     {
         matches!(self.state, RecState::Ready)
-    }
-
-    /// The auxiliary granules, in the order in which the REC got them. RMM 1.0, Auxiliary granules.
-    pub fn auxiliaries(&self) -> &[Gran]
-        ensures value { result.now ≡ self.now.auxiliaries }
-        ensures few { length result.now ≤ 16 }
-    {
-        self.auxiliaries.as_slice()
     }
 
     /// The REC runs from now on. That it is READY, and its realm ACTIVE, is for the caller to check. RMM 1.0, RMI_REC_ENTER.
