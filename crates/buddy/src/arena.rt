@@ -28,10 +28,8 @@ impl BuddyArena {
     /// else the one error is `Memory`.
     pub fn build(alloc: Global, pages: u16) -> Result<BuddyArena, BuildError>
         ensures bad_size { IsErrOf result BuildError.BadSize ↔ ((pages < 1) ⊎ (4096 < pages)) }
-        ensures zero { IfOk result (λ arena.
-            ⟦<BuddyArena as PageStore>⟧.page_bytes arena ≡ replicate pages zero_page) }
-        ensures free { IfOk result (λ arena.
-            ⟦<BuddyArena as PageStore>⟧.free_flags arena ≡ replicate pages true) }
+        ensures zero { IfOk result (λ arena. ⟦<BuddyArena as PageStore>⟧.page_bytes arena ≡ replicate pages zero_page) }
+        ensures free { IfOk result (λ arena. ⟦<BuddyArena as PageStore>⟧.free_flags arena ≡ replicate pages true) }
         ensures visits { IfOk result (λ arena. arena.visits ≡ 0) }
     {
         let raw = RawPages::build(alloc, pages)?;
