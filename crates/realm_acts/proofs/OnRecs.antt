@@ -11,8 +11,8 @@ use Rattle.realm_model.specs.Update.{Outcome}
 use Rattle.realm_model.specs.Outcome.{outcome_of}
 use Rattle.realm_model.specs.Command.Check.{error_input, with_realm, with_rec}
 use Rattle.realm_model.specs.Command.Rec.{rec_enter, rec_exit, rec_destroy, guest_write}
-use Rattle.rmi_monitor.specs.View.{MonitorView, Answers, IsRec, IsOnRec, after_command, seen_in}
-use Rattle.realm_acts.specs.Performing.{outcome_on, rec_named, rec_granule, realm_on, IsRecReadyAt}
+use Rattle.rmi_monitor.specs.View.{MonitorView, IsRec, IsOnRec, seen_in}
+use Rattle.realm_acts.specs.Performing.{IsDone, outcome_on, rec_named, rec_granule, realm_on, IsRecReadyAt}
 
 -- ---- there is no such REC
 
@@ -73,10 +73,6 @@ command_of (Poke n ipa offset value) rd number = guest_write rd number ipa offse
 command_of _ rd number = Err error_input
 
 -- what the command on the REC does is what comes of the act
-pub record IsDone (old : MonitorView) (outcome : Outcome) (result : Result (Unit {0}) Rmi) (new : MonitorView) : Type 0 where
-  pub answer : Answers result outcome
-  pub machine : new ≡ after_command outcome old
-
 done_on : (old new : MonitorView) (result : Result (Unit {0}) Rmi) (rd number granule : ℕ) (command : Seen → ℕ → Outcome)
     → Some granule ≡ rec_granule (realm_on old (Some rd)) number → IsOnRec command old granule result new → IsDone old (command (seen_in old rd) number) result new
 done_on old new result rd number granule command is on =
@@ -93,8 +89,7 @@ done_act old new result rd granule (Poke number ipa offset value) kind ready on 
     done_on old new result rd number granule (λ realm n. guest_write realm n ipa offset value) ready.is on
 done_act old new result rd granule _ kind ready on = cc
 
-pub done : (old new : MonitorView) (result : Result (Unit {0}) Rmi) (rd granule : ℕ) (rec : Option ℕ) (act other : Act) → rec ≡ Some granule → act ≡ other → is_some (rec_named act) ≡ true
-    → IsRecReadyAt old (Some rd) (rec_named act) rec → IsOnRec (command_of other) old granule result new → IsDone old (outcome_on old (Some rd) act) result new
-done old new result rd granule rec act other rec_is act_is kind ready on =
-    done_act old new result rd granule act kind (subst (IsRecReadyAt old (Some rd) (rec_named act)) rec_is ready)
-    (subst (λ a. IsOnRec (command_of a) old granule result new) (sym act_is) on)
+pub done : (old new : MonitorView) (result : Result (Unit {0}) Rmi) (rd granule : ℕ) (act other : Act) → act ≡ other → is_some (rec_named act) ≡ true
+    → IsRecReadyAt old (Some rd) (rec_named act) (Some granule) → IsOnRec (command_of other) old granule result new → IsDone old (outcome_on old (Some rd) act) result new
+done old new result rd granule act other act_is kind ready on =
+    done_act old new result rd granule act kind ready (subst (λ a. IsOnRec (command_of a) old granule result new) (sym act_is) on)

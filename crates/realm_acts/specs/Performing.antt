@@ -1,7 +1,8 @@
 -- What comes of an act on a monitor, and when it can be performed.
-use Rattle.std.specs.Prelude.{◌≡◌, ◌<◌, ℕ, Bool, true, false, Option, Some, None, option_map, option_and_then, map}
+use Rattle.std.specs.Prelude.{◌≡◌, ◌<◌, ℕ, Bool, true, false, Option, Some, None, option_map, option_and_then, map, Result}
 use Rattle.std.specs.List.{All}
 use Rattle.std.specs.FinMap.{get}
+use Rattle.realm_model.specs.declared.rmi.Rmi.{Rmi}
 use Rattle.realm_model.specs.declared.act.Act.{Act}
 use Rattle.realm_model.specs.declared.act.Act.TheVariants.{Activate, Rtt, UnRtt, Ripas, Data, Unknown, UnData, Rec, UnRec, Enter, Exit, Poke}
 use Rattle.realm_model.specs.Machine.{RealmRow, RecRow, Seen, cell_at}
@@ -9,7 +10,7 @@ use Rattle.realm_model.specs.Update.{Outcome}
 use Rattle.realm_model.specs.Act.{is_command, named}
 use Rattle.realm_model.specs.Outcome.{outcome_of}
 use Rattle.realm_model.specs.Step.{used_vmids}
-use Rattle.rmi_monitor.specs.View.{MonitorView, IsTaken, seen_in}
+use Rattle.rmi_monitor.specs.View.{MonitorView, Answers, IsTaken, after_command, seen_in}
 use Rattle.realm_acts.specs.declared.place.Place.{Place}
 
 -- ---- acts
@@ -48,6 +49,11 @@ realm_on monitor rd = option_map (seen_in monitor) rd
 abbrev pub outcome_on : MonitorView → Option ℕ → Act → Outcome
 outcome_on monitor rd act =
     outcome_of monitor.vmids monitor.aux (used_vmids monitor.machine) act (realm_on monitor rd) (map (seen_in monitor) (named act))
+
+-- What was answered, and the monitor after it, are what comes of the command.
+pub record IsDone (old : MonitorView) (outcome : Outcome) (result : Result (Unit {0}) Rmi) (new : MonitorView) : Type 0 where
+  pub answer : Answers result outcome
+  pub machine : new ≡ after_command outcome old
 
 -- ---- when it can be performed
 

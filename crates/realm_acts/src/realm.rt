@@ -46,6 +46,9 @@ pub(crate) fn in_realm<S: PageStore>(
             Ok(_) => Ok(()),
             Err(rmi) => Err(rmi),
         },
-        _ => on_rec(monitor, rd, rec, act),
+        _ => match rec {
+            Some(rec) => on_rec(monitor, rd, rec, act),
+            None => Err(Rmi::INPUT),
+        },
     }
 }

@@ -1,7 +1,6 @@
 //! Acts on a REC of a realm.
 ghost use Rattle.std.specs.Prelude.{◌≡◌, Some, is_some, true};
-ghost use Rattle.rmi_monitor.specs.View.{Answers, after_command};
-ghost use Rattle.realm_acts.specs.Performing.{IsReady, rec_named, outcome_on};
+ghost use Rattle.realm_acts.specs.Performing.{IsReady, IsDone, rec_named, outcome_on};
 
 use granule_addr::Gran;
 use page_arena::PageStore;
@@ -13,17 +12,13 @@ use rmi_monitor::Monitor;
 pub(crate) fn on_rec<S: PageStore>(
     monitor: &mut Monitor<S>,
     rd: Gran,
-    rec: Option<Gran>,
+    rec: Gran,
     act: &Act,
 ) -> Result<(), Rmi>
-    requires ready { IsReady monitor.old (record { realm = Some rd; rec = rec }) act.now }
+    requires ready { IsReady monitor.old (record { realm = Some rd; rec = Some rec }) act.now }
     requires kind { is_some (rec_named act.now) ≡ true }
-    ensures answer { Answers result (outcome_on monitor.old (Some rd) act.now) }
-    ensures machine { monitor.new ≡ after_command (outcome_on monitor.old (Some rd) act.now) monitor.old }
+    ensures { IsDone monitor.old (outcome_on monitor.old (Some rd) act.now) result monitor.new }
 {
-    let Some(rec) = rec else {
-        return Err(Rmi::INPUT);
-    };
     match act {
         Act::UnRec { .. } => monitor.rec_destroy(rec),
         Act::Enter { .. } => monitor.rec_enter(rec),

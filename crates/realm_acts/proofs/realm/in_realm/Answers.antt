@@ -1,10 +1,12 @@
-use Rattle.std.proofs.Common.{Some, ap, sym, subst}
+use Rattle.std.proofs.Common.{Some, Err, refl, ap, sym, subst, rules}
 use Rattle.std.specs.List.{All}
 use Rattle.std.proofs.lemmas.List.Elements.{All-tail}
 use Rattle.realm_model.specs.declared.act.Act.{Act}
 use Rattle.realm_model.specs.Act.{named}
-use Rattle.rmi_monitor.specs.View.{IsTaken}
-use Rattle.realm_acts.specs.Performing.{IsNumberReady}
+use Rattle.realm_model.specs.Command.Check.{error_input}
+use Rattle.rmi_monitor.specs.View.{IsTaken, Answers, after_command}
+use Rattle.realm_acts.specs.Performing.{IsNumberReady, IsRecReadyAt, rec_named}
+use Rattle.realm_acts.proofs.OnRecs.{nothing_there}
 use Rattle.realm_acts.proofs.realm.in_realm.Goals as goal
 
 pub rec_create-requires-clause-auxiliaries_taken : goal.rec_create-requires-clause-auxiliaries_taken
@@ -16,3 +18,14 @@ rec_create-requires-clause-auxiliaries_taken g c =
 
 pub rec_create-requires-clause-numbers : goal.rec_create-requires-clause-numbers
 rec_create-requires-clause-numbers g c = subst (IsNumberReady c.args.monitor.now (Some c.args.rd)) c.in-Rec.is c.requires.ready.number
+
+pub returns-in-None-clause-answer : goal.returns-in-None-clause-answer
+returns-in-None-clause-answer g c =
+    let none = subst (IsRecReadyAt c.args.monitor.now (Some c.args.rd) (rec_named c.args.act.now)) c.in-None.is c.requires.ready.rec in
+    let is = nothing_there c.args.monitor.now c.args.rd c.args.act.now (search rules) none in
+    subst (Answers {A = Unit {0}} (Err error_input)) (sym is) refl
+
+pub returns-in-None-clause-machine : goal.returns-in-None-clause-machine
+returns-in-None-clause-machine g c =
+    let none = subst (IsRecReadyAt c.args.monitor.now (Some c.args.rd) (rec_named c.args.act.now)) c.in-None.is c.requires.ready.rec in
+    ap (λ o. after_command o c.args.monitor.now) (sym (nothing_there c.args.monitor.now c.args.rd c.args.act.now (search rules) none))
