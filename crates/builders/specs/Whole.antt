@@ -13,22 +13,19 @@ build_of (Build5 share) = 5
 build_of (Build6 share) = 6
 build_of (Build7 share) = 7
 
+-- the parts of its ledger that a share has, and the amount that it counts
+abbrev pub share_of : {L : Type 0} → Whole L → ℕ × ℕ
+share_of (Build0 share) = (share.parts, share.amount)
+share_of (Build1 share) = (share.parts, share.amount)
+share_of (Build2 share) = (share.parts, share.amount)
+share_of (Build3 share) = (share.parts, share.amount)
+share_of (Build4 share) = (share.parts, share.amount)
+share_of (Build5 share) = (share.parts, share.amount)
+share_of (Build6 share) = (share.parts, share.amount)
+share_of (Build7 share) = (share.parts, share.amount)
+
 abbrev pub parts_of_whole : {L : Type 0} → Whole L → ℕ
-parts_of_whole (Build0 share) = share.parts
-parts_of_whole (Build1 share) = share.parts
-parts_of_whole (Build2 share) = share.parts
-parts_of_whole (Build3 share) = share.parts
-parts_of_whole (Build4 share) = share.parts
-parts_of_whole (Build5 share) = share.parts
-parts_of_whole (Build6 share) = share.parts
-parts_of_whole (Build7 share) = share.parts
+parts_of_whole whole = (share_of whole).0
 
 abbrev pub amount_of : {L : Type 0} → Whole L → ℕ
-amount_of (Build0 share) = share.amount
-amount_of (Build1 share) = share.amount
-amount_of (Build2 share) = share.amount
-amount_of (Build3 share) = share.amount
-amount_of (Build4 share) = share.amount
-amount_of (Build5 share) = share.amount
-amount_of (Build6 share) = share.amount
-amount_of (Build7 share) = share.amount
+amount_of whole = (share_of whole).1
