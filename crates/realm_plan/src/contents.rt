@@ -67,10 +67,10 @@ fn wholes_of(alloc: Global, array: &Array) -> Result<Option<Vec<i64>>, AllocErro
 {
     let mut found = Vec::new(alloc);
     for value in array {
-        let Some(whole) = value.as_integer() else {
-            return Ok(None);
-        };
-        found.push(whole)?;
+        match value.as_integer() {
+            Some(whole) => found.push(whole)?,
+            None => return Ok(None),
+        }
     }
     Ok(Some(found))
 }

@@ -19,13 +19,13 @@ pub loop-value-preserved : goal.loop-value-preserved
 loop-value-preserved c =
     let fits : FitsSigned w64 c.in-Some.whole = search rules in
     item_read as_integer wholes_of reads c.deref-value-items.result.now c.loop-value.value-index c.value-item.result c.loop-value.found.items c.push.new.self.items c.in-Some.whole
-    c.loop-value-test.true c.value-item.is c.in-Some.ensures (c.in_ok-push.ensures.items ∙ ap (λ whole. c.loop-value.found.items ++ whole ∷ []) (to_z-of_z w64 c.in-Some.whole fits))
+    c.loop-value-test.true c.value-item.is c.in-Some.ensures (c.in_ok-push-in-Some.ensures.items ∙ ap (λ whole. c.loop-value.found.items ++ whole ∷ []) (to_z-of_z w64 c.in-Some.whole fits))
     ∙ c.loop-value.invariant
 
-pub returns-in_default : goal.returns-in_default
-returns-in_default c =
+pub returns-in-None : goal.returns-in-None
+returns-in-None c =
     sym (item_missing as_integer wholes_of reads c.deref-value-items.result.now c.loop-value.value-index c.value-item.result c.loop-value.found.items
-    c.loop-value-test.true c.value-item.is c.in_default.ensures)
+    c.loop-value-test.true c.value-item.is c.in-None.ensures)
     ∙ c.loop-value.invariant
 
 pub returns : goal.returns
