@@ -1,34 +1,23 @@
 -- What clap's definition says of `realmhost`, whatever the words.
-use Rattle.std.proofs.Common.{◌≡◌, List, [], refl, codes, ◌⊎◌, inl, inr}
-use Rattle.std.specs.Prelude.{Option, Some, None, option_map}
-use Rattle.std.proofs.lemmas.Option.{same_Some}
+use Rattle.std.proofs.Common.{◌≡◌, List, [], ◌∷◌, refl, codes, inl, inr}
+use Rattle.std.specs.Prelude.{Some, option_map}
 use Rattle.clap.specs.Simple.{built}
 use Rattle.clap.specs.Words.{Row, Text, fault_of, subcommand_of}
 use Rattle.command_line.specs.Options.{Each, IsPassed, built_erase}
 use Rattle.command_line.specs.Realmhost.{IsHostSubcommand, realmhost}
 use Rattle.command_line.specs.declared.realmhost.Line.TheVariants.{Run}
 use Rattle.command_line.proofs.Passed.{AllAreOrAsk}
-use Rattle.command_line.proofs.Subcommands.{IsKnown, NamesOne, name_in, other_is_asked, values_passed}
+use Rattle.command_line.proofs.Subcommands.{IsKnown, by_name, last_is_asked, name_in, values_passed}
 
-pub realmhost_is : IsKnown realmhost
+pub realmhost_is : IsKnown realmhost (codes "replay" ∷ codes "run" ∷ [])
 unfolding realmhost
-realmhost_is = record { is_free = refl; required = refl }
-
-named : (t : Text) → NamesOne t (built realmhost).subs → (t ≡ codes "replay") ⊎ (t ≡ codes "run")
-unfolding realmhost
-named t (inl replay) = inl replay
-named t (inr (inl run)) = inr run
-named t (inr (inr more)) = absurd more
-
-run_from : (sub : Option (Text × List Row)) → name_in sub ≡ Some (codes "run") → IsHostSubcommand sub Run
-run_from None is = absurd (cc)
-run_from (Some r) is = same_Some _ _ is
+realmhost_is = record { is_free = refl; required = refl; named = refl }
 
 -- words that have no fault, and do not ask for a replay, ask for a run
 pub run_is_asked : (words : List Text) → fault_of realmhost words ≡ [] → ¬ (name_in (subcommand_of realmhost words) ≡ Some (codes "replay"))
     → IsHostSubcommand (subcommand_of realmhost words) Run
 run_is_asked words e other =
-    run_from (subcommand_of realmhost words) (other_is_asked realmhost realmhost_is (codes "replay") (codes "run") named words e other)
+    by_name (λ sub. IsHostSubcommand sub Run) (codes "run") (λ r is. is) _ (last_is_asked realmhost (codes "replay" ∷ []) (codes "run") realmhost_is words e (other, tt))
 
 options_fit : AllAreOrAsk built_erase (built realmhost).subs
 unfolding realmhost

@@ -1,5 +1,5 @@
 -- What clap's definition says of the subcommand of a program that requires one, whatever the words.
-use Rattle.std.proofs.Common.{◌≡◌, ◌∙◌, List, [], ◌∷◌, Bool, true, false, refl, sym, ap, ap₂, subst, ◌⊎◌, inl, inr}
+use Rattle.std.proofs.Common.{◌≡◌, ◌∙◌, List, [], ◌∷◌, ◌++◌, map, Bool, true, false, refl, sym, ap, ap₂, subst, ◌⊎◌, inl, inr}
 use Rattle.std.specs.Prelude.{not, ◌&&◌, find, Option, Some, None, option_map, is_some, Box}
 use Rattle.std.specs.Box.{box_value}
 use Rattle.std.proofs.lemmas.Bool.{false≢true, cases_Bool}
@@ -40,19 +40,22 @@ has_from : (has required : Bool) → required ≡ true → (not has && required)
 has_from true required wanted absent = refl
 has_from false required wanted absent = absurd (false≢true (sym absent ∙ wanted))
 
--- the name is that of one of the shapes
-abbrev pub NamesOne : Text → List Shape → Type 0
-NamesOne t [] = ⊥
-NamesOne t (s ∷ ss) = (t ≡ s.name) ⊎ NamesOne t ss
+-- the text is one of these
+abbrev IsOneOf : Text → List Text → Type 0
+IsOneOf t [] = ⊥
+IsOneOf t (n ∷ ns) = (t ≡ n) ⊎ IsOneOf t ns
 
-names_one : (p : Shape → Bool) (ss : List Shape) (args : List Text) (r : Text × List Row) → option_map (λ s. rows_at s args) (find p ss) ≡ Some r → NamesOne r.0 ss
+abbrev names_of_all : List Shape → List Text
+names_of_all ss = map (λ (s : Shape). s.name) ss
+
+names_one : (p : Shape → Bool) (ss : List Shape) (args : List Text) (r : Text × List Row) → option_map (λ s. rows_at s args) (find p ss) ≡ Some r → IsOneOf r.0 (names_of_all ss)
 names_one p [] args r e = absurd (cc)
 names_one p (s ∷ ss) args r e = elim (cases_Bool (p s)) [
   | inl here ↦ inl (let at : Some (rows_at s args) ≡ Some r = rw here at e in sym (ap (λ q. q.0) (same_Some _ _ at)))
   | inr there ↦ inr (names_one p ss args r (rw there at e))
 ]
 
-entered_one : (a : App) (stop : Option (Text × List Text)) (r : Text × List Row) → entered a stop ≡ Some r → NamesOne r.0 a.subs
+entered_one : (a : App) (stop : Option (Text × List Text)) (r : Text × List Row) → entered a stop ≡ Some r → IsOneOf r.0 (names_of_all a.subs)
 entered_one a None r e = absurd (cc)
 entered_one a (Some p) r e = names_one (λ s. answers_to p.0 (label_of s)) a.subs p.1 r e
 
@@ -67,7 +70,7 @@ module _ (a : App) (words : List Text) (well : fault_of a words ≡ []) where
   level = level_nil (built a).top (names_of (built a)) nothing_held (argument_words a words) (is_some (entered (built a) stop)) (entered_fault (built a) stop) well
 
   -- they name a subcommand, where one is required
-  pub is_entered : (built a).top.subcommand_required ≡ true → is_some (subcommand_of a words) ≡ true
+  is_entered : (built a).top.subcommand_required ≡ true → is_some (subcommand_of a words) ≡ true
   is_entered required = has_from (is_some (entered (built a) stop)) (built a).top.subcommand_required required (required_there _ _ _ level.1)
 
   -- each value of a subcommand's option has passed its parser
@@ -80,7 +83,7 @@ module _ (a : App) (words : List Text) (well : fault_of a words ≡ []) where
       go (Some r) found at = subst (Each (IsPassed rule)) (same_Some _ _ at) (entered_passed rule set (built a) stop r fits level.0 found)
 
 -- the subcommand is one of the program's
-pub is_one : (a : App) (words : List Text) (r : Text × List Row) → subcommand_of a words ≡ Some r → NamesOne r.0 (built a).subs
+is_one : (a : App) (words : List Text) (r : Text × List Row) → subcommand_of a words ≡ Some r → IsOneOf r.0 (names_of_all (built a).subs)
 is_one a words r is = entered_one (built a) (stop_after (built a).top.rules (names_of (built a)) (argument_words a words)) r is
 
 -- ---- its name
@@ -102,23 +105,37 @@ pub is_named : (sub : Option (Text × List Row)) (name : Text) (rows : List Row)
 is_named None name rows named found = absurd (cc)
 is_named (Some s) name rows named found = ap₂ (λ (n : Text) (r : List Row). Some (n, r)) (same_Some _ _ named) (same_Some _ _ found)
 
+-- what is said of a subcommand of a name is so of the one that has it
+pub by_name : (P : Option (Text × List Row) → Type 0) (name : Text) → ((r : Text × List Row) → r.0 ≡ name → P (Some r)) → (sub : Option (Text × List Row)) → name_in sub ≡ Some name → P sub
+by_name P name of_row None is = absurd (cc)
+by_name P name of_row (Some r) is = of_row r (same_Some _ _ is)
+
 -- ---- a program
 
--- what is found by computing it: how its words are read is known, and it requires a subcommand
-pub record IsKnown (a : App) : Type 0 where
+-- what is found by computing it: how its words are read is known, it requires a subcommand, and these are the names
+pub record IsKnown (a : App) (names : List Text) : Type 0 where
   pub is_free : is_simple_and_free a ≡ true
   pub required : (built a).top.subcommand_required ≡ true
+  pub named : names_of_all (built a).subs ≡ names
 
-other_from : (first second : Text) (sub : Option (Text × List Row)) → is_some sub ≡ true
-    → ((r : Text × List Row) → sub ≡ Some r → (r.0 ≡ first) ⊎ (r.0 ≡ second)) → ¬ (name_in sub ≡ Some first) → name_in sub ≡ Some second
-other_from first second None has names other = absurd (false≢true has)
-other_from first second (Some r) has names other = elim (names r refl) [
-  | inl is ↦ absurd (other (ap Some is))
-  | inr is ↦ ap Some is
-]
+-- the name is none of these
+abbrev IsNoneOf : Option Text → List Text → Type 0
+IsNoneOf name [] = Unit {0}
+IsNoneOf name (n ∷ ns) = ¬ (name ≡ Some n) × IsNoneOf name ns
 
--- words that have no fault, and do not ask for the one of two subcommands, ask for the other
-pub other_is_asked : (a : App) → IsKnown a → (first second : Text) → ((t : Text) → NamesOne t (built a).subs → (t ≡ first) ⊎ (t ≡ second))
-    → (words : List Text) → fault_of a words ≡ [] → ¬ (name_in (subcommand_of a words) ≡ Some first) → name_in (subcommand_of a words) ≡ Some second
-other_is_asked a known first second named words e other =
-    other_from first second (subcommand_of a words) (is_entered a words e known.required) (λ r is. named r.0 (is_one a words r is)) other
+last_one : (others : List Text) (last t : Text) → IsOneOf t (others ++ last ∷ []) → IsNoneOf (Some t) others → t ≡ last
+last_one [] last t (inl is) none = is
+last_one [] last t (inr more) none = absurd more
+last_one (n ∷ ns) last t (inl is) none = absurd (none.0 (ap Some is))
+last_one (n ∷ ns) last t (inr more) none = last_one ns last t more none.1
+
+last_from : (others : List Text) (last : Text) (sub : Option (Text × List Row)) → is_some sub ≡ true
+    → ((r : Text × List Row) → sub ≡ Some r → IsOneOf r.0 (others ++ last ∷ [])) → IsNoneOf (name_in sub) others → name_in sub ≡ Some last
+last_from others last None has names none = absurd (false≢true has)
+last_from others last (Some r) has names none = ap Some (last_one others last r.0 (names r refl) none)
+
+-- words that have no fault, and ask for none of the subcommands before the last, ask for the last
+pub last_is_asked : (a : App) (others : List Text) (last : Text) → IsKnown a (others ++ last ∷ []) → (words : List Text) → fault_of a words ≡ []
+    → IsNoneOf (name_in (subcommand_of a words)) others → name_in (subcommand_of a words) ≡ Some last
+last_is_asked a others last known words e none =
+    last_from others last (subcommand_of a words) (is_entered a words e known.required) (λ r is. subst (IsOneOf r.0) known.named (is_one a words r is)) none

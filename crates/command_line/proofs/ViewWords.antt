@@ -1,8 +1,7 @@
 -- What clap's definition says of `realmview`, whatever the words.
-use Rattle.std.proofs.Common.{◌≡◌, List, [], ◌∷◌, true, false, refl, ap, codes, ◌⊎◌, inl, inr}
-use Rattle.std.specs.Prelude.{Option, Some, None, option_map, is_some}
+use Rattle.std.proofs.Common.{◌≡◌, List, [], ◌∷◌, ◌++◌, false, refl, codes, inl, inr}
+use Rattle.std.specs.Prelude.{Option, Some, option_map}
 use Rattle.std.specs.Str.{bytes_eq}
-use Rattle.std.proofs.lemmas.Bool.{false≢true}
 use Rattle.clap.specs.Simple.{built, filled, help_rule}
 use Rattle.clap.specs.Walk.{action_of}
 use Rattle.clap.specs.Words.{Row, Rule, Text, fault_of, subcommand_of}
@@ -11,28 +10,14 @@ use Rattle.command_line.specs.Options.{Each, IsPassed, built_erase, built_number
 use Rattle.command_line.specs.Realmview.{IsViewSubcommand, realmview}
 use Rattle.command_line.specs.declared.realmview.Asked.TheVariants.{Check}
 use Rattle.command_line.proofs.Passed.{AllAreOrAsk, AreOrAsk, IsOrAsks}
-use Rattle.command_line.proofs.Subcommands.{IsKnown, NamesOne, is_entered, is_one, name_in, values_passed}
+use Rattle.command_line.proofs.Subcommands.{IsKnown, by_name, last_is_asked, name_in, values_passed}
 
-pub realmview_is : IsKnown realmview
+abbrev before_check : List Text
+before_check = codes "history" ∷ codes "apply" ∷ codes "json" ∷ codes "page" ∷ codes "why" ∷ codes "explore" ∷ []
+
+pub realmview_is : IsKnown realmview (before_check ++ codes "check" ∷ [])
 unfolding realmview
-realmview_is = record { is_free = refl; required = refl }
-
--- ---- the subcommand
-
--- one of these names
-abbrev IsName : Text → Type 0
-IsName t = (t ≡ codes "history") ⊎ ((t ≡ codes "apply") ⊎ ((t ≡ codes "json") ⊎ ((t ≡ codes "page") ⊎ ((t ≡ codes "why") ⊎ ((t ≡ codes "explore") ⊎ (t ≡ codes "check"))))))
-
-named : (t : Text) → NamesOne t (built realmview).subs → IsName t
-unfolding realmview
-named t (inl history) = inl history
-named t (inr (inl apply)) = inr (inl apply)
-named t (inr (inr (inl json))) = inr (inr (inl json))
-named t (inr (inr (inr (inl page)))) = inr (inr (inr (inl page)))
-named t (inr (inr (inr (inr (inl why))))) = inr (inr (inr (inr (inl why))))
-named t (inr (inr (inr (inr (inr (inl explore)))))) = inr (inr (inr (inr (inr (inl explore)))))
-named t (inr (inr (inr (inr (inr (inr (inl check))))))) = inr (inr (inr (inr (inr (inr check)))))
-named t (inr (inr (inr (inr (inr (inr (inr more))))))) = absurd more
+realmview_is = record { is_free = refl; required = refl; named = refl }
 
 -- a subcommand of none of the names before the last
 pub record IsNoOther (sub : Option (Text × List Row)) : Type 0 where
@@ -43,22 +28,11 @@ pub record IsNoOther (sub : Option (Text × List Row)) : Type 0 where
   pub no_why : ¬ (name_in sub ≡ Some (codes "why"))
   pub no_explore : ¬ (name_in sub ≡ Some (codes "explore"))
 
-check_from : (sub : Option (Text × List Row)) → is_some sub ≡ true → ((r : Text × List Row) → sub ≡ Some r → IsName r.0) → IsNoOther sub → IsViewSubcommand sub Check
-check_from None has names none = absurd (false≢true has)
-check_from (Some r) has names none = elim (names r refl) [
-  | inl history ↦ absurd (none.no_history (ap Some history))
-  | inr (inl apply) ↦ absurd (none.no_apply (ap Some apply))
-  | inr (inr (inl json)) ↦ absurd (none.no_json (ap Some json))
-  | inr (inr (inr (inl page))) ↦ absurd (none.no_page (ap Some page))
-  | inr (inr (inr (inr (inl why)))) ↦ absurd (none.no_why (ap Some why))
-  | inr (inr (inr (inr (inr (inl explore))))) ↦ absurd (none.no_explore (ap Some explore))
-  | inr (inr (inr (inr (inr (inr check))))) ↦ check
-]
-
 -- words that have no fault, and ask for nothing else, ask for a check
 pub check_is_asked : (words : List Text) → fault_of realmview words ≡ [] → IsNoOther (subcommand_of realmview words) → IsViewSubcommand (subcommand_of realmview words) Check
-check_is_asked words e none =
-    check_from (subcommand_of realmview words) (is_entered realmview words e realmview_is.required) (λ r is. named r.0 (is_one realmview words r is)) none
+check_is_asked words e n =
+    by_name (λ sub. IsViewSubcommand sub Check) (codes "check") (λ r is. is) _
+    (last_is_asked realmview before_check (codes "check") realmview_is words e (n.no_history, (n.no_apply, (n.no_json, (n.no_page, (n.no_why, (n.no_explore, tt)))))))
 
 -- ---- values of options
 

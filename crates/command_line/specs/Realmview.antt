@@ -10,27 +10,9 @@ use Rattle.command_line.specs.declared.realmview.Asked.TheVariants.{History, App
 
 -- ---- the program
 
-abbrev pub history_subcommand : App
-history_subcommand = erasing_subcommand (codes "history")
-
-abbrev pub apply_subcommand : App
-apply_subcommand = erasing_subcommand (codes "apply")
-
-abbrev pub json_subcommand : App
-json_subcommand = new_app (codes "json")
-
-abbrev pub page_subcommand : App
-page_subcommand = new_app (codes "page")
-
-abbrev pub why_subcommand : App
-why_subcommand = new_app (codes "why")
-
 -- it has `--most N`, `--sample K` and `--seed S`
 abbrev pub explore_subcommand : App
 explore_subcommand = with_rule (with_rule (with_rule (new_app (codes "explore")) (number_option (codes "most"))) (number_option (codes "sample"))) (number_option (codes "seed"))
-
-abbrev pub check_subcommand : App
-check_subcommand = new_app (codes "check")
 
 abbrev pub realmview_alone : App
 realmview_alone = program_named (codes "realmview")
@@ -41,11 +23,13 @@ realmview =
     (with_subcommand
     (with_subcommand
     (with_subcommand
-    (with_subcommand (with_subcommand (with_subcommand realmview_alone history_subcommand.top) apply_subcommand.top) json_subcommand.top)
-    page_subcommand.top)
-    why_subcommand.top)
+    (with_subcommand
+    (with_subcommand (with_subcommand realmview_alone (erasing_subcommand (codes "history")).top) (erasing_subcommand (codes "apply")).top)
+    (new_app (codes "json")).top)
+    (new_app (codes "page")).top)
+    (new_app (codes "why")).top)
     explore_subcommand.top)
-    check_subcommand.top
+    (new_app (codes "check")).top
 
 -- ---- what the words ask for, by what `clap` says of their subcommand
 

@@ -1,11 +1,10 @@
 //! The command line of `rmitrace`.
-ghost use Rattle.std.specs.Prelude.{◌≡◌, IfOk, Some, codes, true, map, string_bytes};
-ghost use Rattle.clap.specs.Words.{FailsBy, app_of, fault_of, is_simple_and_free, subcommand_name_of, subcommand_of};
+ghost use Rattle.std.specs.Prelude.{◌≡◌, IfOk, true, map, string_bytes};
+ghost use Rattle.clap.specs.Words.{FailsBy, app_of, fault_of, is_simple_and_free, subcommand_of};
 ghost use Rattle.command_line.specs.Rmitrace.{rmitrace, IsTraceSubcommand};
-ghost use Rattle.command_line.specs.declared.rmitrace.Asked.TheVariants.{Answer, Check};
 
 use crate::options::{matched, program, subcommand};
-use clap::{ArgMatches, Command, Error};
+use clap::{Command, Error};
 use std::alloc::{AllocError, Global};
 
 /// What the program is asked to do.
@@ -30,22 +29,9 @@ const CHECK: &str =
 fn command<'a>(alloc: Global) -> Result<Command<'a>, AllocError>
     ensures { IfOk result (λ c. app_of c ≡ rmitrace) }
 {
-    let answer = subcommand(alloc, "answer", ANSWER);
-    let check = subcommand(alloc, "check", CHECK);
     program(alloc, "rmitrace", ABOUT)
-        .subcommand(answer)?
-        .subcommand(check)
-}
-
-// What is asked for by the words that were matched.
-fn asked_by(matches: &ArgMatches) -> Asked
-    ensures check { result ≡ Check → subcommand_name_of matches.now ≡ Some (codes "check") }
-    ensures answer { result ≡ Answer → ¬ (subcommand_name_of matches.now ≡ Some (codes "check")) }
-{
-    if matches.subcommand_matches("check").is_some() {
-        return Asked::Check;
-    }
-    Asked::Answer
+        .subcommand(subcommand(alloc, "answer", ANSWER))?
+        .subcommand(subcommand(alloc, "check", CHECK))
 }
 
 impl Asked {
@@ -57,6 +43,9 @@ impl Asked {
         ensures kinds { FailsBy (fault_of rmitrace (map string_bytes words.now)) result }
     {
         let matches = matched(command(alloc)?, words)?;
-        Ok(asked_by(&matches))
+        if matches.subcommand_matches("answer").is_some() {
+            return Ok(Asked::Answer);
+        }
+        Ok(Asked::Check)
     }
 }
