@@ -47,18 +47,18 @@ impl<D> Told<D> {
         self.failed
     }
 
-    /// How often the device was asked to read, up to the greatest `u64`.
-    pub fn reads(&self) -> u64
-        ensures { result ≡ self.now.reads }
-    {
-        self.reads
-    }
-
     /// The device, to look at.
     pub fn device(&self) -> &D
         ensures { result.now ≡ self.now.device }
     {
         &self.device
+    }
+
+    /// How often the device was asked to read, up to the greatest `u64`.
+    pub fn reads(&self) -> u64
+        ensures { result ≡ self.now.reads }
+    {
+        self.reads
     }
 }
 
