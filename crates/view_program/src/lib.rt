@@ -2,9 +2,9 @@
 //! plan, why its steps are refused, what its orders come to, its run as data and as a page, the command line, and why the program
 //! stops.
 //!
-//! `history` goes from the bytes of a plan to the text of its history, `apply` from the lines of a history to the map of the
-//! machine that it leads to, `check` from bytes to what is told of them as a plan, `json` and `page` from the bytes of a plan to
-//! its run as data and as a page, each over any reader and any writer.
+//! `Histories`, `Reasons`, `Documents`, `Pages` and `Exploring` are the texts of plans that `realm_program::print` writes. `apply`
+//! goes from the lines of a history to the map of the machine that it leads to, `check` from bytes to what is told of them as a
+//! plan. Each of them is for any reader and any writer, and `run` does what the command line asks for.
 //! Whatever they say of a run they take from a host. Nothing here looks at the process that it runs in: a caller hands in the
 //! words and the devices.
 #![tactic(auto)]
@@ -27,9 +27,9 @@ pub use checking::{Verdict, check};
 pub use command_line::realmview::{Asked, Orders};
 pub use fault::Fault;
 pub use law::{histories_do_not_stop, what_is_applied_is_legal};
-pub use plan_history::history;
-pub use plan_json::json;
-pub use plan_orders::explore;
-pub use plan_page::page;
-pub use plan_reasons::why;
+pub use plan_history::Histories;
+pub use plan_json::Documents;
+pub use plan_orders::Exploring;
+pub use plan_page::Pages;
+pub use plan_reasons::Reasons;
 pub use running::run;

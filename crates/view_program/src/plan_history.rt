@@ -1,9 +1,7 @@
-//! A plan in, its history out.
-ghost use Rattle.std.specs.Prelude.{◌≡◌, ◌+◌, ◌≤◌, ◌↔◌, ◌⊎◌, false, true, Err, IfOk, IfErr, string_bytes};
+//! The histories of runs.
+ghost use Rattle.std.specs.Prelude.{◌≡◌, IfOk, IfErr, string_bytes};
 ghost use Rattle.realm_plan.specs.PlanView.{plan_view};
-ghost use Rattle.realm_program.specs.Printed.{IsEnd};
 ghost use Rattle.realm_program.specs.Replay.{opening_host, IsWithoutText};
-ghost use Rattle.realm_program.specs.declared.fault.Fault.TheVariants.{Device};
 ghost use Rattle.view_program.specs.History.{opening_of, IsBuildOfPlan, IsHistoryText};
 
 use buddy::BuddyArena;
@@ -12,10 +10,8 @@ use history_text::{Opening, push_history};
 use plan_runs::run_turns;
 use realm_host::Host;
 use realm_plan::Plan;
-use realm_program::{Fault, PlanText, boot, print};
+use realm_program::{Fault, PlanText, boot};
 use std::alloc::{AllocError, Global};
-use std::io::{Read, Write};
-use told_device::Told;
 
 // The size of the plan's machine.
 fn opening_of(plan: &Plan) -> Opening
@@ -72,19 +68,12 @@ fn run_text(alloc: Global, plan: &Plan, erase: Option<BuildId>) -> Result<String
     text_after_run(alloc, plan, &mut host, erase)
 }
 
-// The history of a run of the plan.
-fn text_of(alloc: Global, plan: &Plan, erase: Option<BuildId>) -> Result<String, Fault>
-    ensures ok { IfOk result (λ text. IsHistoryText erase (plan_view plan.now) (string_bytes text)) }
-    ensures err { IfErr result (IsWithoutText erase (plan_view plan.now)) }
-{
-    let erase = checked_erase(plan, erase)?;
-    Ok(run_text(alloc, plan, erase)?)
-}
-
-// The histories of runs, whole or without a build.
+/// The histories of runs of plans, whole or without a build. A plan has none where that build is none of its own:
+/// EraseNamesNoBuild; or where allocation failed.
 #[derive(Drop)]
-struct Histories {
-    erase: Option<BuildId>,
+pub struct Histories {
+    /// The build that is left out.
+    pub erase: Option<BuildId>,
 }
 
 impl PlanText for Histories {
@@ -93,27 +82,7 @@ impl PlanText for Histories {
     ghost is_without = { λ asked. IsWithoutText asked.erase };
 
     fn text_of(&self, alloc: Global, plan: &Plan) -> Result<Vec<u8>, Fault> {
-        Ok(text_of(alloc, plan, self.erase)?.into_bytes())
+        let erase = checked_erase(plan, self.erase)?;
+        Ok(run_text(alloc, plan, erase)?.into_bytes())
     }
-}
-
-/// Reads a plan, runs it, and writes its history; a build may be left out.
-///
-/// The text is made whole before any of it is written. Errors: the fault of a plan; EraseNamesNoBuild, where the build to be
-/// left out is none of the plan's; Memory, where allocation failed; Device, where a read failed, and then nothing is
-/// written, or a write, and then a prefix of the text is.
-pub fn history<R: Read, W: Write>(
-    alloc: Global,
-    input: &mut Told<R>,
-    output: &mut Told<W>,
-    erase: Option<BuildId>,
-) -> Result<(), Fault>
-    requires readable { input.old.failed ≡ false }
-    requires writable { output.old.failed ≡ false }
-    ensures end { IsEnd (IsHistoryText erase) (IsWithoutText erase) input.new.failed
-        (R.remaining input.old.device) (W.contents output.old.device) (W.contents output.new.device) result }
-    ensures device { ((input.new.failed ≡ true) ⊎ (output.new.failed ≡ true)) ↔ (result ≡ Err Device) }
-    ensures asked { input.new.reads ≤ input.old.reads + 1048578 }
-{
-    print(&Histories { erase }, alloc, input, output)
 }

@@ -1,8 +1,6 @@
-//! A plan in, what its orders come to out.
-ghost use Rattle.std.specs.Prelude.{◌≡◌, ◌+◌, ◌≤◌, ◌↔◌, ◌⊎◌, false, true, Err, IfOk, IfErr, string_bytes};
+//! What the orders of plans come to.
+ghost use Rattle.std.specs.Prelude.{◌≡◌, IfOk, IfErr, string_bytes};
 ghost use Rattle.realm_plan.specs.PlanView.{plan_view};
-ghost use Rattle.realm_program.specs.Printed.{IsEnd};
-ghost use Rattle.realm_program.specs.declared.fault.Fault.TheVariants.{Device};
 ghost use Rattle.order_runs.specs.Exploring.{IsNotExplored};
 ghost use Rattle.order_runs.specs.Lines.{orders_text, drawn_text};
 ghost use Rattle.view_program.specs.Orders.{IsFirstText, IsDrawnText, IsOrdersText, IsWithoutOrders};
@@ -14,10 +12,8 @@ use order_runs::{
 use rand_core::SeedableRng;
 use rand_xoshiro::Xoshiro256PlusPlus;
 use realm_plan::Plan;
-use realm_program::{Fault, PlanText, print};
+use realm_program::{Fault, PlanText};
 use std::alloc::{AllocError, Global};
-use std::io::{Read, Write};
-use told_device::Told;
 
 // The text of what the first orders come to.
 fn text_of_first(alloc: Global, plan: &Plan, explored: &Explored) -> Result<String, AllocError>
@@ -82,11 +78,16 @@ fn orders_text_of<P: Progress>(
     }
 }
 
-// Orders to be run, and who is told how far that has come.
+/// What other orders of the turns of a plan's builds come to: how many these are, how each step of each build ended, in how many
+/// orders each build was never refused, and the maps in the end, each with the first order that shows it.
+///
+/// A plan has no such text where a host did not answer the same to the same: Mismatch; or where allocation failed.
 #[derive(Drop)]
-struct Exploring<'a, P> {
-    orders: Orders,
-    progress: &'a P,
+pub struct Exploring<'a, P> {
+    /// Which orders are run.
+    pub orders: Orders,
+    /// Is told of each order that was run.
+    pub progress: &'a P,
 }
 
 impl<P: Progress> PlanText for Exploring<'_, P> {
@@ -97,27 +98,4 @@ impl<P: Progress> PlanText for Exploring<'_, P> {
     fn text_of(&self, alloc: Global, plan: &Plan) -> Result<Vec<u8>, Fault> {
         Ok(orders_text_of(alloc, plan, self.orders, self.progress)?.into_bytes())
     }
-}
-
-/// Reads a plan, runs its builds' turns in other orders, and writes how many these are, how each step of each build ended, in how
-/// many orders each build was never refused, and the maps in the end, each with the first order that shows it.
-///
-/// `progress` is told of each order that was run. The text is made whole before any of it is written. Errors: the fault of a plan;
-/// Memory, where allocation failed; Mismatch, where a host did not answer the same to the same; Device, where a read failed, and then nothing is written, or a write, and
-/// then a prefix of the text is.
-pub fn explore<R: Read, W: Write, P: Progress>(
-    alloc: Global,
-    input: &mut Told<R>,
-    output: &mut Told<W>,
-    orders: Orders,
-    progress: &P,
-) -> Result<(), Fault>
-    requires readable { input.old.failed ≡ false }
-    requires writable { output.old.failed ≡ false }
-    ensures end { IsEnd (IsOrdersText orders) (IsWithoutOrders orders) input.new.failed
-        (R.remaining input.old.device) (W.contents output.old.device) (W.contents output.new.device) result }
-    ensures device { ((input.new.failed ≡ true) ⊎ (output.new.failed ≡ true)) ↔ (result ≡ Err Device) }
-    ensures asked { input.new.reads ≤ input.old.reads + 1048578 }
-{
-    print(&Exploring { orders, progress }, alloc, input, output)
 }

@@ -1,10 +1,8 @@
-//! A plan in, a page that shows its run out.
-ghost use Rattle.std.specs.Prelude.{◌≡◌, ◌+◌, ◌<◌, ◌≤◌, ◌↔◌, ◌⊎◌, ◌++◌, false, true, Err, None, OnOk, IfOk, string_bytes};
+//! The pages that show runs.
+ghost use Rattle.std.specs.Prelude.{◌≡◌, ◌<◌, ◌++◌, None, OnOk, IfOk, string_bytes};
 ghost use Rattle.realm_plan.specs.PlanView.{plan_view};
 ghost use Rattle.realm_host.specs.Recorded.{fresh_like, IsWithout};
-ghost use Rattle.realm_program.specs.Printed.{IsEnd};
 ghost use Rattle.realm_program.specs.Replay.{opening_host, IsWithoutText};
-ghost use Rattle.realm_program.specs.declared.fault.Fault.TheVariants.{Device};
 ghost use Rattle.run_json.specs.Items.{comma};
 ghost use Rattle.run_json.specs.Worlds.{IsWorldText};
 ghost use Rattle.view_program.specs.PageData.{IsWithoutWorld, AreWithoutWorlds, IsPageData, IsPageText};
@@ -14,11 +12,9 @@ use buddy::BuddyArena;
 use granule_addr::BuildId;
 use realm_host::{Books, Host, apply_without};
 use realm_plan::Plan;
-use realm_program::{Fault, PlanText, boot, print};
+use realm_program::{Fault, PlanText, boot};
 use run_json::{Comma, page_of, push_world};
 use std::alloc::{AllocError, Global};
-use std::io::{Read, Write};
-use told_device::Told;
 
 // The build at a place.
 fn id_of(place: usize) -> BuildId
@@ -99,9 +95,10 @@ fn page_data(alloc: Global, plan: &Plan) -> Result<String, AllocError>
     Ok(text)
 }
 
-// The pages of runs.
+/// Pages for browsers that show runs of plans. A page has the document of the run, and beside it the worlds of the run's history
+/// without each build, each of them made by a machine of its own. A plan has none only where allocation failed.
 #[derive(Drop)]
-struct Pages;
+pub struct Pages;
 
 impl PlanText for Pages {
     ghost is_text = { λ asked. IsPageText };
@@ -112,24 +109,4 @@ impl PlanText for Pages {
         let json = page_data(alloc, plan)?;
         Ok(page_of(alloc, json.as_bytes())?)
     }
-}
-
-/// Reads a plan, runs it, and writes a page for browsers that shows the run. The page has the document of the run, and beside
-/// it the worlds of the run's history without each build, each of them made by a machine of its own.
-///
-/// The page is made whole before any of it is written. Errors: the fault of a plan; Memory, where allocation failed; Device,
-/// where a read failed, and then nothing is written, or a write, and then a prefix of the page is.
-pub fn page<R: Read, W: Write>(
-    alloc: Global,
-    input: &mut Told<R>,
-    output: &mut Told<W>,
-) -> Result<(), Fault>
-    requires readable { input.old.failed ≡ false }
-    requires writable { output.old.failed ≡ false }
-    ensures end { IsEnd IsPageText (IsWithoutText None) input.new.failed
-        (R.remaining input.old.device) (W.contents output.old.device) (W.contents output.new.device) result }
-    ensures device { ((input.new.failed ≡ true) ⊎ (output.new.failed ≡ true)) ↔ (result ≡ Err Device) }
-    ensures asked { input.new.reads ≤ input.old.reads + 1048578 }
-{
-    print(&Pages, alloc, input, output)
 }

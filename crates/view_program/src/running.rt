@@ -2,8 +2,9 @@
 ghost use Rattle.std.specs.Prelude.{◌≡◌, ◌↔◌, ◌⊎◌, false, true};
 ghost use Rattle.view_program.specs.Printed.{IsDeviceFault, IsRunEnd};
 
-use crate::{Asked, Fault, Verdict, apply, check, explore, history, json, page, why};
+use crate::{Asked, Documents, Exploring, Fault, Histories, Pages, Reasons, Verdict, apply, check};
 use order_runs::Progress;
+use realm_program::print;
 use std::alloc::Global;
 use std::io::{Read, Write};
 use told_device::Told;
@@ -22,13 +23,13 @@ pub fn run<R: Read, W: Write, P: Progress>(
     ensures end { IsRunEnd asked input.new.failed (R.remaining input.old.device) (W.contents output.old.device) (W.contents output.new.device) result }
 {
     match asked {
-        Asked::History(erase) => history(alloc, input, output, erase)?,
+        Asked::History(erase) => print(&Histories { erase }, alloc, input, output)?,
         Asked::Apply(erase) => apply(alloc, input, output, erase)?,
-        Asked::Json => json(alloc, input, output)?,
-        Asked::Page => page(alloc, input, output)?,
+        Asked::Json => print(&Documents, alloc, input, output)?,
+        Asked::Page => print(&Pages, alloc, input, output)?,
         Asked::Check => return check(alloc, input, output),
-        Asked::Explore(orders) => explore(alloc, input, output, orders, progress)?,
-        Asked::Why => why(alloc, input, output)?,
+        Asked::Explore(orders) => print(&Exploring { orders, progress }, alloc, input, output)?,
+        Asked::Why => print(&Reasons, alloc, input, output)?,
     }
     Ok(Verdict::Done)
 }
