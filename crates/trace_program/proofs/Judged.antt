@@ -12,8 +12,7 @@ use Rattle.trace_program.specs.Checking.{CountsLine, IsAgreedSoFar, IsAgreedUnde
 use Rattle.trace_program.specs.declared.checking.Counts.{Counts}
 use Rattle.trace_program.specs.declared.checking.Verdict.{Verdict}
 use Rattle.trace_program.specs.declared.checking.Verdict.TheVariants.{Agree, NoAnswers, Differ}
-use Rattle.trace_program.proofs.Kept.{none_kept, some_kept}
-use Rattle.trace_program.proofs.Parts.{lines_without, lines_with}
+use Rattle.trace_program.proofs.LinesRead.{lines_are_all, rest_is_last}
 use Rattle.trace_program.proofs.Underway.{consumes_keeps, consumes_nothing}
 use Rattle.trace_program.proofs.Agreed.{agreed_none, kept_agreed, kept_count, kept_differs}
 use Rattle.told_device.proofs.Read.{consumes_none, consumes_more}
@@ -64,7 +63,7 @@ module _ (input left : Option (List ℕ)) (bench : Now) (counts : Counts) (line 
   -- with the last line feed
   pub right_at_feed : length line ≡ 0 → AreRight input left counts
   right_at_feed none = let s = u.so_far in
-      let lines : lines_in u.read ≡ s.lines = lines_without u.read s.lines s.rest s.cut (none_kept line s.rest s.is_kept none) in record {
+      let lines : lines_in u.read ≡ s.parts.lines = lines_are_all u.read line s.parts none in record {
         read = u.read;
         consumed = u.consumed;
         at_end = end;
@@ -77,19 +76,19 @@ module _ (input left : Option (List ℕ)) (bench : Now) (counts : Counts) (line 
   -- with a last line that has no line feed
   pub right_at_last : (after : Now) (counts_after : Counts) (line_after : List ℕ) → 0 < length line → CountsLine bench counts line after counts_after line_after → AreRight input left counts_after
   right_at_last after counts_after line_after some w = let s = u.so_far in
-      let lines : lines_in u.read ≡ s.lines ++ s.rest ∷ [] = lines_with u.read s.lines s.rest s.cut (some_kept line s.rest s.is_kept some) in record {
+      let lines : lines_in u.read ≡ s.parts.lines ++ s.parts.rest ∷ [] = rest_is_last u.read line s.parts some in record {
         read = u.read;
         consumed = u.consumed;
         at_end = end;
         last = after;
-        agreed = rw lines (kept_agreed s.lines s.rest line bench s.is_kept s.agreed after w.agreed);
-        answered = rw lines (kept_count s.lines s.rest line bench s.is_kept s.agreed has_answer counts.answers counts_after.answers s.answered w.answered);
-        performed = rw lines (kept_count s.lines s.rest line bench s.is_kept s.agreed is_only_performed counts.performed counts_after.performed s.performed w.performed);
+        agreed = rw lines (kept_agreed u.read bench counts line s after w.agreed);
+        answered = rw lines (kept_count u.read bench counts line s has_answer counts.answers counts_after.answers s.answered w.answered);
+        performed = rw lines (kept_count u.read bench counts line s is_only_performed counts.performed counts_after.performed s.performed w.performed);
       }
 
   pub judged_differs : (text : List ℕ) → 0 < length line → LineDiffers bench (counts.lines + 1) line text → IsTraceJudged input left Differ text
   judged_differs text some d = let s = u.so_far in
-      let lines : lines_in u.read ≡ s.lines ++ s.rest ∷ [] = lines_with u.read s.lines s.rest s.cut (some_kept line s.rest s.is_kept some) in record {
+      let lines : lines_in u.read ≡ s.parts.lines ++ s.parts.rest ∷ [] = rest_is_last u.read line s.parts some in record {
         read = u.read;
         consumed = u.consumed;
         judged = record {
@@ -97,7 +96,7 @@ module _ (input left : Option (List ℕ)) (bench : Now) (counts : Counts) (line 
           ahead = [];
           split = sym (append-nil u.read);
           ends = inr (end, refl);
-          first = subst (λ (ls : List (List ℕ)). LastDiffers (map kept_of_line ls) text) (sym lines) (kept_differs s.lines s.rest line bench s.is_kept s.agreed counts.lines text s.counted d);
+          first = subst (λ (ls : List (List ℕ)). LastDiffers (map kept_of_line ls) text) (sym lines) (kept_differs u.read bench counts line s text d);
         };
       }
 

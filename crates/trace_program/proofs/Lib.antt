@@ -1,6 +1,7 @@
 pub mod Values
 pub mod Kept
 pub mod Parts
+pub mod LinesRead
 pub mod ReadParts
 pub mod Sessions
 pub mod SoFar

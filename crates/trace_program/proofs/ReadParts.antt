@@ -1,7 +1,7 @@
 -- What is read, one byte of a part after another.
-use Rattle.std.proofs.Common.{ℕ, ◌+◌, ◌<◌, ◌≤◌, List, [], ◌∷◌, ◌++◌, length, get_or, take, Option, sym, ap, ◌∙◌, subst, append_assoc}
+use Rattle.std.proofs.Common.{ℕ, ◌+◌, ◌<◌, ◌≤◌, List, [], ◌∷◌, ◌++◌, length, get_or, take, drop, Option, sym, ap, ◌∙◌, subst, append_assoc}
 use mathlib.Core.List.{append-nil}
-use Rattle.std.proofs.lemmas.List.{take_all, take_more}
+use Rattle.std.proofs.lemmas.List.{take_all, take_more, take-append-drop}
 use Rattle.trace_program.specs.Session.{Now}
 use Rattle.trace_program.specs.Answering.{IsSoFar}
 use Rattle.trace_program.specs.Checking.{IsAgreedSoFar}
@@ -17,6 +17,12 @@ module _ (P : List ℕ → Type 0) (read part : List ℕ) where
 
   at_all : (i : ℕ) → length part ≤ i → P (read ++ take i part) → P (read ++ part)
   at_all i end p = subst P (ap (λ t. read ++ t) (take_all i part end)) p
+
+  -- what stays so with more, from a byte of the part on
+  pub stays_in : ((front more : List ℕ) → P front → P (front ++ more)) → (i : ℕ) → i < length part → P ((read ++ take i part) ++ get_or part i 0 ∷ []) → P (read ++ part)
+  stays_in stays i within p =
+      subst P (append_assoc read (take (i + 1) part) (drop (i + 1) part) ∙ ap (λ t. read ++ t) (take-append-drop (i + 1) part))
+      (stays (read ++ take (i + 1) part) (drop (i + 1) part) (at_next i within p))
 
 module _ (old new : Option (List ℕ)) (read part : List ℕ) (bench : Now) (line : List ℕ) where
   pub so_far_at_none : IsSoFar old new read bench line → IsSoFar old new (read ++ take 0 part) bench line

@@ -1,44 +1,37 @@
 -- What has been read and written, one byte after another.
-use Rattle.std.proofs.Common.{◌≡◌, ℕ, ◌<◌, ◌==◌, true, false, List, [], ◌∷◌, ◌++◌, length, suc, get_or, take, drop, Option, None, refl, sym, ap, ◌∙◌, subst, append_assoc, ◌⊎◌, inl, inr}
+use Rattle.std.proofs.Common.{◌≡◌, ℕ, ◌<◌, ◌==◌, true, false, List, [], ◌∷◌, ◌++◌, length, map, get_or, take, Option, None, refl, sym, ap, ◌∙◌, append_assoc, ◌⊎◌, inl, inr}
 use mathlib.Core.List.{append-nil}
-use Rattle.std.proofs.Math.Seq.{take-suc}
-use Rattle.std.proofs.lemmas.List.{take-append-drop}
 use Rattle.std.specs.Io.KnownBytes.{Appends, Keeps}
 use Rattle.told_device.specs.Whole.{AppendsFront}
 use Rattle.told_device.proofs.Written.{appends_none, appends_more, appends_keeps}
-use Rattle.trace_program.specs.Session.{Now}
+use Rattle.trace_program.specs.Session.{Now, IsLineTold, IsSession}
 use Rattle.told_device.specs.Lines.{last_line}
 use Rattle.trace_program.specs.Input.{kept_of_line, IsCutShort}
 use Rattle.trace_program.specs.Answering.{IsSoFar, Writes, WritesFront}
-use Rattle.trace_program.proofs.Kept.{kept_none}
-use Rattle.trace_program.proofs.Parts.{cut_feed, cut_more, lines_are}
+use Rattle.trace_program.proofs.LinesRead.{none_read, byte_read, feed_read}
+use Rattle.trace_program.proofs.Parts.{lines_are}
+use Rattle.trace_program.proofs.ReadParts.{stays_in}
 use Rattle.trace_program.proofs.Sessions.{kept_session_more}
 
 pub so_far_none : (old : Option (List ℕ)) → IsSoFar old old [] None []
-so_far_none old = record { lines = []; rest = []; cut = refl; is_kept = sym kept_none; text = []; session = (refl, refl); written = appends_none old }
+so_far_none old = record { parts = none_read; text = []; session = (refl, refl); written = appends_none old }
+
+-- a line ends, and is answered
+pub session_more : (old new : Option (List ℕ)) (read : List ℕ) (bench : Now) (line : List ℕ) (s : IsSoFar old new read bench line) (told : List ℕ) (after : Now) → IsLineTold bench line told after
+    → IsSession None (map kept_of_line (s.parts.lines ++ s.parts.rest ∷ [])) (s.text ++ told) after
+session_more old new read bench line s told after is = kept_session_more None s.parts.lines s.parts.rest line s.text told bench after s.session s.parts.is_kept is
 
 module _ (old new : Option (List ℕ)) (read : List ℕ) (bench : Now) (line : List ℕ) (b : ℕ) where
   pub so_far_more : (grown : List ℕ) → IsSoFar old new read bench line → (b == 10) ≡ false → ((rest : List ℕ) → line ≡ kept_of_line rest → grown ≡ kept_of_line (rest ++ b ∷ []))
       → IsSoFar old new (read ++ b ∷ []) bench grown
-  so_far_more grown s other keeps = record {
-    lines = s.lines;
-    rest = s.rest ++ b ∷ [];
-    cut = cut_more read s.lines s.rest b other s.cut;
-    is_kept = keeps s.rest s.is_kept;
-    text = s.text;
-    session = s.session;
-    written = s.written;
-  }
+  so_far_more grown s other keeps = record { parts = byte_read read line b grown s.parts other keeps; text = s.text; session = s.session; written = s.written }
 
   pub so_far_line : (after : Option (List ℕ)) (bench_after : Now) → IsSoFar old new read bench line → (b == 10) ≡ true → Writes new after bench line bench_after
       → IsSoFar old after (read ++ b ∷ []) bench_after []
   so_far_line after bench_after s feed w = record {
-    lines = s.lines ++ s.rest ∷ [];
-    rest = [];
-    cut = cut_feed read s.lines s.rest b feed s.cut;
-    is_kept = sym kept_none;
+    parts = feed_read read line b [] s.parts feed refl;
     text = s.text ++ w.told;
-    session = kept_session_more None s.lines s.rest line s.text w.told bench bench_after s.session s.is_kept w.is_told;
+    session = session_more old new read bench line s w.told bench_after w.is_told;
     written = appends_more old new after s.text w.told s.written w.written;
   }
 
@@ -50,9 +43,9 @@ module _ (old new : Option (List ℕ)) (read : List ℕ) (bench : Now) (line : L
     front = read;
     ahead = ahead;
     split = refl;
-    answered = s.lines;
-    more = last_line s.rest;
-    lines = lines_are read s.lines s.rest s.cut;
+    answered = s.parts.lines;
+    more = last_line s.parts.rest;
+    lines = lines_are read s.parts.lines s.parts.rest s.parts.cut;
     text = s.text;
     last = bench;
     session = s.session;
@@ -69,16 +62,16 @@ module _ (old new : Option (List ℕ)) (read : List ℕ) (bench : Now) (line : L
 
   stopped_in_line : (b : ℕ) (after : Option (List ℕ)) → IsSoFar old new read bench line → (b == 10) ≡ true → WritesFront new after bench line
       → IsCutShort old after (read ++ b ∷ [])
-  stopped_in_line b after s feed w = record {
+  stopped_in_line b after s feed w = let ended = feed_read read line b [] s.parts feed refl in record {
     front = read ++ b ∷ [];
     ahead = [];
     split = sym (append-nil (read ++ b ∷ []));
-    answered = s.lines ++ s.rest ∷ [];
+    answered = s.parts.lines ++ s.parts.rest ∷ [];
     more = [];
-    lines = lines_are (read ++ b ∷ []) (s.lines ++ s.rest ∷ []) [] (cut_feed read s.lines s.rest b feed s.cut);
+    lines = lines_are (read ++ b ∷ []) (s.parts.lines ++ s.parts.rest ∷ []) [] ended.cut;
     text = s.text ++ w.told;
     last = w.after;
-    session = kept_session_more None s.lines s.rest line s.text w.told bench w.after s.session s.is_kept w.is_told;
+    session = session_more old new read bench line s w.told w.after w.is_told;
     written = front_more after s.text w.told s.written w.written;
   }
 
@@ -104,9 +97,4 @@ cut_short_more old new read more c = record {
 
 pub cut_short_in : (old new : Option (List ℕ)) (read part : List ℕ) (i : ℕ) → i < length part → IsCutShort old new ((read ++ take i part) ++ get_or part i 0 ∷ [])
     → IsCutShort old new (read ++ part)
-cut_short_in old new read part i within c =
-    let upto : (read ++ take i part) ++ get_or part i 0 ∷ [] ≡ read ++ take (suc i) part =
-    append_assoc read (take i part) (get_or part i 0 ∷ []) ∙ ap (λ t. read ++ t) (sym (take-suc part i 0 within)) in
-    let all : (read ++ take (suc i) part) ++ drop (suc i) part ≡ read ++ part =
-    append_assoc read (take (suc i) part) (drop (suc i) part) ∙ ap (λ t. read ++ t) (take-append-drop (suc i) part) in
-    subst (IsCutShort old new) all (cut_short_more old new (read ++ take (suc i) part) (drop (suc i) part) (subst (IsCutShort old new) upto c))
+cut_short_in old new read part i within c = stays_in (IsCutShort old new) read part (cut_short_more old new) i within c

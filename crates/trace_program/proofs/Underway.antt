@@ -7,10 +7,8 @@ use Rattle.told_device.proofs.Read.{consumes_none, consumes_more, keeps_same}
 use Rattle.trace_program.specs.Session.{Now, IsSession}
 use Rattle.trace_program.specs.Input.{kept_of_line, AreLinesAnswered, IsCutShort, AreAnswersCutShort}
 use Rattle.trace_program.specs.Answering.{IsSoFar, IsUnderway, Writes, WritesFront}
-use Rattle.trace_program.proofs.Kept.{none_kept, some_kept}
-use Rattle.trace_program.proofs.Parts.{lines_without, lines_with}
-use Rattle.trace_program.proofs.Sessions.{kept_session_more}
-use Rattle.trace_program.proofs.SoFar.{so_far_none, stopped, front_more}
+use Rattle.trace_program.proofs.LinesRead.{lines_are_all, rest_is_last}
+use Rattle.trace_program.proofs.SoFar.{so_far_none, session_more, stopped, front_more}
 
 -- ---- reads
 
@@ -64,7 +62,7 @@ module _ (input left old new : Option (List ℕ)) (bench : Now) (line : List ℕ
     at_end = end;
     text = s.text;
     last = bench;
-    session = subst (λ (ls : List (List ℕ)). IsSession None (map kept_of_line ls) s.text bench) (sym (lines_without u.read s.lines s.rest s.cut (none_kept line s.rest s.is_kept none))) s.session;
+    session = subst (λ (ls : List (List ℕ)). IsSession None (map kept_of_line ls) s.text bench) (sym (lines_are_all u.read line s.parts none)) s.session;
     written = s.written;
   }
 
@@ -76,8 +74,8 @@ module _ (input left old new : Option (List ℕ)) (bench : Now) (line : List ℕ
     at_end = end;
     text = s.text ++ w.told;
     last = bench_after;
-    session = subst (λ (ls : List (List ℕ)). IsSession None (map kept_of_line ls) (s.text ++ w.told) bench_after) (sym (lines_with u.read s.lines s.rest s.cut (some_kept line s.rest s.is_kept some)))
-        (kept_session_more None s.lines s.rest line s.text w.told bench bench_after s.session s.is_kept w.is_told);
+    session = subst (λ (ls : List (List ℕ)). IsSession None (map kept_of_line ls) (s.text ++ w.told) bench_after) (sym (rest_is_last u.read line s.parts some))
+        (session_more old new u.read bench line s w.told bench_after w.is_told);
     written = appends_more old new after s.text w.told s.written w.written;
   }
 
@@ -98,12 +96,12 @@ module _ (input left old new : Option (List ℕ)) (bench : Now) (line : List ℕ
       front = u.read;
       ahead = [];
       split = sym (append-nil u.read);
-      answered = s.lines ++ s.rest ∷ [];
+      answered = s.parts.lines ++ s.parts.rest ∷ [];
       more = [];
-      lines = lines_with u.read s.lines s.rest s.cut (some_kept line s.rest s.is_kept some) ∙ sym (append-nil (s.lines ++ s.rest ∷ []));
+      lines = rest_is_last u.read line s.parts some ∙ sym (append-nil (s.parts.lines ++ s.parts.rest ∷ []));
       text = s.text ++ w.told;
       last = w.after;
-      session = kept_session_more None s.lines s.rest line s.text w.told bench w.after s.session s.is_kept w.is_told;
+      session = session_more old new u.read bench line s w.told w.after w.is_told;
       written = front_more old new u.read bench line after s.text w.told s.written w.written;
     };
   }

@@ -1,19 +1,15 @@
 -- What has been read and written so far.
-use Rattle.std.specs.Prelude.{◌≡◌, ℕ, Bool, true, false, List, [], ◌∷◌, ◌++◌, map, Option, None}
+use Rattle.std.specs.Prelude.{ℕ, Bool, true, false, List, map, Option, None}
 use Rattle.std.specs.Io.KnownBytes.{Appends, Consumes}
 use Rattle.told_device.specs.Whole.{AppendsFront}
 use Rattle.trace_program.specs.Session.{Now, IsLineTold, IsSession}
-use Rattle.told_device.specs.Lines.{parts_of}
-use Rattle.trace_program.specs.Input.{kept_of_line, AreLinesAnswered}
+use Rattle.trace_program.specs.Input.{kept_of_line, AreLinesRead, AreLinesAnswered}
 
--- Lines of what was read are answered, and of the rest so much is kept.
+-- The lines of what was read are answered.
 pub record IsSoFar (old new : Option (List ℕ)) (read : List ℕ) (bench : Now) (kept : List ℕ) : Type 0 where
-  pub lines : List (List ℕ)
-  pub rest : List ℕ
-  pub cut : parts_of read ≡ lines ++ rest ∷ []
-  pub is_kept : kept ≡ kept_of_line rest
+  pub parts : AreLinesRead read kept
   pub text : List ℕ
-  pub session : IsSession None (map kept_of_line lines) text bench
+  pub session : IsSession None (map kept_of_line parts.lines) text bench
   pub written : Appends old new text
 
 -- the answer to a line was written

@@ -2,21 +2,18 @@
 use Rattle.std.specs.Prelude.{◌≡◌, ℕ, ◌+◌, List, [], ◌∷◌, ◌++◌, length, map, Option, None}
 use Rattle.std.specs.Io.KnownBytes.{Consumes}
 use Rattle.trace_program.specs.Session.{Now}
-use Rattle.told_device.specs.Lines.{parts_of, lines_in}
-use Rattle.trace_program.specs.Input.{kept_of_line}
+use Rattle.told_device.specs.Lines.{lines_in}
+use Rattle.trace_program.specs.Input.{kept_of_line, AreLinesRead}
 use Rattle.trace_program.specs.Verdict.{IsAgreed, AreAgreed, answers_in, performed_in, EndsWithFeed, LastDiffers}
 use Rattle.trace_program.specs.declared.checking.Counts.{Counts}
 
--- Lines of what was read are right, these are their counts, and of the rest so much is kept.
+-- The lines of what was read are right, and these are their counts.
 pub record IsAgreedSoFar (read : List ℕ) (bench : Now) (counts : Counts) (kept : List ℕ) : Type 0 where
-  pub lines : List (List ℕ)
-  pub rest : List ℕ
-  pub cut : parts_of read ≡ lines ++ rest ∷ []
-  pub is_kept : kept ≡ kept_of_line rest
-  pub agreed : AreAgreed None (map kept_of_line lines) bench
-  pub counted : counts.lines ≡ length lines
-  pub answered : counts.answers ≡ answers_in (map kept_of_line lines)
-  pub performed : counts.performed ≡ performed_in (map kept_of_line lines)
+  pub parts : AreLinesRead read kept
+  pub agreed : AreAgreed None (map kept_of_line parts.lines) bench
+  pub counted : counts.lines ≡ length parts.lines
+  pub answered : counts.answers ≡ answers_in (map kept_of_line parts.lines)
+  pub performed : counts.performed ≡ performed_in (map kept_of_line parts.lines)
 
 -- the same, of what the reader gave
 pub record IsAgreedUnderway (input left : Option (List ℕ)) (bench : Now) (counts : Counts) (kept : List ℕ) : Type 0 where

@@ -1,13 +1,20 @@
 -- Lines of an input, and their answers.
-use Rattle.std.specs.Prelude.{◌≡◌, ℕ, List, ◌++◌, map, take, Option, None}
+use Rattle.std.specs.Prelude.{◌≡◌, ℕ, List, [], ◌∷◌, ◌++◌, map, take, Option, None}
 use Rattle.std.specs.Io.KnownBytes.{Consumes, IsAtEnd, Appends}
-use Rattle.told_device.specs.Lines.{lines_in}
+use Rattle.told_device.specs.Lines.{parts_of, lines_in}
 use Rattle.told_device.specs.Whole.{AppendsFront}
 use Rattle.trace_program.specs.Session.{Now, IsSession}
 
 -- What is kept of a line: one byte more than a line that is read may have, which is enough to see that it is too long.
 unfoldable pub kept_of_line : List ℕ → List ℕ
 kept_of_line line = take 65537 line
+
+-- What was read is these lines and a rest, of which so much is kept.
+pub record AreLinesRead (read kept : List ℕ) : Type 0 where
+  pub lines : List (List ℕ)
+  pub rest : List ℕ
+  pub cut : parts_of read ≡ lines ++ rest ∷ []
+  pub is_kept : kept ≡ kept_of_line rest
 
 -- The input was read to its end, and what is written is the answers to its lines. `left` is what the reader has left then.
 pub record AreLinesAnswered (input left old new : Option (List ℕ)) : Type 0 where
