@@ -68,10 +68,7 @@ fn tables_named(width: u8) -> u16
     ensures value { result ≡ tables_named width }
     ensures few { result ≤ 16 }
 {
-    match IpaWidth::new(width) {
-        Some(width) => width.start_count(),
-        None => 1,
-    }
+    IpaWidth::new(width).map_or(1, |width| width.start_count())
 }
 
 // Puts the numbers from one on at the end.

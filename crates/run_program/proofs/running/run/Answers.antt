@@ -1,11 +1,10 @@
-use Rattle.std.proofs.Common.{Err, ap, sym, ◌∙◌, subst, string_bytes}
+use Rattle.std.proofs.Common.{Err, ap, subst, string_bytes}
 use Rattle.std.specs.Io.KnownBytes.{Appends}
 use Rattle.std.proofs.lemmas.Result.{err_from_is_err_and}
 use Rattle.run_program.proofs.Orders.{order_is_not_told}
 use Rattle.realm_plan.specs.PlanView.{plan_view}
 use Rattle.realm_program.specs.Replay.{opening_host}
 use Rattle.told_device.specs.Whole.{AppendsFront}
-use Rattle.realm_program.specs.Printed.{IsEnd}
 use Rattle.run_program.specs.Threads.{IsThreadsText, IsWithoutThreadsText}
 use Rattle.run_program.proofs.Faults.{threads_fault}
 use Rattle.realm_program.proofs.Ends.{no_plan, no_text, read_well, printed, cut}
@@ -14,46 +13,43 @@ use Rattle.run_program.proofs.running.run.Goals as goal
 pub returns-in_err-plan-clause-end : goal.returns-in_err-plan-clause-end
 returns-in_err-plan-clause-end g c =
     let told = err_from_is_err_and c.from_residual.result c.from_residual.ensures.1 in
-    let input = g.R.Read.remaining c.args.input.now.device in
-    let output = g.W.Write.contents c.args.output.now.device in
-    let texts = IsThreadsText (g.G.Gate.passes c.args.gate.now) (g.G.Gate.stops c.args.gate.now) in
-    let without = IsWithoutThreadsText (g.G.Gate.passes c.args.gate.now) (g.G.Gate.stops c.args.gate.now) in
-    let unread = c.plan_in.new.input.failed in
-    subst (IsEnd texts without unread input output output) (sym (told.1 ∙ ap Err told.2))
-    (no_plan texts without unread input output c.in_err-plan.field-0.0 c.in_err-plan.ensures.err (λ is. c.in_err-plan.ensures.told.1 (ap Err is)))
+    let passes = g.G.Gate.passes c.args.gate.now in
+    let stops = g.G.Gate.stops c.args.gate.now in
+    rw (told.1, told.2)
+    (no_plan (IsThreadsText passes stops) (IsWithoutThreadsText passes stops) c.plan_in.new.input.failed (g.R.Read.remaining c.args.input.now.device) (g.W.Write.contents c.args.output.now.device)
+    c.in_err-plan.field-0.0 c.in_err-plan.ensures.err (λ is. c.in_err-plan.ensures.told.1 (ap Err is)))
 
 pub returns-in_err-text-clause-end : goal.returns-in_err-text-clause-end
 returns-in_err-text-clause-end g c =
     let told = err_from_is_err_and c.from_residual-in_err-text.result c.from_residual-in_err-text.ensures.1 in
-    let input = g.R.Read.remaining c.args.input.now.device in
-    let output = g.W.Write.contents c.args.output.now.device in
-    let texts = IsThreadsText (g.G.Gate.passes c.args.gate.now) (g.G.Gate.stops c.args.gate.now) in
-    let without = IsWithoutThreadsText (g.G.Gate.passes c.args.gate.now) (g.G.Gate.stops c.args.gate.now) in
-    let unread = c.plan_in.new.input.failed in
-    subst (IsEnd texts without unread input output output) (sym (told.1 ∙ ap Err told.2))
-    (no_text texts without unread input output (plan_view c.in_ok-plan.plan) c.in_err-text.field-0.0 c.in_ok-plan.ensures.ok c.in_err-text.ensures.err
-    (threads_fault (g.G.Gate.passes c.args.gate.now) (g.G.Gate.stops c.args.gate.now) (plan_view c.in_ok-plan.plan) c.in_err-text.field-0.0 c.in_err-text.ensures.err))
+    let passes = g.G.Gate.passes c.args.gate.now in
+    let stops = g.G.Gate.stops c.args.gate.now in
+    let plan = plan_view c.in_ok-plan.plan in
+    let fault = c.in_err-text.field-0.0 in
+    let without = c.in_err-text.ensures.err in
+    rw (told.1, told.2)
+    (no_text (IsThreadsText passes stops) (IsWithoutThreadsText passes stops) c.plan_in.new.input.failed (g.R.Read.remaining c.args.input.now.device) (g.W.Write.contents c.args.output.now.device)
+    plan fault c.in_ok-plan.ensures.ok without (threads_fault passes stops plan fault without))
 
 pub returns-in_err-write_whole-clause-end : goal.returns-in_err-write_whole-clause-end
 returns-in_err-write_whole-clause-end g c =
     let told = err_from_is_err_and c.from_residual-in_err-write_whole.result c.from_residual-in_err-write_whole.ensures.1 in
-    let input = g.R.Read.remaining c.args.input.now.device in
+    let passes = g.G.Gate.passes c.args.gate.now in
+    let stops = g.G.Gate.stops c.args.gate.now in
     let old = g.W.Write.contents c.args.output.now.device in
     let new = g.W.Write.contents c.write_whole.new.self.device in
-    let texts = IsThreadsText (g.G.Gate.passes c.args.gate.now) (g.G.Gate.stops c.args.gate.now) in
-    let without = IsWithoutThreadsText (g.G.Gate.passes c.args.gate.now) (g.G.Gate.stops c.args.gate.now) in
     let unread = c.plan_in.new.input.failed in
-    subst (IsEnd texts without unread input old new) (sym (told.1 ∙ ap Err told.2))
-    (cut texts without unread input old new (plan_view c.in_ok-plan.plan) (string_bytes c.in_ok-text.text) (read_well unread c.in_ok-plan.plan c.in_ok-plan.ensures.told)
-    c.in_ok-plan.ensures.ok c.in_ok-text.ensures.ok (subst (AppendsFront old new) c.as_bytes.ensures.value c.in_err-write_whole.ensures.err))
+    rw (told.1, told.2)
+    (cut (IsThreadsText passes stops) (IsWithoutThreadsText passes stops) unread (g.R.Read.remaining c.args.input.now.device) old new (plan_view c.in_ok-plan.plan) (string_bytes c.in_ok-text.text)
+    (read_well unread c.in_ok-plan.plan c.in_ok-plan.ensures.told) c.in_ok-plan.ensures.ok c.in_ok-text.ensures.ok (subst (AppendsFront old new) c.as_bytes.ensures.value c.in_err-write_whole.ensures.err))
 
 pub returns-clause-end : goal.returns-clause-end
 returns-clause-end g c =
-    let input = g.R.Read.remaining c.args.input.now.device in
+    let passes = g.G.Gate.passes c.args.gate.now in
+    let stops = g.G.Gate.stops c.args.gate.now in
     let old = g.W.Write.contents c.args.output.now.device in
     let new = g.W.Write.contents c.write_whole.new.self.device in
-    printed (IsThreadsText (g.G.Gate.passes c.args.gate.now) (g.G.Gate.stops c.args.gate.now))
-    (IsWithoutThreadsText (g.G.Gate.passes c.args.gate.now) (g.G.Gate.stops c.args.gate.now)) c.plan_in.new.input.failed input old new
+    printed (IsThreadsText passes stops) (IsWithoutThreadsText passes stops) c.plan_in.new.input.failed (g.R.Read.remaining c.args.input.now.device) old new
     (plan_view c.in_ok-plan.plan) (string_bytes c.in_ok-text.text)
     c.in_ok-plan.ensures.ok c.in_ok-text.ensures.ok (subst (Appends old new) c.as_bytes.ensures.value c.in_ok-write_whole.ensures.ok)
 
