@@ -1,6 +1,5 @@
 -- A command in its ranges is what its word and numbers mean.
-use Rattle.std.proofs.Common.{◌≡◌, true, eqb, not, Some, refl}
-use Rattle.std.specs.List.{list_all}
+use Rattle.std.proofs.Common.{◌≡◌, Some, codes, refl}
 use Rattle.std.proofs.lemmas.Bool.{le-leb}
 use Rattle.number_text.specs.Numbers.{AreNumbers}
 use Rattle.number_text.specs.Written.{u8, u16, u32}
@@ -36,12 +35,9 @@ command_means (RecExit rec) h = rw (le-leb rec u16 h.at_most.0) refl
 command_means (RecDestroy rec) h = rw (le-leb rec u16 h.at_most.0) refl
 command_means (GuestWrite rec ipa o v) h = rw (le-leb rec u16 h.at_most.0, le-leb ipa u32 h.at_most.1.0, le-leb o u16 h.at_most.1.1.0, le-leb v u8 h.at_most.1.1.1.0) refl
 
-no_space_test : (c : Command) → list_all (λ b. not (eqb b 32)) (written_command c).word ≡ true
-no_space_test (RecCreate rd g auxiliaries) = refl
-no_space_test _ = refl
-
 pub command_word : (c : Command) → HasNoSpace (written_command c).word
-command_word c = no_space_from_test (written_command c).word (no_space_test c)
+command_word (RecCreate rd g auxiliaries) = no_space_from_test (codes "rec_create") refl
+command_word c = no_space_from_test (written_command c).word refl
 
 pub command_numbers : (c : Command) → IsRequestInRange (request.Command c) → AreNumbers 18 (written_command c).numbers
 command_numbers (RecCreate rd g auxiliaries) h = few_with_auxiliaries rd g auxiliaries.items h.counts h.at_most

@@ -10,12 +10,16 @@ use Rattle.number_text.proofs.UpTo.{up_to-some}
 use Rattle.rmi_trace.specs.declared.request.Command.{Command}
 use Rattle.rmi_trace.specs.declared.request.Command.TheVariants.{GranuleDelegate, GranuleUndelegate, HostFill, HostPeek, RealmCreate, RealmActivate, RealmDestroy, RttCreate, RttDestroy}
 use Rattle.rmi_trace.specs.declared.request.Command.TheVariants.{RttInitRipas, DataCreate, DataCreateUnknown, DataDestroy, RecCreate, RecEnter, RecExit, RecDestroy, GuestWrite}
+use Rattle.rmi_trace.specs.declared.request.Request.{Request}
 use Rattle.rmi_trace.specs.declared.request.Request.TheVariants as request
 use Rattle.rmi_trace.specs.Commands.{rec_create_at, granule_command_at, realm_command_at, table_command_at, data_command_at, rec_command_at, command_at}
-use Rattle.rmi_trace.specs.Written.{written_command, HasCounts, IsRequestInRange}
+use Rattle.rmi_trace.specs.Written.{written_command, written_request, HasCounts, IsRequestInRange}
+
+abbrev pub SpellsRequest : List ℕ → List ℕ → Request → Type 0
+SpellsRequest word ns r = Spells (λ it. (written_request it).word) (λ it. (written_request it).numbers) IsRequestInRange word ns r
 
 abbrev pub SpellsCommand : List ℕ → List ℕ → Command → Type 0
-SpellsCommand word ns c = Spells (λ it. (written_command it).word) (λ it. (written_command it).numbers) (λ it. IsRequestInRange (request.Command it)) word ns c
+SpellsCommand word ns c = SpellsRequest word ns (request.Command c)
 
 made : (c : Command) → AreAtMost (written_command c).numbers (written_command c).maxima → HasCounts (request.Command c) → SpellsCommand (written_command c).word (written_command c).numbers c
 made c at_most counts = record { word_is = refl; numbers_are = refl; in_range = record { at_most = at_most; counts = counts } }
@@ -85,5 +89,4 @@ rec_spells word ns c =
 
 pub command_spells : (word ns : List ℕ) (c : Command) → command_at word ns ≡ Some c → SpellsCommand word ns c
 command_spells word ns c =
-    among_five SpellsCommand word ns c (granule_command_at word ns) (realm_command_at word ns) (table_command_at word ns) (data_command_at word ns) (rec_command_at word ns)
-    (granule_spells word ns c) (realm_spells word ns c) (table_spells word ns c) (data_spells word ns c) (rec_spells word ns c)
+    among_five SpellsCommand word ns c _ _ _ _ _ (granule_spells word ns c) (realm_spells word ns c) (table_spells word ns c) (data_spells word ns c) (rec_spells word ns c)

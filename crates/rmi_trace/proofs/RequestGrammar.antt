@@ -1,6 +1,5 @@
 -- Requests are a grammar: each is what its text means, and a text means no other.
-use Rattle.std.proofs.Common.{◌≡◌, ℕ, List, [], ◌∷◌, true, false, cond, leb, ◌&&◌, Some, None, option_map, eqb, not, codes, refl, subst}
-use Rattle.std.specs.List.{list_all}
+use Rattle.std.proofs.Common.{◌≡◌, ℕ, List, [], ◌∷◌, true, false, cond, leb, ◌&&◌, Option, Some, None, option_map, codes, refl, subst}
 use Rattle.std.proofs.lemmas.Bool.{le-leb, leb-true, and_parts}
 use Rattle.number_text.specs.Numbers.{AreNumbers}
 use Rattle.number_text.specs.Ranges.{AreAtMost}
@@ -8,7 +7,7 @@ use Rattle.number_text.specs.Rows.{one, two}
 use Rattle.number_text.specs.Written.{u16}
 use Rattle.number_text.proofs.Cuts.{HasNoSpace}
 use Rattle.number_text.proofs.Spelled.{no_space_from_test}
-use Rattle.number_text.proofs.Grammars.{Spells, IsGrammar, test_from_some, map_some}
+use Rattle.number_text.proofs.Grammars.{IsGrammar, test_from_some, map_some}
 use Rattle.number_text.proofs.Rows.{one_makes, two_makes, choose, either}
 use Rattle.number_text.proofs.UpTo.{few_from_test}
 use Rattle.rmi_trace.specs.declared.request.Opening.{Opening}
@@ -20,10 +19,7 @@ use Rattle.rmi_trace.specs.Commands.{command_at}
 use Rattle.rmi_trace.specs.Requests.{reading_at, machine_at, opening_at, request_at}
 use Rattle.rmi_trace.specs.Written.{written_reading, written_opening, written_request, IsRequestInRange}
 use Rattle.rmi_trace.proofs.CommandMeans.{command_means, command_word, command_numbers}
-use Rattle.rmi_trace.proofs.CommandSpells.{command_spells}
-
-abbrev pub SpellsRequest : List ℕ → List ℕ → Request → Type 0
-SpellsRequest word ns r = Spells (λ it. (written_request it).word) (λ it. (written_request it).numbers) IsRequestInRange word ns r
+use Rattle.rmi_trace.proofs.CommandSpells.{SpellsRequest, command_spells}
 
 -- ---- readings
 
@@ -36,7 +32,7 @@ reading_means (reading.Measurement g) h = rw (le-leb g u16 h.at_most.0) refl
 reading_means (reading.Rec g) h = rw (le-leb g u16 h.at_most.0) refl
 
 abbrev SpellsReading : List ℕ → List ℕ → Reading → Type 0
-SpellsReading word ns r = Spells (λ it. (written_reading it).word) (λ it. (written_reading it).numbers) (λ it. IsRequestInRange (request.Reading it)) word ns r
+SpellsReading word ns r = SpellsRequest word ns (request.Reading r)
 
 made_reading : (r : Reading) → AreAtMost (written_reading r).numbers (written_reading r).maxima → SpellsReading (written_reading r).word (written_reading r).numbers r
 made_reading r at_most = record { word_is = refl; numbers_are = refl; in_range = record { at_most = at_most; counts = tt } }
@@ -53,12 +49,9 @@ reading_spells word ns r =
     (choose SpellsReading word ns r (codes "rec") (one u16 (λ k. reading.Rec k)) _ (one_makes (SpellsReading (codes "rec")) u16 _ (λ k h. made_reading (reading.Rec k) (h, tt)))
     (λ e. absurd (cc)))))))
 
-no_space_test : (r : Reading) → list_all (λ b. not (eqb b 32)) (written_reading r).word ≡ true
-no_space_test (reading.Word g i) = refl
-no_space_test _ = refl
-
 reading_word : (r : Reading) → HasNoSpace (written_reading r).word
-reading_word r = no_space_from_test (written_reading r).word (no_space_test r)
+reading_word (reading.Word g i) = no_space_from_test (codes "word") refl
+reading_word r = no_space_from_test (written_reading r).word refl
 
 reading_numbers : (r : Reading) → IsRequestInRange (request.Reading r) → AreNumbers 18 (written_reading r).numbers
 reading_numbers (reading.Word g i) h = few_from_test 18 (g ∷ i ∷ []) (u16 ∷ u16 ∷ []) h.at_most refl
@@ -107,27 +100,18 @@ means (request.Opening o) h = opening_means o h
 means (request.Command c) h = rw (command_means c h) refl
 means (request.Reading r) h = reading_means r h
 
-command_first : (word ns : List ℕ) (r : Request) → option_map (λ it. request.Command it) (command_at word ns) ≡ Some r → SpellsRequest word ns r
-command_first word ns r e =
-    let found = map_some (λ it. request.Command it) (command_at word ns) r e in
-    let spells = command_spells word ns found.0 found.1 in
-    subst (SpellsRequest word ns) found.2 (record { word_is = spells.word_is; numbers_are = spells.numbers_are; in_range = spells.in_range })
-
-reading_next : (word ns : List ℕ) (r : Request) → option_map (λ it. request.Reading it) (reading_at word ns) ≡ Some r → SpellsRequest word ns r
-reading_next word ns r e =
-    let found = map_some (λ it. request.Reading it) (reading_at word ns) r e in
-    let spells = reading_spells word ns found.0 found.1 in
-    subst (SpellsRequest word ns) found.2 (record { word_is = spells.word_is; numbers_are = spells.numbers_are; in_range = spells.in_range })
-
-opening_last : (word ns : List ℕ) (r : Request) → option_map (λ it. request.Opening it) (opening_at word ns) ≡ Some r → SpellsRequest word ns r
-opening_last word ns r e =
-    let found = map_some (λ it. request.Opening it) (opening_at word ns) r e in
-    subst (SpellsRequest word ns) found.2 (opening_spells word ns found.0 found.1)
+-- a request of one kind, where that is what is found
+kind_spells : {A : Type 0} (request_of : A → Request) (found : Option A) (word ns : List ℕ) (r : Request) → ((it : A) → found ≡ Some it → SpellsRequest word ns (request_of it))
+    → option_map request_of found ≡ Some r → SpellsRequest word ns r
+kind_spells request_of found word ns r spells e =
+    let (it, is, same) = map_some request_of found r e in
+    subst (SpellsRequest word ns) same (spells it is)
 
 spells : (word ns : List ℕ) (r : Request) → request_at word ns ≡ Some r → SpellsRequest word ns r
 spells word ns r =
-    either SpellsRequest word ns r (option_map (λ it. request.Command it) (command_at word ns)) _ (command_first word ns r)
-    (either SpellsRequest word ns r (option_map (λ it. request.Reading it) (reading_at word ns)) _ (reading_next word ns r) (opening_last word ns r))
+    either SpellsRequest word ns r _ _ (kind_spells (λ it. request.Command it) (command_at word ns) word ns r (command_spells word ns))
+    (either SpellsRequest word ns r _ _ (kind_spells (λ it. request.Reading it) (reading_at word ns) word ns r (reading_spells word ns))
+    (kind_spells (λ it. request.Opening it) (opening_at word ns) word ns r (opening_spells word ns)))
 
 one_word : (r : Request) → HasNoSpace (written_request r).word
 one_word (request.Opening o) = no_space_from_test (codes "machine") refl

@@ -23,20 +23,6 @@ realm_command_at word ns =
     else if bytes_eq word (codes "realm_destroy") then one u16 (λ rd. RealmDestroy rd) ns
     else None
 
-abbrev pub table_command_at : List ℕ → List ℕ → Option Command
-table_command_at word ns =
-    if bytes_eq word (codes "rtt_create") then four u16 u16 u32 u8 (λ rd granule ipa level. RttCreate rd granule ipa level) ns
-    else if bytes_eq word (codes "rtt_destroy") then three u16 u32 u8 (λ rd ipa level. RttDestroy rd ipa level) ns
-    else if bytes_eq word (codes "rtt_init_ripas") then three u16 u32 u16 (λ rd ipa count. RttInitRipas rd ipa count) ns
-    else None
-
-abbrev pub data_command_at : List ℕ → List ℕ → Option Command
-data_command_at word ns =
-    if bytes_eq word (codes "data_create") then four u16 u16 u32 u16 (λ rd granule ipa source. DataCreate rd granule ipa source) ns
-    else if bytes_eq word (codes "data_create_unknown") then three u16 u16 u32 (λ rd granule ipa. DataCreateUnknown rd granule ipa) ns
-    else if bytes_eq word (codes "data_destroy") then two u16 u32 (λ rd ipa. DataDestroy rd ipa) ns
-    else None
-
 -- with up to 16 auxiliaries
 abbrev pub rec_create_at : List ℕ → Option Command
 rec_create_at (rd ∷ granule ∷ more) =
@@ -50,6 +36,20 @@ rec_command_at word ns =
     else if bytes_eq word (codes "rec_exit") then one u16 (λ rec. RecExit rec) ns
     else if bytes_eq word (codes "rec_destroy") then one u16 (λ rec. RecDestroy rec) ns
     else if bytes_eq word (codes "guest_write") then four u16 u32 u16 u8 (λ rec ipa offset value. GuestWrite rec ipa offset value) ns
+    else None
+
+abbrev pub table_command_at : List ℕ → List ℕ → Option Command
+table_command_at word ns =
+    if bytes_eq word (codes "rtt_create") then four u16 u16 u32 u8 (λ rd granule ipa level. RttCreate rd granule ipa level) ns
+    else if bytes_eq word (codes "rtt_destroy") then three u16 u32 u8 (λ rd ipa level. RttDestroy rd ipa level) ns
+    else if bytes_eq word (codes "rtt_init_ripas") then three u16 u32 u16 (λ rd ipa count. RttInitRipas rd ipa count) ns
+    else None
+
+abbrev pub data_command_at : List ℕ → List ℕ → Option Command
+data_command_at word ns =
+    if bytes_eq word (codes "data_create") then four u16 u16 u32 u16 (λ rd granule ipa source. DataCreate rd granule ipa source) ns
+    else if bytes_eq word (codes "data_create_unknown") then three u16 u16 u32 (λ rd granule ipa. DataCreateUnknown rd granule ipa) ns
+    else if bytes_eq word (codes "data_destroy") then two u16 u32 (λ rd ipa. DataDestroy rd ipa) ns
     else None
 
 abbrev pub command_at : List ℕ → List ℕ → Option Command

@@ -1,5 +1,5 @@
 //! Answers of the monitor, and their texts.
-ghost use Rattle.std.specs.Prelude.{◌≡◌, ◌≤◌, ◌+◌, ◌++◌, length, decimal, ℕ, List};
+ghost use Rattle.std.specs.Prelude.{◌≡◌, ◌≤◌, ◌+◌, ◌++◌, length, decimal, codes};
 ghost use Rattle.arrayvec.specs.ArrayVec.{array_vec_len};
 ghost use Rattle.rmi_trace.specs.Answers.{trace_state_word, realm_answer_text, rec_text, measurement_text, trace_answer_text};
 
@@ -73,21 +73,38 @@ fn push(text: &mut ArrayVec<u8, MOST_BYTES>, bytes: &[u8])
 }
 
 // Appends the number in decimal.
-fn push_number(text: &mut ArrayVec<u8, MOST_BYTES>, number: u64)
-    requires { array_vec_len text.old + 20 ≤ 128 }
-    ensures items { text.new.items ≡ text.old.items ++ decimal number }
-    ensures len { array_vec_len text.new ≤ array_vec_len text.old + 20 }
-{
-    push(text, itoa::Buffer::new().format(number).as_bytes());
-}
-
-// Appends the number in decimal.
-fn push_short(text: &mut ArrayVec<u8, MOST_BYTES>, number: u16)
+fn push_number(text: &mut ArrayVec<u8, MOST_BYTES>, number: u16)
     requires { array_vec_len text.old + 5 ≤ 128 }
     ensures items { text.new.items ≡ text.old.items ++ decimal number }
     ensures len { array_vec_len text.new ≤ array_vec_len text.old + 5 }
 {
     push(text, itoa::Buffer::new().format(number).as_bytes());
+}
+
+// The bytes alone.
+fn text_of_bytes(bytes: &[u8]) -> ArrayVec<u8, MOST_BYTES>
+    requires { length bytes.now ≤ 128 }
+    ensures { result.items ≡ bytes.now }
+{
+    let mut text = ArrayVec::new();
+    push(&mut text, bytes);
+    text
+}
+
+// The number in decimal.
+fn number_text(number: u64) -> ArrayVec<u8, MOST_BYTES>
+    ensures { result.items ≡ decimal number }
+{
+    text_of_bytes(itoa::Buffer::new().format(number).as_bytes())
+}
+
+// The result word of RMI_SUCCESS, and the value.
+fn value_text(value: u16) -> ArrayVec<u8, MOST_BYTES>
+    ensures { result.items ≡ codes "0 " ++ decimal value }
+{
+    let mut text = text_of_bytes(b"0 ");
+    push_number(&mut text, value);
+    text
 }
 
 // The name of the state.
@@ -122,13 +139,13 @@ fn realm_text(
         RealmState::Active => push(&mut text, b"ACTIVE"),
     }
     push(&mut text, b" vmid ");
-    push_short(&mut text, u16::from(vmid));
+    push_number(&mut text, u16::from(vmid));
     push(&mut text, b" root ");
-    push_short(&mut text, root);
+    push_number(&mut text, root);
     push(&mut text, b" width ");
-    push_short(&mut text, u16::from(width));
+    push_number(&mut text, u16::from(width));
     push(&mut text, b" next ");
-    push_short(&mut text, next);
+    push_number(&mut text, next);
     text
 }
 
@@ -139,14 +156,14 @@ fn rec_text(number: u16, state: RecState, auxiliaries: &[u16]) -> ArrayVec<u8, M
 {
     let mut text = ArrayVec::new();
     push(&mut text, b"number ");
-    push_short(&mut text, number);
+    push_number(&mut text, number);
     match state {
         RecState::Ready => push(&mut text, b" READY aux"),
         RecState::Running => push(&mut text, b" RUNNING aux"),
     }
     for granule in auxiliaries {
         push(&mut text, b" ");
-        push_short(&mut text, *granule);
+        push_number(&mut text, *granule);
     }
     text
 }
@@ -157,9 +174,7 @@ fn measurement_text(measurement: &[u8; 32]) -> ArrayVec<u8, MOST_BYTES>
 {
     let mut digits = [0; 64];
     hex::encode_to_slice(measurement.as_slice(), &mut digits).unwrap();
-    let mut text = ArrayVec::new();
-    push(&mut text, &digits);
-    text
+    text_of_bytes(&digits)
 }
 
 impl Answer {
@@ -167,32 +182,27 @@ impl Answer {
     pub fn text(&self) -> ArrayVec<u8, MOST_BYTES>
         ensures { result.items ≡ trace_answer_text self.now }
     {
-        let mut text = ArrayVec::new();
         match self {
-            Answer::ResultWord(word) => push_number(&mut text, *word),
-            Answer::Value(value) => {
-                push(&mut text, b"0 ");
-                push_short(&mut text, *value);
-            }
-            Answer::Nothing => push(&mut text, b"none"),
-            Answer::State(state) => push(&mut text, state_word(*state)),
-            Answer::Sum(sum) => push_number(&mut text, u64::from(*sum)),
-            Answer::Word(word) => push_number(&mut text, *word),
+            Answer::ResultWord(word) => number_text(*word),
+            Answer::Value(value) => value_text(*value),
+            Answer::Nothing => text_of_bytes(b"none"),
+            Answer::State(state) => text_of_bytes(state_word(*state)),
+            Answer::Sum(sum) => number_text(u64::from(*sum)),
+            Answer::Word(word) => number_text(*word),
             Answer::Realm {
                 state,
                 vmid,
                 root,
                 width,
                 next,
-            } => return realm_text(*state, *vmid, *root, *width, *next),
-            Answer::Measurement(measurement) => return measurement_text(measurement),
+            } => realm_text(*state, *vmid, *root, *width, *next),
+            Answer::Measurement(measurement) => measurement_text(measurement),
             Answer::Rec {
                 number,
                 state,
                 auxiliaries,
-            } => return rec_text(*number, *state, auxiliaries.as_slice()),
-            Answer::NoCommand => push(&mut text, b"no command"),
+            } => rec_text(*number, *state, auxiliaries.as_slice()),
+            Answer::NoCommand => text_of_bytes(b"no command"),
         }
-        text
     }
 }

@@ -7,16 +7,32 @@ use number_text::{
     Operand, four_operands, made_of, one_operand, three_operands, two_operands, up_to,
 };
 
+// The command, where the operands that it is made of are found.
+macro_rules! command {
+    ($found:expr => $kind:ident { $($field:ident),+ }) => {
+        made_of!($found => Command::$kind { $($field),+ })
+    };
+}
+
+/// The command that the word and its numbers are.
+pub(crate) fn command(word: &str, numbers: &[u32]) -> Option<Command>
+    ensures { result ≡ command_at word.now numbers.now }
+{
+    granule_command(word, numbers)
+        .or_else(|| realm_command(word, numbers))
+        .or_else(|| table_command(word, numbers))
+        .or_else(|| data_command(word, numbers))
+        .or_else(|| rec_command(word, numbers))
+}
+
 fn granule_command(word: &str, numbers: &[u32]) -> Option<Command>
     ensures { result ≡ granule_command_at word.now numbers.now }
 {
     match word {
-        "granule_delegate" =>
-            made_of!(one_operand(numbers) => Command::GranuleDelegate { granule }),
-        "granule_undelegate" =>
-            made_of!(one_operand(numbers) => Command::GranuleUndelegate { granule }),
-        "host_fill" => made_of!(two_operands(numbers) => Command::HostFill { granule, value }),
-        "host_peek" => made_of!(two_operands(numbers) => Command::HostPeek { granule, offset }),
+        "granule_delegate" => command!(one_operand(numbers) => GranuleDelegate { granule }),
+        "granule_undelegate" => command!(one_operand(numbers) => GranuleUndelegate { granule }),
+        "host_fill" => command!(two_operands(numbers) => HostFill { granule, value }),
+        "host_peek" => command!(two_operands(numbers) => HostPeek { granule, offset }),
         _ => None,
     }
 }
@@ -25,37 +41,22 @@ fn realm_command(word: &str, numbers: &[u32]) -> Option<Command>
     ensures { result ≡ realm_command_at word.now numbers.now }
 {
     match word {
-        "realm_create" =>
-            made_of!(four_operands(numbers) => Command::RealmCreate { rd, root, vmid, width }),
-        "realm_activate" => made_of!(one_operand(numbers) => Command::RealmActivate { rd }),
-        "realm_destroy" => made_of!(one_operand(numbers) => Command::RealmDestroy { rd }),
+        "realm_create" => command!(four_operands(numbers) => RealmCreate { rd, root, vmid, width }),
+        "realm_activate" => command!(one_operand(numbers) => RealmActivate { rd }),
+        "realm_destroy" => command!(one_operand(numbers) => RealmDestroy { rd }),
         _ => None,
     }
 }
 
-fn table_command(word: &str, numbers: &[u32]) -> Option<Command>
-    ensures { result ≡ table_command_at word.now numbers.now }
+fn rec_command(word: &str, numbers: &[u32]) -> Option<Command>
+    ensures { result ≡ rec_command_at word.now numbers.now }
 {
     match word {
-        "rtt_create" =>
-            made_of!(four_operands(numbers) => Command::RttCreate { rd, granule, ipa, level }),
-        "rtt_destroy" =>
-            made_of!(three_operands(numbers) => Command::RttDestroy { rd, ipa, level }),
-        "rtt_init_ripas" =>
-            made_of!(three_operands(numbers) => Command::RttInitRipas { rd, ipa, count }),
-        _ => None,
-    }
-}
-
-fn data_command(word: &str, numbers: &[u32]) -> Option<Command>
-    ensures { result ≡ data_command_at word.now numbers.now }
-{
-    match word {
-        "data_create" =>
-            made_of!(four_operands(numbers) => Command::DataCreate { rd, granule, ipa, source }),
-        "data_create_unknown" =>
-            made_of!(three_operands(numbers) => Command::DataCreateUnknown { rd, granule, ipa }),
-        "data_destroy" => made_of!(two_operands(numbers) => Command::DataDestroy { rd, ipa }),
+        "rec_create" => rec_create(numbers),
+        "rec_enter" => command!(one_operand(numbers) => RecEnter { rec }),
+        "rec_exit" => command!(one_operand(numbers) => RecExit { rec }),
+        "rec_destroy" => command!(one_operand(numbers) => RecDestroy { rec }),
+        "guest_write" => command!(four_operands(numbers) => GuestWrite { rec, ipa, offset, value }),
         _ => None,
     }
 }
@@ -73,27 +74,26 @@ fn rec_create(numbers: &[u32]) -> Option<Command>
     })
 }
 
-fn rec_command(word: &str, numbers: &[u32]) -> Option<Command>
-    ensures { result ≡ rec_command_at word.now numbers.now }
+fn table_command(word: &str, numbers: &[u32]) -> Option<Command>
+    ensures { result ≡ table_command_at word.now numbers.now }
 {
     match word {
-        "rec_create" => rec_create(numbers),
-        "rec_enter" => made_of!(one_operand(numbers) => Command::RecEnter { rec }),
-        "rec_exit" => made_of!(one_operand(numbers) => Command::RecExit { rec }),
-        "rec_destroy" => made_of!(one_operand(numbers) => Command::RecDestroy { rec }),
-        "guest_write" =>
-            made_of!(four_operands(numbers) => Command::GuestWrite { rec, ipa, offset, value }),
+        "rtt_create" => command!(four_operands(numbers) => RttCreate { rd, granule, ipa, level }),
+        "rtt_destroy" => command!(three_operands(numbers) => RttDestroy { rd, ipa, level }),
+        "rtt_init_ripas" => command!(three_operands(numbers) => RttInitRipas { rd, ipa, count }),
         _ => None,
     }
 }
 
-/// The command that the word and its numbers are.
-pub fn command(word: &str, numbers: &[u32]) -> Option<Command>
-    ensures { result ≡ command_at word.now numbers.now }
+fn data_command(word: &str, numbers: &[u32]) -> Option<Command>
+    ensures { result ≡ data_command_at word.now numbers.now }
 {
-    granule_command(word, numbers)
-        .or_else(|| realm_command(word, numbers))
-        .or_else(|| table_command(word, numbers))
-        .or_else(|| data_command(word, numbers))
-        .or_else(|| rec_command(word, numbers))
+    match word {
+        "data_create" =>
+            command!(four_operands(numbers) => DataCreate { rd, granule, ipa, source }),
+        "data_create_unknown" =>
+            command!(three_operands(numbers) => DataCreateUnknown { rd, granule, ipa }),
+        "data_destroy" => command!(two_operands(numbers) => DataDestroy { rd, ipa }),
+        _ => None,
+    }
 }
