@@ -12,13 +12,3 @@ returns-in-Some-made_of-made_of c =
 
 pub returns-in-Some-made_of-made_of-2 : goal.returns-in-Some-made_of-made_of-2
 returns-in-Some-made_of-made_of-2 c = rw c.in-data_destroy.is (two_made u16 u32 DataDestroy c.args.numbers.now _ c.in-Some-made_of-made_of-2.ensures)
-
-pub returns-in-None-made_of : goal.returns-in-None-made_of
-returns-in-None-made_of c = rw c.in-data_create.is (four_made u16 u16 u32 u16 DataCreate c.args.numbers.now _ c.in-None-made_of.ensures)
-
-pub returns-in-None-made_of-made_of : goal.returns-in-None-made_of-made_of
-returns-in-None-made_of-made_of c =
-    rw c.in-data_create_unknown.is (three_made u16 u16 u32 DataCreateUnknown c.args.numbers.now _ c.in-None-made_of-made_of.ensures)
-
-pub returns-in-None-made_of-made_of-2 : goal.returns-in-None-made_of-made_of-2
-returns-in-None-made_of-made_of-2 c = rw c.in-data_destroy.is (two_made u16 u32 DataDestroy c.args.numbers.now _ c.in-None-made_of-made_of-2.ensures)

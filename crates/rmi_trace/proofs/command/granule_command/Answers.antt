@@ -14,15 +14,3 @@ returns-in-Some-made_of-made_of-2 c = rw c.in-host_fill.is (two_made u16 u8 Host
 
 pub returns-in-Some-made_of-made_of-3 : goal.returns-in-Some-made_of-made_of-3
 returns-in-Some-made_of-made_of-3 c = rw c.in-host_peek.is (two_made u16 u16 HostPeek c.args.numbers.now _ c.in-Some-made_of-made_of-3.ensures)
-
-pub returns-in-None-made_of : goal.returns-in-None-made_of
-returns-in-None-made_of c = rw c.in-granule_delegate.is (one_made u16 GranuleDelegate c.args.numbers.now _ c.in-None-made_of.ensures)
-
-pub returns-in-None-made_of-made_of : goal.returns-in-None-made_of-made_of
-returns-in-None-made_of-made_of c = rw c.in-granule_undelegate.is (one_made u16 GranuleUndelegate c.args.numbers.now _ c.in-None-made_of-made_of.ensures)
-
-pub returns-in-None-made_of-made_of-2 : goal.returns-in-None-made_of-made_of-2
-returns-in-None-made_of-made_of-2 c = rw c.in-host_fill.is (two_made u16 u8 HostFill c.args.numbers.now _ c.in-None-made_of-made_of-2.ensures)
-
-pub returns-in-None-made_of-made_of-3 : goal.returns-in-None-made_of-made_of-3
-returns-in-None-made_of-made_of-3 c = rw c.in-host_peek.is (two_made u16 u16 HostPeek c.args.numbers.now _ c.in-None-made_of-made_of-3.ensures)

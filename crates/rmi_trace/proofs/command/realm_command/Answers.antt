@@ -11,12 +11,3 @@ returns-in-Some-made_of-made_of c = rw c.in-realm_activate.is (one_made u16 Real
 
 pub returns-in-Some-made_of-made_of-2 : goal.returns-in-Some-made_of-made_of-2
 returns-in-Some-made_of-made_of-2 c = rw c.in-realm_destroy.is (one_made u16 RealmDestroy c.args.numbers.now _ c.in-Some-made_of-made_of-2.ensures)
-
-pub returns-in-None-made_of : goal.returns-in-None-made_of
-returns-in-None-made_of c = rw c.in-realm_create.is (four_made u16 u16 u8 u8 RealmCreate c.args.numbers.now _ c.in-None-made_of.ensures)
-
-pub returns-in-None-made_of-made_of : goal.returns-in-None-made_of-made_of
-returns-in-None-made_of-made_of c = rw c.in-realm_activate.is (one_made u16 RealmActivate c.args.numbers.now _ c.in-None-made_of-made_of.ensures)
-
-pub returns-in-None-made_of-made_of-2 : goal.returns-in-None-made_of-made_of-2
-returns-in-None-made_of-made_of-2 c = rw c.in-realm_destroy.is (one_made u16 RealmDestroy c.args.numbers.now _ c.in-None-made_of-made_of-2.ensures)

@@ -14,15 +14,3 @@ returns-in-Some-made_of-made_of-2 c = rw c.in-rec_destroy.is (one_made u16 RecDe
 
 pub returns-in-Some-made_of-made_of-3 : goal.returns-in-Some-made_of-made_of-3
 returns-in-Some-made_of-made_of-3 c = rw c.in-guest_write.is (four_made u16 u32 u16 u8 GuestWrite c.args.numbers.now _ c.in-Some-made_of-made_of-3.ensures)
-
-pub returns-in-None-made_of : goal.returns-in-None-made_of
-returns-in-None-made_of c = rw c.in-rec_enter.is (one_made u16 RecEnter c.args.numbers.now _ c.in-None-made_of.ensures)
-
-pub returns-in-None-made_of-made_of : goal.returns-in-None-made_of-made_of
-returns-in-None-made_of-made_of c = rw c.in-rec_exit.is (one_made u16 RecExit c.args.numbers.now _ c.in-None-made_of-made_of.ensures)
-
-pub returns-in-None-made_of-made_of-2 : goal.returns-in-None-made_of-made_of-2
-returns-in-None-made_of-made_of-2 c = rw c.in-rec_destroy.is (one_made u16 RecDestroy c.args.numbers.now _ c.in-None-made_of-made_of-2.ensures)
-
-pub returns-in-None-made_of-made_of-3 : goal.returns-in-None-made_of-made_of-3
-returns-in-None-made_of-made_of-3 c = rw c.in-guest_write.is (four_made u16 u32 u16 u8 GuestWrite c.args.numbers.now _ c.in-None-made_of-made_of-3.ensures)
