@@ -3,7 +3,7 @@ use Rattle.std.specs.Prelude.{ℕ, List, [], ◌∷◌, ◌++◌, codes}
 use Rattle.std.specs.Fmt.{decimal}
 use Rattle.number_text.specs.Numbers.{spelled_numbers}
 use Rattle.realm_model.specs.declared.states.GranuleState.{GranuleState}
-use Rattle.realm_model.specs.declared.states.GranuleState.TheVariants as state
+use Rattle.realm_model.specs.declared.states.GranuleState.TheVariants.{Undelegated, Delegated, Rd, Rec, RecAux, Data, Rtt}
 use Rattle.realm_model.specs.declared.states.RealmState.{RealmState}
 use Rattle.realm_model.specs.declared.states.RealmState.TheVariants as realm
 use Rattle.plan_steps.specs.Answers.{then_number}
@@ -13,18 +13,18 @@ abbrev pub idle_line : ℕ → List ℕ
 idle_line build = decimal build ++ codes " - idle\n"
 
 abbrev pub state_word : GranuleState → List ℕ
-state_word state.Undelegated = codes "UNDELEGATED"
-state_word state.Delegated = codes "DELEGATED"
-state_word state.Rd = codes "RD"
-state_word state.Rec = codes "REC"
-state_word state.RecAux = codes "REC_AUX"
-state_word state.Data = codes "DATA"
-state_word state.Rtt = codes "RTT"
+state_word Undelegated = codes "UNDELEGATED"
+state_word Delegated = codes "DELEGATED"
+state_word Rd = codes "RD"
+state_word Rec = codes "REC"
+state_word RecAux = codes "REC_AUX"
+state_word Data = codes "DATA"
+state_word Rtt = codes "RTT"
 
 -- the sum of the bytes, which is told of a page that the host can read, and of a realm's data
 abbrev pub sum_numbers : GranuleState → ℕ → List ℕ
-sum_numbers state.Undelegated sum = sum ∷ []
-sum_numbers state.Data sum = sum ∷ []
+sum_numbers Undelegated sum = sum ∷ []
+sum_numbers Data sum = sum ∷ []
 sum_numbers _ sum = []
 
 -- the build, its number of the page, the state, and the sum of the page's bytes where it is told

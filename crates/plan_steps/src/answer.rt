@@ -9,6 +9,53 @@ use number_text::SpelledText;
 use realm_model::Kind;
 use std::fmt;
 
+/// The word for an act that was undone.
+#[derive(Clone, Copy)]
+pub struct KindWord(pub Kind);
+
+/// The number and the name of a refusal, and what it is about.
+#[derive(Clone, Copy)]
+pub struct RefusalText(pub Refusal);
+
+/// The reply to an accepted command.
+#[derive(Clone, Copy)]
+pub struct ReplyText(pub Reply);
+
+impl fmt::Display for KindWord {
+    ghost use Rattle.std.specs.Prelude.{Some};
+    ghost use Rattle.plan_steps.specs.Answers.{kind_word};
+
+    ghost output = { λ k. Some (kind_word k.0) };
+
+    fn fmt<W: fmt::Write>(&self, f: &mut fmt::Formatter<W>) -> fmt::Result {
+        f.write_str(kind_word(self.0))
+    }
+}
+
+impl fmt::Display for RefusalText {
+    ghost use Rattle.std.specs.Prelude.{Some};
+    ghost use Rattle.plan_steps.specs.Answers.{refusal_text};
+
+    ghost output = { λ r. Some (refusal_text r.0) };
+
+    fn fmt<W: fmt::Write>(&self, f: &mut fmt::Formatter<W>) -> fmt::Result {
+        let numbers = refusal_numbers(self.0);
+        fmt::Display::fmt(&SpelledText(refusal_name(self.0), numbers.as_slice()), f)
+    }
+}
+
+impl fmt::Display for ReplyText {
+    ghost use Rattle.std.specs.Prelude.{Some};
+    ghost use Rattle.plan_steps.specs.Answers.{reply_text};
+
+    ghost output = { λ r. Some (reply_text r.0) };
+
+    fn fmt<W: fmt::Write>(&self, f: &mut fmt::Formatter<W>) -> fmt::Result {
+        let numbers = reply_numbers(self.0);
+        fmt::Display::fmt(&SpelledText("ok", numbers.as_slice()), f)
+    }
+}
+
 fn kind_word(kind: Kind) -> &'static str
     ensures { result.now ≡ kind_word kind }
 {
@@ -20,21 +67,6 @@ fn kind_word(kind: Kind) -> &'static str
         Kind::Data => "data",
         Kind::Unknown => "unknown",
         Kind::Rec => "rec",
-    }
-}
-
-/// The word for an act that was undone.
-#[derive(Clone, Copy)]
-pub struct KindWord(pub Kind);
-
-impl fmt::Display for KindWord {
-    ghost use Rattle.std.specs.Prelude.{Some};
-    ghost use Rattle.plan_steps.specs.Answers.{kind_word};
-
-    ghost output = { λ k. Some (kind_word k.0) };
-
-    fn fmt<W: fmt::Write>(&self, f: &mut fmt::Formatter<W>) -> fmt::Result {
-        f.write_str(kind_word(self.0))
     }
 }
 
@@ -71,22 +103,6 @@ fn refusal_numbers(refusal: Refusal) -> ArrayVec<u32, MOST_NUMBERS>
     }
 }
 
-/// The number and the name of a refusal, and what it is about.
-#[derive(Clone, Copy)]
-pub struct RefusalText(pub Refusal);
-
-impl fmt::Display for RefusalText {
-    ghost use Rattle.std.specs.Prelude.{Some};
-    ghost use Rattle.plan_steps.specs.Answers.{refusal_text};
-
-    ghost output = { λ r. Some (refusal_text r.0) };
-
-    fn fmt<W: fmt::Write>(&self, f: &mut fmt::Formatter<W>) -> fmt::Result {
-        let numbers = refusal_numbers(self.0);
-        fmt::Display::fmt(&SpelledText(refusal_name(self.0), numbers.as_slice()), f)
-    }
-}
-
 fn reply_numbers(reply: Reply) -> ArrayVec<u32, MOST_NUMBERS>
     ensures { result.items ≡ reply_numbers reply }
 {
@@ -96,21 +112,5 @@ fn reply_numbers(reply: Reply) -> ArrayVec<u32, MOST_NUMBERS>
         Reply::Byte(byte) => one(byte as u32),
         Reply::Vmid(vmid) => one(vmid.number() as u32),
         Reply::Number(number) => one(number.number() as u32),
-    }
-}
-
-/// The reply to an accepted command.
-#[derive(Clone, Copy)]
-pub struct ReplyText(pub Reply);
-
-impl fmt::Display for ReplyText {
-    ghost use Rattle.std.specs.Prelude.{Some};
-    ghost use Rattle.plan_steps.specs.Answers.{reply_text};
-
-    ghost output = { λ r. Some (reply_text r.0) };
-
-    fn fmt<W: fmt::Write>(&self, f: &mut fmt::Formatter<W>) -> fmt::Result {
-        let numbers = reply_numbers(self.0);
-        fmt::Display::fmt(&SpelledText("ok", numbers.as_slice()), f)
     }
 }

@@ -18,7 +18,7 @@ mod text;
 
 pub use answer::{KindWord, RefusalText, ReplyText};
 pub use law::steps_are_told_apart;
-pub use lines::{push_free, push_idle, push_page, push_realm};
+pub use lines::{push_free, push_idle, push_page, push_realm, realm_word, state_word};
 pub use spelling::StepText;
 pub use step::PlanStep;
 pub use text::step_from_text;

@@ -9,8 +9,8 @@ use number_text::NumbersText;
 use realm_model::{GranuleState, RealmState};
 use std::alloc::AllocError;
 
-// The name of a granule's state.
-fn state_word(state: GranuleState) -> &'static str
+/// The name of a granule's state. RMM 1.0, Granule state.
+pub fn state_word(state: GranuleState) -> &'static str
     ensures { result.now ≡ state_word state }
 {
     match state {
@@ -34,8 +34,8 @@ fn sum_numbers(state: GranuleState, sum: u32) -> ArrayVec<u32, MOST_NUMBERS>
     }
 }
 
-// The name of a realm's state.
-fn realm_word(state: RealmState) -> &'static str
+/// The name of a realm's state. RMM 1.0, Realm state.
+pub fn realm_word(state: RealmState) -> &'static str
     ensures { result.now ≡ realm_word state }
 {
     match state {
