@@ -1,7 +1,8 @@
 //! A granule, a row of a translation and a REC, each as an object.
 use crate::numbers::{Numbers, build_number, granule_number, granule_numbers};
-use crate::words::{entry_state_word, granule_word, rec_state_word, ripas_word};
+use crate::words::{entry_state_word, rec_state_word, ripas_word};
 use granule_addr::{Gran, IpaGran, Level, RecNo};
+use plan_steps::state_word;
 use realm_host::{Entry, GranuleView, RowView};
 use realm_objects::Rec;
 use std::fmt;
@@ -20,7 +21,7 @@ impl fmt::Display for GranuleItem {
         let Some(view) = self.1 else {
             return f.write_str("null");
         };
-        let (granule, state) = (self.0.number(), granule_word(view.state));
+        let (granule, state) = (self.0.number(), state_word(view.state));
         let (build, realm) = (build_number(view.build), granule_number(view.realm));
         write!(
             f,

@@ -102,12 +102,6 @@ impl fmt::Display for Comma {
     ghost output = { λ n. Some (comma n.0) };
 
     fn fmt<W: fmt::Write>(&self, f: &mut fmt::Formatter<W>) -> fmt::Result {
-        f.write_str(comma_before(self.0))
+        f.write_str(if self.0 == 0 { "" } else { "," })
     }
-}
-
-fn comma_before(place: usize) -> &'static str
-    ensures { result.now ≡ comma place }
-{
-    if place == 0 { "" } else { "," }
 }

@@ -5,9 +5,9 @@ ghost use Rattle.run_json.specs.Items.{realm_front, realm_tables, realm_back, re
 ghost use Rattle.run_json.specs.Turns.{realm_value};
 
 use crate::pushed::Pushed;
-use crate::words::realm_word;
 use granule_addr::{BuildId, Gran};
 use page_arena::PageStore;
+use plan_steps::realm_word;
 use realm_host::Host;
 use realm_objects::RealmDesc;
 use std::alloc::{AllocError, Global};
