@@ -1,12 +1,9 @@
 -- The words of checks: what is asked, and behind a colon what is there. RMM 1.0 names the states and the results.
 use Rattle.std.specs.Prelude.{ℕ, List, ◌++◌, codes, Some, None}
 use Rattle.std.specs.Fmt.{decimal}
+use Rattle.plan_steps.specs.Lines.{state_word, realm_word}
 use Rattle.realm_model.specs.declared.rmi.Status.{Status}
 use Rattle.realm_model.specs.declared.rmi.Status.TheVariants as status
-use Rattle.realm_model.specs.declared.states.GranuleState.{GranuleState}
-use Rattle.realm_model.specs.declared.states.GranuleState.TheVariants as granule
-use Rattle.realm_model.specs.declared.states.RealmState.{RealmState}
-use Rattle.realm_model.specs.declared.states.RealmState.TheVariants.{New, Active}
 use Rattle.realm_model.specs.declared.states.RecState.{RecState}
 use Rattle.realm_model.specs.declared.states.RecState.TheVariants.{Ready, Running}
 use Rattle.realm_model.specs.declared.states.EntryState.{EntryState}
@@ -29,19 +26,6 @@ use Rattle.refusal_reasons.specs.declared.look.Fact.{Fact}
 use Rattle.refusal_reasons.specs.declared.look.Fact.TheVariants as fact
 
 -- ---- names
-
-abbrev pub state_name : GranuleState → List ℕ
-state_name granule.Undelegated = codes "UNDELEGATED"
-state_name granule.Delegated = codes "DELEGATED"
-state_name granule.Rd = codes "RD"
-state_name granule.Rec = codes "REC"
-state_name granule.RecAux = codes "REC_AUX"
-state_name granule.Data = codes "DATA"
-state_name granule.Rtt = codes "RTT"
-
-abbrev pub realm_name : RealmState → List ℕ
-realm_name New = codes "NEW"
-realm_name Active = codes "ACTIVE"
 
 abbrev pub rec_name : RecState → List ℕ
 rec_name Ready = codes "READY"
@@ -89,8 +73,8 @@ undo_words undo.AboveRests = codes "no act above the mark made a REC that runs"
 -- ---- what the monitor asks
 
 abbrev pub input_words : InputFact → List ℕ
-input_words (input.Page page wanted (Some found)) = codes "page " ++ (decimal page ++ (codes " is " ++ (state_name wanted ++ (codes ": " ++ state_name found))))
-input_words (input.Page page wanted None) = codes "page " ++ (decimal page ++ (codes " is " ++ state_name wanted))
+input_words (input.Page page wanted (Some found)) = codes "page " ++ (decimal page ++ (codes " is " ++ (state_word wanted ++ (codes ": " ++ state_word found))))
+input_words (input.Page page wanted None) = codes "page " ++ (decimal page ++ (codes " is " ++ state_word wanted))
 input_words (input.Protected ipa width) = codes "IPA granule " ++ (decimal ipa ++ (codes " is protected: width " ++ decimal width))
 input_words (input.Level level) = codes "the level is 2 or 3: " ++ decimal level
 input_words (input.Start ipa level) = codes "a table of level " ++ (decimal level ++ (codes " may begin at IPA granule " ++ decimal ipa))
@@ -102,8 +86,8 @@ realm_words (realm.Width width) = codes "the IPA width is 39 to 43: " ++ decimal
 realm_words realm.Adjacent = codes "the starting tables are adjacent granules"
 realm_words (realm.Multiple count) = codes "the first starting table is a multiple of " ++ decimal count
 realm_words realm.Apart = codes "the RD is no starting table"
-realm_words (realm.State wanted (Some found)) = codes "the realm is " ++ (realm_name wanted ++ (codes ": " ++ realm_name found))
-realm_words (realm.State wanted None) = codes "the realm is " ++ realm_name wanted
+realm_words (realm.State wanted (Some found)) = codes "the realm is " ++ (realm_word wanted ++ (codes ": " ++ realm_word found))
+realm_words (realm.State wanted None) = codes "the realm is " ++ realm_word wanted
 
 abbrev pub rec_words : RecFact → List ℕ
 rec_words rec.Distinct = codes "no granule is named twice"

@@ -58,8 +58,8 @@ fn explain_turn<S: PageStore>(
     alloc: Global,
     host: &mut Host<S>,
     plan: &Plan,
-    places: &mut [Place; 8],
     build: usize,
+    places: &mut [Place; 8],
     text: &mut String,
 ) -> Result<(), AllocError>
     requires { build < vec_len plan.now.builds }
@@ -86,8 +86,8 @@ pub fn explain_turns<S: PageStore>(
     ensures { OnOk result (IsExplainedRun (plan_view plan.now) host.old host.new (string_bytes text.old) (string_bytes text.new)) }
 {
     let mut places = [Place::first(); 8];
-    for build in &plan.order {
-        explain_turn(alloc, host, plan, &mut places, *build, text)?;
+    for &build in &plan.order {
+        explain_turn(alloc, host, plan, build, &mut places, text)?;
     }
     Ok(())
 }

@@ -77,8 +77,8 @@ fn add_pages<S: PageStore>(
 ) -> Result<(), AllocError>
     ensures { OnOk result (looks.new.items ≡ looks.old.items ++ map (page_there host.now build) pages.now) }
 {
-    for page in pages {
-        add(looks, page_there(host, build, *page))?;
+    for &page in pages {
+        add(looks, page_there(host, build, page))?;
     }
     Ok(())
 }

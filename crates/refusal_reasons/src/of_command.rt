@@ -33,6 +33,30 @@ fn add_take<S: PageStore>(
     }
 }
 
+// A REC that runs writes. This profile's own.
+fn guest_write<S: PageStore>(host: &Host<S>, build: BuildId, rec: RecNo, ipa: u32) -> [Look; 5]
+    ensures { result ≡ guest_write_looks host.now build rec ipa }
+{
+    [
+        rec_there(host, build, rec),
+        protected(host, build, ipa),
+        rec_is_running(host, build, rec),
+        entry_assigned(host, build, ipa),
+        entry_leads(host, build, ipa),
+    ]
+}
+
+// RMI_REC_ENTER.
+fn enter<S: PageStore>(host: &Host<S>, build: BuildId, number: RecNo) -> [Look; 3]
+    ensures { result ≡ enter_looks host.now build number }
+{
+    [
+        rec_there(host, build, number),
+        realm_active(host, build),
+        rec_ready(host, build, number),
+    ]
+}
+
 // The level above one of a table.
 fn above_of(level: u8) -> Level
     ensures { result ≡ above_of level }
@@ -108,30 +132,6 @@ fn unknown<S: PageStore>(host: &Host<S>, build: BuildId, page: u16, ipa: u32) ->
         protected(host, build, ipa),
         walk_ends(host, build, ipa, Level::last()),
         entry_unassigned(host, build, ipa),
-    ]
-}
-
-// A REC that runs writes. This profile's own.
-fn guest_write<S: PageStore>(host: &Host<S>, build: BuildId, rec: RecNo, ipa: u32) -> [Look; 5]
-    ensures { result ≡ guest_write_looks host.now build rec ipa }
-{
-    [
-        rec_there(host, build, rec),
-        protected(host, build, ipa),
-        rec_is_running(host, build, rec),
-        entry_assigned(host, build, ipa),
-        entry_leads(host, build, ipa),
-    ]
-}
-
-// RMI_REC_ENTER.
-fn enter<S: PageStore>(host: &Host<S>, build: BuildId, number: RecNo) -> [Look; 3]
-    ensures { result ≡ enter_looks host.now build number }
-{
-    [
-        rec_there(host, build, number),
-        realm_active(host, build),
-        rec_ready(host, build, number),
     ]
 }
 

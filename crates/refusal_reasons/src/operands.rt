@@ -15,10 +15,10 @@ fn tables_named(width: u8) -> u16
     ensures value { result ≡ tables_named width }
     ensures few { result ≤ 16 }
 {
-    match IpaWidth::new(width) {
-        Some(width) => width.start_count(),
-        None => 1,
-    }
+    let Some(width) = IpaWidth::new(width) else {
+        return 1;
+    };
+    width.start_count()
 }
 
 // How many of them are told: where their numbers are none of pages, the first alone.

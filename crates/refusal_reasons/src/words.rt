@@ -6,7 +6,7 @@ ghost use Rattle.refusal_reasons.specs.Words.{build_words, room_words, undo_word
 use crate::build_fact::BuildFact;
 use crate::input_fact::InputFact;
 use crate::look::Fact;
-use crate::names::{entry_name, realm_name, rec_name, state_name};
+use crate::names::{entry_name, rec_name};
 use crate::realm_fact::RealmFact;
 use crate::rec_fact::RecFact;
 use crate::room_fact::RoomFact;
@@ -15,6 +15,7 @@ use crate::sentence::{
 };
 use crate::undo_fact::UndoFact;
 use crate::walk_fact::WalkFact;
+use plan_steps::{realm_word, state_word};
 
 fn build_words(fact: BuildFact) -> Sentence
     ensures { sentence_text result ≡ build_words fact }
@@ -97,12 +98,12 @@ fn input_words(fact: InputFact) -> Sentence
             one_names(
                 "page ",
                 page as usize,
-                state_name(wanted),
-                state_name(found),
+                state_word(wanted),
+                state_word(found),
             )
         }
         InputFact::Page(page, wanted, None) => {
-            one_name("page ", page as usize, " is ", state_name(wanted))
+            one_name("page ", page as usize, " is ", state_word(wanted))
         }
         InputFact::Protected(ipa, width) => {
             two(
@@ -145,9 +146,9 @@ fn realm_words(fact: RealmFact) -> Sentence
         RealmFact::Multiple(count) => one("the first starting table is a multiple of ", count),
         RealmFact::Apart => plain("the RD is no starting table"),
         RealmFact::State(wanted, Some(found)) => {
-            names("the realm is ", realm_name(wanted), realm_name(found))
+            names("the realm is ", realm_word(wanted), realm_word(found))
         }
-        RealmFact::State(wanted, None) => name("the realm is ", realm_name(wanted)),
+        RealmFact::State(wanted, None) => name("the realm is ", realm_word(wanted)),
     }
 }
 

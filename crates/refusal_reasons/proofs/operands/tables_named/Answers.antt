@@ -3,17 +3,17 @@ use Rattle.std.proofs.lemmas.Option.{cond_some}
 use Rattle.granule_addr.specs.Ipa.{is_width}
 use Rattle.refusal_reasons.proofs.operands.tables_named.Goals as goal
 
-pub returns-in-Some-clause-value : goal.returns-in-Some-clause-value
-returns-in-Some-clause-value c =
+pub returns-clause-value : goal.returns-clause-value
+returns-clause-value c =
     let made = cond_some (is_width c.args.width) c.args.width c.in-Some.width (sym c.new.ensures ∙ c.in-Some.is) in
     rw (made.0, made.1) c.start_count.ensures.value
 
-pub returns-in-Some-clause-few : goal.returns-in-Some-clause-few
-returns-in-Some-clause-few c = c.start_count.ensures.at_most
+pub returns-clause-few : goal.returns-clause-few
+returns-clause-few c = c.start_count.ensures.at_most
 
 one : (t : Bool) (width count : ℕ) → (if t then Some width else None) ≡ None → 1 ≡ (if t then count else 1)
 one true width count none = cc
 one false width count none = refl
 
-pub returns-in-None-clause-value : goal.returns-in-None-clause-value
-returns-in-None-clause-value c = one (is_width c.args.width) c.args.width _ (sym c.new.ensures ∙ c.in-None.is)
+pub returns-in_default-clause-value : goal.returns-in_default-clause-value
+returns-in_default-clause-value c = one (is_width c.args.width) c.args.width _ (sym c.new.ensures ∙ c.in_default.is)
