@@ -3,11 +3,11 @@ use Rattle.std.specs.Prelude.{◌≡◌, ℕ, ◌+◌, ◌*◌, ◌/◌, ◌^◌
 use Rattle.std.specs.List.{list_any, range_with_len}
 use Rattle.buddy.specs.MaximalBlock.{IsMaximalBlock}
 
--- of a granule that heads a block, one more than the block's order; else 0
+-- the head of a granule: one more than the order of the block that the granule heads, or 0 where it heads none
 abbrev pub head_at : List ℕ → ℕ → ℕ
 head_at heads granule = slice_index_or heads granule 0
 
--- where the block of an order begins that holds a granule
+-- the first granule of the block of an order that holds a granule
 abbrev pub start_at : ℕ → ℕ → ℕ
 start_at granule order = granule / 2 ^ order * 2 ^ order
 
@@ -19,7 +19,7 @@ buddy_at first order = bit_xor first (2 ^ order)
 abbrev pub is_held_at : List ℕ → ℕ → ℕ → Bool
 is_held_at heads granule order = head_at heads (start_at granule order) == order + 1
 
--- of each granule, whether a block of the heads holds it
+-- for each granule, whether a block of the heads holds it
 unfoldable pub held : List ℕ → List Bool
 held heads = map (λ granule. list_any (is_held_at heads granule) (range_with_len 0 10)) (range_with_len 0 (length heads))
 

@@ -17,8 +17,8 @@ pub record InHand (heads : List ℕ) (flags : List Bool) (order first : ℕ) : T
 abbrev pub AllBelow : List Bool → ℕ → ℕ → Type 0
 AllBelow flags granule order = (larger start : ℕ) → IsMaximalBlock flags larger start → LiesIn granule larger start → larger < order
 
--- Of orders from `order` on it is known whether the maximal block that holds a granule is of one of them. If so, then of
--- that block the part of `order` that holds the granule is in hand.
+-- `found` tells whether the maximal block that holds the granule is of order `order` or above. If it is, the part of it
+-- of order `order` that holds the granule is in hand.
 pub record HasLooked (heads : List ℕ) (flags : List Bool) (granule order : ℕ) (found : Bool) : Type 0 where
   pub in_hand : found ≡ true → (order ≤ 9) × InHand heads flags order (start_at granule order)
   pub not_yet : found ≡ false → AreMaximal heads flags × AllBelow flags granule order

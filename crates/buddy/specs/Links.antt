@@ -26,7 +26,7 @@ pub record IsLinked (count : ℕ) (heads next prev firsts : List ℕ) : Type 0 w
 abbrev pub HasHead : List ℕ → ℕ → Type 0
 HasHead heads order = (g : ℕ) × (head_at heads g ≡ order + 1)
 
--- of the mask's ten bits those of the orders are set whose list has a block
+-- the mask has ten bits: that of an order is set where the order's list has a block
 pub record IsMask (mask : ℕ) (heads : List ℕ) : Type 0 where
   pub ten : mask < 2 ^ 10
   pub each : (order : ℕ) → order < 10 → (bit_at mask order ≡ 1) ↔ HasHead heads order

@@ -24,8 +24,8 @@ pub struct BuddyArena {
 }
 
 impl BuddyArena {
-    /// A store of so many pages, all free and zero. `BadSize` comes exactly where the number is not 1 to 4,096, and
-    /// else the one error is `Memory`.
+    /// A store of `pages` pages, all free and zero. `BadSize` comes exactly where `pages` is not 1 to 4,096; the only
+    /// other error is `Memory`.
     pub fn build(alloc: Global, pages: u16) -> Result<BuddyArena, BuildError>
         ensures bad_size { IsErrOf result BuildError.BadSize ↔ ((pages < 1) ⊎ (4096 < pages)) }
         ensures zero { IfOk result (λ arena. ⟦<BuddyArena as PageStore>⟧.page_bytes arena ≡ replicate pages zero_page) }
@@ -72,7 +72,7 @@ impl PageStore for BuddyArena {
     }
 
     /// The visits are one for each order from that of the block up to that of the maximal block that it is cut from,
-    /// which is of the smallest order that has one; and none where there is none.
+    /// which is the smallest order that has one. Where no order has one, there are no visits.
     fn take(&mut self, order: Order) -> Option<Gran>
         ensures block { IfSome result (IsFreeBlock self.old.index order) }
         ensures taken { IfSome result (λ first. self.new.index ≡ with_taken self.old.index order first) }
@@ -90,8 +90,8 @@ impl PageStore for BuddyArena {
         Gran::new(first as u16, MOST_PAGES)
     }
 
-    /// The visits are one for each order from 9 down to that of the block, whether it is taken or not; and none where
-    /// it is not aligned.
+    /// The visits are one for each order from 9 down to that of the block, whether the block is taken or not. Where the
+    /// block is not aligned, there are no visits.
     fn take_at(&mut self, order: Order, first: Gran) -> bool
         ensures answer { IsTrue result ↔ IsFreeBlock self.old.index order first }
         ensures taken { OnTrue result (self.new.index ≡ with_taken self.old.index order first) }

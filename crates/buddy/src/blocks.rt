@@ -26,7 +26,7 @@ pub(crate) fn size_of(order: usize) -> u16
     order_of(order).size()
 }
 
-/// Where the block of an order begins that holds a granule.
+/// The first granule of the block of an order that holds a granule.
 pub(crate) fn start_of(granule: usize, order: usize) -> usize
     requires granule { granule < 4096 }
     requires order { order < 10 }
@@ -67,8 +67,8 @@ fn look(lists: &mut FreeLists, granule: usize, order: usize, found: bool) -> boo
     true
 }
 
-/// Cuts a block out of the free one that holds it, of which the order is at most `top`. Answers whether there is one, and
-/// how many orders were looked at.
+/// Cuts a block out of the free block that holds it, whose order is at most `top`. Answers whether there is such a
+/// block, and how many orders were looked at.
 pub(crate) fn cut_out(lists: &mut FreeLists, first: usize, order: usize, top: usize) -> (bool, u8)
     ghost flags: { List Bool }
     requires orders { (order ≤ top) × (top ≤ 9) }

@@ -2,8 +2,8 @@
 //!
 //! The lists have the maximal free blocks: those that lie in no larger one. A block is cut out of one of the smallest
 //! order that will do, and is merged as it is given back. Links stand in a side table, by number, since free pages are
-//! zero; a mask of ten bits says which lists have a block. So no call searches a list, or has a loop that is not over
-//! orders, besides the clearing of pages.
+//! zero; a mask of ten bits says which lists have a block. So no call searches a list, and all loops are over orders,
+//! but for the clearing of pages.
 #![tactic(auto)]
 
 mod arena;

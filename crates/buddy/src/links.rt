@@ -48,7 +48,7 @@ impl Links {
         })
     }
 
-    /// Of a granule that heads a block, one more than the block's order; else 0.
+    /// One more than the order of the block that the granule heads; 0 where it heads none.
     pub(crate) fn head(&self, granule: usize) -> u8
         ensures { result ≡ head_at self.now granule }
     {

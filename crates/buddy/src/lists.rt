@@ -7,8 +7,8 @@ use crate::links::Links;
 use std::alloc::{AllocError, Global};
 use std::marker::Model;
 
-/// Lists of blocks by order, and a mask of the orders that have one. Seen as the table of heads: of a granule that
-/// heads a block, one more than the block's order, and else 0.
+/// Lists of blocks by order, and a mask of the orders that have one. Seen as the table of heads: for each granule, one
+/// more than the order of the block that it heads, or 0 where it heads none.
 #[derive(Drop)]
 pub(crate) struct FreeLists {
     links: Links,
@@ -36,7 +36,7 @@ impl FreeLists {
         Ok(FreeLists { links, mask: 0 })
     }
 
-    /// Of a granule that heads a block, one more than the block's order; else 0.
+    /// One more than the order of the block that the granule heads; 0 where it heads none.
     pub(crate) fn head(&self, granule: usize) -> u8
         ensures { result ≡ head_at self.now granule }
     {

@@ -1,7 +1,7 @@
 -- IPA granules and the table entries that cover them. RMM 1.0, RTT and address space.
 use Rattle.std.specs.Prelude.{ℕ, ◌-◌, ◌*◌, ◌/◌, ◌%◌, ◌^◌, ◌==◌, ◌&&◌, Bool, nat_le, nat_lt, if◌then◌else◌}
 
--- the IPA widths, in bits, that a realm may have; that they are these is this profile's own
+-- the IPA widths, in bits, that a realm may have; which these are is this profile's own
 abbrev pub is_width : ℕ → Bool
 is_width width = nat_le 39 width && nat_le width 43
 
@@ -9,7 +9,7 @@ is_width width = nat_le 39 width && nat_le width 43
 abbrev pub space_of : ℕ → ℕ
 space_of width = 2 ^ (width - 12)
 
--- how many the widest has
+-- how many IPA granules the widest address space has
 abbrev pub widest_space : ℕ
 widest_space = space_of 43
 

@@ -8,11 +8,11 @@ use Rattle.granule_addr.specs.declared.root.Root.{Root}
 abbrev pub start_count : ℕ → ℕ
 start_count width = 2 ^ (width - 39)
 
--- how many IPA granules they serve
+-- how many IPA granules these tables serve
 abbrev pub served_space : ℕ → ℕ
 served_space width = start_count width * served_count 1
 
--- that is all of the address space, and no more
+-- the starting tables serve all of the address space, and no more
 abbrev pub ServesSpace : ℕ → Type 0
 ServesSpace width = is_width width ≡ true → served_space width ≡ space_of width
 

@@ -1,4 +1,4 @@
--- Sets of VMIDs: of each number, whether it is used. RMM 1.0, VMID.
+-- Sets of VMIDs: for each number, whether it is used. RMM 1.0, VMID.
 use Rattle.std.specs.Prelude.{◌≡◌, ◌≢◌, ℕ, Bool, false, List, slice_index_or}
 
 -- whether a VMID is used; a number that has no flag is not

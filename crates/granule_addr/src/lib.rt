@@ -1,7 +1,7 @@
-//! The numbers that a machine of realms is spoken of with, and their arithmetic.
+//! The numbers by which a machine and its realms are described, and their arithmetic.
 //!
-//! Each type keeps its range: a value that is there is in range. Granules, IPA granules and pages are counted in
-//! units of 4 KiB; contracts see each number as it is.
+//! Each type keeps its range: each value of it is in range. Granules, IPA granules and pages are counted in units of 4
+//! KiB; contracts see each number as it is.
 #![tactic(auto)]
 
 mod block;

@@ -11,7 +11,7 @@ pub struct Granule {
 }
 
 impl Granule {
-    /// A granule of the host's, of no realm: each is so at the start.
+    /// A granule of the host's, of no realm, as each one is at the start.
     pub const UNDELEGATED: Granule = Granule {
         state: GranuleState::Undelegated,
         realm: None,

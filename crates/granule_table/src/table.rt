@@ -28,7 +28,7 @@ impl Model for GranuleTable {
 }
 
 impl GranuleTable {
-    /// A table of a machine of so many pages: each granule is UNDELEGATED, and belongs to no realm.
+    /// A table of a machine of `pages` pages: each granule is UNDELEGATED, and belongs to no realm.
     pub fn build(alloc: Global, pages: u16) -> Result<GranuleTable, AllocError>
         requires some { 1 ≤ pages }
         requires few { pages ≤ 4096 }

@@ -20,7 +20,7 @@ with_stack leases build pages = record leases { stacks = slice_set leases.stacks
 abbrev pub pushed : List ℕ → ℕ → ℕ → List ℕ
 pushed pages first order = pages ++ range_with_len first (2 ^ order)
 
--- the pages of a build without as many at the end as a block has
+-- the pages of a build without the last 2^order of them
 abbrev pub popped : List ℕ → ℕ → List ℕ
 popped pages order = take (length pages - 2 ^ order) pages
 

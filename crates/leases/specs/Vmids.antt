@@ -2,7 +2,7 @@
 use Rattle.std.specs.Prelude.{◌≡◌, ℕ, ◌<◌, Bool, true, false, not, ◌&&◌, nat_le, List}
 use Rattle.granule_addr.specs.Vmids.{is_used, IsMarked}
 
--- The greatest VMID that a realm may have, and of each number whether it is in use.
+-- The greatest VMID that a realm may have, and for each number whether it is in use.
 pub record Vmids : Type 0 where
   pub vmids : ℕ
   pub used : List Bool
@@ -16,7 +16,7 @@ pub record IsLowestFree (pool : Vmids) (vmid : ℕ) : Type 0 where
   pub free : is_free pool vmid ≡ true
   pub lower : (other : ℕ) → other < vmid → is_free pool other ≡ false
 
--- one VMID is in use, or not, from now on; the others, and which there are, are as they were
+-- one VMID is in use, or not, from now on; the others are as they were, and so is the greatest
 pub record IsClaimed (old new : Vmids) (vmid : ℕ) (used : Bool) : Type 0 where
   pub range : new.vmids ≡ old.vmids
   pub marked : IsMarked old.used new.used vmid used

@@ -23,7 +23,7 @@ impl Model for Holders {
 }
 
 impl Holders {
-    /// The holders of the granules of a machine of so many pages: nobody leases any.
+    /// The holders of the granules of a machine of `pages` pages, none of which is leased.
     pub fn build(alloc: Global, pages: u16) -> Result<Holders, AllocError>
         ensures { IfOk result (λ holders. holders ≡ replicate pages None) }
     {
@@ -48,14 +48,14 @@ impl Holders {
         self.set_run(first.number(), order.size(), None);
     }
 
-    /// Whether the granule is one of the machine that the build leases.
+    /// Whether the granule is one of the machine's, and the build leases it.
     pub fn is_held_by(&self, granule: Gran, build: BuildId) -> bool
         ensures { result ≡ is_leased_to (Some build) self.now granule }
     {
         matches!(self.of.get(granule.number() as usize), Some(Some(holder)) if *holder == build)
     }
 
-    /// The build that leases the granule; `None` where nobody does, and where the machine has not got it.
+    /// The build that leases the granule; `None` where nobody does, or where the machine has no such granule.
     pub fn holder(&self, granule: Gran) -> Option<BuildId>
         ensures { result ≡ slice_index_or self.now granule None }
     {

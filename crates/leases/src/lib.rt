@@ -1,14 +1,14 @@
-//! What builds lease: of each build the stack of its pages; of each granule the build that leases it; and which VMIDs
-//! are in use.
+//! What builds lease: for each build, the stack of its pages; for each granule, the build that leases it; and which
+//! VMIDs are in use.
 //!
 //! A block that is taken goes to the end of its build's stack, page by page in rising order, so the build's page
 //! numbers run from 0 in the order of taking. The reverse of the take removes it again. Memory is taken by `build`
-//! alone, and no later call fails. The caller sees to it that there is room for a block that is pushed.
+//! alone, and no later call fails. The caller sees to it that a block that is pushed has room.
 //!
 //! `Holders` tells by a granule's number whether a build leases it, so that no stack is looked through. It is 2 bytes a
 //! page, taken at boot.
 //!
-//! Of VMIDs the lowest free one is told, one is claimed, and it is given back.
+//! The pool of VMIDs tells the lowest one that is free; a VMID is claimed, and given back.
 #![tactic(auto)]
 
 mod holders;

@@ -25,7 +25,7 @@ impl Model for Leases {
 }
 
 impl Leases {
-    /// The leases of so many builds, which have no pages, with room for `pages` pages of each.
+    /// The leases of `builds` builds, which have no pages yet, with room for `pages` pages of each.
     pub fn build(alloc: Global, builds: u8, pages: u16) -> Result<Leases, AllocError>
         requires { pages ≤ 4096 }
         ensures { IfOk result (λ leases.

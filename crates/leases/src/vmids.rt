@@ -23,7 +23,7 @@ impl Model for VmidPool {
 }
 
 impl VmidPool {
-    /// The VMIDs up to that one, none of them in use.
+    /// The VMIDs up to `vmids`, none of them in use.
     pub fn new(vmids: u8) -> VmidPool
         ensures range { result.vmids ≡ vmids }
         ensures none { (vmid : ℕ) → is_used result.used vmid ≡ false }

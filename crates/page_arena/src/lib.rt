@@ -1,8 +1,8 @@
 //! Stores of pages: the memory that granules are, and which of it is free.
 //!
 //! A store is seen as a list of pages of 4,096 bytes and a flag for each page, whichever store it is. A block of pages
-//! is taken, written and read, and given back cleared; no call but `build` takes memory. All above is proved once for
-//! any `PageStore`. Of the caller it asks that what is written or given back is taken.
+//! is taken, written and read, and given back cleared; no call but `build` takes memory. Everything above is proved
+//! once for any `PageStore`. A store asks of its caller that pages are taken before they are written or given back.
 #![tactic(auto)]
 
 mod build_error;

@@ -22,8 +22,8 @@ pub struct PlainStore {
 }
 
 impl PlainStore {
-    /// A store of so many pages, all free and zero. `BadSize` comes exactly where the number is not 1 to 4,096, and
-    /// else the one error is `Memory`.
+    /// A store of `pages` pages, all free and zero. `BadSize` comes exactly where `pages` is not 1 to 4,096; the only
+    /// other error is `Memory`.
     pub fn build(alloc: Global, pages: u16) -> Result<PlainStore, BuildError>
         ensures bad_size { IsErrOf result BuildError.BadSize ↔ ((pages < 1) ⊎ (4096 < pages)) }
         ensures zero { IfOk result (λ store.

@@ -15,7 +15,7 @@ pub trait PageStore {
     /// The bytes of each page.
     ghost page_bytes: { Self → List (List ℕ) };
 
-    /// Of each page, whether it is free.
+    /// For each page, whether it is free.
     ghost free_flags: { Self → List Bool };
 
     /// How many pages there are.

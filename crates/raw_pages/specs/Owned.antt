@@ -16,10 +16,10 @@ row_owns right R at room items = block_with_items right R at (length items) room
 abbrev pub row_lends : (R : RattleType) → Ptr → List R.Denot → Lft → Fml
 row_lends R at items = lent_at (Array R (length items)) at items
 
--- So many items take fewer than 2^63 bytes, and are fewer than 2^63.
+-- `count` items take fewer than 2^63 bytes, and are fewer than 2^63.
 abbrev pub Reaches : RattleType → ℕ → Type 0
 Reaches R count = (count * type_size R < 2 ^ 63) × (count < 2 ^ 63)
 
--- the items with one in the place of another, or behind the last
+-- the items with `item` at an index: instead of the item there, or behind the last
 abbrev pub put_at : {X : Type 0} → List X → ℕ → X → List X
 put_at items index item = take index items ++ item ∷ drop (index + 1) items

@@ -1,4 +1,4 @@
--- Of each page the slot that has its bytes.
+-- For each page, the slot that has its bytes.
 use Rattle.std.specs.Prelude.{◌≡◌, ◌≢◌, ℕ, zero, suc, ◌<◌, List, [], ◌∷◌, length, map, get_or}
 use Rattle.granule_addr.specs.Page.{zero_page}
 
@@ -12,7 +12,7 @@ owners [] = 0
 owners (zero ∷ slots) = owners slots
 owners (suc _ ∷ slots) = suc (owners slots)
 
--- So many slots are used: slot 0, which all pages without their own share, and one for each page that has its own.
+-- `used` slots are used: slot 0, which all pages without their own share, and one for each page that has its own.
 pub record IsSlots (slots : List ℕ) (used : ℕ) : Type 0 where
   pub below : (page : ℕ) → page < length slots → get_or slots page 0 < used
   pub apart : (page other : ℕ) → page < length slots → other < length slots → page ≢ other → get_or slots page 0 ≡ get_or slots other 0 → get_or slots page 0 ≡ 0

@@ -3,8 +3,8 @@ use Rattle.std.specs.Prelude.{◌≡◌, ℕ, ◌+◌, ◌≤◌, List, length, 
 use Rattle.granule_addr.specs.Page.{zero_page}
 use denote.RawPtr.{Ptr}
 
--- The row begins at its start, was made by this allocator, has room for a slot of each page and one more, and has the
--- slots that are used, of which the first is zero.
+-- The row begins at its start, was made by this allocator, has room for one slot more than there are pages, and has the
+-- slots that are used; the first of them has zeros.
 pub record IsWhole {A : Type 0} (first at : Ptr) (slots : List ℕ) (used room : ℕ) (items : List (List ℕ)) (alloc from : A) : Type 0 where
   pub place : at ≡ first
   pub owner : from ≡ alloc

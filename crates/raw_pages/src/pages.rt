@@ -38,7 +38,7 @@ impl Model for RawPages {
 impl RawPages {
     ghost use Rattle.raw_pages.specs.LendsPage.{lends_page};
 
-    /// So many pages of zeros. `BadSize` comes exactly where the number is not 1 to 4,096, and else the one error is
+    /// `pages` pages of zeros. `BadSize` comes exactly where `pages` is not 1 to 4,096; the only other error is
     /// `Memory`.
     pub fn build(alloc: Global, pages: u16) -> Result<RawPages, BuildError>
         ensures bad_size { IsErrOf result BuildError.BadSize ↔ ((pages < 1) ⊎ (4096 < pages)) }
@@ -115,7 +115,7 @@ impl RawPages {
     }
 }
 
-// So many pages of zeros. Of their slots one is used: the zeros that all pages share.
+// `pages` pages of zeros. They use one slot: the zeros that all pages share.
 fn zero_pages(alloc: Global, pages: usize) -> Result<RawPages, AllocError>
     requires some { 1 ≤ pages }
     requires few { pages ≤ 4096 }
@@ -132,7 +132,7 @@ fn zero_pages(alloc: Global, pages: usize) -> Result<RawPages, AllocError>
     })
 }
 
-// A page's own slot; where it has none, it gets the next one, with zeros.
+// A page's own slot. A page that has none gets the next one, with zeros.
 fn own_slot(
     slots: &mut Slots,
     row: &mut Row<[u8; 4096], Global>,

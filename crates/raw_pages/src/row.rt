@@ -47,7 +47,7 @@ impl<T, A: Allocator> Model for Row<T, A> {
 
 unsafe impl<T: Send, A: Allocator + Send> Send for Row<T, A> {}
 
-/// A row with room for so many items, and none yet.
+/// A row with room for `room` items, and none yet.
 pub(crate) fn allocate<T, A: Allocator>(
     alloc: &A,
     room: usize,
@@ -109,7 +109,7 @@ impl<T, A: Allocator> Row<T, A> {
         unsafe { (&*start.first.add(read), &mut *start.first.add(write)) }
     }
 
-    /// Writes an item in the place of one, or behind the last.
+    /// Writes an item at an index: instead of the item there, or behind the last.
     pub(crate) fn put(&mut self, start: Start<T>, index: usize, item: T)
         requires { (start.first ≡ self.old.at) × (index ≤ length self.old.items) × (index < self.old.room) × Reaches T.row self.old.room }
         ensures { (self.new.at ≡ self.old.at) × (self.new.room ≡ self.old.room) × (self.new.alloc ≡ self.old.alloc) × (self.new.items ≡ put_at self.old.items index item) }

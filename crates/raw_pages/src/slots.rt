@@ -4,8 +4,8 @@ ghost use Rattle.raw_pages.specs.Slots.{IsSlots};
 
 use std::alloc::{AllocError, Global};
 
-/// Of each page the slot that has its bytes: slot 0, which has the zeros of all pages that were never written, or one of
-/// its own. A page gets its own when it is first written, the next that is not used yet.
+/// For each page, the slot that has its bytes: slot 0, which has the zeros of all pages that were never written, or a
+/// slot of its own. A page gets its own when it is first written: the next one that is not used yet.
 #[derive(Drop)]
 pub(crate) struct Slots {
     of: Vec<u16>,
@@ -14,7 +14,7 @@ pub(crate) struct Slots {
 }
 
 impl Slots {
-    /// So many pages that were never written.
+    /// `pages` pages that were never written.
     pub(crate) fn build(alloc: Global, pages: usize) -> Result<Slots, AllocError>
         ensures { IfOk result (λ slots. (slots.of.items ≡ replicate pages 0) × (slots.used ≡ 1)) }
     {
@@ -39,7 +39,7 @@ impl Slots {
         self.of[page] as usize
     }
 
-    /// Gives a page that shares slot 0 the next slot, of which there is one for each page.
+    /// Gives a page that shares slot 0 the next slot. There is one for each page.
     pub(crate) fn own(&mut self, page: usize) -> usize
         requires inside { page < length self.old.of.items }
         requires shared { get_or self.old.of.items page 0 ≡ 0 }

@@ -42,7 +42,7 @@ impl Model for RealmDesc {
 impl RealmDesc {
     /// A realm that has just been made: NEW, with no REC yet, and a measurement of 32 zero bytes.
     ///
-    /// `root` says its starting tables. RMM 1.0, RMI_REALM_CREATE.
+    /// `root` tells its starting tables. RMM 1.0, RMI_REALM_CREATE.
     #[tactic(auto, unfolding(realm_model::specs::Measurement::zero_measurement, realm_model::specs::Command::Realm::new_realm))]
     pub fn new(vmid: Vmid, root: Root) -> RealmDesc
         ensures row { realm_row result empty (root_rows root.width) ≡ new_realm vmid root }
@@ -70,7 +70,7 @@ impl RealmDesc {
         self.state
     }
 
-    /// The realm is ACTIVE from now on. That it is NEW is for the caller to check. RMM 1.0, RMI_REALM_ACTIVATE.
+    /// The realm is ACTIVE from now on. The caller checks that it is NEW. RMM 1.0, RMI_REALM_ACTIVATE.
     pub fn activate(&mut self)
         ensures { self.new ≡ record self.old { state = Active } }
     {

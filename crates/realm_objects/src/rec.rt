@@ -77,14 +77,14 @@ impl Rec {
         matches!(self.state, RecState::Ready)
     }
 
-    /// The REC runs from now on. That it is READY, and its realm ACTIVE, is for the caller to check. RMM 1.0, RMI_REC_ENTER.
+    /// The REC runs from now on. The caller checks that it is READY, and its realm ACTIVE. RMM 1.0, RMI_REC_ENTER.
     pub fn enter(&mut self)
         ensures { self.new ≡ record self.old { state = Running } }
     {
         self.state = RecState::Running;
     }
 
-    /// The REC stops running, and can be entered again. That it is RUNNING is for the caller to check. RMM 1.0, REC exit.
+    /// The REC stops running, and can be entered again. The caller checks that it is RUNNING. RMM 1.0, REC exit.
     pub fn exit(&mut self)
         ensures { self.new ≡ record self.old { state = Ready } }
     {

@@ -10,7 +10,7 @@ use Rattle.realm_model.proofs.Rows.{is_place as is_at, place_self}
 use Rattle.realm_model.proofs.Booleans.{true_false}
 use Rattle.rtt.specs.FiniteRows.{row_before, rows_below, rows_by}
 
--- the function has nothing but at levels 1 to 3 and so many IPA granules
+-- the function has nothing but at levels 1 to 3 and at IPA granules below `space`
 pub record IsBounded (space : ℕ) (at : ℕ → ℕ → Option Row) : Type 0 where
   pub levels : (level ipa : ℕ) → level ≡ 0 ⊎ 4 ≤ level → at level ipa ≡ None
   pub granules : (level ipa : ℕ) → space ≤ ipa → at level ipa ≡ None

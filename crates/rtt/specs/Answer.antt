@@ -5,8 +5,8 @@ use Rattle.realm_model.specs.Update.{Outcome}
 use Rattle.realm_model.specs.Command.Check.{error_rtt}
 use Rattle.rtt.specs.declared.refusal.Rtt.{Rtt}
 
--- A call answers by what a command must find in the tables. It is not refused where a command finds a row and goes on with
--- it, and it is refused with the level with which a command is refused there.
+-- A call answers by what a command must find in the tables. Where the call is not refused, the command finds a row and
+-- goes on with it. Where the call is refused, the command is refused with the same level.
 abbrev pub Answers : {A : Type 0} → Result A Rtt → ((Row → Outcome) → Outcome) → Type 0
 Answers (Ok value) found = (row : Row) × ((f : Row → Outcome) → found f ≡ f row)
 Answers (Err refusal) found = (f : Row → Outcome) → found f ≡ Err (error_rtt refusal.level)

@@ -31,7 +31,7 @@ pub record KeepsRest (rd : ℕ) (pages : List (List ℕ)) (free : List Bool) (gr
   pub flags : new_free ≡ free
   pub other_realms : LeavesOthers rd pages granules new_pages new_granules
 
--- And what each keeps that leaves the realm its starting tables, or makes them: the realm has its tables.
+-- What a call keeps besides, if it leaves the realm its starting tables or makes them: the realm has its tables.
 pub record Keeps (rd : ℕ) (root : Root) (pages : List (List ℕ)) (free : List Bool) (granules : List Granule)
     (new_pages : List (List ℕ)) (new_free : List Bool) (new_granules : List Granule) : Type 0 where
   pub tables : HasTables new_pages new_granules rd root
@@ -41,7 +41,7 @@ pub record Keeps (rd : ℕ) (root : Root) (pages : List (List ℕ)) (free : List
 abbrev pub ChangesTablesOnly : Root → List (List ℕ) → List (List ℕ) → Type 0
 ChangesTablesOnly root pages new_pages = (granule : ℕ) → ¬ (IsTableOf pages root granule) → page_at new_pages granule ≡ page_at pages granule
 
--- The same, but for one more page.
+-- A page that is none of the realm's tables is as it was, but for one more page.
 abbrev pub ChangesTablesAnd : (ℕ → Type 0) → Root → List (List ℕ) → List (List ℕ) → Type 0
 ChangesTablesAnd IsOneMore root pages new_pages =
     (granule : ℕ) → ¬ (IsOneMore granule) → ¬ (IsTableOf pages root granule) → page_at new_pages granule ≡ page_at pages granule
@@ -53,8 +53,8 @@ abbrev pub GainsTable : Rows → ℕ → ℕ → ℕ → Rows → Type 0
 GainsTable old level ipa granule new =
     (above : Row) → row_at old (level - 1) ipa ≡ Some above → new ≡ with_table old level ipa granule above.ripas
 
--- The row at an IPA granule leads to a page, and has that RIPAS, or where none is given its own. RMM 1.0, RMI_DATA_CREATE and
--- RMI_DATA_CREATE_UNKNOWN.
+-- The row at an IPA granule leads to a page. It has the RIPAS that is given, or its own where none is given. RMM 1.0,
+-- RMI_DATA_CREATE and RMI_DATA_CREATE_UNKNOWN.
 abbrev pub GainsPage : Rows → ℕ → ℕ → Option Ripas → Rows → Type 0
 GainsPage old ipa page ripas new = (row : Row) → row_at old 3 ipa ≡ Some row → new ≡ put_row old 3 ipa (assigned (unwrap_or ripas row.ripas) page)
 

@@ -3,7 +3,7 @@ use Rattle.std.specs.Prelude.{ℕ, zero, suc, List, [], ◌∷◌, ◌++◌, Opt
 use Rattle.std.specs.FinMap.{from_entries}
 use Rattle.realm_model.specs.Rows.{Row, Rows}
 
--- a place and its row before others, if the place has a row
+-- a place and its row in front of others, if the place has a row
 unfoldable pub row_before : ℕ → ℕ → Option Row → List ((ℕ × ℕ) × Row) → List ((ℕ × ℕ) × Row)
 row_before level ipa None rest = rest
 row_before level ipa (Some row) rest = ((level, ipa), row) ∷ rest
@@ -13,6 +13,6 @@ unfoldable pub rows_below : (ℕ → ℕ → Option Row) → ℕ → ℕ → Lis
 rows_below at level zero = []
 rows_below at level (suc n) = row_before level n (at level n) (rows_below at level n)
 
--- The rows that have at each place what a function has there that is bounded by `space` IPA granules.
+-- The rows of a function that is bounded by `space` IPA granules: at each place, the row that the function has there.
 unfoldable pub rows_by : ℕ → (ℕ → ℕ → Option Row) → Rows
 rows_by space at = from_entries (rows_below at 1 space ++ (rows_below at 2 space ++ rows_below at 3 space))

@@ -28,7 +28,7 @@ table_at entries root (suc (suc level)) ipa =
 abbrev pub entry_at : Entries → Root → ℕ → ℕ → Option Row
 entry_at entries root level ipa = option_and_then (λ table. Some (entries table (entry_index level ipa))) (table_at entries root level ipa)
 
--- the page of data that it leads to
+-- the page of data that this entry leads to
 abbrev pub data_at : Entries → Root → ℕ → ℕ → Option ℕ
 data_at entries root level ipa = option_and_then (λ table. data_of (entries table (entry_index level ipa))) (table_at entries root level ipa)
 

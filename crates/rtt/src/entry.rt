@@ -7,8 +7,8 @@ use granule_addr::{Gran, MOST_PAGES};
 use realm_model::{EntryState, Ripas};
 use std::marker::Model;
 
-/// An entry of a translation table: UNASSIGNED ones lead to nothing, ASSIGNED ones to a page of data, TABLE ones to a table,
-/// and these have no RIPAS of their own. RMM 1.0, RTT entry.
+/// An entry of a translation table. UNASSIGNED entries lead to nothing, ASSIGNED ones to a page of data, and TABLE ones
+/// to a table. TABLE entries have no RIPAS of their own. RMM 1.0, RTT entry.
 #[derive(Clone, Copy, Debug, PartialEq, Eq)]
 pub struct Entry {
     pub state: EntryState,

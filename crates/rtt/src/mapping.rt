@@ -20,10 +20,10 @@ use page_arena::PageStore;
 use realm_model::{GranuleState, Ripas};
 
 impl Tables {
-    /// Maps a DELEGATED granule at an IPA granule, as a page of data. Its bytes stay. The entry gets that RIPAS, or keeps
-    /// its own where none is given.
+    /// Maps a DELEGATED granule at an IPA granule, as a page of data. Its bytes stay. The entry gets the RIPAS that is
+    /// given, or keeps its own where none is given.
     ///
-    /// RMM 1.0, RMI_DATA_CREATE, where it is RAM, and RMI_DATA_CREATE_UNKNOWN, where none is given.
+    /// RMM 1.0, RMI_DATA_CREATE, where the RIPAS is RAM, and RMI_DATA_CREATE_UNKNOWN, where none is given.
     /// RMI_ERROR_RTT comes with the level where the walk ended, unless that is 3 and the entry there is UNASSIGNED. A
     /// refusal changes nothing.
     pub fn map<S: PageStore>(

@@ -41,10 +41,10 @@ impl Tables {
         self.clear_starting_tables(store, granules, GranuleState::Delegated, &table);
     }
 
-    /// Clears the starting tables of a realm that goes, which are DELEGATED from then on, and returns whether it did.
-    /// Returns `false`, and changes nothing, if and only if an entry of one of them is TABLE.
+    /// Clears the starting tables of a realm that ends, which are then DELEGATED, and returns whether it did. Returns
+    /// `false`, and changes nothing, if and only if an entry of one of them is TABLE.
     ///
-    /// RMM 1.0, RMI_REALM_DESTROY, which answers RMI_ERROR_REALM then.
+    /// RMM 1.0, RMI_REALM_DESTROY, which answers RMI_ERROR_REALM where this returns `false`.
     pub fn close_root<S: PageStore>(&self, store: &mut S, granules: &mut GranuleTable) -> bool
         requires backed { IsBacked (S.page_bytes store.old) (S.free_flags store.old) granules.old }
         requires tables { HasTables (S.page_bytes store.old) granules.old self.now.rd self.now.root }
@@ -84,7 +84,7 @@ impl Tables {
         true
     }
 
-    // Clears each starting table, and moves it from a state to what it is from now on.
+    // Clears each starting table, and moves it from the state `from` to what `to` says.
     fn clear_starting_tables<S: PageStore>(
         &self,
         store: &mut S,

@@ -66,7 +66,7 @@ impl Tables {
         Ok(())
     }
 
-    /// Takes the table of a level that serves an IPA granule away: its page is zero and DELEGATED from now on, and the
+    /// Takes away the table of a level that serves an IPA granule: its page is zero and DELEGATED from now on, and the
     /// entry above is UNASSIGNED and DESTROYED.
     ///
     /// RMM 1.0, RMI_RTT_DESTROY. RMI_ERROR_RTT comes with the level where the walk ended, unless that is the level above

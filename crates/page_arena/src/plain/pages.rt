@@ -6,7 +6,7 @@ ghost use Rattle.page_arena.specs.Block.{with_run};
 
 use std::alloc::{AllocError, Global};
 
-// So many pages of zeros.
+// `count` pages of zeros.
 pub(crate) fn zero_pages(alloc: Global, count: usize) -> Result<Vec<[u8; 4096]>, AllocError>
     ensures { IfOk result (λ pages. pages.items ≡ replicate count zero_page) }
 {
