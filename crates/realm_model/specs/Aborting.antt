@@ -32,7 +32,7 @@ pub record IsAborting (limits : Limits) (history later : List Event) (build : �
   pub others : erase build (history ++ later) ≡ erase build history ++ erase build later
   pub no_trace : open_entries build (history ++ later) ≡ [] → replay limits (erase build history ++ erase build later) ≡ Some world
 
--- where the build is at rest when its abort begins, so it goes on
+-- an abort goes on like this where the build is at rest when it begins
 abbrev pub AbortGoesOn : Limits → List Event → List Event → ℕ → World → World → Type 0
 AbortGoesOn limits history later build begun world =
     IsAtRest (realm_of build begun) → All (IsOthersOrReverse build) later → IsAborting limits history later build world

@@ -38,14 +38,14 @@ is_command (Take order first) = false
 is_command (UnTake order first) = false
 is_command _ = true
 
--- who leases the granules that an act of a build names: for a Take nobody, else the build
+-- who leases the granules that an act of a build names: nobody for a Take, else the build
 abbrev pub holder : ℕ → Act → Option ℕ
 holder build (Take order first) = None
 holder build _ = Some build
 
 -- ---- pairs
 
--- The reverse of an act that has one. Data and Unknown have the same.
+-- The reverse of an act that has one. Data and Unknown have the same reverse.
 unfoldable pub reverse_of : Act → Option Act
 reverse_of (Take order first) = Some (UnTake order first)
 reverse_of (Delegate granule) = Some (Undelegate granule)

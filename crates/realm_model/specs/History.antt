@@ -33,8 +33,8 @@ abbrev pub has_nearer : List Act → Bool
 has_nearer [] = false
 has_nearer (act ∷ acts) = (is_paired act && is_balanced acts) || has_nearer acts
 
--- An act that stands before `between` is matched by a reverse act in the rest: between them there are as many paired as
--- reverse acts, and of no later paired act is that so.
+-- An act that stands before `between` is matched by a reverse act in the rest: between the two there are as many paired
+-- as reverse acts, and this holds of no later paired act.
 abbrev pub is_matched : List Act → List Act → Bool
 is_matched between [] = false
 is_matched between (act ∷ rest) =

@@ -55,7 +55,7 @@ pub record Commute (limits : Limits) (history : List Event) (one other : Event) 
   pub other_first : IsLegal limits (history ++ other ∷ one ∷ []) ↔ ¬ GivesTo one.act other.act
   pub same_world : IsLegal limits (history ++ other ∷ one ∷ []) → replay limits (history ++ other ∷ one ∷ []) ≡ replay limits (history ++ one ∷ other ∷ [])
 
--- of different builds
+-- two events of different builds commute
 abbrev pub EventsCommute : Limits → List Event → Event → Event → Type 0
 EventsCommute limits history one other =
     one.build ≢ other.build → IsLegal limits (history ++ one ∷ other ∷ []) → Commute limits history one other

@@ -8,17 +8,17 @@ use Rattle.realm_model.specs.Step.{step}
 use Rattle.realm_model.specs.History.{erase, open_entries, replay, IsInTurn}
 use Rattle.realm_model.specs.Room.{used_room, room_taken}
 
--- Without a build, another one has open what it had, and has used as much of its room.
+-- In the history without a build, another one has open what it had, and has used as much of its room.
 pub record KeepsItsRoom (history : List Event) (world : World) (build other : ℕ) : Type 0 where
   pub left_open : open_entries other (erase build history) ≡ open_entries other history
   pub room : used_room other (erase build history) (without world build) ≡ used_room other history world
 
--- of any build but the one that is left out
+-- this holds of each build but the one that is left out
 abbrev pub OthersKeepTheirRoom : List Event → World → ℕ → ℕ → Type 0
 OthersKeepTheirRoom history world build other = build ≢ other → KeepsItsRoom history world build other
 
--- An event is accepted after a history, where each build has so much room and has that many acts open at most: it is in
--- turn, its build has the room that it takes, and can have its act open where that has a reverse, and it is a step.
+-- An event is accepted after a history where each build has room for `capacity` and at most `most` acts open: it is in
+-- turn and a step, its build has the room that it takes, and can have its act open where that has a reverse.
 pub record IsAccepted (limits : Limits) (capacity most : ℕ) (before : List Event) (event : Event) : Type 0 where
   pub world : World
   pub world_is : replay limits before ≡ Some world
@@ -34,12 +34,12 @@ AllAccepted limits capacity most before [] = Unit {0}
 AllAccepted limits capacity most before (event ∷ events) =
     IsAccepted limits capacity most before event × AllAccepted limits capacity most (before ++ event ∷ []) events
 
--- No build but the one that is left out has used more than its room, or had more acts open at any time than the most.
+-- No build but the one that is left out has used more than its room, or had more than `most` acts open at any time.
 pub record OthersHaveRoom (capacity most : ℕ) (history : List Event) (world : World) (build : ℕ) : Type 0 where
   pub used : (other : ℕ) → build ≢ other → used_room other history world ≤ capacity
   pub few_open : (other n : ℕ) → build ≢ other → length (open_entries other (take n history)) ≤ most
 
--- Where these have room, each event of what is left is accepted in turn, from nothing on.
+-- Where the other builds have room, each event of what is left is accepted in turn, from nothing on.
 abbrev pub WhatIsLeftIsAccepted : Limits → ℕ → ℕ → List Event → World → ℕ → Type 0
 WhatIsLeftIsAccepted limits capacity most history world build =
     OthersHaveRoom capacity most history world build → AllAccepted limits capacity most [] (erase build history)

@@ -19,7 +19,7 @@ pub record Mark : Type 0 where
 abbrev pub mark_at : ℕ → List Event → Mark
 mark_at build history = record { build = build; depth = length (open_entries build history); place = length history }
 
--- The mark was made in this history, and never since had the build less open.
+-- The mark was made in this history, and the build never had less open since.
 pub record Stands (mark : Mark) (history : List Event) : Type 0 where
   pub place : mark.place ≤ length history
   pub depth : length (open_entries mark.build (take mark.place history)) ≡ mark.depth
@@ -43,7 +43,7 @@ abbrev pub rolling_back : Mark → List Event → List Event
 rolling_back mark history = map (by mark.build) (reverses (reverse (above mark history)))
 
 -- What the build opened above the mark is undone, by one reverse for each act: the world owns the same as that of the
--- history without what the build did after the mark, and but for the build's part the two are equal in full.
+-- history without what the build did after the mark. Outside the build's part the two are equal in full.
 pub record IsRolledBack (limits : Limits) (mark : Mark) (history : List Event) : Type 0 where
   pub legal : IsLegal limits (history ++ rolling_back mark history)
   pub erased : IsLegal limits (erase_after mark.build mark.place history)

@@ -18,7 +18,7 @@ makes_realm _ = false
 abbrev pub maker : ℕ → RealmRow → Act
 maker rd realm = Realm rd realm.root realm.vmid
 
--- that of a realm, where there is one
+-- the act that makes a realm, if there is a realm
 abbrev pub makers : Option Seen → List Act
 makers None = []
 makers (Some rd) = elim rd.cell.descriptor [ Some realm ↦ maker rd.number realm ∷ [] | None ↦ [] ]
@@ -38,7 +38,7 @@ abbrev pub VmidIsOpen : List Event → World → ℕ → Type 0
 VmidIsOpen history world vmid =
     Contains (used_vmids world.machine) vmid ↔ ((build : ℕ) × IsTrue (list_any (uses_vmid vmid) (open_entries build history)))
 
--- The next REC of a build's realm gets a number that is no more than the build has events.
+-- The number of the next REC of a build's realm is at most the number of the build's events.
 abbrev pub NumbersAreFew : List Event → World → ℕ → Type 0
 NumbersAreFew history world build =
     (rd : Seen) (realm : RealmRow) → realm_of build world ≡ Some rd → rd.cell.descriptor ≡ Some realm → realm.next ≤ length (acts_of build history)

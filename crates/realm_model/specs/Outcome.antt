@@ -19,7 +19,7 @@ use Rattle.realm_model.specs.Command.Rec.{rec_create, rec_enter, rec_exit, rec_d
 
 -- ---- the granules that a command wants, by how many they are
 
--- An act names as many granules as its command wants, so the refusals of too few never come.
+-- An act names as many granules as its command wants, so the refusals for too few never come.
 
 abbrev pub on_one : List Seen → (Seen → Outcome) → Outcome
 on_one [] f = Err error_input

@@ -39,7 +39,7 @@ pub record SameCell (c d : Cell) : Type 0 where
   pub realm : c.realm ≡ d.realm
   pub descriptor : SameDescriptor c.descriptor d.descriptor
 
--- Two worlds own the same: the same leases, states, realms, and realms that are the same.
+-- Two worlds own the same: each granule has the same lease, state and realm in both, and each realm is the same.
 pub record OwnsSame (w v : World) : Type 0 where
   pub leases : w.leases ≡ v.leases
   pub cells : (granule : ℕ) → SameCell (cell_at w.machine granule) (cell_at v.machine granule)

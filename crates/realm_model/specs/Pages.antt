@@ -6,7 +6,7 @@ use Rattle.realm_model.specs.Machine.{Limits}
 use Rattle.realm_model.specs.World.{World}
 use Rattle.realm_model.specs.History.{pages_of}
 
--- The pages of a build are the granules that it leases: each once, each inside the machine, so no more than it has.
+-- The pages of a build are the granules that it leases, each once and each inside the machine.
 pub record PagesAreLeased (limits : Limits) (history : List Event) (build : ℕ) (world : World) : Type 0 where
   pub leased : (granule : ℕ) → Contains (pages_of build history) granule ↔ (slice_get world.leases granule ≡ Some (Some build))
   pub distinct : AllPairs (λ a b. a ≢ b) (pages_of build history)

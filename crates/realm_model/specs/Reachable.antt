@@ -18,12 +18,12 @@ pub record IsReachable (limits : Limits) (world : World) : Type 0 where
   -- there is a cell and a lease for each page
   pub cells : length world.machine ≡ limits.pages
   pub leases : length world.leases ≡ limits.pages
-  -- A free granule is blank. An UNDELEGATED or DELEGATED one is of no realm. The page of a granule is zero in every state
-  -- but UNDELEGATED and DATA.
+  -- A free granule is blank. An UNDELEGATED or DELEGATED one belongs to no realm. The page of a granule is zero in
+  -- every state but UNDELEGATED and DATA.
   pub free : (granule : ℕ) → slice_get world.leases granule ≡ Some None → cell_at world.machine granule ≡ blank
   pub host : (granule : ℕ) → is_host_state (cell_at world.machine granule).state ≡ true → (cell_at world.machine granule).realm ≡ None
   pub zero : IsZeroed (λ granule. cell_at world.machine granule)
-  -- A realm stands at each RD granule and nowhere else. It is of its own realm. A build has one realm at most.
+  -- A realm stands at each RD granule and nowhere else. The RD belongs to its own realm. A build has at most one realm.
   pub rds : (granule : ℕ) → is_some (cell_at world.machine granule).descriptor ≡ is_rd_state (cell_at world.machine granule).state
   pub itself : (rd : ℕ) (realm : RealmRow) → IsRealmAt world rd realm → (cell_at world.machine rd).realm ≡ Some rd
   pub one : (g h : ℕ) (realm other : RealmRow) → IsRealmAt world g realm → IsRealmAt world h other
@@ -31,7 +31,7 @@ pub record IsReachable (limits : Limits) (world : World) : Type 0 where
   -- A VMID is in range, and of one realm alone.
   pub vmid : (rd : ℕ) (realm : RealmRow) → IsRealmAt world rd realm → (1 ≤ realm.vmid) × (realm.vmid ≤ limits.vmids)
   pub vmids : (g h : ℕ) (realm other : RealmRow) → IsRealmAt world g realm → IsRealmAt world h other → realm.vmid ≡ other.vmid → g ≡ h
-  -- A realm has a width that it may have, and its starting tables begin at a multiple of their count.
+  -- A realm has one of the widths that realms may have, and its starting tables begin at a multiple of their count.
   pub width : (rd : ℕ) (realm : RealmRow) → IsRealmAt world rd realm → is_width realm.root.width ≡ true
   pub aligned : (rd : ℕ) (realm : RealmRow) → IsRealmAt world rd realm → realm.root.first % start_count realm.root.width ≡ 0
   -- Rows have their shape, and a TABLE row above them. None of the starting tables or of a table is missing, so every walk
@@ -44,7 +44,7 @@ pub record IsReachable (limits : Limits) (world : World) : Type 0 where
   pub empty : (rd : ℕ) (realm : RealmRow) → IsRealmAt world rd realm → HasEmptyRows realm.root.width realm.rows
   pub recs : (rd : ℕ) (realm : RealmRow) → IsRealmAt world rd realm → (number : ℕ) (rec : RecRow) → get realm.recs number ≡ Some rec → number < realm.next
   -- Each granule that a realm names is in the state that goes with its role, belongs to the realm, and is leased by its
-  -- build. None is named in two roles. Each granule in such a state is named so.
+  -- build. No granule is named in two roles. Each granule in such a state is named by a realm.
   pub names : (rd : ℕ) (realm : RealmRow) → IsRealmAt world rd realm → (role : Role) (granule : ℕ) (state : GranuleState) → target realm role ≡ Some (granule, state)
       → ((cell_at world.machine granule).state ≡ state) × ((cell_at world.machine granule).realm ≡ Some rd)
       × (slice_get world.leases granule ≡ slice_get world.leases rd)

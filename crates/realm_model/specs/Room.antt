@@ -11,8 +11,8 @@ use Rattle.realm_model.specs.Step.{step}
 use Rattle.realm_model.specs.History.{acts_of, open_entries, IsInTurn}
 use Rattle.realm_model.specs.Running.{running_count}
 
--- What a build has used of its room: an entry for each of its events, one for each act that it has open, so that its
--- reverse has room, and one for each REC that runs, so that its exit has.
+-- What a build has used of its room: an entry for each of its events, one for each act that it has open, as room for
+-- its reverse, and one for each REC that runs, as room for its exit.
 abbrev pub used_room : ℕ → List Event → World → ℕ
 used_room build history world =
     length (acts_of build history) + length (open_entries build history) + running_count (realm_of build world)
@@ -24,12 +24,12 @@ room_taken (Enter number) = 2
 room_taken (Exit number) = 0
 room_taken act = cond (is_paired act) 2 (cond (is_reverse act) 0 1)
 
--- An accepted event of a build takes that of the build's room, and none of another's.
+-- An accepted event takes the room of its act from its own build, and none from another.
 pub record TakesRoom (history : List Event) (world : World) (event : Event) (next : World) : Type 0 where
   pub own : used_room event.build (history ++ event ∷ []) next ≡ used_room event.build history world + room_taken event.act
   pub others : (build : ℕ) → event.build ≢ build → used_room build (history ++ event ∷ []) next ≡ used_room build history world
 
--- in turn, and a step
+-- each event that is in turn and a step takes its room
 abbrev pub RoomIsTaken : Limits → List Event → World → Event → World → Type 0
 RoomIsTaken limits history world event next = IsInTurn history event → step limits world event ≡ Some next → TakesRoom history world event next
 

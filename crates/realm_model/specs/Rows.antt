@@ -88,22 +88,22 @@ unmapped_ripas Destroyed = Destroyed
 
 -- ---- several rows at once
 
--- The `n` rows of the level from an IPA granule on are there, and the test holds of each. Commands ask for rows below a table
--- alone, where each is there, so none is refused for a row that is missing.
+-- The `n` rows of the level from an IPA granule on are there, and the test holds of each. Commands ask only for rows
+-- below a table, and these are all there, so no command is refused for a missing row.
 unfoldable pub all_rows : (Row → Bool) → Rows → ℕ → ℕ → ℕ → Bool
 all_rows test rows level first zero = true
 all_rows test rows level first (suc n) =
     elim (get rows (level, first + n * covered_count level)) [ Some row ↦ test row | None ↦ false ]
     && all_rows test rows level first n
 
--- the rows with `n` of the level from an IPA granule on, each made from what was there
+-- the rows with `n` rows of the level from an IPA granule on, each made from what was there
 unfoldable pub put_rows : (Option Row → Row) → Rows → ℕ → ℕ → ℕ → Rows
 put_rows change rows level first zero = rows
 put_rows change rows level first (suc n) =
     let place : ℕ × ℕ = (level, first + n * covered_count level) in
     insert (put_rows change rows level first n) place (change (get rows place))
 
--- the rows but those of the level at `count` IPA granules
+-- the rows without those of the level at `count` IPA granules
 unfoldable pub drop_rows : Rows → ℕ → ℕ → ℕ → Rows
 drop_rows rows level first count =
     retain_keys rows (λ place. not (place.0 == level && nat_le first place.1 && nat_lt place.1 (first + count)))
@@ -113,18 +113,19 @@ put_row rows level ipa row = insert rows (level, first_covered level ipa) row
 
 -- ---- what commands make of the rows
 
--- The rows of a realm of a width that has just been made: 512 for each of its starting tables. RMM 1.0, RMI_REALM_CREATE.
+-- The rows of a new realm of a width: 512 for each of its starting tables. RMM 1.0, RMI_REALM_CREATE.
 -- Rows of unprotected IPAs are like the others, which is this profile's own.
 unfoldable pub root_rows : ℕ → Rows
 root_rows width = put_rows (λ _. unassigned Empty) empty 1 0 (512 * start_count width)
 
--- With a table of a level, at an IPA granule: the row above leads to it, and its rows have the RIPAS that was above.
+-- The rows with one more table at an IPA granule: the row above leads to it, and its rows have the RIPAS that was
+-- above.
 -- RMM 1.0, RMI_RTT_CREATE.
 unfoldable pub with_table : Rows → ℕ → ℕ → ℕ → Ripas → Rows
 with_table rows level ipa granule ripas =
     put_rows (λ _. unassigned ripas) (put_row rows (level - 1) ipa (table granule)) level ipa 512
 
--- Without that table: its rows are gone, and the row above is DESTROYED. RMM 1.0, RMI_RTT_DESTROY.
+-- The rows without that table: its own are gone, and the row above is DESTROYED. RMM 1.0, RMI_RTT_DESTROY.
 unfoldable pub without_table : Rows → ℕ → ℕ → Rows
 without_table rows level ipa =
     put_row (drop_rows rows level ipa (512 * covered_count level)) (level - 1) ipa (unassigned Destroyed)
@@ -133,12 +134,12 @@ without_table rows level ipa =
 unfoldable pub is_table_unused : Rows → ℕ → ℕ → Bool
 is_table_unused rows level ipa = all_rows is_unassigned rows level ipa 512
 
--- A row that becomes RAM. A command makes it of rows that are there, so of none it never does.
+-- A row that becomes RAM. Commands change only rows that are there, so the first case never comes.
 abbrev pub as_ram : Option Row → Row
 as_ram None = unassigned Ram
 as_ram (Some row) = record row { ripas = Ram }
 
--- With RAM at `count` pages. RMM 1.0, RMI_RTT_INIT_RIPAS.
+-- The rows with RAM at `count` pages. RMM 1.0, RMI_RTT_INIT_RIPAS.
 unfoldable pub with_ram : Rows → ℕ → ℕ → Rows
 with_ram rows ipa count = put_rows as_ram rows 3 ipa count
 

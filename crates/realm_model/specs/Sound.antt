@@ -41,7 +41,7 @@ pub record IsPlace (width : ℕ) (place : ℕ × ℕ) : Type 0 where
   pub first : first_covered place.0 place.1 ≡ place.1
   pub inside : place.1 < served_space width
 
--- an UNASSIGNED row has no granule, an ASSIGNED one is of level 3, and above each row but those of level 1 is a table
+-- an UNASSIGNED row has no granule, an ASSIGNED one is of level 3, and above each row that is not of level 1 is a table
 pub record IsSoundRows (width : ℕ) (rows : ℕ × ℕ → Option Mapping) : Type 0 where
   pub placed : (place : ℕ × ℕ) → is_some (rows place) ≡ true → IsPlace width place
   pub shaped : (place : ℕ × ℕ) → IsShaped place.0 (rows place)

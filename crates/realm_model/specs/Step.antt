@@ -22,8 +22,8 @@ abbrev pub outcome_in : Limits → World → Event → Outcome
 outcome_in limits world event =
     outcome_of limits.vmids limits.aux (used_vmids world.machine) event.act (realm_of event.build world) (named_cells world event.act)
 
--- The build is there, the granules named are leased by it (for a Take by nobody), the act's own numbers are in range, and
--- what it says fits what is there.
+-- The build is there, it leases the granules named (for a Take, nobody does), the act's own numbers are in range, and
+-- what the act says fits what is there.
 abbrev pub is_allowed : Limits → World → Event → Bool
 is_allowed limits world event =
     nat_lt event.build limits.builds

@@ -16,15 +16,15 @@ unfoldable pub set_each : {X : Type 0} → X → List ℕ → List X → List X
 set_each x [] xs = xs
 set_each x (place ∷ places) xs = set_each x places (slice_set xs place x)
 
--- The leases after an act of a build: a Take leases its block, an UnTake gives it back, no other act changes any.
+-- The leases after an act of a build: a Take leases its block, an UnTake gives it back, no other act changes a lease.
 abbrev pub leases_after : ℕ → Act → List (Option ℕ) → List (Option ℕ)
 leases_after build (Take order first) leases = set_each (Some build) (block order first) leases
 leases_after build (UnTake order first) leases = set_each None (block order first) leases
 leases_after build _ leases = leases
 
 -- An event leads from one world to another: the build is there; each granule named is inside the machine and leased by
--- the build, for a Take by nobody; the act's own numbers are in range, and what it says fits what is there; its command is
--- not refused. The machine is changed as the command says, and the leases as the act says.
+-- the build, or by nobody for a Take; the act's own numbers are in range, and what it says fits what is there; its
+-- command is not refused. The machine is changed as the command says, and the leases as the act says.
 pub record IsStep (limits : Limits) (world : World) (event : Event) (next : World) : Type 0 where
   pub build : event.build < limits.builds
   pub granules : All (λ granule. slice_get world.leases granule ≡ Some (holder event.build event.act)) (named event.act)
@@ -35,6 +35,6 @@ pub record IsStep (limits : Limits) (world : World) (event : Event) (next : Worl
   pub machine : next.machine ≡ machine_after_all updates world.machine
   pub leases : next.leases ≡ leases_after event.build event.act world.leases
 
--- so the guards in the updates add nothing
+-- a step is exactly that, so the guards in the updates add nothing
 abbrev pub StepIsWhatItSays : Limits → World → Event → Type 0
 StepIsWhatItSays limits world event = (next : World) → (step limits world event ≡ Some next) ↔ IsStep limits world event next

@@ -31,7 +31,7 @@ pub record IsUndoneNext (limits : Limits) (history : List Event) (build : ℕ) (
   pub left_open : open_entries build (history ++ by build back ∷ []) ++ act ∷ [] ≡ open_entries build history
 
 -- All that a build has open is undone, by one reverse for each act: the world is that of the history without the build,
--- so the one before without what the build had. The build's pages are free, what was free is, and what others have stays.
+-- the one before without what the build had. The build's pages are free, what was free is, what others have stays.
 pub record IsUndone (limits : Limits) (history : List Event) (build : ℕ) (world : World) : Type 0 where
   pub legal : IsLegal limits (history ++ undoing build history)
   pub all : length (undoing build history) ≡ length (open_entries build history)
@@ -70,7 +70,7 @@ abbrev pub PairLeadsBack : Limits → ℕ → World → Act → Act → World �
 PairLeadsBack limits build world act back middle =
     reverse_of act ≡ Some back → step limits world (by build act) ≡ Some middle → LeadsBack limits build world middle back
 
--- an act that has no reverse, and is none, leads to a world that owns the same
+-- an act that has no reverse, and is no reverse, leads to a world that owns the same
 abbrev pub OtherActOwnsSame : Limits → ℕ → World → Act → World → Type 0
 OtherActOwnsSame limits build world act next =
     is_paired act ≡ false → is_reverse act ≡ false → step limits world (by build act) ≡ Some next → OwnsSame world next

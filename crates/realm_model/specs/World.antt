@@ -61,7 +61,7 @@ each f [] cells = []
 each f (lease ∷ leases) [] = []
 each f (lease ∷ leases) (cell ∷ cells) = f lease cell ∷ each f leases cells
 
--- the granules of some builds free and blank, and with them their realms gone
+-- the granules of some builds are free and blank, and so the realms of these builds are gone
 abbrev pub unleased : (Option ℕ → Bool) → Option ℕ → Option ℕ
 unleased hides lease = cond (hides lease) None lease
 
@@ -85,7 +85,7 @@ is_of_other build (Some other) = not (other == build)
 abbrev pub without : World → ℕ → World
 without world build = masked (is_of build) world
 
--- The part of a build: the world without what others lease. In a world that a history leads to, free granules are blank, so
--- nothing is in it but what the build leases.
+-- The part of a build: the world without what others lease. In a world that a history leads to, free granules are
+-- blank, so the part has only what the build leases.
 abbrev pub part_of : World → ℕ → World
 part_of world build = masked (is_of_other build) world

@@ -7,8 +7,8 @@ use granule_addr::{BuildId, Gran, IpaGran, Level, Order, PageOff, RecNo, Root, V
 
 /// What one accepted command did, with the granules that it named and the answer that it got.
 ///
-/// `UnTake`, `Undelegate`, `UnRealm`, `UnRtt`, `UnData` and `UnRec` are reverses; `UnData` is that of `Data` and of
-/// `Unknown`.
+/// `UnTake`, `Undelegate`, `UnRealm`, `UnRtt`, `UnData` and `UnRec` are reverses. `UnData` is the reverse of `Data` and
+/// of `Unknown`.
 #[derive(PartialEq, Eq, Drop)]
 pub enum Act {
     /// A block of free pages is leased.

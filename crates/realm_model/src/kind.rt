@@ -16,7 +16,7 @@ pub enum Kind {
     Rec,
 }
 
-/// The kind of an act, or None where it has no reverse.
+/// The kind of an act, or None where the act has no reverse.
 pub fn kind_of(act: &Act) -> Option<Kind>
     ensures { result ≡ act_kind act.now }
 {

@@ -23,7 +23,7 @@ pub fn builds_can_be_left_out()
     ensures { (limits : Limits) (history : List Event) (build : ℕ) → IsLegal limits history → LeavesNoTrace limits history build }
 {}
 
-/// A legal history's events of one build are legal alone, and lead to that build's part of the world.
+/// The events of one build of a legal history are legal alone, and lead to that build's part of the world.
 pub fn builds_can_be_taken_alone()
     ensures { (limits : Limits) (history : List Event) (build : ℕ) → IsLegal limits history → StandsAlone limits history build }
 {}
@@ -59,12 +59,12 @@ pub fn reached_worlds_are_sound()
     ensures { (limits : Limits) (history : List Event) (world : World) → replay limits history ≡ Some world → IsReachable limits world }
 {}
 
-/// The number of the next REC of a build's realm is at most that of the build's events.
+/// The number of the next REC of a build's realm is at most the number of the build's events.
 pub fn numbers_are_few()
     ensures { (limits : Limits) (history : List Event) (world : World) (build : ℕ) → IsLegal limits history → replay limits history ≡ Some world → NumbersAreFew history world build }
 {}
 
-/// No REC of a build runs exactly where none is counted.
+/// No REC of a build runs exactly where the count of those that run is 0.
 pub fn at_rest_is_none_running()
     ensures { (limits : Limits) (history : List Event) (world : World) (build : ℕ) → replay limits history ≡ Some world → RestIsOfAll world build }
 {}
@@ -79,13 +79,13 @@ pub fn room_is_a_sum()
     ensures { (limits : Limits) (history : List Event) (world : World) (build : ℕ) → IsLegal limits history → replay limits history ≡ Some world → RoomIsSum history world build }
 {}
 
-/// Without a build, another one has open what it had, and has used as much of its room.
+/// In a history without a build, another one has open what it had, and has used as much of its room.
 pub fn others_keep_their_room()
     ensures { (limits : Limits) (history : List Event) (world : World) (build other : ℕ) → IsLegal limits history → replay limits history ≡ Some world → OthersKeepTheirRoom history world build other }
 {}
 
-/// Each event of a history without a build is accepted in turn, from nothing on, by a machine with the same limits and room,
-/// where a build can have as many acts open.
+/// Each event of a history without a build is accepted in turn, from nothing on, by a machine with the same limits and
+/// room, where each build can have as many acts open.
 pub fn what_is_left_is_accepted()
     ensures { (limits : Limits) (capacity most : ℕ) (history : List Event) (world : World) (build : ℕ) → IsLegal limits history → replay limits history ≡ Some world → WhatIsLeftIsAccepted limits capacity most history world build }
 {}
@@ -100,12 +100,12 @@ pub fn vmids_are_of_open_acts()
     ensures { (limits : Limits) (history : List Event) (world : World) (vmid : ℕ) → IsLegal limits history → replay limits history ≡ Some world → VmidIsOpen history world vmid }
 {}
 
-/// A paired act can be taken back right after it, and that leads back to a world that owns the same.
+/// A paired act can be taken back right after it, which leads back to a world that owns the same.
 pub fn pairs_lead_back()
     ensures { (limits : Limits) (history : List Event) (world : World) (build : ℕ) (act back : Act) (middle : World) → replay limits history ≡ Some world → PairLeadsBack limits build world act back middle }
 {}
 
-/// Any other act leads to a world that owns the same.
+/// An act that has no reverse, and is no reverse, leads to a world that owns the same.
 pub fn other_acts_own_the_same()
     ensures { (limits : Limits) (world : World) (build : ℕ) (act : Act) (next : World) → OtherActOwnsSame limits build world act next }
 {}
@@ -145,7 +145,7 @@ pub fn new_marks_stand()
     ensures { (build : ℕ) (history : List Event) → Stands (mark_at build history) history }
 {}
 
-/// It stands on until the build has less open than at the mark.
+/// A mark stands on until the build has less open than at the mark.
 pub fn marks_stand_on()
     ensures { (mark : Mark) (history : List Event) (event : Event) → StandsOn mark history event }
 {}

@@ -33,7 +33,7 @@ error_rec = refused OfRec 0
 abbrev pub error_rtt : ℕ → Rmi
 error_rtt level = refused OfRtt level
 
--- where the check holds the rest decides, else it is refused so
+-- where the check holds, the rest decides; else the command is refused with this refusal
 unfoldable pub check : Bool → Rmi → Outcome → Outcome
 check holds rmi rest = cond holds rest (Err rmi)
 
@@ -78,15 +78,15 @@ with_realm rd f = elim rd.cell.descriptor [ Some realm ↦ f realm | None ↦ Er
 unfoldable pub with_rec : RealmRow → ℕ → (RecRow → Outcome) → Outcome
 with_rec realm number f = elim (get realm.recs number) [ Some rec ↦ f rec | None ↦ Err error_input ]
 
--- Where a walk towards a level ends. That it ends nowhere never comes: in every world that a history leads to, it ends at a row.
+-- Where a walk towards a level ends. In every world that a history leads to it ends at a row, so it is never refused.
 unfoldable pub with_end : Rows → ℕ → ℕ → (Walk → Outcome) → Outcome
 with_end rows ipa level f = elim (walk rows ipa level) [ Some end ↦ f end | None ↦ Err (error_rtt 0) ]
 
--- the row where it ends, if that is at the level
+-- the row where the walk ends, if that is at the level
 abbrev pub with_row : Rows → ℕ → ℕ → (Row → Outcome) → Outcome
 with_row rows ipa level f = with_end rows ipa level (λ end. check (end.level == level) (error_rtt end.level) (f end.row))
 
--- The granule that a row leads to. That one which is ASSIGNED or TABLE has none never comes in such a world.
+-- The granule that a row leads to. In such a world each ASSIGNED or TABLE row has one, so it is never refused.
 unfoldable pub with_granule : Row → (ℕ → Outcome) → Outcome
 with_granule row f = elim row.granule [ Some granule ↦ f granule | None ↦ Err error_input ]
 

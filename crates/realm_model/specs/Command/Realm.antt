@@ -31,7 +31,8 @@ abbrev pub is_start : Seen → Seen → Bool
 is_start rd table = is_delegated table && not (table.number == rd.number)
 
 -- DELEGATED granules become the RD and the starting tables of a new realm. RMM 1.0, RMI_REALM_CREATE.
--- A realm may have that width, the first table is a multiple of their count, and the VMID is in range and none of those in use.
+-- The width is one that realms may have, the first table is a multiple of their count, and the VMID is in range and not
+-- in use.
 abbrev pub realm_create : ℕ → List ℕ → Seen → List Seen → Root → ℕ → Outcome
 realm_create vmids used rd tables root vmid =
     check (is_width root.width && root.first % start_count root.width == 0

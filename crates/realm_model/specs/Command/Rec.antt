@@ -10,7 +10,7 @@ use Rattle.realm_model.specs.Machine.{Seen, numbers_of, left, held}
 use Rattle.realm_model.specs.Update.{Outcome, Put, PutByte}
 use Rattle.realm_model.specs.Command.Check.{check, error_input, error_realm, error_rec, error_rtt, is_delegated, are_distinct, is_new, is_ready, is_protected, with_realm, with_rec, with_end, with_granule, put_realm, put_rec}
 
--- DELEGATED granules become a REC of a NEW realm and its auxiliaries, so many. It gets the realm's next number.
+-- DELEGATED granules become a REC of a NEW realm and its `aux` auxiliaries. The REC gets the realm's next number.
 -- RMM 1.0, RMI_REC_CREATE.
 abbrev pub rec_create : ℕ → Seen → Seen → List Seen → Outcome
 rec_create aux rd g auxiliaries =
