@@ -165,7 +165,8 @@ _loaded = {}
 
 
 class Bench:
-    """A monitor with a machine of so many granules, VMIDs and auxiliary granules of each REC. Each granule is the host's, and zero."""
+    """A monitor with a machine of `granules` granules, `vmids` VMIDs, and `auxiliaries` auxiliary granules of each REC. Each
+    granule is the host's, and zero."""
 
     def __init__(self, granules, vmids, auxiliaries=0, *, raises=False, library=None):
         self._handle, self.raises = None, raises

@@ -12,7 +12,7 @@ use Rattle.realm_model.proofs.Booleans.{false_from}
 use Rattle.rmi_monitor.specs.View.{MonitorView, with_block, fresh}
 use Rattle.rmi_bench.specs.Machine.{is_machine, all_taken, opened, IsBench}
 
--- so many granules are taken, and nothing else is other than it was
+-- the first `count` granules are taken, and everything else is as it was
 pub record IsTakenBelow (count : ℕ) (old monitor : MonitorView) : Type 0 where
   pub vmids : monitor.vmids ≡ old.vmids
   pub aux : monitor.aux ≡ old.aux

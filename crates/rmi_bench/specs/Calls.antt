@@ -12,11 +12,11 @@ use Rattle.rmi_monitor.specs.Named.{rec_named}
 abbrev pub is_inside : MonitorView → ℕ → Bool
 is_inside monitor granule = nat_lt granule (length monitor.machine)
 
--- A command on granules by number: one that the machine has not got is an input error.
+-- A command on granules by number: a granule that the machine has not got is an input error.
 abbrev pub naming : List ℕ → MonitorView → Outcome → Outcome
 naming granules monitor outcome = check (list_all (is_inside monitor) granules) error_input outcome
 
--- A command on a REC by its granule: one that is no REC is an input error.
+-- A command on a REC by its granule: a granule that is no REC is an input error.
 abbrev pub on_rec : (Seen → ℕ → Outcome) → MonitorView → ℕ → Outcome
 on_rec command monitor granule = elim (rec_named monitor.machine granule) [ Some rec ↦ command (seen_in monitor rec.0) rec.1 | None ↦ Err error_input ]
 

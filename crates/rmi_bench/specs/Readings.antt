@@ -25,7 +25,8 @@ realm_reading monitor rd = option_map attributes_of (cell_at monitor.machine rd)
 abbrev pub rec_reading : MonitorView → ℕ → Option RecAttributes
 rec_reading monitor granule = if is_inside monitor granule then rec_attributes_at monitor.machine granule else None
 
--- A word of a granule that the machine has: of its bytes, and of a table of a realm that of the row which the entry stands for.
+-- A word of a granule that the machine has: a word of its bytes or, in a table of a realm, the word of the row that the
+-- entry stands for.
 pub record IsWordOf (monitor : MonitorView) (granule index word : ℕ) : Type 0 where
   pub inside : is_inside monitor granule ≡ true
   pub in_page : index < 512

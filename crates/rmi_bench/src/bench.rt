@@ -30,7 +30,7 @@ impl Model for Bench {
 }
 
 impl Bench {
-    // The granule of that number: one that the machine has not got is an input error.
+    // The granule of that number. A number that the machine has not got is an input error.
     pub(crate) fn granule(&self, number: u16) -> Result<Gran, Rmi>
         ensures inside { IfOk result (λ granule. (granule ≡ number) × (is_inside self.now number ≡ true)) }
         ensures outside { IfErr result (λ refusal. (refusal ≡ error_input) × (is_inside self.now number ≡ false)) }

@@ -21,10 +21,11 @@ fn take_all(monitor: &mut Monitor<PlainStore>, order: Order)
 }
 
 impl Bench {
-    /// A bench whose machine has so many pages, VMIDs and auxiliary granules of each REC: every page is taken, and blank.
+    /// A bench whose machine has `pages` pages, `vmids` VMIDs, and `auxiliaries` auxiliary granules of each REC: every
+    /// page is taken, and blank.
     ///
-    /// `NoMachine` comes exactly where no machine has these numbers: it has 1 to 4,096 pages, 1 to 255 VMIDs and at most 16
-    /// auxiliary granules. Else the one error is `Memory`.
+    /// `NoMachine` comes exactly where no machine has these numbers: a machine has 1 to 4,096 pages, 1 to 255 VMIDs and
+    /// at most 16 auxiliary granules. The only other error is `Memory`.
     pub fn open(alloc: Global, pages: u16, vmids: u8, auxiliaries: u8) -> Result<Bench, OpenError>
         ensures no_machine { IsErrOf result OpenError.NoMachine ↔ (is_machine pages vmids auxiliaries ≡ false) }
         ensures ok { IfOk result (λ bench. bench ≡ opened pages vmids auxiliaries) }

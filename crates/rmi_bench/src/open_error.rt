@@ -2,7 +2,7 @@
 use std::alloc::AllocError;
 use thiserror::Error;
 
-/// Why a bench is not opened: the numbers are none of a machine, or there is no memory for it.
+/// Why a bench is not opened: no machine has the numbers, or there is no memory for it.
 #[derive(Clone, Copy, Debug, PartialEq, Eq, Error)]
 pub enum OpenError {
     #[error("a machine has 1 to 4096 pages, 1 to 255 VMIDs, and at most 16 auxiliary granules of a REC")]

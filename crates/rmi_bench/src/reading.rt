@@ -26,7 +26,7 @@ impl Bench {
         Some(self.monitor.state(granule))
     }
 
-    /// The sum of a granule's bytes, of a table 0; `None` comes exactly where the machine has not got it.
+    /// The sum of a granule's bytes, which for a table is 0; `None` comes exactly where the machine has not got it.
     pub fn sum(&self, granule: u16) -> Option<u32>
         ensures { result ≡ reading (λ cell. sum cell.bytes) self.now granule }
     {
@@ -34,8 +34,8 @@ impl Bench {
         Some(self.monitor.byte_sum(granule))
     }
 
-    /// The word at 8 * `index` of a granule's page, little endian: of a table, the entry word. `None` comes exactly where the
-    /// machine has not got the granule, and for an index above 511.
+    /// The word at 8 * `index` of a granule's page, little endian; in a table, the entry word. `None` comes exactly
+    /// where the machine has not got the granule, and for an index above 511.
     pub fn word(&self, granule: u16, index: u16) -> Option<u64>
         ensures some { IfSome result (IsWordOf self.now granule index) }
         ensures none { IfNone result ((is_inside self.now granule && nat_lt index 512) ≡ false) }

@@ -50,7 +50,7 @@ impl Bench {
         self.monitor.rec_destroy(rec)
     }
 
-    // The granules of these numbers: one that the machine has not got is an input error.
+    // The granules of these numbers. A number that the machine has not got is an input error.
     fn granules(&self, numbers: &[u16]) -> Result<ArrayVec<Gran, 16>, Rmi>
         requires { length numbers.now ≤ 16 }
         ensures inside { IfOk result (λ granules.

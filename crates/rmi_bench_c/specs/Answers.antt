@@ -50,7 +50,7 @@ pub record Performs (command : MonitorView → Outcome) (old : Option MonitorVie
   pub answer : word ≡ word_on command old
   pub bench : new ≡ bench_after command old
 
--- A call performs a command where the operands fit their fields. Where one does not, it is an input error.
+-- A call performs a command where the operands fit their fields. Where one does not fit, that is an input error.
 pub record Serves (fits : Bool) (command : MonitorView → Outcome) (old : Option MonitorView) (word : ℕ) (new : Option MonitorView) : Type 0 where
   pub performed : fits ≡ true → Performs command old word new
   pub refused : fits ≡ false → Performs (λ m. Err error_input) old word new
@@ -64,7 +64,7 @@ abbrev pub rec_create_of : ℕ → ℕ → List ℕ → MonitorView → Outcome
 rec_create_of rd rec auxiliaries m =
     naming (rd ∷ rec ∷ auxiliaries) m (numbered (seen_in m rd) (rec_create m.aux (seen_in m rd) (seen_in m rec) (map (seen_in m) auxiliaries)))
 
--- a call of f at a bench and at the number of a granule may give r, and leave the bench so
+-- a call of f with a bench and the number of a granule may give r, and leave the bench as `new`
 pub record DoesAt {F M R : Type 0} (g : Once F (MutBor M × (ℕ × Unit {0})) (R × (MutBor M × Unit {0}))) (f : F) (granule : ℕ) (old : M) (r : R) (new : M) : Type 0 where
   pub shown : MutBor M
   pub shows : shown.now ≡ old
@@ -74,11 +74,11 @@ pub record DoesAt {F M R : Type 0} (g : Once F (MutBor M × (ℕ × Unit {0})) (
 
 -- ---- readings
 
--- a call of f at a bench and at the number of a granule may give r
+-- a call of f with a bench and the number of a granule may give r
 abbrev pub FindsAt : {F M R : Type 0} → Once F (Bor M × (ℕ × Unit {0})) R → F → ℕ → M → R → Type 0
 FindsAt {F} {M} g f granule m r = (p : Bor M) × g.post f (p, (granule, tt)) r × (p.now ≡ m)
 
--- What is read is told, and that there was something; where there was nothing, what was to be written stays.
+-- What is read is told, and whether there was anything; where there was nothing, what was to be written stays as it is.
 pub record Tells {A : Type 0} (read : Option A) (old : A) (told : Bool) (new : A) : Type 0 where
   pub is_told : told ≡ is_some read
   pub value : new ≡ unwrap_or read old
@@ -88,7 +88,7 @@ pub record Reads {A : Type 0} (fits : Bool) (read : MonitorView → Option A) (b
   pub fitting : fits ≡ true → Tells (option_and_then read bench) old told new
   pub unfit : fits ≡ false → Tells None old told new
 
--- the machine has the granule, and its page that word
+-- the machine has the granule, and its page has the word
 abbrev pub has_word : Option MonitorView → ℕ → ℕ → Bool
 has_word (Some m) granule index = is_inside m granule && nat_lt index 512
 has_word None granule index = false

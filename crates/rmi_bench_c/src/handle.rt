@@ -18,7 +18,7 @@ use rmi_bench::Bench;
 use std::alloc::Global;
 use std::mem::replace;
 
-/// A bench that C keeps, or none: a closed handle. All its bytes 0 is a closed one.
+/// A bench that C keeps, or none, which is a closed handle. A handle whose bytes are all 0 is closed.
 #[repr(C)]
 #[derive(Drop)]
 pub struct Handle {
@@ -45,7 +45,7 @@ impl Handle {
         Some(held.into_parts(alloc).into_box())
     }
 
-    // Puts a bench into a closed handle: one that was in an open one would never be given back.
+    // Puts a bench into a closed handle. The bench of an open one would never be given back.
     pub(crate) fn give(&mut self, bench: Box<Bench>)
         requires closed { self.old.held.bench ≡ None }
         ensures { self.new.held.bench ≡ Some bench.value }
@@ -83,7 +83,7 @@ impl Handle {
         word(call)
     }
 
-    // As `perform`, of a command on the granule of that number.
+    // As `perform`, for a command on the granule of that number.
     pub(crate) fn on_granule<F: FnOnce(&mut Bench, u16) -> Result<(), Rmi>>(
         &mut self,
         alloc: Global,
@@ -104,8 +104,8 @@ impl Handle {
         word(call)
     }
 
-    // Reads the granule of that number into `into`, and answers whether there was something to read. What was there stays where
-    // there was not.
+    // Reads the granule of that number into `into`, and answers whether there was something to read. Where there was
+    // not, `into` stays as it is.
     pub(crate) fn read<T: Drop, F: FnOnce(&Bench, u16) -> Option<T>>(
         &mut self,
         alloc: Global,
@@ -128,7 +128,8 @@ impl Handle {
         tell(found, into)
     }
 
-    // What is answered where an operand fits no field: an input error, and on a closed handle that it is closed.
+    // What is answered where an operand does not fit its field: an input error, or on a closed handle that it is
+    // closed.
     pub(crate) fn refuse(&mut self) -> u64
         ensures { Performs (λ _. Err error_input) self.old.held.bench result self.new.held.bench }
     {

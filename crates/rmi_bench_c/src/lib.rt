@@ -1,7 +1,7 @@
 //! The bench for C: each function of `include/rmi_bench.h` is exported here, and its contract says what it answers and does.
 //!
-//! C keeps a handle, and this library what the handle has. Operands have 64 bits, as the registers of the standard's calls
-//! have: one that its field cannot hold is an input error, and is never cut.
+//! C keeps a handle, and this library keeps what the handle has. Operands have 64 bits, as the registers of the
+//! standard's calls have: an operand that its field cannot hold is an input error, and is never cut.
 #![tactic(auto)]
 
 mod data;

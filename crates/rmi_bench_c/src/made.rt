@@ -28,7 +28,7 @@ pub(crate) fn narrowed(numbers: &[u64]) -> Option<ArrayVec<u16, 16>>
     Some(narrow)
 }
 
-// The result word of making a REC, and its number into `number`, where it is made.
+// Makes a REC. Answers the result word, and writes the REC's number to `number` where the REC is made.
 pub(crate) fn create(
     bench: &mut Bench,
     rd: u16,

@@ -15,10 +15,11 @@ const NO_MEMORY: u64 = 2;
 
 const ALREADY_OPEN: u64 = 3;
 
-/// Opens a closed handle: a fresh machine of so many granules, VMIDs and auxiliary granules of a REC.
+/// Opens a closed handle: a fresh machine of `granules` granules and `vmids` VMIDs, with `auxiliaries` auxiliary
+/// granules of a REC.
 ///
-/// 0 where it is open now; else nothing changes. 3 comes exactly where it was open, 1 exactly where it was closed and no
-/// machine has these numbers, and 2 where allocation failed.
+/// Answers 0 where the handle is open now; else nothing changes. 3 comes exactly where it was open, 1 exactly where it
+/// was closed and no machine has these numbers, and 2 where allocation failed.
 #[unsafe(no_mangle)]
 pub extern "C" fn rmi_bench_open(
     alloc: Global,

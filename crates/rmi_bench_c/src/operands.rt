@@ -1,6 +1,7 @@
 //! Operands as C has them, in 64 bits, and the fields of fewer bits that they have to fit.
 
-// Each operand becomes the number in its field. Where its field cannot hold it, the function answers what is refused with.
+// Each operand becomes the number in its field. Where its field cannot hold it, the function returns the value behind
+// `else`.
 macro_rules! narrow {
     ($($operand:ident: $field:ident),+; else $refused:expr) => {
         if $($operand > $field::MAX as u64)||+ {

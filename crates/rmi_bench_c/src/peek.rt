@@ -5,7 +5,7 @@ ghost use Rattle.rmi_bench_c.specs.Answers.{peek_of, word_of};
 
 use rmi_bench::Bench;
 
-// The result word of a peek, and the byte into `byte`, where it is read.
+// Answers the result word of a peek, and writes the byte to `byte` where it is read.
 pub(crate) fn peek(bench: &Bench, granule: u16, offset: u16, byte: &mut u8) -> u64
     ensures word { result ≡ word_of (peek_of granule offset bench.now) }
     ensures byte { result ≡ 0 → byte.new ≡ slice_index (cell_at bench.now.machine granule).bytes offset }

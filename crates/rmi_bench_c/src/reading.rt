@@ -27,7 +27,7 @@ pub extern "C" fn rmi_read_state(
     handle.read(alloc, granule, state_of, state)
 }
 
-/// The sum of a granule's bytes, of a table 0, into `total`.
+/// The sum of a granule's bytes, which for a table is 0, into `total`.
 ///
 /// False exactly where the machine has not got the granule, or the handle is closed.
 #[unsafe(no_mangle)]
@@ -43,7 +43,7 @@ pub extern "C" fn rmi_read_sum(
     handle.read(alloc, granule, sum_of, total)
 }
 
-/// The word at 8 * `index` of a granule's page, little endian, into `word`: of a table, the entry word.
+/// The word at 8 * `index` of a granule's page, little endian, into `word`; in a table, the entry word.
 ///
 /// False exactly where the machine has not got the granule, for an index above 511, and on a closed handle.
 #[unsafe(no_mangle)]

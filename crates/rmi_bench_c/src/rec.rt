@@ -12,7 +12,8 @@ use crate::word::CLOSED;
 use rmi_bench::Bench;
 use std::alloc::Global;
 
-/// RMI_REC_CREATE, with these auxiliary granules. `number` becomes the REC's, and stays as it is where this is refused.
+/// RMI_REC_CREATE, with these auxiliary granules. `number` becomes the REC's number, and stays as it is where this is
+/// refused.
 ///
 /// More than 16 auxiliary granules are an input error.
 #[unsafe(no_mangle)]

@@ -136,7 +136,7 @@ pub(crate) fn rec_of(bench: &Bench, granule: u16) -> Option<Rec>
     Some(rec_told(bench.rec(granule)?))
 }
 
-// What is read goes into `into`, which stays as it is where nothing is. Answers whether something is.
+// Writes what is read to `into`, which stays as it is where there is nothing. Answers whether there is something.
 pub(crate) fn tell<T: Drop>(read: Option<T>, into: &mut T) -> bool
     ensures { Tells read into.old result into.new }
 {

@@ -20,8 +20,8 @@ use Rattle.rmi_monitor.specs.Gathered.{gathered, IsOnce}
 use Rattle.rmi_monitor.specs.Places.{is_realm_with}
 use Rattle.granule_addr.specs.Vmids.{is_used}
 
--- The VMIDs that are used, and of each granule: its state and realm, the bytes of its page, whether it is free, the realm or
--- the REC that it is, and how many RECs that realm has.
+-- The VMIDs that are used, and for each granule: its state and realm, the bytes of its page, whether it is free, the
+-- realm or the REC that it is, and how many RECs that realm has.
 pub record Fields : Type 0 where
   pub vmids : ℕ
   pub aux : ℕ
@@ -50,7 +50,7 @@ fields_of vmids aux used granules pages free realms rec_counts recs = record {
 abbrev pub realm_at : Fields → ℕ → Option RealmAttributes
 realm_at fields rd = slice_index_or fields.realms rd None
 
--- how many RECs that realm has, as it is kept
+-- how many RECs that realm has, as the monitor keeps it
 abbrev pub rec_count_at : Fields → ℕ → ℕ
 rec_count_at fields rd = slice_index_or fields.rec_counts rd 0
 
@@ -63,7 +63,7 @@ rec_at fields granule = slice_index_or fields.recs granule None
 abbrev pub is_of_realm : List Granule → ℕ → ℕ → Bool
 is_of_realm granules rd granule = option_eq nat_eq (granule_at granules granule).realm (Some rd)
 
--- the REC that a granule is, with its number, where it is one of the realm
+-- the REC that a granule is, with its number, if it is a REC of the realm
 abbrev pub rec_of : List Granule → List (Option RecAttributes) → ℕ → ℕ → Option (ℕ × RecRow)
 rec_of granules recs rd granule =
     if is_of_realm granules rd granule then option_map (λ rec. (rec.number, rec_row granule rec)) (slice_index_or recs granule None) else None
@@ -88,7 +88,7 @@ abbrev pub descriptor_of : Fields → ℕ → Option RealmRow
 descriptor_of fields rd =
     option_map (λ realm. realm_row realm (recs_of fields.granules fields.recs rd) (rows fields.pages realm.root)) (realm_at fields rd)
 
--- the bytes of a granule: those of its page, and of a table none, since its contents are rows
+-- the bytes of a granule: those of its page, or zeros for a table, whose contents are rows
 abbrev pub bytes_of : GranuleState → List ℕ → List ℕ
 bytes_of InRtt page = zero_page
 bytes_of _ page = page
@@ -130,8 +130,8 @@ pub record IsRecOf (fields : Fields) (granule : ℕ) (rec : RecAttributes) : Typ
   pub there : realm_at fields rd ≡ Some realm
   pub below : rec.number < realm.next
 
--- RECs belong to realms, and two of one realm have different numbers. Their auxiliaries are in REC_AUX of the same realm,
--- and none is there twice.
+-- RECs belong to realms, and two RECs of one realm have different numbers. Their auxiliaries are in REC_AUX of the same
+-- realm, and each is there once.
 pub record HasRecs (fields : Fields) : Type 0 where
   pub of : (granule : ℕ) (rec : RecAttributes) → rec_at fields granule ≡ Some rec → IsRecOf fields granule rec
   pub once : (g h : ℕ) (rec other : RecAttributes) → rec_at fields g ≡ Some rec → rec_at fields h ≡ Some other
@@ -150,6 +150,6 @@ pub record IsWhole (fields : Fields) : Type 0 where
   pub each : (granule : ℕ) → IsSoundAt fields granule
   pub tables : (rd : ℕ) (realm : RealmAttributes) → realm_at fields rd ≡ Some realm → HasTables fields.pages fields.granules rd realm.root
   pub recs : HasRecs fields
-  -- A realm's count is that of its RECs. A VMID is used where a realm has it, and then one alone does.
+  -- A realm's count is that of its RECs. A VMID is used exactly where a realm has it, and then only one has it.
   pub counted : (rd : ℕ) → rec_count_at fields rd ≡ len (recs_of fields.granules fields.recs rd)
   pub vmids_used : (vmid : ℕ) → count_by (is_realm_with vmid) fields.realms ≡ (if is_used fields.used vmid then 1 else 0)

@@ -12,7 +12,7 @@ pub record IsLocated (realm : RealmAttributes) (rd ipa : ℕ) (at : Tables × �
   pub same : at.1 ≡ ipa
   pub protected : is_protected_at ipa realm.root.width ≡ true
 
--- the same, by what the machine has at that RD
+-- the same, by what the machine has at the RD
 pub record Locates (machine : Machine) (rd ipa : ℕ) (at : Tables × ℕ) : Type 0 where
   pub row : RealmRow
   pub there : (cell_at machine rd).descriptor ≡ Some row
@@ -20,7 +20,7 @@ pub record Locates (machine : Machine) (rd ipa : ℕ) (at : Tables × ℕ) : Typ
   pub same : at.1 ≡ ipa
   pub protected : is_protected row ipa ≡ true
 
--- and the realm is NEW
+-- the same, and the realm is NEW
 pub record LocatesNew (machine : Machine) (rd ipa : ℕ) (at : Tables × ℕ) : Type 0 where
   pub place : Locates machine rd ipa at
   pub is_fresh : is_new place.row.state ≡ true

@@ -28,7 +28,7 @@ rec_named machine granule =
 abbrev pub rec_attributes_of : ℕ → RecRow → RecAttributes
 rec_attributes_of number row = record { number = number; state = row.state; auxiliaries = row.auxiliaries }
 
--- those of the REC that the granule is
+-- the attributes of the REC that the granule is
 abbrev pub rec_attributes_at : Machine → ℕ → Option RecAttributes
 rec_attributes_at machine granule =
     option_and_then (λ named. option_map (rec_attributes_of named.1) (rec_in machine named.0 named.1)) (rec_named machine granule)

@@ -16,7 +16,7 @@ use Rattle.realm_objects.specs.Attributes.{RealmAttributes}
 abbrev pub measured_by : List ℕ → RealmAttributes → RealmAttributes
 measured_by event realm = record realm { measurement = measurement_after realm.measurement event }
 
--- and with one more REC, by whose number it is extended
+-- a realm's attributes with one more REC, by whose number the measurement is extended
 abbrev pub with_rec_more : RealmAttributes → RealmAttributes
 with_rec_more realm = record realm { next = realm.next + 1; measurement = measurement_after realm.measurement (rec_event realm.next) }
 
@@ -30,8 +30,8 @@ is_undelegated_at granules granule = elim (granule_at granules granule).state [ 
 abbrev pub is_fit_to_start : List Granule → ℕ → ℕ → Bool
 is_fit_to_start granules rd table = is_delegated_at granules table && not (table == rd)
 
--- A DELEGATED granule for the RD, starting tables beside it from a multiple of their count on, and a VMID up to the machine's
--- greatest.
+-- What a new realm needs: a DELEGATED granule for the RD, starting tables beside it from a multiple of their count on,
+-- and a VMID up to the machine's greatest.
 abbrev pub are_fit_for_realm : List Granule → ℕ → Root → ℕ → ℕ → Bool
 are_fit_for_realm granules rd root vmid vmids =
     root.first % start_count root.width == 0 && is_delegated_at granules rd
@@ -41,7 +41,7 @@ are_fit_for_realm granules rd root vmid vmids =
 abbrev pub is_realm_with : ℕ → Option RealmAttributes → Bool
 is_realm_with vmid place = elim place [ Some realm ↦ realm.vmid == vmid | None ↦ false ]
 
--- granules are DELEGATED, none is there twice, and those after the first are so many
+-- the granules are DELEGATED, none is there twice, and there are `count` of them after the first
 abbrev pub are_fit_for_rec : List Granule → ℕ → List ℕ → ℕ → Bool
 are_fit_for_rec granules first others count =
     list_all (is_delegated_at granules) (first ∷ others) && are_distinct (first ∷ others) && length others == count

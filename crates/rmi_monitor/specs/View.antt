@@ -14,7 +14,7 @@ use Rattle.realm_model.specs.Command.Realm.{realm_create}
 use Rattle.realm_model.specs.Step.{used_vmids}
 use Rattle.realm_objects.specs.Attributes.{RealmAttributes}
 
--- How many VMIDs and auxiliary granules of a REC there are, the machine, and of each granule whether it is free.
+-- How many VMIDs and auxiliary granules of a REC there are, the machine, and for each granule whether it is free.
 pub record MonitorView : Type 0 where
   pub vmids : ℕ
   pub aux : ℕ
@@ -26,7 +26,7 @@ pub record IsTaken (monitor : MonitorView) (granule : ℕ) : Type 0 where
   pub inside : granule < length monitor.machine
   pub taken : is_free monitor.free granule ≡ false
 
--- every granule of a machine of so many is taken
+-- the machine has `count` granules, and all are taken
 pub record AreAllTaken (monitor : MonitorView) (count : ℕ) : Type 0 where
   pub size : length monitor.machine ≡ count
   pub each : (granule : ℕ) → granule < count → IsTaken monitor granule
@@ -75,8 +75,8 @@ pub record IsRec (machine : Machine) (rd number granule : ℕ) : Type 0 where
 abbrev pub rec_in : Machine → ℕ → ℕ → Option RecRow
 rec_in machine rd number = option_and_then (λ realm. get realm.recs number) (cell_at machine rd).descriptor
 
--- What comes of a command on a REC is what its definition says of the realm and the number. Where no realm and number have
--- the granule as their REC, it is an input error and nothing changes.
+-- What comes of a command on a REC is what its definition says of the realm and the number. Where the granule is the
+-- REC of no realm, the command is refused with an input error and nothing changes.
 pub record IsOnRec {A : Type 0} (command : Seen → ℕ → Outcome) (old : MonitorView) (granule : ℕ) (result : Result A Rmi) (new : MonitorView) : Type 0 where
   pub answer : (rd number : ℕ) → IsRec old.machine rd number granule → Answers result (command (seen_in old rd) number)
   pub machine : (rd number : ℕ) → IsRec old.machine rd number granule → new ≡ after_command (command (seen_in old rd) number) old
@@ -100,7 +100,7 @@ without_block monitor order first = record monitor {
   free = with_given monitor.free order first;
 }
 
--- a monitor that has just been built, of so many pages
+-- a monitor that has just been built, with `pages` pages
 abbrev pub fresh : ℕ → ℕ → ℕ → MonitorView
 fresh vmids aux pages = record { vmids = vmids; aux = aux; machine = replicate pages blank; free = replicate pages true }
 

@@ -46,7 +46,7 @@ impl<S: PageStore> Monitor<S> {
         Ok(())
     }
 
-    // Where a page of a NEW realm is mapped that gets the bytes of `source`.
+    // Where a page that gets the bytes of `source` is mapped in a NEW realm.
     fn check_copy(
         &self,
         rd: Gran,

@@ -17,7 +17,8 @@ pub fn protected(ipa: u32, width: IpaWidth) -> Option<IpaGran>
     }
 }
 
-// The first of `count` IPA granules, where it is protected, they are 1 to 512, and one table of level 3 serves all of them.
+// The first of `count` IPA granules, if it is protected, `count` is 1 to 512, and one table of level 3 serves all of
+// them.
 pub(crate) fn protected_run(ipa: u32, count: u16, width: IpaWidth) -> Option<IpaGran>
     ensures { result ≡ (if is_page_run ipa count && is_protected_at ipa width then Some ipa else None) }
 {

@@ -1,8 +1,8 @@
 //! The monitor: commands named after the Realm Management Interface, over any store of pages.
 //!
-//! It is seen as the machine of the definitions, beside which granules are free. Each command answers what its
-//! definition says of the granules that it names, and changes the machine as the definition says; a refusal changes
-//! nothing. A caller owes that the granules which a command names are taken.
+//! It is seen as the machine of the definitions, with a flag for each granule that says whether it is free. Each
+//! command answers what its definition says of the granules that it names, and changes the machine as the definition
+//! says; a refusal changes nothing. A caller owes that the granules which a command names are taken.
 #![tactic(auto)]
 
 mod data;

@@ -24,7 +24,7 @@ pub(crate) fn located(rd: Gran, realm: &RealmDesc, ipa: u32) -> Option<(Tables, 
     Some((tables_of(rd, realm), ipa))
 }
 
-// The same of the first of `count` IPA granules, where they are 1 to 512, and one table of level 3 serves all of them.
+// The same for the first of `count` IPA granules, if `count` is 1 to 512 and one table of level 3 serves all of them.
 pub(crate) fn located_run(
     rd: Gran,
     realm: &RealmDesc,

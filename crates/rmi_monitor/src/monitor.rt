@@ -22,7 +22,7 @@ use std::marker::Model;
 pub struct Monitor<S: PageStore> {
     pub(crate) store: S,
     pub(crate) granules: GranuleTable,
-    // Of each granule, the realm whose RD it is, how many RECs that realm has, and the REC that it is.
+    // For each granule: the realm whose RD it is, how many RECs that realm has, and the REC that it is.
     pub(crate) realms: Vec<Option<RealmDesc>>,
     pub(crate) rec_counts: Vec<u16>,
     pub(crate) recs: Vec<Option<Rec>>,
@@ -47,7 +47,7 @@ impl<S: PageStore> Model for Monitor<S> {
 }
 
 impl<S: PageStore> Monitor<S> {
-    /// Returns a monitor with so many VMIDs, 1 to 255, and so many auxiliary granules for each REC, 0 to 16, over a store
+    /// Returns a monitor with `vmids` VMIDs, 1 to 255, and `aux` auxiliary granules for each REC, 0 to 16, over a store
     /// whose pages are all free and zero. If there is no memory for it, returns the error and the store.
     pub fn build(alloc: Global, vmids: u8, aux: u8, store: S) -> Result<Monitor<S>, (AllocError, S)>
         requires some_vmid { 1 ≤ vmids }
@@ -79,8 +79,8 @@ impl<S: PageStore> Monitor<S> {
         }
     }
 
-    /// Takes a free block of 2^order granules and returns its first granule, or `None` if there is no such block. Which
-    /// block it is, is left open.
+    /// Takes a free block of 2^order granules and returns its first granule, or `None` if there is no such block. It is
+    /// left open which block that is.
     pub fn take(&mut self, order: Order) -> Option<Gran>
         ensures block { IfSome result (IsFreeBlock self.old.free order) }
         ensures taken { IfSome result (λ first. self.new ≡ with_block self.old order first) }
@@ -132,7 +132,7 @@ impl<S: PageStore> Monitor<S> {
         self.granules.state(granule)
     }
 
-    /// The 4,096 bytes of a granule that is no table. Of a table nothing is said: its contents are rows.
+    /// The 4,096 bytes of a granule that is no table. Nothing is said of a table's bytes: its contents are rows.
     pub fn bytes(&self, granule: Gran) -> &[u8]
         requires { granule < length self.now.machine }
         ensures count { length result.now ≡ 4096 }
@@ -165,7 +165,7 @@ impl<S: PageStore> Monitor<S> {
     }
 }
 
-// As many places, with nothing in them.
+// `count` places, with nothing in them.
 fn nothing<T: Drop>(alloc: Global, count: u16) -> Result<Vec<Option<T>>, AllocError>
     ensures { IfOk result (λ places. places.items ≡ replicate count None) }
 {
@@ -184,7 +184,7 @@ struct Places {
     recs: Vec<Option<Rec>>,
 }
 
-// The places of a machine of so many pages, where there is no realm and no REC.
+// The places of a machine of `pages` pages, where there is no realm and no REC.
 fn empty_places(alloc: Global, pages: u16) -> Result<Places, AllocError>
     requires some { 1 ≤ pages }
     requires few { pages ≤ 4096 }

@@ -71,7 +71,7 @@ pub(crate) fn are_delegated(granules: &GranuleTable, all: &[Gran]) -> bool
     true
 }
 
-// Whether a granule is none of those.
+// Whether a granule is none of the others.
 pub(crate) fn is_apart(granule: Gran, others: &[Gran]) -> bool
     ensures { result ≡ is_apart_from granule others.now }
 {
@@ -83,7 +83,7 @@ pub(crate) fn is_apart(granule: Gran, others: &[Gran]) -> bool
     true
 }
 
-// Whether no two of a granule and others are the same.
+// Whether a granule and the others are all different.
 pub(crate) fn are_different(first: Gran, others: &[Gran]) -> bool
     ensures { result ≡ are_distinct (first ∷ others.now) }
 {
@@ -95,7 +95,7 @@ pub(crate) fn are_different(first: Gran, others: &[Gran]) -> bool
     is_apart(first, others)
 }
 
-// Whether a granule and others are DELEGATED, no two of them the same, and the others so many.
+// Whether `first` and `others` are DELEGATED and all different, and there are `count` others.
 pub(crate) fn can_be_rec(granules: &GranuleTable, first: Gran, others: &[Gran], count: u8) -> bool
     requires first { first < length granules.now }
     requires others { All (λ granule. granule < length granules.now) others.now }

@@ -27,7 +27,7 @@ fn can_start(granules: &GranuleTable, rd: Gran, number: u16) -> bool
     }
 }
 
-// Whether all starting tables can.
+// Whether each of the tables can be a starting table beside their RD.
 fn can_all_start(granules: &GranuleTable, tables: &Tables) -> bool
     ensures { result ≡ list_all (is_fit_to_start granules.now tables.now.rd) (starting_tables tables.now.root) }
 {
@@ -39,7 +39,7 @@ fn can_all_start(granules: &GranuleTable, tables: &Tables) -> bool
     true
 }
 
-// Whether an RD, starting tables and a VMID can be those of a new realm, as far as no other realm decides.
+// Whether an RD, starting tables and a VMID can be those of a new realm, apart from what depends on other realms.
 fn can_be_realm(granules: &GranuleTable, tables: &Tables, vmid: Vmid, vmids: u8) -> bool
     requires { tables.now.rd < length granules.now }
     ensures { result ≡ are_fit_for_realm granules.now tables.now.rd tables.now.root vmid vmids }
@@ -73,8 +73,9 @@ impl<S: PageStore> Monitor<S> {
     /// Makes DELEGATED granules the RD and the starting tables of a new realm, whose IPAs have `width` bits.
     ///
     /// `root` is the first starting table; there are 2^(width - 39), one after another. RMM 1.0, RMI_REALM_CREATE.
-    /// RMI_ERROR_INPUT comes where the width is not 39 to 43, where `root` is no multiple of their count, where one of the
-    /// granules is not DELEGATED or the RD is a starting table, and where the VMID is above the machine's or a realm uses it.
+    /// RMI_ERROR_INPUT comes where the width is not 39 to 43, where `root` is no multiple of their count, where one of
+    /// the granules is not DELEGATED or the RD is a starting table, and where the VMID is above the machine's greatest
+    /// or a realm uses it.
     pub fn realm_create(&mut self, rd: Gran, root: Gran, vmid: Vmid, width: u8) -> Result<(), Rmi>
         requires { IsTaken self.old rd }
         ensures answer { Answers result (make_realm self.old rd (record { first = root; width = width }) vmid) }
@@ -102,7 +103,7 @@ impl<S: PageStore> Monitor<S> {
         Ok(())
     }
 
-    /// Removes a realm that has no REC and no table below its starting tables: they and its RD are zero and DELEGATED.
+    /// Removes a realm that has no REC and no table below its starting tables: these and its RD are zero and DELEGATED.
     ///
     /// RMM 1.0, RMI_REALM_DESTROY. RMI_ERROR_INPUT comes where the granule is no RD, RMI_ERROR_REALM where the realm has
     /// a REC, or an entry of a starting table is TABLE.

@@ -77,7 +77,7 @@ impl<S: PageStore> Monitor<S> {
         Ok(())
     }
 
-    // Where the pages of a NEW realm are that become RAM.
+    // Where the pages of a NEW realm that become RAM are.
     fn check_run(&self, rd: Gran, ipa: u32, count: u16) -> Result<(Tables, IpaGran), Rmi>
         requires { IsTaken self.now rd }
         ensures ok { IfOk result (λ at. LocatesNew self.now.machine rd ipa at × (is_page_run ipa count ≡ true)) }
