@@ -56,7 +56,7 @@ pages_after pages (Take order first) = pages ++ block order first
 pages_after pages (UnTake order first) = take (length pages - 2 ^ order) pages
 pages_after pages _ = pages
 
--- it is out of abort with nothing open, and its mark is dropped where fewer acts are open than at the mark
+-- the build leaves abort once nothing is open, and its mark is dropped once fewer acts are open than at the mark
 abbrev pub points_after : Build → Build
 points_after build = record build {
   aborting = build.aborting && nat_lt 0 (length build.journal);
@@ -74,7 +74,7 @@ build_after build act = points_after (record build {
 
 -- ---- what can be followed
 
--- there is room for a REC that is made, its number is above the others', and one that exits runs
+-- a REC that is made has room and a number above the others', and a REC that exits runs
 abbrev pub CanFollowRec : Build → Act → Type 0
 CanFollowRec build (Rec granule auxiliaries number) = (length build.recs < 512) × IsAbove build.recs number
 CanFollowRec build (Exit number) = 1 ≤ build.running
@@ -87,7 +87,7 @@ pub record CanFollow (build : Build) (act : Act) : Type 0 where
   pub running : build.running ≤ 16384
   pub rec : CanFollowRec build act
 
--- there is room for the pages of a block that is taken, and there are those of a block that is given back
+-- the pages of a block that is taken have room, and those of a block that is given back are there
 abbrev pub CanFollowPages : Stacks → ℕ → Act → Type 0
 CanFollowPages leases build (Take order first) = (length (stack_of leases build) + 2 ^ order ≤ leases.room) × (first + 2 ^ order ≤ 4096)
 CanFollowPages leases build (UnTake order first) = 2 ^ order ≤ length (stack_of leases build)
@@ -101,8 +101,8 @@ CanFollowHolders leases _ = Unit {0}
 
 -- ---- what is recorded
 
--- An act of a build can be recorded: it is in turn and a step, the build has the room that it takes, if it takes any, and can
--- have it open where it has a reverse.
+-- An act of a build can be recorded: it is in turn and a step, the build has the room that the act takes, if it takes
+-- any, and where the act has a reverse, the build can have one more act open.
 pub record CanRecord (host : HostView) (build : ℕ) (act : Act) : Type 0 where
   pub turn : IsInTurn host.history (by build act)
   pub next : World
@@ -130,12 +130,12 @@ pub record IsBuildOf (history : List Event) (world : World) (number : ℕ) (buil
   pub recs : build.recs ≡ recs_open number history
   pub running : build.running ≡ running_count (realm_of number world)
 
--- No build has used more than its room, or had at any time more open than its journal can hold.
+-- The build has used no more than its room, and has never had more open than its journal can hold.
 pub record HasRoom (host : HostView) (build : ℕ) : Type 0 where
   pub used : used host build ≤ host.capacity
   pub few_open : (n : ℕ) → length (open_entries build (take n host.history)) ≤ 512
 
--- A mark that is kept of a build is its own, and never since it was made had the build fewer acts open.
+-- A mark that is kept of a build is its own. Since it was made, the build has never had fewer acts open than at it.
 pub record IsMarkOf (host : HostView) (build : ℕ) (mark : Mark) : Type 0 where
   pub of_build : mark.build ≡ build
   pub stands : Stands (point_of mark) host.history
@@ -150,9 +150,9 @@ pub record PointsHold (host : HostView) (build : ℕ) : Type 0 where
   pub in_abort : is_aborting host build ≡ true → 0 < length (open_of host build)
   pub marked : (mark : Mark) → mark_of host build ≡ Some mark → IsMarkOf host build mark
 
--- The history is legal. What is kept is what it has of each build; each granule is held by the build that leases it; a VMID is
--- in use exactly where a realm has it; and there is memory for all that has room. A build in abort has something open, and
--- marks stand.
+-- The history is legal. What is kept of each build is what the history has of it; each granule is held by the build
+-- that leases it; a VMID is in use exactly where a realm has it; and there is memory for all that there is room for. A
+-- build in abort has something open, and marks stand.
 pub record IsKept (host : HostView) (builds : List Build) (leases : Stacks) (holders : List (Option ℕ)) (vmids : Vmids) (events : Vec Event) : Type 0 where
   pub legal : IsLegal host.limits host.history
   pub few_builds : host.limits.builds ≤ 8

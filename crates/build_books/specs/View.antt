@@ -10,8 +10,8 @@ use Rattle.realm_model.specs.History.{replay, open_entries, pages_of}
 use Rattle.realm_model.specs.Room.{used_room}
 use Rattle.realm_model.specs.Undoing.{by}
 
--- The limits of the machine, how much room each build has in the history, the history, and of each build whether it is in
--- abort and its mark.
+-- The limits of the machine, how much room each build has in the history, the history, and for each build whether it is
+-- in abort and its mark.
 pub record HostView : Type 0 where
   pub limits : Limits
   pub capacity : ℕ
@@ -64,8 +64,8 @@ with_mark host build mark = record host { marks = slice_set host.marks build (So
 
 -- ---- events
 
--- The host with one more event. A build is out of abort where it has nothing open then, and its mark is dropped where it has
--- fewer acts open than at the mark.
+-- The host with one more event. Its build leaves abort if it then has nothing open, and its mark is dropped if it then
+-- has fewer acts open than at the mark.
 abbrev pub with_event : HostView → ℕ → Act → HostView
 with_event host build act =
     let history = host.history ++ by build act ∷ [] in

@@ -52,7 +52,7 @@ impl Model for Books {
     ghost invariant = { λ b. IsKept (books_of b.builds.items b.leases b.vmids b.aux b.capacity b.history.items) b.builds.items b.leases b.holders b.vmids b.history };
 }
 
-// What is kept of so many builds that have no events.
+// What is kept of `count` builds that have no events.
 fn new_builds(alloc: Global, count: u8) -> Result<Vec<Build>, AllocError>
     ensures { IfOk result (λ builds. builds.items ≡ replicate count new_build) }
 {
@@ -76,8 +76,8 @@ fn follow_pages(leases: &mut Leases, build: BuildId, act: &Act)
     }
 }
 
-// The holders of the granules follow an act of a build: it leases those of a block that it takes, and nobody those of one
-// that it gives back.
+// The holders of the granules follow an act of a build: the build leases the granules of a block that it takes, and
+// nobody leases those of a block that it gives back.
 fn follow_holders(holders: &mut Holders, build: BuildId, act: &Act)
     requires { CanFollowHolders holders.old act.now }
     ensures { holders.new ≡ leases_after build act.now holders.old }
@@ -89,7 +89,7 @@ fn follow_holders(holders: &mut Holders, build: BuildId, act: &Act)
     }
 }
 
-// The VMIDs in use follow an act: a realm that is made has its own, and one that ends has it no more.
+// The VMIDs in use follow an act: the VMID of a realm that is made is in use, and that of a realm that ends is free.
 fn follow_vmids(vmids: &mut VmidPool, act: &Act)
     requires { CanFollowVmids vmids.old act.now }
     ensures { IsVmidsAfter act.now vmids.old vmids.new }
@@ -104,8 +104,8 @@ fn follow_vmids(vmids: &mut VmidPool, act: &Act)
 }
 
 impl Books {
-    /// Returns the books of so many builds that have no events, with room for `capacity` events of each, over a machine of
-    /// so many pages and VMIDs, with so many auxiliaries of a REC.
+    /// Returns the books of `builds` builds that have no events, with room for `capacity` events of each, over a
+    /// machine of `pages` pages and `vmids` VMIDs, with `aux` auxiliaries of a REC.
     pub fn build(
         alloc: Global,
         pages: u16,
@@ -185,8 +185,8 @@ impl Books {
         kept.events + kept.journal.len() + kept.running
     }
 
-    /// Returns how many acts a build has open. If the build has a mark, it has no fewer open than at the mark; if it has
-    /// none open, it is not in abort.
+    /// Returns how many acts a build has open. A build with a mark has at least as many open as at the mark, and a
+    /// build with none open is not in abort.
     pub fn open_count(&self, build: BuildId) -> u16
         requires { build < self.now.limits.builds }
         ensures value { result ≡ length (open_of self.now build) }
@@ -207,7 +207,7 @@ impl Books {
         kept.journal.newest()
     }
 
-    /// What a build has open above the first so many acts, the newest last.
+    /// The acts that a build has open above the first `count`, the newest last.
     pub fn open_above(&self, build: BuildId, count: u16) -> &[Act]
         requires there { build < self.now.limits.builds }
         requires enough { count ≤ length (open_of self.now build) }
@@ -293,14 +293,14 @@ impl Books {
         self.leases.count(build)
     }
 
-    /// Whether the granule is one of the machine that the build leases.
+    /// Whether the granule is one of the machine's, and the build leases it.
     pub fn is_leased_by(&self, granule: Gran, build: BuildId) -> bool
         ensures { result ≡ is_leased_to (Some build) (world_of self.now).leases granule }
     {
         self.holders.is_held_by(granule, build)
     }
 
-    /// The build that leases the granule; `None` where nobody does, and where the machine has not got it.
+    /// The build that leases the granule; `None` where nobody does, or where the machine has no such granule.
     pub fn holder(&self, granule: Gran) -> Option<BuildId>
         ensures { result ≡ slice_index_or (world_of self.now).leases granule None }
     {

@@ -61,7 +61,7 @@ impl Build {
         self.follow_points();
     }
 
-    // The abort is over with nothing open, and the mark is dropped where fewer acts are open than at it.
+    // The abort is over once nothing is open, and the mark is dropped once fewer acts are open than at the mark.
     fn follow_points(&mut self)
         ensures { self.new ≡ points_after self.old }
     {

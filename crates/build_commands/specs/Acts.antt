@@ -26,7 +26,7 @@ is_level level = nat_le 1 level && nat_le level 3
 abbrev pub act_if : Bool → Act → Option Act
 act_if fits act = cond fits (Some act) None
 
--- The starting tables of a realm of that width: it may have that width, and the granules are adjacent, in that order.
+-- The starting tables of a realm of that width, if realms may have it and the granules are adjacent, in that order.
 abbrev pub root_of : ℕ → List ℕ → Option Root
 root_of width [] = None
 root_of width (first ∷ rest) =
@@ -37,12 +37,12 @@ root_of width (first ∷ rest) =
 
 -- The act of a command, of the granules of its operands and of what was picked for it.
 --
--- There is none where a number of the command can stand in no act: an IPA granule outside the widest address space, a
+-- There is no act where a number of the command can stand in none: an IPA granule outside the widest address space, a
 -- level that no table has, a width that no realm has, or starting tables that are not adjacent. Each of these fails an
--- input check of the command, and input checks come before all others and have one answer, so the command is refused
--- with RMI_ERROR_INPUT, whatever else is wrong. RMM 1.0, RMI command conditions.
+-- input check of the command. Input checks come before all others and have one answer, so the command is refused with
+-- RMI_ERROR_INPUT, whatever else is wrong. RMM 1.0, RMI command conditions.
 --
--- A Take has none either: it is no command of the monitor, and the store picks its block.
+-- A Take has no act either: it is no command of the monitor, and the store picks its block.
 unfoldable pub act_of : Cmd → List ℕ → Picked → Option Act
 act_of (Take order) gs picked = None
 act_of (Fill page value) gs picked = of_granule gs 0 (λ g. Some (acts.Fill g value))

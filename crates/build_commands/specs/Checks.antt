@@ -56,8 +56,8 @@ unfoldable pub state_checks : DeskView → ℕ → Needs → List Check
 state_checks desk build needs =
     realm_checks desk build needs.realm ++ (journal_checks desk build needs.paired ++ (room_checks desk build needs.room ++ vmid_checks desk needs.vmid))
 
--- Those that apply to a command, in the order of their numbers. 7 and 8 apply to none. After these a Take has 11, which the
--- store decides, and every other command 13, which the monitor decides.
+-- The checks that apply to a command, in the order of their numbers. 7 and 8 apply to no command. Behind these a Take
+-- has 11, which the store decides, and every other command 13, which the monitor decides.
 unfoldable pub checks_of : DeskView → ℕ → Cmd → List Check
 checks_of desk build cmd =
     build_checks desk build ++ (order_checks cmd ++ (page_checks desk build (operands cmd) ++ state_checks desk build (needs_of cmd)))

@@ -1,8 +1,8 @@
 -- What the checks of a command see of a host.
 use Rattle.std.specs.Prelude.{◌≡◌, ℕ, List, map, Bool, Option, Some, slice_get}
 
--- How many builds there are; of each build, whether it is in abort, its pages, whether it has a realm, how many acts it has
--- open, and how much of its room is left; and whether a VMID is free.
+-- How many builds there are; for each build, whether it is in abort, its pages, whether it has a realm, how many acts
+-- it has open, and how much of its room is left; and whether a VMID is free.
 pub record DeskView : Type 0 where
   pub builds : ℕ
   pub aborting : ℕ → Bool

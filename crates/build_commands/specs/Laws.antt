@@ -27,7 +27,7 @@ pub record IsOfCommand (cmd : Cmd) (granules : List ℕ) (act : Act) : Type 0 wh
   pub paired : is_paired act ≡ (needs_of cmd).paired
   pub room : room_taken act ≡ (needs_of cmd).room
 
--- so of the act of each command, for as many granules as it has operands
+-- this holds of the act of each command with as many granules as it has operands
 abbrev pub ActIsOfCommand : Cmd → List ℕ → Picked → Act → Type 0
 ActIsOfCommand cmd granules picked act = length granules ≡ length (operands cmd) → act_of cmd granules picked ≡ Some act → IsOfCommand cmd granules act
 
@@ -41,7 +41,7 @@ IsThere (Realm rd root width) picked realm cells = realm ≡ None
 IsThere (Rec page auxiliaries) picked realm cells = realm_is realm (λ d r. picked.number == r.next) ≡ true
 IsThere _ picked realm cells = Unit {0}
 
--- so what the act says of it fits
+-- where that is so, what the act says of what is there fits
 abbrev pub ActFits : Cmd → List ℕ → Picked → Act → Option Seen → List Seen → Type 0
 ActFits cmd granules picked act realm cells = act_of cmd granules picked ≡ Some act → IsThere cmd picked realm cells → fits act realm cells ≡ true
 
@@ -53,7 +53,7 @@ abbrev pub outcome_of_act : Limits → List ℕ → Option Act → Option Seen �
 outcome_of_act limits used None realm cells = Err error_input
 outcome_of_act limits used (Some act) realm cells = outcome_of limits.vmids limits.aux used act realm cells
 
--- It does not depend on the byte or the number that was picked.
+-- The outcome does not depend on the byte or the number that was picked.
 abbrev pub OutcomeIsAnyPicks : Limits → List ℕ → Cmd → List ℕ → Picked → Picked → Option Seen → List Seen → Type 0
 OutcomeIsAnyPicks limits used cmd granules one other realm cells =
     one.vmid ≡ other.vmid → outcome_of_act limits used (act_of cmd granules one) realm cells ≡ outcome_of_act limits used (act_of cmd granules other) realm cells
@@ -73,8 +73,8 @@ IsInputError (Unknown page ipa) rd cells = on_one cells (λ g. data_create_unkno
 IsInputError (Poke number ipa offset value) rd cells = guest_write rd number ipa offset value ≡ Err error_input
 IsInputError _ rd cells = Unit {0}
 
--- So where an IPA granule or a level of a command on a realm stands in no act, the monitor would refuse it so, whatever else
--- is wrong.
+-- So where an IPA granule or a level of a command on a realm stands in no act, the monitor would refuse the command
+-- with this error, whatever else is wrong.
 abbrev pub NoActIsInputError : Cmd → List ℕ → Picked → Seen → List Seen → Type 0
 NoActIsInputError cmd granules picked rd cells =
     length granules ≡ length (operands cmd) → act_of cmd granules picked ≡ None → HasWidth rd → IsInputError cmd rd cells

@@ -39,7 +39,7 @@ fn auxiliaries_of(granules: &[Gran]) -> ArrayVec<Gran, 16>
     auxiliaries
 }
 
-// The starting tables of a realm of that width, where it may have it and they are adjacent, in that order.
+// The starting tables of a realm of that width, if realms may have it and the granules are adjacent, in that order.
 fn starting_tables(width: u8, tables: &[Gran]) -> Option<Root>
     ensures { result ≡ root_of width tables.now }
 {
@@ -134,9 +134,9 @@ fn act_on_pages(cmd: &Cmd, granules: &[Gran], picked: Picked) -> Option<Act>
 /// The act that a command asks for, of the granules of its operands and of what was picked for it.
 ///
 /// None where a number of the command can stand in no act: an IPA granule from 2^31 on, a level outside 1 to 3, a width
-/// outside 39 to 43, or starting tables that are not adjacent granules. The command is refused with RMI_ERROR_INPUT
-/// then. A Take has none either: the store picks its block. What no command checks, values and offsets in a page, is in
-/// range.
+/// outside 39 to 43, or starting tables that are not adjacent granules. The command is then refused with
+/// RMI_ERROR_INPUT. A Take has no act either: the store picks its block. The numbers that no command checks, values and
+/// offsets in a page, are in range.
 #[tactic(auto, unfolding(crate::specs::Acts::act_of, crate::specs::Needs::operands))]
 pub fn act_of(cmd: &Cmd, granules: &ArrayVec<Gran, 17>, picked: Picked) -> Option<Act>
     ensures act { result ≡ act_of cmd.now granules.now.items picked }

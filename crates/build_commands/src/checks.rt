@@ -56,7 +56,7 @@ fn check_journal<D: Desk>(desk: &D, build: BuildId, paired: bool) -> Result<(), 
     Ok(())
 }
 
-// 10: the build has so much of its room left.
+// 10: the build has `needed` entries of its room left.
 fn check_room<D: Desk>(desk: &D, build: BuildId, needed: u16) -> Result<(), Refusal>
     requires { build < (D.seen desk.now).builds }
     ensures { result ≡ checked (room_checks (D.seen desk.now) build needed) }

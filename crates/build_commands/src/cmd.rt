@@ -41,7 +41,7 @@ pub enum Cmd {
         ipa: u32,
         level: u8,
     },
-    /// Pages of the realm's memory become RAM, so many from an IPA granule on. RMI_RTT_INIT_RIPAS
+    /// The `count` pages of the realm's memory from `ipa` on become RAM. RMI_RTT_INIT_RIPAS
     Ripas {
         ipa: u32,
         count: u16,

@@ -1,7 +1,8 @@
 //! What is picked or read for a command before its act is known.
 use granule_addr::{RecNo, Vmid};
 
-/// The answers that an act holds: each is read by the commands that get it, and is any where a command gets none.
+/// The answers that an act holds. Each is read by the commands that get it, and may be anything where a command gets
+/// none.
 #[derive(Clone, Copy)]
 pub struct Picked {
     /// for a realm that is made: the lowest VMID that none uses

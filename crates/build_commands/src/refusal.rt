@@ -21,7 +21,7 @@ pub enum Refusal {
     /// 5: the build has a realm.
     #[error("the build has a realm")]
     RealmThere,
-    /// 6: the build has none.
+    /// 6: the build has no realm.
     #[error("the build has no realm")]
     NoRealm,
     /// 7: the build has nothing open.
@@ -33,7 +33,7 @@ pub enum Refusal {
     /// 9: the build has 512 acts open.
     #[error("the journal is full")]
     JournalFull,
-    /// 10: the room would be touched that the build's reverses and exits need.
+    /// 10: the command would take room that the build's reverses and exits need.
     #[error("the history is full")]
     HistoryFull,
     /// 11: no aligned block of that order is free.

@@ -19,7 +19,7 @@ pub enum Reply {
     Number(RecNo),
 }
 
-/// The reply to an act of a build that had so many pages before it.
+/// The reply to an act of a build that had `page_count` pages before it.
 pub fn reply_of(page_count: u16, act: &Act) -> Reply
     ensures { result ≡ reply_of page_count act.now }
 {

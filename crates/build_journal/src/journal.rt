@@ -66,7 +66,7 @@ impl Journal {
         self.entries.last()
     }
 
-    /// The acts above the first so many.
+    /// The acts above the first `count`.
     pub fn above(&self, count: u16) -> &[Act]
         requires { count ≤ length self.now }
         ensures { result.now ≡ drop count self.now }

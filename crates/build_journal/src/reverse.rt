@@ -4,7 +4,7 @@ ghost use Rattle.realm_model.specs.Act as acts;
 
 use realm_model::{Act, granules_again};
 
-/// The act that takes back another, or None where it has no reverse. Two kinds of data have the same reverse.
+/// The reverse of an act, or None where the act has none. The two kinds of data acts have the same reverse.
 #[tactic(auto, unfolding(realm_model::specs::Act::reverse_of))]
 pub fn reverse_of(act: &Act) -> Option<Act>
     ensures { result ≡ acts.reverse_of act.now }
@@ -48,7 +48,7 @@ pub fn reverse_of(act: &Act) -> Option<Act>
     }
 }
 
-/// Whether an act takes back another: it is its reverse.
+/// Whether `back` is the reverse of `act`.
 pub fn takes_back(back: &Act, act: &Act) -> bool
     ensures { (result ≡ true) ↔ (acts.reverse_of act.now ≡ Some back.now) }
 {

@@ -7,8 +7,8 @@ use Rattle.workers.specs.Exchange.{Exchange, Did, Undid, KeptMark, LookedBack}
 use Rattle.builders.specs.Seats.{SeatView}
 use Rattle.builders.specs.Told.{IsCallTold, IsCallRefused, IsMarkTold, IsBackTold}
 
--- There was a host that can lie behind the lock of builds that were started with `opened`, and answers so. An accepted command
--- or undo makes a new seat, all else leaves it as it is.
+-- There was a host that can lie behind the lock of builds that were started with `opened`, and it answers like this. An
+-- accepted command or undo makes a new seat, all else leaves the seat as it is.
 abbrev pub IsAnswered : HostView → SeatView → Exchange → SeatView → Type 0
 IsAnswered opened seat (Did cmd (Ok reply)) new = IsCallTold opened (Ask cmd) (Replied reply) seat new
 IsAnswered opened seat (Did cmd (Err refusal)) new = IsCallRefused opened (Ask cmd) refusal seat × (new ≡ seat)

@@ -18,7 +18,7 @@ seats_of build seats = length (filter (λ seat. seat.build == build) seats)
 unfoldable pub AreSeatsWhole : ℕ → List SeatView → Type 0
 AreSeatsWhole builds seats = (build : ℕ) → build < builds → seats_of build seats ≡ 1
 
--- the lowest build of a host of which there is not one seat
+-- the lowest build of a host that does not have exactly one seat
 pub record IsMissing (builds build : ℕ) (seats : List SeatView) : Type 0 where
   pub there : build < builds
   pub not_one : seats_of build seats ≢ 1
@@ -26,14 +26,14 @@ pub record IsMissing (builds build : ℕ) (seats : List SeatView) : Type 0 where
 
 -- ---- trails
 
--- a build's seats have for their trail what the history has of the build
+-- the trail of each of a build's seats is what the history has of the build
 abbrev pub Fits : ℕ → List Event → List SeatView → Type 0
 Fits build history seats = All (λ seat. seat.build ≡ build → seat.trail ≡ events_of build history) seats
 
 unfoldable pub FitsAll : List Event → List SeatView → Type 0
 FitsAll history seats = (build : ℕ) → build < 8 → Fits build history seats
 
--- the lowest build with a seat of another trail
+-- the lowest build with a seat whose trail is not that
 pub record Differs (build : ℕ) (history : List Event) (seats : List SeatView) : Type 0 where
   pub number : build < 8
   pub differs : ¬ (Fits build history seats)
@@ -41,7 +41,8 @@ pub record Differs (build : ℕ) (history : List Event) (seats : List SeatView) 
 
 -- ---- the host that comes back
 
--- It lay behind the lock, its machine is that of the start, and each seat counts as many events as it has of the seat's build.
+-- The host lay behind the lock, its machine is that of the start, and each seat counts as many events as it has of the
+-- seat's build.
 pub record IsHostGivenBack (opened host : HostView) (seats : List SeatView) : Type 0 where
   pub shared : IsShared host
   pub of_start : IsOfStart opened host

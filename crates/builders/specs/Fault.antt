@@ -6,7 +6,7 @@ use Rattle.builders.specs.declared.close.CloseFault.TheVariants.{SeatMissing, Re
 use Rattle.builders.specs.Close.{IsMissing, AreSeatsWhole, Differs}
 use Rattle.builders.specs.Seats.{SeatView}
 
--- The lowest build is named; one of which there is not one seat before one whose trail differs.
+-- The lowest build is named: of those without exactly one seat or, where there are none, of those whose trail differs.
 abbrev pub IsFault : CloseFault → HostView → List SeatView → Type 0
 IsFault (SeatMissing build) host seats = IsMissing host.limits.builds build seats
 IsFault (RecordMismatch build) host seats = AreSeatsWhole host.limits.builds seats × Differs build host.history seats

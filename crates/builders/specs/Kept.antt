@@ -14,8 +14,8 @@ pub record KeptView : Type 0 where
   pub host : HostView
   pub books : List ℕ
 
--- What any host keeps: its history is legal, its numbers are in their ranges, no build has used more than its room, and there
--- is a flag and a place for a mark of each build, which are true.
+-- What any host keeps: its history is legal, its numbers are in their ranges, no build has used more than its room, and
+-- each build has a flag and a place for a mark; what these say holds.
 pub record IsSound (host : HostView) : Type 0 where
   pub legal : IsLegal host.limits host.history
   pub in_range : IsInRange host.limits host.capacity
@@ -23,7 +23,7 @@ pub record IsSound (host : HostView) : Type 0 where
   pub each : AreOfEach host
   pub points : (build : ℕ) → PointsHold host build
 
--- A host behind the lock: besides, no build is in abort.
+-- A host behind the lock: it is sound, and no build is in abort.
 pub record IsShared (host : HostView) : Type 0 where
   pub sound : IsSound host
   pub no_abort : (build : ℕ) → is_aborting host build ≡ false

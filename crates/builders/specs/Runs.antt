@@ -4,8 +4,8 @@ use Rattle.std.specs.List.{AllZip}
 use Rattle.build_books.specs.View.{HostView}
 use Rattle.builders.specs.Workers.{WorkerView, IsWorkerRun}
 
--- Each worker, by its place, has worked on its steps, where builds were started with `opened`. Of each build the gate lets these
--- turns pass, and stops those.
+-- Each worker, by its place, has worked on its steps; the builds were started with `opened`. For each build, the gate
+-- lets the turns of `passes` pass, and stops those of `stops`.
 unfoldable pub AreRun : HostView → (ℕ → ℕ → Type 0) → (ℕ → ℕ → Type 0) → List WorkerView → List WorkerView → Type 0
 AreRun opened passes stops old new = AllZip (λ before after. IsWorkerRun opened (passes before.seat.build) (stops before.seat.build) before after) old new
 

@@ -48,8 +48,8 @@ pub record IsMarkTold (opened : HostView) (seat : SeatView) (result : Result Mar
   pub behind : IsBehind opened host seat
   pub answered : IsMarked host seat.build result new
 
--- How far back a mark is, or why there is no way back to it: there was a host that answers so. It is as many acts as are open
--- but were not at the mark.
+-- How far back a mark is, or why there is no way back to it: there was a host that answers so. The number is how many
+-- acts are open now but were not at the mark.
 pub record IsBackTold (opened : HostView) (seat : SeatView) (mark : Mark) (result : Result ℕ Refusal) : Type 0 where
   pub host : HostView
   pub behind : IsBehind opened host seat

@@ -14,7 +14,7 @@ use Rattle.realm_model.specs.declared.act.Act.TheVariants as acts
 use Rattle.realm_model.specs.declared.act.Event.{Event}
 use Rattle.workers.specs.Exchange.{Exchange, Did, Undid, is_event}
 
--- The act is that of the command, with the command's own numbers. The granules of its pages are any, as is what was picked.
+-- The act is that of the command, with the command's own numbers, any granules of its pages, and anything picked.
 abbrev pub IsActFor : Cmd → Act → Type 0
 IsActFor (Take order) act = (first : ℕ) × (act ≡ acts.Take order first)
 IsActFor cmd act = (granules : List ℕ) × (picked : Picked) × (act_of cmd granules picked ≡ Some act)
@@ -23,8 +23,8 @@ IsActFor cmd act = (granules : List ℕ) × (picked : Picked) × (act_of cmd gra
 abbrev pub IsReverseOf : Kind → Act → Type 0
 IsReverseOf kind act = (opened : Act) × (act_kind opened ≡ Some kind) × (reverse_of opened ≡ Some act)
 
--- The event of an accepted question of a build: the command's act, to which the reply is, or the reverse of an act of the kind
--- that the undo told.
+-- The event of an accepted question of a build: an act of the command that has this reply, or the reverse of an act of
+-- the kind that the undo told.
 abbrev pub IsEventOf : ℕ → Exchange → Event → Type 0
 IsEventOf build (Did cmd (Ok reply)) event =
     (event.build ≡ build) × IsActFor cmd event.act × ((pages : ℕ) × (reply ≡ reply_of pages event.act))

@@ -22,8 +22,8 @@ pub record IsNew (worker : WorkerView) : Type 0 where
   pub no_event : worker.seat.trail ≡ []
   pub not_ended : worker.ended ≡ false
 
--- These questions are those of the report of the steps. Its seat was answered so, since it was new, by hosts that can lie
--- behind the lock of builds that were started with `opened`; the accepted ones are the trail's events, which the seat counts.
+-- The exchanges are those of the report of the steps. Since the seat was new, they were answered by hosts that can lie
+-- behind the lock of builds started with `opened`. The accepted ones are the trail's events, which the seat counts.
 pub record HasWorked (opened : HostView) (worker : WorkerView) : Type 0 where
   pub exchanges : List Exchange
   pub is_report : IsWorkerReport 0 first_standing worker.steps exchanges worker.lines worker.ended
@@ -35,8 +35,8 @@ pub record HasWorked (opened : HostView) (worker : WorkerView) : Type 0 where
 abbrev pub IsFaithful : HostView → WorkerView → Type 0
 IsFaithful opened worker = IsNew worker ⊎ HasWorked opened worker
 
--- A worker has worked on its steps. The gate let the turn of each question pass, from 0 on; and where the worker has not ended,
--- the gate stops the next.
+-- A worker has worked on its steps. The gate let the turn of each question pass, from 0 on; and if the worker has not
+-- ended, the gate stops the next turn.
 pub record IsWorkerRun (opened : HostView) (passes stops : ℕ → Type 0) (old new : WorkerView) : Type 0 where
   pub steps_are : new.steps ≡ old.steps
   pub build_is : new.seat.build ≡ old.seat.build

@@ -12,7 +12,7 @@ use realm_model::Event;
 /// Why a shared host is not closed.
 #[derive(Clone, Copy, Debug, PartialEq, Eq)]
 pub enum CloseFault {
-    /// There is not one seat of this build.
+    /// This build does not have exactly one seat.
     SeatMissing(BuildId),
     /// The trail of this build's seat is not what the history has of the build.
     RecordMismatch(BuildId),
@@ -29,7 +29,7 @@ pub fn audit<L: Ledgers>(books: &mut Books<L>, seats: &mut [Seat<L>])
     }
 }
 
-/// The lowest build of which there is not one seat.
+/// The lowest build that does not have exactly one seat.
 #[tactic(auto, unfolding(crate::specs::Close::AreSeatsWhole))]
 pub fn missing<L: Ledgers>(seats: &[Seat<L>], builds: u8) -> Option<BuildId>
     requires { builds ≤ 8 }
@@ -67,7 +67,7 @@ pub fn mismatch<L: Ledgers>(seats: &[Seat<L>], history: &[Event]) -> Option<Buil
     None
 }
 
-// Whether a build's seats have for their trail what a history has of the build.
+// Whether the trail of each of a build's seats is what a history has of the build.
 fn fits<L: Ledgers>(seats: &[Seat<L>], history: &[Event], build: BuildId) -> bool
     ensures { IsTrue result ↔ Fits build history.now seats.now }
 {

@@ -87,7 +87,7 @@ impl<S: PageStore, L: Ledgers> Kept<S, L> {
         let build = seat.pass.build();
         self.books.audit(&mut seat.pass);
         let mark = self.host.mark(build)?;
-        // What a host keeps is told with its history.
+        // The contract of `history` tells what a host keeps.
         let _ = self.host.history();
         Ok(mark)
     }
@@ -104,8 +104,8 @@ impl<S: PageStore, L: Ledgers> Kept<S, L> {
         self.host.check_back(build, mark)
     }
 
-    /// Gives the host back as it is, for its builds' seats: each has to be there once, with the events that the history has of
-    /// its build. At `Err` the host comes back too.
+    /// Gives the host back as it is, in return for its builds' seats: each has to be there once, with the events that
+    /// the history has of its build. At `Err` the host comes back too.
     pub fn close(self, mut seats: Vec<Seat<L>>) -> Result<Host<S>, (CloseFault, Host<S>)>
         ensures closed { IfOk result (λ host. IsClosed host seats.items) }
         ensures fault { IfErr result (λ e. IsFault e.0 e.1 seats.items) }
@@ -124,7 +124,8 @@ impl<S: PageStore, L: Ledgers> Kept<S, L> {
     }
 }
 
-// The event that ends the history of a host is noted: it ends the trail, and the book and the count of its build rise by one.
+// Notes the event that ends the history of a host: it ends the trail, and the book and the count of its build rise by
+// one.
 fn note<S: PageStore, L: Ledgers>(host: &Host<S>, books: &mut Books<L>, seat: &mut Seat<L>)
     requires some { 0 < length host.now.history }
     requires counted { length (events_of seat.old.build host.now.history) ≡ seat.old.count + 1 }

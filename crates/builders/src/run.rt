@@ -26,7 +26,7 @@ pub fn run_builds<
     ensures run { AreRun L.opened (G.passes gate.now) (G.stops gate.now) workers.old workers.new }
     ensures told { MatchResult result (λ _. All (λ worker. worker.ended ≡ true) workers.new) (λ build. IsLowestWaiting workers.new build) }
 {
-    // There has to be one thread, also for no worker.
+    // There has to be one thread, even for no worker.
     let threads = workers.len().max(1);
     thread::for_each_mut(
         rt,

@@ -54,7 +54,7 @@ impl<L: Ledgers> Trail<L> {
     }
 }
 
-/// So many trails without an event.
+/// `count` trails without an event.
 pub(crate) fn new_trails<L: Ledgers>(
     alloc: Global,
     count: u8,

@@ -48,7 +48,7 @@ impl<S: PageStore, L: Ledgers> Shared<S, L> {
         let Ok(seats) = Vec::with_capacity(alloc, count as usize) else {
             return Err((AllocError, blanks, host));
         };
-        // What a host keeps is told with its history.
+        // The contract of `history` tells what a host keeps.
         let _ = host.history();
         let Opened { books, passes } = Opened::new(blanks);
         let seats = seated(seats, passes, trails);
@@ -88,9 +88,9 @@ impl<S: PageStore, L: Ledgers> Shared<S, L> {
         self.kept.lock(rt).check_back(seat, mark)
     }
 
-    /// Gives the host back, for its builds' seats: each has to be there once, with the events that the history has of its
-    /// build. At `Err` the host comes back too. Its machine is that of the start. Its world is a function of the seats' lists
-    /// alone: in which order the builds came through the lock leaves no trace.
+    /// Gives the host back, in return for its builds' seats: each has to be there once, with the events that the
+    /// history has of its build. At `Err` the host comes back too. Its machine is that of the start. Its world is a
+    /// function of the seats' lists alone: in which order the builds came through the lock leaves no trace.
     pub fn close(self, seats: Vec<Seat<L>>) -> Result<Host<S>, (CloseFault, Host<S>)>
         ensures closed { IfOk result (λ host. IsClosed host seats.items) }
         ensures order { IfOk result (λ host. IsWorldOfSeats host seats.items) }

@@ -22,10 +22,10 @@ pub struct SeatTeller<'a, R: Wait, S: PageStore, L: Ledgers> {
 }
 
 impl<'a, R: Wait, S: PageStore, L: Ledgers> Teller for SeatTeller<'a, R, S, L> {
-    // those that the seat was answered since it was new
+    // the exchanges of the seat since it was new
     ghost tells = { λ teller exchanges. AreAnswered L.opened (new_seat teller.seat.now.build) exchanges teller.seat.now };
 
-    // the seat's, and its build, so that both stay
+    // the name of the seat, and its build, so that both stay
     ghost loan = { λ teller. 8 * teller.seat.ghost_name + teller.seat.now.build };
 
     fn ask(&mut self, cmd: Cmd) -> Result<Reply, Refusal> {

@@ -106,7 +106,7 @@ impl<L: Ledgers> Worker<L> {
     }
 }
 
-// Takes steps for a seat, and says whether that came to its end.
+// Takes steps for a seat, and says whether they came to their end.
 fn work_at<R: Wait, S: PageStore, G: Gate, L: Ledgers>(
     rt: &R,
     shared: &Shared<S, L>,

@@ -39,7 +39,7 @@ FreshIsMirror limits = IsMirror limits [] (opening limits) (fresh limits.vmids l
 abbrev pub rd_of : ℕ → World → Option ℕ
 rd_of build world = option_map (λ (rd : Seen). rd.number) (realm_of build world)
 
--- that granule, or none, is the realm's REC of the number, where there is a number
+-- where a number is given, `rec` is the granule of the realm's REC of that number, or None where there is none
 abbrev pub IsRecOf : Option Seen → Option ℕ → Option ℕ → Type 0
 IsRecOf realm None rec = Unit {0}
 IsRecOf realm (Some number) rec = rec ≡ rec_granule realm number
@@ -51,8 +51,8 @@ pub record IsPlaceOf (world : World) (build : ℕ) (act : Act) (place : Place) :
 
 -- ---- what is asked
 
--- What is asked of a command of a build before the monitor is: the build is there and leases the granules named, the act's
--- own numbers are in range, and what it says fits what is there.
+-- What is asked of a command of a build before the monitor is asked: the build is there and leases the granules named,
+-- the act's own numbers are in range, and what the act says fits what is there.
 pub record IsAsked (limits : Limits) (world : World) (build : ℕ) (act : Act) : Type 0 where
   pub command : is_command act ≡ true
   pub there : build < limits.builds
@@ -87,12 +87,12 @@ pub record IsPerformed (limits : Limits) (history : List Event) (world : World) 
   pub leases : next.leases ≡ leases_after build act world.leases
   pub mirror : IsMirror limits (history ++ by build act ∷ []) next new
 
--- What the monitor answers to an act that is asked for is what comes of it in the world. Where it is done, it is a step.
+-- The monitor's answer to an act that is asked for is what comes of it in the world. An act that is done is a step.
 abbrev pub IsStepOrRefusal : Limits → List Event → World → MonitorView → ℕ → Act → Result (Unit {0}) Rmi → MonitorView → Type 0
 IsStepOrRefusal limits history world old build act (Ok done) new = IsPerformed limits history world build act new
 IsStepOrRefusal limits history world old build act (Err rmi) new = (outcome_in limits world (by build act) ≡ Err rmi) × (new ≡ old)
 
--- so of every answer and every monitor after it that `perform` promises, for an act in turn
+-- this holds, for an act in turn, of every answer that `perform` can give and every monitor that it can leave
 abbrev pub PerformedIsStep : Limits → List Event → World → MonitorView → ℕ → Act → Place → Type 0
 PerformedIsStep limits history world monitor build act place =
     IsMirror limits history world monitor → IsPlaceOf world build act place → IsAsked limits world build act → IsInTurn history (by build act)
@@ -109,7 +109,7 @@ pub record IsAccepted (limits : Limits) (history : List Event) (world : World) (
   pub updates : List Update
   pub accepted : outcome_on monitor place.realm back ≡ Ok updates
 
--- so where it is a command, and the act made no REC that runs
+-- this holds where the reverse is a command, and the act made no REC that runs
 abbrev pub NewestIsAccepted : Limits → List Event → World → MonitorView → ℕ → Act → Act → Place → Type 0
 NewestIsAccepted limits history world monitor build act back place =
     IsMirror limits history world monitor → IsPlaceOf world build back place → last_or None (open_entries build history) ≡ Some act

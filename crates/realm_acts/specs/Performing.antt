@@ -68,22 +68,22 @@ abbrev pub IsTakenAt : MonitorView → Option ℕ → Type 0
 IsTakenAt monitor None = Unit {0}
 IsTakenAt monitor (Some granule) = IsTaken monitor granule
 
--- there is a number for one more REC of the realm, where there is one
+-- the realm, where there is one, has a number for one more REC
 abbrev pub HasNextNumber : MonitorView → Option ℕ → Type 0
 HasNextNumber monitor None = Unit {0}
 HasNextNumber monitor (Some rd) = (realm : RealmRow) → (cell_at monitor.machine rd).descriptor ≡ Some realm → realm.next < 65535
 
--- so for an act that makes a REC
+-- an act that makes a REC has a number for it
 abbrev pub IsNumberReady : MonitorView → Option ℕ → Act → Type 0
 IsNumberReady monitor realm (Rec granule auxiliaries number) = HasNextNumber monitor realm
 IsNumberReady monitor realm _ = Unit {0}
 
--- that granule, or none, is the REC of that number in the realm, and it is taken
+-- `rec` is the granule of the realm's REC of that number, or None where there is none, and the granule is taken
 pub record IsRecReady (monitor : MonitorView) (realm : Option ℕ) (number : ℕ) (rec : Option ℕ) : Type 0 where
   pub is : rec ≡ rec_granule (realm_on monitor realm) number
   pub taken : IsTakenAt monitor rec
 
--- so for the REC that an act names, where it names one
+-- the REC that an act names, where it names one, is ready
 abbrev pub IsRecReadyAt : MonitorView → Option ℕ → Option ℕ → Option ℕ → Type 0
 IsRecReadyAt monitor realm None rec = Unit {0}
 IsRecReadyAt monitor realm (Some number) rec = IsRecReady monitor realm number rec

@@ -13,7 +13,7 @@ abbrev pub rec_made : Act → List (ℕ × ℕ)
 rec_made (Rec granule auxiliaries number) = (number, granule) ∷ []
 rec_made _ = []
 
--- those of the RECs that a build has open, in the order in which they were made
+-- the numbers and granules of the RECs that a build has open, in the order in which they were made
 abbrev pub recs_open : ℕ → List Event → List (ℕ × ℕ)
 recs_open build history = flat_map rec_made (open_entries build history)
 

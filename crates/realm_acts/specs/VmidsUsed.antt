@@ -19,13 +19,13 @@ pub record IsUsedNow (old new : Machine) (vmid : ℕ) (used : Bool) : Type 0 whe
   pub one : is_vmid_used new vmid ≡ used
   pub others : (other : ℕ) → other ≢ vmid → is_vmid_used new other ≡ is_vmid_used old other
 
--- An act that makes a realm uses its VMID from then on, and the reverse of that one no more. No other act changes any.
+-- An act that makes a realm uses its VMID from then on, until the reverse of that act. No other act changes a VMID.
 abbrev pub VmidsFollow : Act → Machine → Machine → Type 0
 VmidsFollow (Realm rd root vmid) old new = IsUsedNow old new vmid true
 VmidsFollow (UnRealm rd root vmid) old new = IsUsedNow old new vmid false
 VmidsFollow _ old new = (vmid : ℕ) → is_vmid_used new vmid ≡ is_vmid_used old vmid
 
--- so of each step in turn
+-- each step in turn changes the VMIDs like this
 abbrev pub VmidsFollowSteps : Limits → List Event → World → ℕ → Act → World → Type 0
 VmidsFollowSteps limits history world build act next =
     IsInTurn history (by build act) → step limits world (by build act) ≡ Some next → VmidsFollow act world.machine next.machine

@@ -27,7 +27,8 @@ pub fn what_is_performed_is_a_step()
     ensures { (limits : Limits) (history : List Event) (world : World) (monitor : MonitorView) (build : ℕ) (act : Act) (place : Place) → PerformedIsStep limits history world monitor build act place }
 {}
 
-/// The monitor does not refuse the reverse of the newest act that a build has open, unless that made a REC that runs.
+/// The monitor does not refuse the reverse of the newest act that a build has open, unless that act made a REC that
+/// runs.
 pub fn newest_is_accepted()
     ensures { (limits : Limits) (history : List Event) (world : World) (monitor : MonitorView) (build : ℕ) (act back : Act) (place : Place) → NewestIsAccepted limits history world monitor build act back place }
 {}
@@ -37,7 +38,7 @@ pub fn rec_taken_away_is_the_one_named()
     ensures { (limits : Limits) (world : World) (build : ℕ) (act : Act) → UnRecNamesItsRec limits world build act }
 {}
 
-/// A free block that is taken from the store is a step of each build that there is.
+/// Where a free block is taken from the store, that is a step of any build that there is.
 pub fn what_is_taken_is_a_step()
     ensures { (limits : Limits) (history : List Event) (world : World) (monitor : MonitorView) (build order first : ℕ) → TakenIsStep limits history world monitor build order first }
 {}

@@ -9,7 +9,8 @@ use page_arena::PageStore;
 use realm_model::{Act, Rmi, granules_again};
 use rmi_monitor::Monitor;
 
-// Performs an act on the tables, the pages or the RECs of a realm. Where it names a REC, `rec` is that one's granule.
+// Performs an act on the tables, the pages or the RECs of a realm. Where the act names a REC, `rec` is the REC's
+// granule.
 #[tactic(auto, unfolding(realm_model::specs::Act::named, realm_model::specs::Outcome::outcome_of))]
 pub(crate) fn in_realm<S: PageStore>(
     monitor: &mut Monitor<S>,

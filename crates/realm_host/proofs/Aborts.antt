@@ -109,7 +109,7 @@ set_twice (z ∷ xs) zero x y = refl
 set_twice (z ∷ xs) (suc place) x y = ap (λ ys. z ∷ ys) (set_twice xs place x y)
 
 module _ {X : Type 0} (d : X) (then : ℕ → X → X) (lower : (k count : ℕ) (x : X) → count ≤ k → then count (then k x) ≡ then count x) where
-  -- what is written of so many acts, and then of fewer, is what is written of fewer
+  -- what is written down to `k` acts, and then down to `count`, is what is written down to `count` at once
   pub written_on : (xs : List X) (place k count : ℕ) → count ≤ k
       → set (set xs place (then k (get_or xs place d))) place (then count (get_or (set xs place (then k (get_or xs place d))) place d)) ≡ set xs place (then count (get_or xs place d))
   written_on xs place k count fewer = at (nat_lt place (length xs)) refl

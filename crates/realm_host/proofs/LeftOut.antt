@@ -34,7 +34,7 @@ erase-append build xs ys = filter-append (λ (x : Event). not (x.build == build)
 
 -- ---- so far
 
--- so many events of a host were applied, but for those of a build
+-- the first `count` events of a host were applied, but for those of a build
 pub record IsSoFar (host : HostView) (build count : ℕ) (fresh : HostView) : Type 0 where
   pub fresh_is : fresh ≡ record (fresh_like host) { history = erase build (take count host.history) }
   pub legal : IsLegal fresh.limits fresh.history

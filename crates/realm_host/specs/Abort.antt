@@ -19,7 +19,7 @@ use Rattle.realm_host.specs.Served.{any_rec_running, IsServed}
 abbrev pub checks_of_begin : HostView → ℕ → List Check
 checks_of_begin host build = build_checks (desk_of host) build ++ any_rec_running host build ∷ []
 
--- It is told how many acts are open, and whether any is, the build is in abort from then on.
+-- The answer is how many acts are open. If there is any, the build is in abort from then on.
 pub record IsBegunAs (host : HostView) (build count : ℕ) (new : HostView) : Type 0 where
   pub count_is : count ≡ length (open_of host build)
   pub new_is : new ≡ begun host build
@@ -47,8 +47,8 @@ pub record LeavesNothing (host : HostView) (build : ℕ) (new : HostView) : Type
   pub legal : IsLegal new.limits (erase build new.history)
   pub no_trace : replay new.limits (erase build new.history) ≡ Some (world_of new)
 
--- What the build has open above the first so many acts is undone, the newest first. It is out of abort where nothing is left
--- open, and its mark is dropped where that lies above what is.
+-- What the build has open above the first `count` acts is undone, the newest first. The build leaves abort if nothing
+-- is left open, and its mark is dropped if it lies above what is left.
 abbrev pub undone_to : HostView → ℕ → ℕ → HostView
 undone_to host build count = record host {
   history = host.history ++ map (by build) (reverses (reverse (drop count (open_of host build))));
@@ -56,7 +56,7 @@ undone_to host build count = record host {
   marks = slice_set host.marks build (mark_while count (mark_of host build));
 }
 
--- the build has gone down to so many acts
+-- the build has gone down to `count` open acts
 pub record IsDown (host : HostView) (build count : ℕ) (new : HostView) : Type 0 where
   pub new_is : new ≡ undone_to host build count
   pub legal : IsLegal new.limits new.history

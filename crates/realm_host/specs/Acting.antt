@@ -15,7 +15,7 @@ use Rattle.realm_acts.specs.Mirror.{IsAsked}
 use Rattle.build_books.specs.View.{HostView, world_of, open_of, used, with_event}
 use Rattle.realm_host.specs.Refusals.{no_block}
 
--- the build has the room that an act takes, if it takes any, and can have it open where it has a reverse
+-- the build has the room that an act takes, if it takes any, and can have one more act open where the act has a reverse
 pub record HasRoomFor (host : HostView) (build : ℕ) (act : Act) : Type 0 where
   pub room : 0 < room_taken act → used host build + room_taken act ≤ host.capacity
   pub few_open : is_paired act ≡ true → length (open_of host build) < 512
@@ -31,7 +31,7 @@ pub record IsRecorded (host : HostView) (build : ℕ) (act : Act) (new : HostVie
   pub legal : IsLegal host.limits (host.history ++ by build act ∷ [])
   pub grows : new ≡ with_event host build act
 
--- The act is recorded, or refused as what comes of it, and then nothing changes.
+-- The act is recorded; or it is refused with what comes of it, and nothing changes.
 abbrev pub IsActed : HostView → ℕ → Act → Result (Unit {0}) Rmi → HostView → Type 0
 IsActed host build act (Ok done) new = IsRecorded host build act new
 IsActed host build act (Err rmi) new = (outcome_in host.limits (world_of host) (by build act) ≡ Err rmi) × (new ≡ host)
@@ -50,7 +50,7 @@ IsApplied host build act false new = (IsLegal host.limits (host.history ++ by bu
 abbrev pub IsNoStep : HostView → ℕ → Act → Type 0
 IsNoStep host build act = (next : World) → step host.limits (world_of host) (by build act) ≡ Some next → ⊥
 
--- the act is the reverse of the newest that the build has open, which made no REC that runs
+-- the act is the reverse of the newest act that the build has open, which made no REC that runs
 pub record IsBack (host : HostView) (build : ℕ) (back : Act) : Type 0 where
   pub newest : Act
   pub newest_is : last_or None (open_of host build) ≡ Some newest

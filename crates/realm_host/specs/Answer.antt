@@ -20,8 +20,8 @@ use Rattle.realm_host.specs.Call.{Call, Ask, Undo}
 use Rattle.realm_host.specs.Picks.{act_asked}
 use Rattle.realm_host.specs.Refusals.{refusal_of}
 
--- The act is that of the call, its page numbers turned into granules by the build's pages. The block of a Take is any; of
--- what else is picked there is one. An undo is the reverse of the newest act that the build has open.
+-- The act is that of the call, its page numbers turned into granules by the build's pages. The block of a Take may be
+-- any; what else is picked is fixed. An undo is the reverse of the newest act that the build has open.
 abbrev pub IsActOf : HostView → ℕ → Call → Act → Type 0
 IsActOf host build (Ask (Take order)) act = (first : ℕ) × (act ≡ acts.Take order first)
 IsActOf host build (Ask cmd) act = act_asked host build cmd ≡ Some act

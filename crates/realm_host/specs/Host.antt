@@ -8,7 +8,7 @@ use Rattle.build_books.specs.Booted.{booted}
 use Rattle.realm_host.specs.Settings.{AreSettings}
 use Rattle.realm_host.specs.declared.settings.Settings.{Settings}
 
--- a host that has just been booted over so many pages
+-- a host that has just been booted over `pages` pages
 abbrev pub booted_by : Settings → ℕ → HostView
 booted_by settings pages = booted pages settings.vmids settings.aux settings.builds settings.history
 

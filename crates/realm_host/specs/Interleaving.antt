@@ -21,14 +21,14 @@ pub record DidTheSame (host twin : HostView) : Type 0 where
   pub limits : twin.limits ≡ host.limits
   pub events : HasSameEvents host.history twin.history
 
--- They have the same world, and of each build the same acts open, the same pages, and as much of its room used.
+-- They have the same world, and for each build the same acts open, the same pages, and as much of its room used.
 pub record LookTheSame (host twin : HostView) : Type 0 where
   pub world : world_of twin ≡ world_of host
   pub opened : (build : ℕ) → open_of twin build ≡ open_of host build
   pub pages : (build : ℕ) → pages_of_build twin build ≡ pages_of_build host build
   pub room : (build : ℕ) → used twin build ≡ used host build
 
--- Besides, there is as much room in both, the same builds are in abort, and their marks are as deep.
+-- Besides, each build has as much room in both, the same builds are in abort, and their marks are as deep.
 pub record DifferInOrder (host twin : HostView) : Type 0 where
   pub same : DidTheSame host twin
   pub capacity : twin.capacity ≡ host.capacity
@@ -41,7 +41,7 @@ pub record IsAlsoAnswered (IsAnswered : HostView → Type 0) (new : HostView) : 
   pub answered : IsAnswered then
   pub differ : DifferInOrder new then
 
--- to a command or an undo, to the begin of an abort, and to a whole abort
+-- this holds of the answer to a command or an undo, to the begin of an abort, and to a whole abort
 abbrev pub CallTellsNothing : HostView → HostView → ℕ → Call → Answer → HostView → Type 0
 CallTellsNothing host twin build call answer new = IsAnswer host build call answer new → IsAlsoAnswered (IsAnswer twin build call answer) new
 

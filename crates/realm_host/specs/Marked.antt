@@ -38,7 +38,7 @@ is_kept host build mark = elim (mark_of host build) [ Some kept ↦ is_same_mark
 abbrev pub not_kept : HostView → ℕ → Mark → Check
 not_kept host build mark = (not (is_kept host build mark), NothingToUndo)
 
--- 8: a REC runs that an act above the mark made
+-- 8: an act above the mark made a REC that runs
 abbrev pub rec_running_above : HostView → ℕ → Mark → Check
 rec_running_above host build mark =
     (list_any (is_running (realm_of build (world_of host))) (above (point_of mark) host.history), RecRunning)

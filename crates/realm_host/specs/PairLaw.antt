@@ -7,8 +7,8 @@ use Rattle.realm_model.specs.Ownership.{OwnsSame}
 use Rattle.realm_model.specs.Undoing.{by}
 use Rattle.build_books.specs.View.{HostView, world_of}
 
--- Where the last event of the whole history is an act of the build that has a reverse, so that this is what is reversed, the
--- new world owns the same as the world before that event.
+-- Where the last event of the whole history is an act of the build that has a reverse, it is this act that is reversed,
+-- and the new world owns the same as the world before that event.
 abbrev pub LeadsBack : HostView → ℕ → HostView → Type 0
 LeadsBack host build new =
     (before : List Event) (act : Act) → host.history ≡ before ++ by build act ∷ [] → is_paired act ≡ true

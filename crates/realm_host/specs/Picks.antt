@@ -27,7 +27,8 @@ abbrev pub byte_read : HostView → Cmd → List ℕ → ℕ
 byte_read host (Peek page offset) (granule ∷ others) = slice_index (cell_at (world_of host).machine granule).bytes offset
 byte_read host _ _ = 0
 
--- the lowest VMID that no realm has, the next number of the build's realm, and the byte that is there; any where there is none
+-- the lowest VMID that no realm has, the next number of the build's realm, and the byte that is there; a number that
+-- does not matter where there is none
 abbrev pub picked_for : HostView → ℕ → Cmd → List ℕ → Picked
 picked_for host build cmd granules = record {
   vmid = unwrap_or (lowest_vmid host) 1;
@@ -40,7 +41,7 @@ abbrev pub act_asked : HostView → ℕ → Cmd → Option Act
 act_asked host build cmd =
     act_of cmd (granules_named host build cmd) (picked_for host build cmd (granules_named host build cmd))
 
--- what comes of it in the world
+-- what comes of that act in the world
 abbrev pub outcome_asked : HostView → ℕ → Cmd → Outcome
 outcome_asked host build cmd =
     outcome_of_act host.limits (used_vmids (world_of host).machine) (act_asked host build cmd) (realm_of build (world_of host))

@@ -48,6 +48,6 @@ rec_at world build number =
 abbrev pub row_view : ℕ → Walk → RowView
 row_view ipa end = record { level = end.level; first = first_covered end.level ipa; entry = end.row }
 
--- where it ends in the realm of a build, where that has the IPA granule
+-- where the walk ends in the realm of a build, if the realm has the IPA granule
 abbrev pub row_at : World → ℕ → ℕ → ℕ → Option RowView
 row_at world build ipa level = option_map (row_view ipa) (option_and_then (λ (realm : RealmRow). walk_of realm ipa level) (row_of world build))

@@ -15,18 +15,19 @@ pub record CanApply (host : HostView) (event : Event) : Type 0 where
   pub legal : IsLegal host.limits (host.history ++ event ∷ [])
   pub room : HasRoomFor host event.build event.act
 
--- What stands in the way of an event that cannot be applied, of several things the first. A reverse for which there is room is
+-- The first thing that stands in the way of an event that cannot be applied. A reverse for which there is room is
 -- refused only where it is not in turn, or its REC runs; any other act with room only where it is no step.
 abbrev pub IsWhyNot : HostView → Event → WhyNot → Type 0
 IsWhyNot host event NoRoom = (event.build < host.limits.builds) × ¬ (HasRoomFor host event.build event.act)
 IsWhyNot host event NotNewest = (event.build < host.limits.builds) × HasRoomFor host event.build event.act × (is_reverse event.act ≡ true)
 IsWhyNot host event NoStep = (host.limits.builds ≤ event.build) ⊎ (HasRoomFor host event.build event.act × (is_reverse event.act ≡ false))
 
--- a host of the same settings and as many pages, as it is booted
+-- a host that has just been booted, with the same settings and as many pages
 abbrev pub fresh_like : HostView → HostView
 fresh_like host = booted host.limits.pages host.limits.vmids host.limits.aux host.limits.builds host.capacity
 
--- A host that was booted so has the history of another without the events of a build, and so its world without that build.
+-- A host that was booted like this has the history of another without the events of a build, and so its world without
+-- that build.
 pub record IsWithout (host : HostView) (build : ℕ) (new : HostView) : Type 0 where
   pub new_is : new ≡ record (fresh_like host) { history = erase build host.history }
   pub world : world_of new ≡ without (world_of host) build

@@ -58,7 +58,7 @@ last_checks host build cmd = refused_by (outcome_asked host build cmd)
 
 -- ---- the checks of a call
 
--- A reverse has kept its room, and the monitor refuses none but that of a REC that runs.
+-- A reverse has kept its room, and the monitor refuses only the reverse of a REC that runs.
 abbrev pub checks_of_call : HostView → ℕ → Call → List Check
 checks_of_call host build (Ask cmd) = checks_of (desk_of host) build cmd ++ last_checks host build cmd
 checks_of_call host build Undo = no_build host build ∷ nothing_to_undo host build ∷ rec_running host build ∷ []

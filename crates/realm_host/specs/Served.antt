@@ -11,7 +11,7 @@ use Rattle.build_books.specs.View.{HostView, world_of}
 abbrev pub any_rec_running : HostView → ℕ → Check
 any_rec_running host build = (nat_lt 0 (running_count (realm_of build (world_of host))), RecRunning)
 
--- The first check that holds is the refusal, and nothing changes; where none does, the value and the host are as said.
+-- The first check that holds is the refusal, and nothing changes; where none holds, `IsDone` holds of value and host.
 abbrev pub IsServed : {A : Type 0} → List Check → HostView → (A → HostView → Type 0) → Result A Refusal → HostView → Type 0
 IsServed checks host IsDone (Err refusal) new = (first_that_holds checks ≡ Some refusal) × (new ≡ host)
 IsServed checks host IsDone (Ok value) new = (first_that_holds checks ≡ None) × IsDone value new

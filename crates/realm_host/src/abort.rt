@@ -50,7 +50,7 @@ impl<S: PageStore> Host<S> {
         Ok(count)
     }
 
-    // Undoes what a build has open above the first so many acts, the newest first. None of them made a REC that runs.
+    // Undoes what a build has open above the first `count` acts, the newest first. None of these made a REC that runs.
     pub(crate) fn undo_down_to(&mut self, build: BuildId, count: u16)
         requires there { build < self.old.limits.builds }
         requires enough { count ≤ length (open_of self.old build) }

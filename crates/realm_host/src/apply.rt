@@ -34,7 +34,7 @@ fn room_taken(act: &Act) -> u16
     }
 }
 
-// The numbers of a command that no check of the monitor looks at are in range: what is read shows the range of its type.
+// The numbers of a command that no check of the monitor looks at are in range: reading one shows the range of its type.
 fn check_ranges(act: &Act)
     requires { is_command act.now ≡ true }
     ensures { is_in_range act.now ≡ true }
@@ -58,9 +58,9 @@ impl<S: PageStore> Host<S> {
     /// Applies a recorded event as the last of the history, with the block, the VMID and the number that were picked for
     /// it, and returns whether it was applied.
     ///
-    /// Returns `false`, and changes nothing, if and only if the history with the event would not be legal, its build has
-    /// not the room that it takes, or it has a reverse and its build has 512 acts open. Whether the build is in abort does
-    /// not matter.
+    /// Returns `false`, and changes nothing, if and only if the history with the event would not be legal, its build
+    /// has too little room left for it, or it has a reverse and its build has 512 acts open. Whether the build is in
+    /// abort does not matter.
     pub fn apply_recorded(&mut self, event: &Event) -> bool
         ensures answer { (result ≡ true) ↔ CanApply self.old event.now }
         ensures applied { OnTrue result (self.new ≡ with_event self.old event.now.build event.now.act) }
@@ -81,7 +81,7 @@ impl<S: PageStore> Host<S> {
         }
     }
 
-    // Whether a build has the room that an act takes, and can have it open where it has a reverse.
+    // Whether a build has the room that an act takes, and can have one more act open where the act has a reverse.
     pub(crate) fn has_room_for(&self, build: BuildId, act: &Act) -> bool
         requires { build < self.now.limits.builds }
         ensures { (result ≡ true) ↔ HasRoomFor self.now build act.now }
@@ -104,7 +104,7 @@ impl<S: PageStore> Host<S> {
         true
     }
 
-    // Reverses the newest act that a build has open, where the act is its reverse and it made no REC that runs.
+    // Reverses the newest act that a build has open, if `act` is its reverse and the newest act made no REC that runs.
     fn apply_reverse(&mut self, build: BuildId, act: &Act) -> bool
         requires there { build < self.old.limits.builds }
         requires kind { is_reverse act.now ≡ true }
@@ -123,7 +123,7 @@ impl<S: PageStore> Host<S> {
         true
     }
 
-    // Performs a command, where the build leases what it names and it says what is there.
+    // Performs a command, if the build leases the granules that it names, and what it says is there.
     fn apply_forward(&mut self, build: BuildId, act: &Act) -> bool
         requires there { build < self.old.limits.builds }
         requires legal { IsLegal self.old.limits self.old.history }

@@ -15,8 +15,8 @@ use realm_model::Rmi;
 impl<S: PageStore> Host<S> {
     /// Performs a command of a build and returns the reply to it. One event then ends the history.
     ///
-    /// Or returns the refusal with the lowest number that applies and holds; then nothing changes. No memory is taken, and
-    /// neither the machine nor the history nor a journal is looked through.
+    /// Where the command is refused, returns the refusal with the lowest number of those that apply and hold; then
+    /// nothing changes. No memory is taken, and neither the machine nor the history nor a journal is searched.
     pub fn command(&mut self, build: BuildId, cmd: Cmd) -> Result<Reply, Refusal>
         ensures { IsAnswer self.old build (Ask cmd) (replied result) self.new }
     {

@@ -43,8 +43,8 @@ impl<S: PageStore> Model for Host<S> {
 }
 
 impl<S: PageStore> Host<S> {
-    /// Returns a host over a store whose pages are all free and zero. If there is no memory for it, returns the error and
-    /// the store.
+    /// Returns a host over a store whose pages are all free and zero. If there is no memory for the host, returns the
+    /// error and the store.
     pub fn boot(alloc: Global, settings: Settings, store: S) -> Result<Host<S>, (AllocError, S)>
         requires zero { S.page_bytes store ≡ replicate (length (S.page_bytes store)) zero_page }
         requires free { S.free_flags store ≡ replicate (length (S.page_bytes store)) true }

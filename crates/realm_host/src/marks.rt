@@ -31,8 +31,8 @@ impl<S: PageStore> Host<S> {
         Ok(mark)
     }
 
-    /// Returns how many acts a build has open above a mark, or the refusal that `rollback_to` would give. If it is no refusal,
-    /// the mark stands, and the build can go back to it.
+    /// Returns how many acts a build has open above a mark, or the refusal that `rollback_to` would give. If there is
+    /// no refusal, the mark stands, and the build can go back to it.
     pub fn check_back(&self, build: BuildId, mark: Mark) -> Result<u16, Refusal>
         ensures value { result ≡ way_back self.now build mark }
         ensures stands { OnOk result (IsMarkOf self.now build mark) }

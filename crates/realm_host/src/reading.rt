@@ -76,8 +76,8 @@ impl<S: PageStore> Host<S> {
         self.monitor.pages()
     }
 
-    /// Returns the state of a granule, the build that leases it and the realm that it belongs to, or `None` if the machine
-    /// has not got the granule. An RD belongs to its own realm.
+    /// Returns the state of a granule, the build that leases it and the realm that it belongs to, or `None` if the
+    /// machine has no such granule. An RD belongs to its own realm.
     pub fn granule_view(&self, granule: Gran) -> Option<GranuleView>
         ensures { result ≡ granule_at (world_of self.now) granule }
     {
@@ -120,8 +120,8 @@ impl<S: PageStore> Host<S> {
     /// way that is not TABLE, or the one of that level. Returns None if the build has no realm, or if the IPA granule is
     /// not in the realm's address space.
     ///
-    /// `ipa` is the number of an IPA granule. From 0 on, the walk to level 3 of each row's `next` lists all rows but those
-    /// that are TABLE. RMM 1.0, RTT walk.
+    /// `ipa` is the number of an IPA granule. Walks to level 3, the first from 0 and each next one from `next` of the
+    /// row before, list all rows but those that are TABLE. RMM 1.0, RTT walk.
     pub fn row(&self, build: BuildId, ipa: u32, to: Level) -> Option<RowView>
         ensures value { result ≡ row_at (world_of self.now) build ipa to }
         ensures past { IfSome result (λ row. ipa < row.first + covered_count row.level) }
@@ -167,7 +167,8 @@ impl<S: PageStore> Host<S> {
         self.books.has_build(build) && self.books.is_aborting(build)
     }
 
-    /// The mark that is kept of a build, if there is one. It stands; whether the build can go back to it now, `check_back` says.
+    /// The mark that is kept of a build, if there is one. It stands; `check_back` says whether the build can go back to
+    /// it now.
     pub fn kept_mark(&self, build: BuildId) -> Option<Mark>
         ensures value { result ≡ mark_of self.now build }
         ensures stands { IfSome result (IsMarkOf self.now build) }

@@ -62,7 +62,7 @@ impl<S: PageStore> Host<S> {
         }
     }
 
-    // Performs a reverse. The monitor refuses none but that of a REC that runs.
+    // Performs a reverse. The monitor refuses only the reverse of a REC that runs.
     pub(crate) fn reverse(&mut self, build: BuildId, back: Act)
         requires there { build < self.old.limits.builds }
         requires legal { IsLegal self.old.limits self.old.history }

@@ -9,7 +9,8 @@ use thiserror::Error;
 /// What stands in the way of a recorded event.
 #[derive(Clone, Copy, Debug, PartialEq, Eq, Error)]
 pub enum WhyNot {
-    /// It takes more room of the history than its build has left, or its build has 512 acts open and it would be one more.
+    /// It takes more room of the history than its build has left, or its build has 512 acts open already and it would
+    /// add one.
     #[error("its build has not the room that it takes")]
     NoRoom,
     /// It is a reverse, and the newest act that its build has open is another one, or made a REC that runs.
@@ -21,8 +22,8 @@ pub enum WhyNot {
 }
 
 impl<S: PageStore> Host<S> {
-    /// Returns what stands in the way of a recorded event that `apply_recorded` has refused, and of several things the first:
-    /// NoStep if there is no such build, NoRoom, NotNewest for a reverse, and NoStep for any other act. Of an event that can be
+    /// Returns the first thing that stands in the way of a recorded event that `apply_recorded` has refused: NoStep if
+    /// there is no such build, NoRoom, NotNewest for a reverse, and NoStep for any other act. For an event that can be
     /// applied it says nothing.
     pub fn why_not(&self, event: &Event) -> WhyNot
         ensures { IsWhyNot self.now event.now result }

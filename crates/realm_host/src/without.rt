@@ -7,9 +7,9 @@ use build_books::Books;
 use granule_addr::BuildId;
 use page_arena::PageStore;
 
-/// Applies the history in a host's books without the events of a build to a host that has just been booted, with the same
-/// settings and as many pages. Each event is accepted in turn: that host has then the history without the build, and the world
-/// without it.
+/// Applies the history in a host's books, without the events of a build, to a host that has just been booted, with the
+/// same settings and as many pages. Each event is accepted in turn. That host then has the history without the build,
+/// and the world without it.
 pub fn apply_without<S: PageStore>(books: &Books, build: BuildId, fresh: &mut Host<S>)
     requires { fresh.old ≡ fresh_like books.now }
     ensures { IsWithout books.now build fresh.new }

@@ -112,8 +112,8 @@ closed standing closes (accepted {exchange = exchange} of_question is all_put) =
 
 -- ---- steps
 
--- So much more there is to clear at most, with the lines that were added, and no more after a refusal; and so many turns
--- were taken.
+-- At most one more is left to clear, or two with the lines that were added, and no more after a refusal; there is at
+-- most one exchange more than there are lines.
 pub record IsGrowth (standing : StandingView) (exchanges : List Exchange) (lines : List Line) (end : Ending) : Type 0 where
   pub left : left_to_clear (standing_after exchanges standing) ≤ left_to_clear standing + 1
   pub with_lines : length lines + left_to_clear (standing_after exchanges standing) ≤ left_to_clear standing + 2

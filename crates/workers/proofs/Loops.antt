@@ -17,7 +17,7 @@ use Rattle.workers.proofs.Growth.{IsCloser, closed_by}
 use Rattle.workers.proofs.Questions.{Questions, Leads, Leads-none, Leads-next, Leads-stop, Leads-whole, ArePut-append, ArePut-append_stop, grown}
 use Rattle.workers.proofs.Stretches.{IsStretch-none, IsStretch-append, IsStretch-so}
 
--- So many questions of a list are put and accepted. What has grown has not grown by more.
+-- The first `done` questions of a list are put and accepted. The lines and the turns have grown by at most that many.
 pub record IsUnderWay (before now : List Exchange → Type 0) (passes stops : ℕ → Type 0) (old new : StandingView) (old_lines new_lines : List Line)
     (done : ℕ) (rest all : Questions) : Type 0 where
   pub stretch : IsStretch before now passes stops old new old_lines new_lines ending.Done (Leads rest all)
@@ -69,7 +69,7 @@ pub loop_whole : {before after : List Exchange → Type 0} {passes stops : ℕ �
     → IsStretch before after passes stops old new old_lines new_lines ending.Done (λ exchanges lines. ArePut all exchanges lines ending.Done)
 loop_whole {all = all} is so_far = IsStretch-so so_far.stretch (λ exchanges lines _ leads. Leads-whole (subst (λ qs. Leads qs all exchanges lines) is leads))
 
--- ---- so many times the same question
+-- ---- the same question, `count` times
 
 pub replicate-next : (again : Asked × Question) (count done : ℕ) → done < count → replicate (count - done) again ≡ again ∷ replicate (count - (done + 1)) again
 replicate-next again count done left =

@@ -101,7 +101,8 @@ drop-none steps place end = drop_of_length-le steps end
 
 -- ---- what a step adds
 
--- So much more there is to clear at most, so many more lines, and so many turns were taken.
+-- A step adds at most one to what is left to clear, and two with its lines; it takes at most one turn more than it adds
+-- lines.
 pub grown_step : {before after : List Exchange → Type 0} {passes stops : ℕ → Type 0} {old new : StandingView} {old_lines new_lines : List Line} {end : Ending} (place : ℕ) (step : Step)
     → IsStretch before after passes stops old new old_lines new_lines end (λ exchanges lines. IsStepTold place old step exchanges lines end)
     → (left_to_clear new ≤ left_to_clear old + 1) × (length new_lines + left_to_clear new ≤ length old_lines + left_to_clear old + 2) × (new.turn + length old_lines ≤ old.turn + length new_lines + 1)

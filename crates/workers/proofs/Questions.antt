@@ -70,7 +70,7 @@ length-ArePut cut_short = (refl, omega arith)
 length-ArePut (refused of_question is) = (refl, omega arith)
 length-ArePut (accepted of_question is put) = let h = length-ArePut put in (omega arith, omega arith)
 
--- So much is added at most, and so many turns are taken.
+-- At most one line is added and one turn is taken for each question.
 pub grown : {before after : List Exchange → Type 0} {passes stops : ℕ → Type 0} {old new : StandingView} {old_lines new_lines : List Line} {end : Ending} {questions : Questions}
     → IsStretch before after passes stops old new old_lines new_lines end (λ exchanges lines. ArePut questions exchanges lines end)
     → (length new_lines ≤ length old_lines + length questions) × (new.turn ≤ old.turn + length questions)

@@ -11,7 +11,7 @@ use Rattle.workers.specs.declared.ask.Question.TheVariants as question
 use Rattle.workers.specs.declared.ask.Ending.{Ending}
 use Rattle.workers.specs.declared.ask.Ending.TheVariants as ending
 
--- The answer that a line tells: the teller's own. A way back that is open is told where it has nothing to undo.
+-- The answer that a line tells: the teller's own. An open way back is told where it has nothing to undo, as Nothing.
 abbrev pub told : Exchange → Answer
 told (Did cmd (Ok reply)) = Replied reply
 told (Did cmd (Err refusal)) = Refused refusal
@@ -34,7 +34,7 @@ is_refused (Marked length) = false
 is_refused Nothing = false
 is_refused (Refused refusal) = true
 
--- The question of an exchange. A look back is none that has a line.
+-- The question of an exchange. A look back has no line, and so no question here.
 abbrev pub question_of : Exchange → Option Question
 question_of (Did cmd result) = Some (question.Do cmd)
 question_of (Undid result) = Some question.Undo

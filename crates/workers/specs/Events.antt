@@ -16,7 +16,7 @@ use Rattle.workers.specs.declared.report.Line.{Line}
 use Rattle.workers.specs.declared.ask.Question.{Question}
 use Rattle.workers.specs.declared.ask.Question.TheVariants as question
 
--- A command was accepted, or an act was undone. A mark is kept and nothing is undone without an event.
+-- A command was accepted, or an act was undone. A mark that is kept is no event, and neither is an undo of nothing.
 abbrev pub is_done : Answer → Bool
 is_done (Replied reply) = true
 is_done (Undone undone) = true
@@ -27,7 +27,7 @@ is_done (Refused refusal) = false
 abbrev pub is_accepted : Line → Bool
 is_accepted line = is_done line.answer
 
--- What a line of a step asks: one of an abort or of a way back asks for an undo.
+-- What a line of a step asks. A line of an abort or of a way back asks for an undo.
 abbrev pub question_of_step : Step → Question
 question_of_step (step.Ask cmd) = question.Do cmd
 question_of_step step.Undo = question.Undo

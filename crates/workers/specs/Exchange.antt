@@ -13,7 +13,7 @@ pub data Exchange : Type 0 where
   KeptMark : Result Mark Refusal → Exchange
   LookedBack : Mark → Result ℕ Refusal → Exchange
 
--- Accepted commands and undos are events of the build. Marks are none.
+-- Accepted commands and undos are events of the build. Marks are no events.
 abbrev pub is_event : Exchange → Bool
 is_event (Did cmd (Ok reply)) = true
 is_event (Did cmd (Err refusal)) = false

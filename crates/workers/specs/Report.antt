@@ -24,7 +24,7 @@ use Rattle.workers.specs.declared.ask.Ending.TheVariants as ending
 abbrev pub ending_of : Answer → Ending
 ending_of answer = if is_refused answer then ending.Refused else ending.Done
 
--- Nothing is asked, and a step's line tells this.
+-- Nothing is asked, and the step's line tells this answer.
 pub record IsTold (place : ℕ) (answer : Answer) (exchanges : List Exchange) (lines : List Line) (end : Ending) : Type 0 where
   pub nothing_asked : exchanges ≡ []
   pub line_is : lines ≡ line (asked.Step place) answer ∷ []
@@ -34,7 +34,7 @@ pub record IsTold (place : ℕ) (answer : Answer) (exchanges : List Exchange) (l
 abbrev pub IsQuestionAsked : ℕ → Question → List Exchange → List Line → Ending → Type 0
 IsQuestionAsked place question exchanges lines end = ArePut ((asked.Step place, question) ∷ []) exchanges lines end
 
--- A step undoes so many, with a line for each. With none its line says so.
+-- A step undoes that many acts, with a line for each. Where it undoes none, its line says so.
 abbrev pub AreUndone : ℕ → ℕ → List Exchange → List Line → Ending → Type 0
 AreUndone place zero exchanges lines end = IsTold place Nothing exchanges lines end
 AreUndone place (suc more) exchanges lines end =
@@ -45,7 +45,8 @@ abbrev pub IsAbort : ℕ → List ℕ → ℕ → List Exchange → List Line �
 IsAbort place [] journal exchanges lines end = AreUndone place journal exchanges lines end
 IsAbort place (number ∷ numbers) journal exchanges lines end = IsTold place (Refused RecRunning) exchanges lines end
 
--- The way back to a mark is looked for first. Where it is open, that many are undone, but no more than the journal has.
+-- The way back to a mark is asked for first. If it is open, that many acts are undone, but no more than the journal
+-- has.
 pub data IsWayBack (place : ℕ) (mark : Mark) (journal : ℕ) : List Exchange → List Line → Ending → Type 0 where
   cut_short : IsWayBack place mark journal [] [] ending.Cut
   refused : (refusal : Refusal)
@@ -76,7 +77,7 @@ exit_of number = (asked.Exit number, question.Do (cmd.Exit number))
 abbrev pub clearing : StandingView → List (Asked × Question)
 clearing standing = map exit_of standing.running ++ replicate standing.journal (asked.Undo, question.Undo)
 
--- whether it came to its end, and not because a turn did not come
+-- whether it came to its end, and was not cut short for want of a turn
 abbrev pub is_over : Ending → Bool
 is_over ending.Done = true
 is_over ending.Refused = true

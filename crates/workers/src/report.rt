@@ -20,7 +20,7 @@ pub enum Answer {
     Replied(Reply),
     /// An act was undone.
     Undone(Undone),
-    /// The build's point is kept, at so many acts that are open.
+    /// The build's point is kept, with that many acts open.
     Marked(u16),
     /// An abort or a way back had nothing to undo.
     Nothing,

@@ -27,7 +27,7 @@ impl Model for Standing {
     ghost view = { λ s. record { turn = s.turn; journal = s.journal; running = s.running.items; mark = s.mark } };
 }
 
-// The place of the first of the numbers that is not below this one.
+// The place of the first number that is not below `number`.
 fn place_of(numbers: &[u16], number: u16) -> usize
     ensures within { result ≤ length numbers.now }
     ensures below { with_number number numbers.now ≡ take result numbers.now ++ with_number number (drop result numbers.now) }

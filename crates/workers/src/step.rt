@@ -13,7 +13,7 @@ use crate::teller::{Gate, Teller};
 use build_books::Mark;
 use build_commands::{Refusal, Step};
 
-/// Undoes so many, with a line for each.
+/// Undoes `count` acts, with a line for each.
 pub(crate) fn undo_each<T: Teller, G: Gate>(
     report: &mut Report,
     standing: &mut Standing,
@@ -41,7 +41,7 @@ pub(crate) fn undo_each<T: Teller, G: Gate>(
     Ending::Done
 }
 
-// The undos of a step. With none its line says so.
+// The undos of a step. Where there are none, its line says so.
 fn undo_step<T: Teller, G: Gate>(
     report: &mut Report,
     standing: &mut Standing,

@@ -9,7 +9,7 @@ use granule_addr::BuildId;
 
 /// Who answers the worker of a build: a build's pass to a host, or what stands for one.
 pub trait Teller {
-    /// Whether these are the questions that it was asked, in their order, with what it answered.
+    /// Whether these are the questions that it was asked, in their order, each with its answer.
     ghost tells: { Self → List Exchange → Type 0 };
 
     /// The loan that it writes through, if there is one.

@@ -119,9 +119,10 @@ fn take_steps<T: Teller, G: Gate>(
 
 /// Takes the steps of a plan in their order, and writes a line for each answer.
 ///
-/// After the first refusal the RECs that run exit, in rising number, and then all that is open is undone, both by the
-/// replies that were given here; a refusal there ends it too. Before each question the gate is asked for the next turn.
-/// `Err` comes where a turn does not come; then the worker has not ended, and nothing more was asked.
+/// After the first refusal the RECs that run exit, in rising number, and then all that is open is undone. Both follow
+/// from the replies that were given here, and a refusal there ends the clearing too. Before each question the gate is
+/// asked for the next turn. `Err` comes where a turn does not come; then the worker has not ended, and nothing more was
+/// asked.
 pub fn work<T: Teller, G: Gate>(
     report: &mut Report,
     steps: &[Step],
