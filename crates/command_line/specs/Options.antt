@@ -50,7 +50,7 @@ abbrev pub Each : (Row → Type 0) → List Row → Type 0
 Each P [] = Unit {0}
 Each P (r ∷ rs) = P r × Each P rs
 
--- where the row is the rule's, its values passed the rule's parser, and are read as it says
+-- a row of the rule has values that passed the rule's parser, and is read as the rule says
 abbrev pub IsPassed : Rule → Row → Type 0
 IsPassed a r = bytes_eq r.id a.id ≡ true → (values_fault a r.values ≡ []) × (r.reading ≡ reading_by a)
 

@@ -33,8 +33,8 @@ realmview =
 
 -- ---- what the words ask for, by what `clap` says of their subcommand
 
--- At most a million orders where nothing is said of it. Orders are drawn where it is said how many, or by which seed: a thousand
--- where a seed is given alone, and by the seed 0 where none is given.
+-- The first `most` orders, a million where that is not given. Where `sample` or `seed` is given, orders are drawn
+-- instead: a thousand where only the seed is given, by the seed 0 where none is given, and never more than `most`.
 abbrev pub orders_asked : Option ℕ → Option ℕ → Option ℕ → Orders
 orders_asked most None None = First (unwrap_or most 1000000)
 orders_asked most sample seed = Drawn (min (unwrap_or sample 1000) (unwrap_or most 1000000)) (unwrap_or seed 0)

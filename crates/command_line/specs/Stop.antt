@@ -14,7 +14,7 @@ status_of_stop status_of (Usage error) = 2
 status_of_stop status_of NotUtf8 = 2
 status_of_stop status_of (Run fault) = status_of fault
 
--- a command line that is not taken is a matter of usage, unless what was wanting is memory
+-- a command line that is not taken is a matter of usage, unless memory was wanting
 abbrev pub stop_of_kind : {F : Type 0} → F → ErrorKind → Error → Stop F
 stop_of_kind memory OutOfMemory error = Run memory
 stop_of_kind memory _ error = Usage error

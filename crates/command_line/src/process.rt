@@ -11,7 +11,7 @@ use std::{env, io};
 
 /// The words of the command line, the program's name first.
 ///
-/// NotUtf8, where one of them is not UTF-8; Run, with the program's fault for it, where allocation failed.
+/// Errors: NotUtf8, where one of them is not UTF-8; Run, with the program's fault for it, where allocation failed.
 pub fn arguments<R: Env + AllocGlobal, F: Reason>(rt: &R) -> Result<Vec<String>, Stop<F>>
     ensures { IfErr result (λ stop. (stop ≡ NotUtf8) ⊎ (stop ≡ Run F.memory)) }
 {

@@ -32,19 +32,19 @@ pub enum Asked {
 /// Which orders of a plan's turns are run.
 #[derive(Clone, Copy, Drop)]
 pub enum Orders {
-    /// From the lowest on, at most so many.
+    /// That many orders at most, from the lowest on.
     First(u32),
-    /// So many that are drawn, by the random numbers of the seed.
+    /// That many orders, drawn by the random numbers of the seed.
     Drawn(u32, u32),
 }
 
-// How many orders are run at most, where nothing is said of it.
+// How many orders are run at most, where no option says so.
 const MOST: u32 = 1000000;
 
-// How many orders are drawn, where a seed is given alone.
+// How many orders are drawn, where only a seed is given.
 const SAMPLE: u32 = 1000;
 
-// The orders that options ask for: they are drawn where it is said how many, or by which seed; never more than so many.
+// The orders that options ask for. They are drawn where a sample or a seed is given, and are never more than `most`.
 fn orders_asked(most: Option<u32>, sample: Option<u32>, seed: Option<u32>) -> Orders
     ensures { result ≡ orders_asked most sample seed }
 {

@@ -1,6 +1,6 @@
--- Acts as they are written: a word, and its numbers in their ranges. Granules and IPA granules stand as their numbers, the
--- starting tables of a realm as the first of them and its IPA width. An act that was picked or answered something has that
--- last, but that the auxiliary granules of a REC stand behind its number.
+-- Acts as they are written: a word, and its numbers in their ranges. Granules and IPA granules stand as their numbers,
+-- the starting tables of a realm as the first of them and its IPA width. What was picked for an act, or answered to it,
+-- stands last; only the auxiliary granules of a REC stand behind its number.
 use Rattle.std.specs.Prelude.{ℕ, ◌≤◌, List, [], ◌∷◌, codes, replicate}
 use Rattle.arrayvec.specs.ArrayVec.{array_vec_len}
 use Rattle.number_text.specs.Grammar.{spelled}

@@ -33,7 +33,7 @@ fn granules_in_range(granules: &[Gran])
     }
 }
 
-// What is read of a number shows the range of its type.
+// Reading a number shows the range of its type.
 fn read<T: Copy>(_numbers: T) {}
 
 fn act_in_range(act: &Act)

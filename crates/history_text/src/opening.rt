@@ -10,7 +10,7 @@ use std::fmt;
 /// The greatest number of each: pages, VMIDs, auxiliary granules of a REC, events of a build, builds.
 const MAXIMA: [u32; 5] = [4096, 255, 16, 16_384, 8];
 
-/// The size of the machine that a history is of: its pages, its VMIDs, the auxiliary granules of each REC, the room of each
+/// The size of the machine of a history: its pages, its VMIDs, the auxiliary granules of each REC, the room of each
 /// build in the history, and the builds.
 #[derive(Clone, Copy)]
 pub struct Opening {

@@ -26,7 +26,7 @@ test-from_at_most (n ∷ ns) m h = rw (le-leb n m h.0, test-from_at_most ns m h.
 pub up_to-items : (most m : ℕ) (it : ArrayVec ℕ) → length it.items ≤ most → AreAtMost it.items (replicate (length it.items) m) → up_to most m it.items ≡ Some it
 up_to-items most m it few small = rw (le-leb (length it.items) most few, test-from_at_most it.items m small) refl
 
--- the numbers are these, no more than so many, each at most the maximum
+-- the numbers are these, no more than `most`, each at most `m`
 pub record AreUpTo (most m : ℕ) (ns : List ℕ) (it : ArrayVec ℕ) : Type 0 where
   pub few : length ns ≤ most
   pub small : AreAtMost ns (replicate (length ns) m)
@@ -40,7 +40,7 @@ up_to-some most m ns it e =
 
 -- ---- what a loop over the numbers finds
 
--- there are more than so many
+-- there are more than `most`
 pub up_to-long : (most m : ℕ) (ns : List ℕ) → most < length ns → None ≡ up_to most m ns
 up_to-long most m ns long = rw (lt-leb (length ns) most long) refl
 

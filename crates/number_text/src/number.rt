@@ -5,7 +5,7 @@ ghost use Rattle.number_text.specs.Numbers.{IsPlain, AreNumbers, spelled_numbers
 
 use arrayvec::ArrayVec;
 
-/// Whether the text begins as a decimal does: with no sign, and with a zero only where that is all.
+/// Whether the text begins as a decimal does: with no sign, and with a zero only where the zero is all.
 fn is_plain(bytes: &[u8]) -> bool
     ensures { IsTrue result ↔ IsPlain bytes.now }
 {
@@ -16,7 +16,7 @@ fn is_plain(bytes: &[u8]) -> bool
     }
 }
 
-/// The number of 32 bits that the text is the decimal of.
+/// The number of 32 bits whose decimal the text is.
 fn number_of(text: &str) -> Option<u32>
     ensures found { IfSome result (λ n. text.now ≡ decimal n) }
     ensures none { IfNone result ((n : ℕ) → n < 2 ^ 32 → text.now ≢ decimal n) }

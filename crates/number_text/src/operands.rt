@@ -99,7 +99,7 @@ pub fn four_operands<A: Operand, B: Operand, C: Operand, D: Operand>(
 }
 
 /// What is made of operands, where they are found: the value of the kind whose fields they are, in their order, or any
-/// other value. It is the `match` that it stands for, since a closure for each would be one more function to prove.
+/// other value. This is a macro for a `match`, since a closure for each would be one more function to prove.
 #[macro_export]
 macro_rules! made_of {
     ($found:expr => $type:ident::$kind:ident { $($field:ident),+ }) => {

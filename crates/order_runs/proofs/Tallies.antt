@@ -10,7 +10,7 @@ use Rattle.order_runs.specs.declared.tally.Tally.{Tally}
 
 -- ---- the loop over tallies
 
--- the first so many are bumped, and the others are as they were
+-- the first `n` are bumped, and the others are as they were
 pub record AreBumped {K : Type 0} (same : K → K → Bool) (thing : K) (old : List (Tally K)) (n : ℕ) (new : List (Tally K)) : Type 0 where
   pub all : length new ≡ length old
   pub done : (k : ℕ) (d : Tally K) → k < n → counted_of (get_or new k d) ≡ bump same thing (counted_of (get_or old k d))

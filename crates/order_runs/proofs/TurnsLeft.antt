@@ -41,7 +41,7 @@ zero_or_not n = elim (eqb_tells n 0) as (λ _. ((n == 0) ≡ true) × (n ≡ 0) 
   | inr more ↦ inr (more.0, (let some : n ≢ 0 = more.1 in omega arith))
 ]
 
--- a step that is under way has so many undos to do as are left
+-- a step that is under way has as many undos to do as are left
 abbrev Counts : Result ℕ Refusal → Place → Type 0
 Counts count place = OnFalse (place.left == 0) (count ≡ Ok place.left)
 

@@ -35,7 +35,7 @@ AreVisits-more plan host None (v ∷ visits) front visit are is = are
 AreVisits-more plan host (Some first) (v ∷ visits) front visit are is =
     (are.0, AreVisits-more plan host (next_of v.choices) visits front visit are.1 is)
 
--- So many orders were run, and these are counted; the next one begins so.
+-- `count` orders were run, and these are counted; the next one begins with `front`.
 pub record IsSoFar (plan : Plan) (count : ℕ) (front : List Choice) (totals : Totals) : Type 0 where
   pub visits : List Visit
   pub are_visits : AreVisits plan (opening_host plan) (Some []) visits (Some front)

@@ -33,7 +33,7 @@ pub record IsOpen (plan : Plan) (places : List Place) (choice : Choice) : Type 0
 
 -- ---- steps
 
--- How far a run is, and how the steps ended that are used up.
+-- How far a run is, and how the steps that are used up ended.
 pub record Stage : Type 0 where
   pub at : Position
   pub ends : List StepEnd
@@ -73,7 +73,8 @@ AreChosen plan from (choice ∷ choices) to =
 abbrev pub first_stage : HostView → Stage
 first_stage host = record { at = start host; ends = [] }
 
--- A run of the plan in the order of these choices, until no build has a step left: it leads here, and so the steps ended.
+-- A run of the plan in the order of these choices, until no build has a step left: it leads to `to`, and the steps
+-- ended as noted.
 pub record IsChosenRun (plan : Plan) (from : HostView) (choices : List Choice) (to : HostView) (noted : List StepEnd) : Type 0 where
   pub last : Stage
   pub chosen : AreChosen plan (first_stage from) choices last
@@ -87,7 +88,7 @@ pub record IsLowestAfter (front choices : List Choice) : Type 0 where
   pub appended : choices ≡ front ++ more
   pub lowest : All (λ choice. lowest_of choice.left ≡ Some choice.build) more
 
--- The choices cannot be kept to: where these lead, which are the first of them, the next is not open.
+-- The choices cannot be kept to: behind the first of them, `front`, the next one is not open.
 pub record CannotBeKept (plan : Plan) (from : Stage) (choices : List Choice) : Type 0 where
   pub front : List Choice
   pub choice : Choice
@@ -97,7 +98,7 @@ pub record CannotBeKept (plan : Plan) (from : Stage) (choices : List Choice) : T
   pub chosen : AreChosen plan from front at
   pub not_open : IsOpen plan at.at.places choice → ⊥
 
--- From this stage on the lowest build that has a step left goes on, until none has: so the choices grow, and the run leads here.
+-- From this stage on the lowest build with a step left goes on, until none has: `choices` then has all choices.
 pub record GoesOnTo (plan : Plan) (from : Stage) (front choices : List Choice) (to : Stage) : Type 0 where
   pub more : List Choice
   pub appended : choices ≡ front ++ more

@@ -15,16 +15,16 @@ use Rattle.order_runs.specs.declared.totals.Totals.{Totals}
 unfoldable pub builds_with_steps : List Bool → List ℕ
 builds_with_steps left = filter (could left) (range_with_len 0 8)
 
--- The one of them that the next number draws: by what is left of it when it is divided by how many they are.
+-- the one of these builds that the next number draws: its place is the number modulo how many builds there are
 abbrev pub drawn : Stream → List Bool → Option ℕ
 drawn stream left = slice_get (builds_with_steps left) ((next_u32 stream).0 % length (builds_with_steps left))
 
--- A number draws the build of each turn. So many are left behind them.
+-- A number of the stream draws the build of each turn. `after` is the rest of the stream.
 abbrev pub AreDrawn : Stream → List Choice → Stream → Type 0
 AreDrawn stream [] after = after ≡ stream
 AreDrawn stream (choice ∷ choices) after = (drawn stream choice.left ≡ Some choice.build) × AreDrawn (next_u32 stream).1 choices after
 
--- From this stage on builds are drawn, until none has a step left: these are the choices, and the run leads here.
+-- From this stage on builds are drawn, until none has a step left: these are `choices`, and the run leads to `to`.
 pub record IsDrawnTo (plan : Plan) (stream : Stream) (from : Stage) (choices : List Choice) (to : Stage) (after : Stream) : Type 0 where
   pub are_drawn : AreDrawn stream choices after
   pub chosen : AreChosen plan from choices to
@@ -43,7 +43,7 @@ AreSamples plan host stream [] after = after ≡ stream
 AreSamples plan host stream (visit ∷ visits) after =
     (between : Stream) × IsDrawn plan host stream visit between × AreSamples plan host between visits after
 
--- The totals of the runs of so many orders that the stream draws.
+-- The totals of the runs of `count` orders that the stream draws.
 pub record IsSampled (plan : Plan) (host : HostView) (stream : Stream) (count : ℕ) (totals : Totals) : Type 0 where
   pub visits : List Visit
   pub after : Stream

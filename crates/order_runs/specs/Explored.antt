@@ -8,7 +8,7 @@ use Rattle.order_runs.specs.Totals.{Visit, AreTotals}
 use Rattle.order_runs.specs.declared.choice.Choice.{Choice}
 use Rattle.order_runs.specs.declared.totals.Totals.{Totals}
 
--- The totals of the runs of orders, from the lowest order on: of all that there are, or of the first so many.
+-- The totals of the runs of orders, from the lowest order on: of all that there are, or of the first `most`.
 pub record IsExplored (plan : Plan) (host : HostView) (most : ℕ) (totals : Totals) (is_whole : Bool) : Type 0 where
   pub visits : List Visit
   pub rest : Option (List Choice)

@@ -21,7 +21,7 @@ abbrev pub end_words : Option Refusal → List ℕ
 end_words None = codes "ok"
 end_words (Some refusal) = codes "no " ++ refusal_text refusal
 
--- how many orders there are: so many, or more
+-- how many orders there are: exactly `orders`, or more
 abbrev pub orders_line : ℕ → Bool → List ℕ
 orders_line orders is_whole = (if is_whole then codes "orders " else codes "orders more than ") ++ (decimal orders ++ 10 ∷ [])
 
@@ -29,7 +29,7 @@ orders_line orders is_whole = (if is_whole then codes "orders " else codes "orde
 abbrev pub drawn_line : ℕ → List ℕ
 drawn_line orders = codes "orders drawn " ++ (decimal orders ++ 10 ∷ [])
 
--- how many orders show a thing, and the first of them, where it is not each of so many
+-- how many orders show a thing, and the first of them, where not all `orders` do
 abbrev pub shown_text : ℕ → ℕ → List ℕ → List ℕ
 shown_text orders count first = if count == orders then codes " in all\n" else codes " in " ++ (decimal count ++ (codes ", " ++ (order_text first ++ 10 ∷ [])))
 
@@ -62,7 +62,7 @@ map_lines orders tally = codes "map" ++ (shown_text orders tally.count tally.fir
 abbrev pub is_end_of : ℕ → ℕ → Tally StepEnd → Bool
 is_end_of build place tally = tally.thing.build == build && tally.thing.step == place
 
--- how the step ended, if there is one
+-- how the step ended, if the plan has it
 abbrev pub ends_of : Totals → ℕ → ℕ → Option PlanStep → List ℕ
 ends_of totals build place None = []
 ends_of totals build place (Some step) = flat_map (end_line totals.orders step) (filter (is_end_of build place) totals.ends.items)
@@ -76,13 +76,13 @@ step_lines plan totals build place = ends_of totals build place (step_after plan
 abbrev pub build_lines : Plan → Totals → ℕ → List ℕ
 build_lines plan totals build = flat_map (step_lines plan totals build) (range_with_len 0 (step_count plan build))
 
--- in how many orders the build was never refused, be it none
+-- in how many orders the build was never refused, even if in none
 abbrev pub smooth_lines : ℕ → List (Tally ℕ) → ℕ → List ℕ
 smooth_lines orders [] build = codes "never refused " ++ (decimal build ++ codes " in 0\n")
 smooth_lines orders (tally ∷ smooth) build = if tally.thing == build then smooth_line orders tally else smooth_lines orders smooth build
 
--- How often nothing was refused; how often each step of each build ended in which way, and how often each build was never refused; and
--- the maps in the end.
+-- How often nothing was refused; how often each step of each build ended in which way, and how often each build was
+-- never refused; and the maps in the end.
 abbrev pub totals_text : Plan → Totals → List ℕ
 totals_text plan totals =
     flat_map (whole_line totals.orders) totals.wholes.items

@@ -11,13 +11,13 @@ could left build = slice_index_or left build false
 abbrev pub next_build : Choice → Option ℕ
 next_build choice = find (λ build. nat_lt choice.build build && could choice.left build) (range_with_len 0 8)
 
--- Behind this choice an order can go on in another way, or else another build is chosen here.
+-- An order can go on in another way behind this choice, or else another build is chosen here.
 abbrev pub go_on : Choice → Option (List Choice) → Option (List Choice)
 go_on choice (Some more) = Some (choice ∷ more)
 go_on choice None = option_map (λ build. record choice { build = build } ∷ []) (next_build choice)
 
--- What the next order begins with: it is the same as far along as may be, and then the lowest build above the one that was
--- chosen has the turn.
+-- What the next order begins with: as many of these turns as possible, and then a turn of the lowest build above the
+-- one that was chosen there.
 abbrev pub next_of : List Choice → Option (List Choice)
 next_of [] = None
 next_of (choice ∷ choices) = go_on choice (next_of choices)

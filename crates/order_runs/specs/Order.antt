@@ -8,14 +8,15 @@ use Rattle.order_runs.specs.Chosen.{lowest_of, IsChosenRun, IsLowestAfter}
 use Rattle.order_runs.specs.Totals.{Visit}
 use Rattle.order_runs.specs.declared.choice.Choice.{Choice}
 
--- They are the same up to a turn that a lower build has.
+-- The two orders are the same up to a turn at which the first has the lower build.
 abbrev pub IsBefore : List Choice → List Choice → Type 0
 IsBefore (choice ∷ choices) (other ∷ others) = (choice.build < other.build) ⊎ ((choice ≡ other) × IsBefore choices others)
 IsBefore _ _ = ⊥
 
 -- ---- the orders that are visited
 
--- The run of an order that begins so, and has the lowest build that has a step left at each further turn; and its map.
+-- The run of an order that begins with `front` and gives each further turn to the lowest build that has a step left;
+-- and its map.
 pub record IsVisit (plan : Plan) (host : HostView) (front : List Choice) (visit : Visit) : Type 0 where
   pub goes_on : IsLowestAfter front visit.choices
   pub to : HostView
@@ -31,8 +32,8 @@ AreVisits plan host (Some front) (visit ∷ visits) rest =
 
 -- ---- the orders that there are
 
--- An order where `left` says which builds have a step left behind these turns: each build that has a turn has a step left, and
--- none has in the end.
+-- An order, where `left` says which builds have a step left behind given turns: each build that has a turn has a step
+-- left, and no build has one in the end.
 abbrev pub IsOrder : (List ℕ → List Bool) → List ℕ → List Choice → Type 0
 IsOrder left before [] = lowest_of (left before) ≡ None
 IsOrder left before (choice ∷ choices) =

@@ -17,13 +17,13 @@ pub record Counted (K : Type 0) : Type 0 where
 abbrev pub is_shown : {K : Type 0} → (K → K → Bool) → List (Sighting K) → K → Bool
 is_shown same seen thing = list_any (λ s. same s.thing thing) seen
 
--- What is shown for the first time, where this was shown earlier.
+-- The things that are shown for the first time, where `earlier` was shown before.
 abbrev pub firsts : {K : Type 0} → (K → K → Bool) → List (Sighting K) → List (Sighting K) → List (Sighting K)
 firsts same earlier [] = []
 firsts same earlier (s ∷ seen) =
     (if is_shown same earlier s.thing then [] else s ∷ []) ++ firsts same (earlier ++ s ∷ []) seen
 
--- at most what a counter of 64 bits can hold
+-- how often a thing is shown, at most what a counter of 64 bits can hold
 abbrev pub times : {K : Type 0} → (K → K → Bool) → List (Sighting K) → K → ℕ
 times same seen thing = min (count_by (λ s. same thing s.thing) seen) (2 ^ 64 - 1)
 
@@ -31,7 +31,7 @@ times same seen thing = min (count_by (λ s. same thing s.thing) seen) (2 ^ 64 -
 unfoldable pub counted : {K : Type 0} → (K → K → Bool) → List (Sighting K) → List (Counted K)
 counted same seen = map (λ s. record { thing = s.thing; count = times same seen s.thing; first = s.order }) (firsts same [] seen)
 
--- A thing that is shown once more.
+-- a thing with its count, once `thing` is shown once more
 abbrev pub bump : {K : Type 0} → (K → K → Bool) → K → Counted K → Counted K
 bump same thing c = record c { count = if same c.thing thing then min (c.count + 1) (2 ^ 64 - 1) else c.count }
 

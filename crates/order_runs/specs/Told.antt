@@ -12,7 +12,7 @@ pub record Line : Type 0 where
   pub turn : Turn
   pub noted : List StepEnd
 
--- None is noted of the turn, which then is not refused, or one, of its build, with the refusal in its answer.
+-- Either no end is noted of the turn, which is not refused; or one of its build is, with the refusal in its answer.
 abbrev pub IsEndOfTurn : Line → Type 0
 IsEndOfTurn line = ((line.noted ≡ []) × (refusal_of_turn line.turn.told ≡ None))
     ⊎ ((step : ℕ) × (line.noted ≡ record { build = line.turn.build; step = step; refusal = refusal_of_turn line.turn.told } ∷ []))

@@ -44,14 +44,14 @@ whole_seen visit = sighting_in visit.choices (has_refusal visit.ends)
 abbrev pub is_smooth : List StepEnd → ℕ → Bool
 is_smooth ends build = not (list_any (refuses build) ends)
 
--- the builds, of so many, that were never refused
+-- those of the plan's `builds` builds that were never refused
 abbrev pub smooth_seen : ℕ → Visit → List (Sighting ℕ)
 smooth_seen builds visit = map (sighting_in visit.choices) (filter (is_smooth visit.ends) (range_with_len 0 builds))
 
 abbrev pub same_text : String Global → String Global → Bool
 same_text text other = bytes_eq (string_bytes text) (string_bytes other)
 
--- The totals are those of these runs of a plan of so many builds.
+-- The totals are those of these runs of a plan of `builds` builds.
 pub record AreTotals (builds : ℕ) (visits : List Visit) (totals : Totals) : Type 0 where
   pub orders : totals.orders ≡ length visits
   pub wholes : map counted_of totals.wholes.items ≡ counted beq (map whole_seen visits)

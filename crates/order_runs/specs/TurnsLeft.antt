@@ -10,12 +10,12 @@ abbrev pub is_of_many : Option PlanStep → Bool
 is_of_many None = false
 is_of_many (Some step) = undoes_many step
 
--- Undos are left of a step only if it is one that undoes any number of acts.
+-- Undos are left only of a step that undoes any number of acts.
 pub record AreSteady (plan : Plan) (places : List Place) : Type 0 where
   pub all : length places ≡ 8
   pub steady : (build : ℕ) → is_of_many (step_after plan build (place_of places build).done) ≡ false → (place_of places build).left ≡ 0
 
--- At most so many turns of a build: less than 2 ^ 16 for a step, and so many as undos are left of the one that is under way.
+-- A bound for a build's turns: 2 ^ 16 for each step, but for the one under way as many as it has undos left.
 abbrev pub turns_of_place : List PlanStep → Place → ℕ
 turns_of_place steps place =
     if place.left == 0 then (length steps - place.done) * 2 ^ 16 else (length steps - place.done - 1) * 2 ^ 16 + place.left

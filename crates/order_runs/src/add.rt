@@ -49,7 +49,7 @@ fn has_refusal(ends: &[StepEnd]) -> bool
     ends.iter().any(|end| end.refusal.is_some())
 }
 
-// Counts the builds, of so many, that were never refused.
+// Counts those of the plan's `builds` builds that were never refused.
 fn count_smooth(
     alloc: Global,
     tallies: &mut Vec<Tally<usize>>,
@@ -69,7 +69,7 @@ fn count_smooth(
 }
 
 impl Totals {
-    /// Of no order.
+    /// The totals of no order.
     pub fn new(alloc: Global) -> Totals
         ensures { (builds : ℕ) → AreTotals builds [] result }
     {
@@ -82,7 +82,7 @@ impl Totals {
         }
     }
 
-    /// Counts the run of one more order of a plan of so many builds. At an `Err` allocation failed.
+    /// Counts the run of one more order of a plan of `builds` builds. At an `Err` allocation failed.
     pub fn add(
         &mut self,
         alloc: Global,

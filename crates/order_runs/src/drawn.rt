@@ -68,8 +68,8 @@ fn go_on_drawn<S: PageStore, R: Rng>(
     Ok(())
 }
 
-/// Runs a plan on a host, at each turn with a build that is drawn of those that have a step left, until none has. The choices are
-/// then those of the whole order, and each end of a step is noted. At an `Err` allocation failed.
+/// Runs a plan on a host: at each turn one of the builds that have a step left is drawn, until none has. The choices
+/// are then those of the whole order, and each end of a step is noted. At an `Err` allocation failed.
 pub fn run_drawn<S: PageStore, R: Rng>(
     host: &mut Host<S>,
     plan: &Plan,

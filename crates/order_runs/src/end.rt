@@ -1,7 +1,7 @@
 //! How steps end.
 use build_commands::Refusal;
 
-/// That a build's step is used up, and why it was refused, where it was.
+/// A build's step that is used up, and why it was refused, if it was.
 #[derive(Clone, Copy, PartialEq, Eq)]
 pub struct StepEnd {
     pub build: usize,

@@ -17,15 +17,15 @@ use realm_plan::Plan;
 use realm_program::{Fault, boot};
 use std::alloc::{AllocError, Global};
 
-/// What the orders of a plan come to: all that there are, or the first so many.
+/// What the orders of a plan come to: all that there are, or the first ones.
 #[derive(Drop)]
 pub struct Explored {
     pub totals: Totals,
-    /// Whether there are no more.
+    /// Whether these are all that there are.
     pub is_whole: bool,
 }
 
-// Counts a run that led to this host. It is tried that no build with nothing open is seen in the map.
+// Counts a run that led to this host, and tries that no build with nothing open is seen in the map.
 fn count_run(
     alloc: Global,
     plan: &Plan,
@@ -47,7 +47,8 @@ fn count_run(
     Ok(())
 }
 
-// Runs the order that begins with the choices on a host of its own, and counts it. The choices are then those of the whole order.
+// Runs the order that begins with the choices on a host of its own, and counts it. The choices are then those of the
+// whole order.
 fn visit(
     alloc: Global,
     plan: &Plan,
@@ -85,9 +86,9 @@ fn visit_drawn<R: Rng>(
     Ok(())
 }
 
-/// Runs so many orders of a plan's turns, each on a host of its own. At each turn the build that has it is drawn of those with a step
-/// left, and an order may come more than once. What the plan says of its order is set aside. `progress` is told of each. At an
-/// `Err` allocation failed.
+/// Runs `count` orders of a plan's turns, each on a host of its own. The build of each turn is drawn from those with a
+/// step left, and an order may come more than once. What the plan says of its order is set aside. `progress` is told of
+/// each. At an `Err` allocation failed.
 pub fn sample<R: Rng, P: Progress>(
     alloc: Global,
     plan: &Plan,
@@ -107,11 +108,11 @@ pub fn sample<R: Rng, P: Progress>(
     Ok(totals)
 }
 
-/// Runs the orders of a plan's turns, from the lowest on, at most so many, each on a host of its own. What the plan says of its
-/// order is set aside. `progress` is told of each.
+/// Runs the orders of a plan's turns, from the lowest on, at most `most` of them, each on a host of its own. What the
+/// plan says of its order is set aside. `progress` is told of each.
 ///
-/// Errors: Memory, where allocation failed; Mismatch, where an order cannot be gone on with as the run before it says, which no
-/// host does that answers the same to the same.
+/// Errors: Memory, where allocation failed; Mismatch, where an order cannot begin as the run before it says, which
+/// never happens on a host that gives the same answers to the same calls.
 pub fn explore<P: Progress>(
     alloc: Global,
     plan: &Plan,

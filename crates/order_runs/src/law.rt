@@ -19,8 +19,7 @@ pub fn a_run_is_one_of_the_plan()
         → (text : List ℕ) × IsToldRun (record plan { order = chosen_order choices }) host to [] text }
 {}
 
-/// Of two orders that are visited one after the other, at once or later, the first is before the second, so none is visited
-/// twice.
+/// An order that is visited earlier is lower than one that is visited later, so none is visited twice.
 pub fn visited_orders_rise()
     ensures rise { (plan : Plan) (host : HostView) (front rest : Option (List Choice)) (visits : List Visit)
         → AreVisits plan host front visits rest
@@ -28,8 +27,9 @@ pub fn visited_orders_rise()
     ensures never_twice { (order : List Choice) → IsBefore order order → ⊥ }
 {}
 
-/// Where the first order is the lowest one, and none comes next, every order was visited: whatever says which of eight builds have
-/// a step left behind which turns, if the orders that were visited agree with it, no order that agrees with it is missing.
+/// Where the first order is the lowest one, and none comes next, every order was visited. This holds for anything that
+/// says which of eight builds have a step left behind which turns: if the orders that were visited agree with it, no
+/// order that agrees with it is missing.
 pub fn every_order_is_visited()
     ensures { (plan : Plan) (host : HostView) (visits : List Visit) (left : List ℕ → List Bool)
         → ((before : List ℕ) → length (left before) ≡ 8)
@@ -38,8 +38,8 @@ pub fn every_order_is_visited()
         → (order : List Choice) → IsOrder left [] order → Contains (map (λ (visit : Visit). visit.choices) visits) order }
 {}
 
-/// Of the orders that agree with what says which builds have a step left, one that was not visited comes later than all that were,
-/// where the first was the lowest: orders that are run up to a bound are the lowest ones.
+/// Where the first order was the lowest, an order that was not visited comes later than all that were, of those that
+/// agree with what says which builds have a step left. So orders that are run up to a bound are the lowest ones.
 pub fn orders_that_are_left_come_later()
     ensures { (plan : Plan) (host : HostView) (visits : List Visit) (rest : Option (List Choice)) (left : List ℕ → List Bool)
         → ((before : List ℕ) → length (left before) ≡ 8)
@@ -63,7 +63,7 @@ pub fn ends_are_told_apart()
     ensures { (one other : StepEnd) → (same_end one other ≡ true) ↔ (one ≡ other) }
 {}
 
-/// A build that has nothing open is not seen in a map: it is that of the history without the build.
+/// A build that has nothing open is not seen in a map: the map is that of the history without the build.
 pub fn builds_with_nothing_open_are_not_seen()
     ensures { (host : HostView) (build : ℕ) → IsUnseen host build }
 {}

@@ -23,7 +23,7 @@ fn is_unseen(
     requires { opening_host (plan_view plan.now) ≡ fresh_like books.now }
     ensures { IfOk result (λ unseen. map.now ≡ map_text books.now → open_of books.now build ≡ [] → unseen ≡ true) }
 {
-    // (the theorem is of legal histories, and it is one)
+    // (the theorem is about legal histories, and this one is legal)
     let _history = books.history();
     let without = map_without(alloc, plan, books, build)?;
     Ok(without.as_str() == map)

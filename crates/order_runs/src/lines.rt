@@ -31,7 +31,7 @@ impl fmt::Display for EndWords {
     }
 }
 
-/// Appends the line of how many orders there are: so many, or that there are more.
+/// Appends the line of how many orders there are: exactly `orders`, or more.
 pub(crate) fn push_count(text: &mut String, orders: u64, is_whole: bool) -> Result<(), AllocError>
     ensures { OnOk result (string_bytes text.new ≡ string_bytes text.old ++ orders_line orders is_whole) }
 {
@@ -49,7 +49,7 @@ pub(crate) fn push_drawn_count(text: &mut String, orders: u64) -> Result<(), All
     writeln!(text, "orders drawn {orders}")
 }
 
-// Appends how many of so many orders show a thing, and the first of them where it is not each.
+// Appends how many of `orders` orders show a thing, and the first of them where not all do.
 fn push_shown(text: &mut String, orders: u64, count: u64, first: &[usize]) -> Result<(), AllocError>
     ensures { OnOk result (string_bytes text.new ≡ string_bytes text.old ++ shown_text orders count first.now) }
 {

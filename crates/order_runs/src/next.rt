@@ -12,8 +12,8 @@ fn next_build(choice: &Choice) -> Option<usize>
     (0..8).find(|build| *build > choice.build && choice.left[*build])
 }
 
-/// Goes on to what the next order begins with: it is the same as far along as may be, and then has the lowest build above
-/// the one that was chosen. `false`, with nothing chosen, comes exactly where this is the last order.
+/// Goes on to what the next order begins with: as many of these turns as possible, and then a turn of the lowest build
+/// above the one that was chosen there. `false`, with nothing chosen, comes exactly where this is the last order.
 pub fn next_order(choices: &mut Vec<Choice>) -> bool
     ensures next { OnTrue result (next_of choices.old.items ≡ Some choices.new.items) }
     ensures last { OnFalse result (next_of choices.old.items ≡ None) }

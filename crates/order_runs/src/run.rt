@@ -142,7 +142,7 @@ fn go_on<S: PageStore>(
 /// Runs a plan on a host, in the order that begins with the choices and goes on with the lowest build that has a step left,
 /// until none has. The choices are then those of the whole order, and each end of a step is noted.
 ///
-/// `false` comes exactly where the choices cannot be kept to, since they were not made of a run like this. At an `Err`
+/// `false` comes exactly where the choices cannot be kept to, since they are not those of a run like this. At an `Err`
 /// allocation failed.
 pub fn run_order<S: PageStore>(
     host: &mut Host<S>,

@@ -35,7 +35,7 @@ fn push_build(
     Ok(())
 }
 
-// Appends the lines of how the steps of so many builds ended.
+// Appends the lines of how the steps of the first `builds` builds ended.
 fn push_builds(
     text: &mut String,
     plan: &Plan,
@@ -50,7 +50,7 @@ fn push_builds(
     Ok(())
 }
 
-// Appends the lines of how often so many builds were never refused.
+// Appends the lines of how often each of the first `builds` builds was never refused.
 fn push_smooths(
     text: &mut String,
     orders: u64,
@@ -75,8 +75,8 @@ fn push_maps(text: &mut String, orders: u64, maps: &[Tally<String>]) -> Result<(
     Ok(())
 }
 
-// Appends in how many orders nothing was refused; of each step of each build how it ended, in how many orders and in which one
-// first; of each build in how many orders it was never refused; and the maps in the end.
+// Appends in how many orders nothing was refused; for each step of each build, how it ended, in how many orders and in
+// which one first; for each build, in how many orders it was never refused; and the maps in the end.
 fn push_totals(text: &mut String, plan: &Plan, totals: &Totals) -> Result<(), AllocError>
     ensures { OnOk result (string_bytes text.new ≡ string_bytes text.old ++ totals_text (plan_view plan.now) totals.now) }
 {
@@ -89,9 +89,9 @@ fn push_totals(text: &mut String, plan: &Plan, totals: &Totals) -> Result<(), Al
     Ok(())
 }
 
-/// Appends what the orders of a plan come to: how many there are; in how many nothing was refused; of each step of each build how
-/// it ended, in how many orders and in which one first; of each build in how many orders it was never refused; and the maps in the
-/// end. At an `Err` allocation failed.
+/// Appends what the orders of a plan come to: how many there are; in how many nothing was refused; for each step of
+/// each build, how it ended, in how many orders and in which one first; for each build, in how many orders it was never
+/// refused; and the maps in the end. At an `Err` allocation failed.
 pub fn push_orders(text: &mut String, plan: &Plan, explored: &Explored) -> Result<(), AllocError>
     ensures { OnOk result (string_bytes text.new ≡ string_bytes text.old ++ orders_text (plan_view plan.now) explored.now.totals explored.now.is_whole) }
 {
@@ -99,8 +99,8 @@ pub fn push_orders(text: &mut String, plan: &Plan, explored: &Explored) -> Resul
     push_totals(text, plan, &explored.totals)
 }
 
-/// Appends what orders that were drawn come to, as `push_orders` does: how many they are stands in its own words. At an `Err`
-/// allocation failed.
+/// Appends what orders that were drawn come to, as `push_orders` does, with another line for how many they are. At an
+/// `Err` allocation failed.
 pub fn push_drawn(text: &mut String, plan: &Plan, totals: &Totals) -> Result<(), AllocError>
     ensures { OnOk result (string_bytes text.new ≡ string_bytes text.old ++ drawn_text (plan_view plan.now) totals.now) }
 {

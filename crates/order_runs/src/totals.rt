@@ -7,7 +7,7 @@ use crate::tally::Tally;
 pub struct Totals {
     /// How many orders were run.
     pub orders: u64,
-    /// Whether any step was refused.
+    /// Whether any step of an order was refused.
     pub wholes: Vec<Tally<bool>>,
     /// How steps ended, each with how many orders and the first of them.
     pub ends: Vec<Tally<StepEnd>>,

@@ -21,12 +21,12 @@ pub record AreErrors (fault : PlanFault) (findings : List Finding) : Type 0 wher
 abbrev pub AreWarnings : List Finding → Type 0
 AreWarnings findings = All (λ f. f.severity ≡ Warning) findings
 
--- Of a plan there are warnings alone, and of other bytes errors alone, with the one fault that they have.
+-- A plan has warnings alone. Other bytes have errors alone, and one of these is their fault.
 abbrev pub AreOf : Result Plan PlanFault → List Finding → Type 0
 AreOf (Ok plan) findings = AreWarnings findings
 AreOf (Err fault) findings = AreErrors fault findings
 
--- each at a place of a text of so many bytes
+-- each at a place of a text of `end` bytes
 abbrev pub AreInside : ℕ → List Finding → Type 0
 AreInside end findings = All (λ f. f.at ≤ end) findings
 

@@ -5,7 +5,7 @@ use Rattle.std.specs.List.{after_last, before_first}
 abbrev pub is_feed : ℕ → Bool
 is_feed b = b == 10
 
--- no byte inside a character
+-- the byte begins a character: it is not one inside a character
 abbrev pub begins_char : ℕ → Bool
 begins_char b = nat_lt b 128 || nat_le 192 b
 
@@ -13,11 +13,11 @@ begins_char b = nat_lt b 128 || nat_le 192 b
 unfoldable pub front_of : List ℕ → ℕ → List ℕ
 front_of text at = after_last is_feed (take at text)
 
--- what stands behind it on its line, as far as 81 bytes
+-- what stands behind the place on its line, as far as 81 bytes
 abbrev pub back_of : List ℕ → ℕ → List ℕ
 back_of text at = before_first is_feed (take 81 (drop at text))
 
--- the number of its line, and of the character there, both from 1
+-- the number of the place's line, and of the character there, both from 1
 abbrev pub line_of : List ℕ → ℕ → ℕ
 line_of text at = count_by is_feed (take at text) + 1
 

@@ -6,6 +6,6 @@ use Rattle.std.specs.Str.Lossy.{utf8_lossy}
 abbrev pub plain : ℕ → ℕ
 plain b = if nat_lt b 32 || (b == 127) then 32 else b
 
--- and U+FFFD for what is no UTF-8
+-- the bytes with a space for each control character, and U+FFFD for what is not UTF-8
 unfoldable pub plain_text : List ℕ → List ℕ
 plain_text bytes = utf8_lossy (map plain bytes)

@@ -145,7 +145,7 @@ fn one_step(
     }
 }
 
-// The place inside of a string, where its text stands behind the quote as it is, and else the string.
+// The place inside of a string, if the string's text stands behind the quote as it is; else the place of the string.
 fn place_inside(text: &str, at: usize, written: &str, inside: usize) -> usize {
     let from = at.saturating_add(1);
     match text.as_bytes().get(from..) {

@@ -3,7 +3,7 @@ ghost use Rattle.std.specs.Prelude.{◌≡◌, ◌+◌, ◌<◌, ◌≤◌, if�
 ghost use Rattle.plan_check.specs.Places.{begins_char};
 ghost use Rattle.plan_check.specs.Cursors.{IsCursor};
 
-/// Whether the byte is not one inside a character.
+/// Whether the byte begins a character: it is not one inside a character.
 pub fn begins_char(byte: u8) -> bool
     ensures { result ≡ begins_char byte }
 {
@@ -65,7 +65,7 @@ fn next_place(text: &[u8], from: Cursor) -> Cursor
     }
 }
 
-// The place, where it is not behind so many bytes, and else the beginning.
+// The place, if at most `at` bytes stand before it, and else the beginning.
 fn place_before(text: &[u8], place: Cursor, at: usize) -> Cursor
     requires { IsCursor text.now place }
     ensures before { result.at ≤ at }
@@ -78,8 +78,8 @@ fn place_before(text: &[u8], place: Cursor, at: usize) -> Cursor
     }
 }
 
-/// The place behind so many bytes. The text is gone through from another place on, or from the beginning where that place is
-/// behind it.
+/// The place behind the first `at` bytes. The text is gone through from the place `from` on, or from the beginning
+/// where `from` lies behind that.
 pub fn place_at(text: &[u8], from: Cursor, at: usize) -> Cursor
     requires inside { at ≤ length text.now }
     requires cursor { IsCursor text.now from }

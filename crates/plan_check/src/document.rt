@@ -75,7 +75,7 @@ fn in_table(
     }
 }
 
-// The same, where it is known where its parts stand.
+// The same, once it is known where the document's parts stand.
 fn in_parts(
     alloc: Global,
     text: &str,

@@ -43,7 +43,7 @@ fn width_of(bytes: &[u8]) -> usize
     bytes.iter().filter(|b| begins_char(**b)).count()
 }
 
-// Appends a caret behind so many spaces.
+// Appends a caret behind `width` spaces.
 fn push_caret(text: &mut String, width: usize) -> Result<(), AllocError>
     ensures { OnOk result (string_bytes text.new ≡ string_bytes text.old ++ (replicate width 32 ++ codes "^\n")) }
 {

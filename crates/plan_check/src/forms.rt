@@ -1,4 +1,4 @@
-//! How the steps of a plan are written, for what is said of a text that is none.
+//! How the steps of a plan are written, for what is said of a text that is no step.
 
 /// What a number of a step is.
 #[derive(Clone, Copy)]
@@ -47,7 +47,7 @@ pub struct Form {
     pub word: &'static str,
     /// The step with letters in place of its numbers.
     pub usage: &'static str,
-    /// What its numbers are. Where there may be more, they are pages.
+    /// What its numbers are. Further numbers, where there may be any, are pages.
     pub kinds: &'static [Kind],
     /// The most numbers that it may have.
     pub most: usize,
@@ -170,7 +170,7 @@ const FORMS: [Form; 18] = [
     },
 ];
 
-/// How the step of a word is written, if it is the word of one.
+/// How the step of a word is written, if there is such a step.
 pub fn form_of(word: &str) -> Option<Form> {
     for form in &FORMS {
         if form.word == word {

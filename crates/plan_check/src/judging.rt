@@ -52,7 +52,7 @@ fn size_of(plan: &Plan) -> Size
     }
 }
 
-// A fault in general words, for one of which nothing else is told.
+// A fault in general words, for bytes of which nothing else is told.
 fn general_words(fault: PlanFault) -> &'static str {
     match fault {
         PlanFault::Syntax => "this is no TOML",
@@ -98,7 +98,7 @@ fn tells(findings: &[Finding], fault: PlanFault) -> bool
     false
 }
 
-// The errors of bytes with this fault, which is told in general words where it is not among those that were found.
+// The errors of bytes with this fault. The fault is told in general words if it is not among those that were found.
 fn errors_of(alloc: Global, bytes: &[u8], fault: PlanFault) -> Result<Vec<Finding>, AllocError>
     ensures errors { IfOk result (λ v. AreErrors fault v.items) }
     ensures inside { IfOk result (λ v. AreInside (length bytes.now) v.items) }

@@ -44,7 +44,7 @@ const WHOLES: [Limits; 4] = [
     },
 ];
 
-/// Tells the keys that neither a plan nor a build has. Where one stands several times in a row it is told once.
+/// Tells the keys that neither a plan nor a build has. A key that stands several times in a row is told once.
 pub fn unknown_keys(
     alloc: Global,
     places: &Places,
@@ -103,7 +103,7 @@ fn is_none_near(key: &KeyPlace) -> &'static str {
     }
 }
 
-// What is said of a key that is near to none.
+// What is said of a key that no known key is near to.
 fn of_far(alloc: Global, is_of_build: bool, name: &str) -> Result<String, AllocError> {
     let all = if is_of_build {
         "a build: its one key is steps"

@@ -6,7 +6,8 @@ use strsim::osa_distance;
 /// The most bytes of a word that is looked up.
 const LONGEST: usize = 32;
 
-/// The name that is the nearest to the word, if one is near: a third of the longer of both may differ. Of several the first.
+/// The name that is the nearest to the word, if one is near: up to a third of the longer of the two may differ. Of
+/// several, the first.
 pub fn nearest(
     alloc: Global,
     names: &'static [&'static str],

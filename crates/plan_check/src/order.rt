@@ -71,7 +71,7 @@ fn turn(
     }
 }
 
-// Whether the number is that of one of so many builds.
+// Whether the number is that of one of `count` builds.
 fn is_build(number: i64, count: usize) -> bool {
     match usize::try_from(number) {
         Ok(build) => build < count,

@@ -10,7 +10,7 @@ use std::alloc::{AllocError, Global};
 /// The most bytes of a word that is quoted.
 const LONGEST: usize = 40;
 
-/// What is said of a text that is no step, and the bytes of the text before the place of which it is said.
+/// What is said of a text that is no step, and the bytes of the text before the place that is meant.
 #[derive(Drop)]
 pub struct Reason {
     pub at: usize,
@@ -49,7 +49,7 @@ fn of_fields(alloc: Global, text: &str) -> Result<Reason, AllocError> {
     }
 }
 
-// What is said of a word that is that of no step.
+// What is said of a word that is not the word of a step.
 fn of_word(alloc: Global, word: &str) -> Result<String, AllocError> {
     if let Some(name) = in_other_case(word) {
         return said_with(alloc, word, "is written", name);
@@ -71,7 +71,7 @@ fn in_other_case(word: &str) -> Option<&'static str> {
     None
 }
 
-// What is said of a word that is near to none.
+// What is said of a word that no word of a step is near to.
 fn of_far(alloc: Global, word: &str) -> Result<String, AllocError> {
     match names(alloc) {
         Ok(names) => of_far_from(alloc, word, names.as_str()),
@@ -107,7 +107,7 @@ fn push_names(text: &mut String) -> Result<(), AllocError> {
     Ok(())
 }
 
-// What is said of the numbers behind a word, which stand from so many bytes on.
+// What is said of the numbers behind a word that ends behind `from` bytes.
 fn of_numbers(alloc: Global, form: &Form, from: usize, rest: &str) -> Result<Reason, AllocError> {
     let mut at = from;
     for (count, field) in rest.split(' ').skip(1).enumerate() {
@@ -121,7 +121,7 @@ fn of_numbers(alloc: Global, form: &Form, from: usize, rest: &str) -> Result<Rea
     reason_at(at, of_count(alloc, form, "fewer"))
 }
 
-// What is wrong with the number that has so many before it, if anything is.
+// What is wrong with the number behind `before` others, if anything is.
 fn of_number(
     alloc: Global,
     form: &Form,

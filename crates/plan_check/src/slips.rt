@@ -15,7 +15,7 @@ pub struct Slip {
     pub words: String,
 }
 
-/// The likely slips of a plan, which is what the bytes are.
+/// The likely slips of the plan that the bytes are.
 pub fn slips_in(alloc: Global, bytes: &[u8], plan: &Plan) -> Result<Vec<Slip>, AllocError> {
     let mut found = Vec::new(alloc);
     match tell_slips(alloc, bytes, plan, &mut found) {
@@ -164,7 +164,7 @@ fn is_opening(cmd: &Cmd) -> bool {
     )
 }
 
-// The place in the order of a build's turn that comes after so many of its turns.
+// The place in the order of a build's turn that comes after `done` of its turns.
 fn turn_behind(build: usize, done: usize, order: &[usize]) -> usize {
     let mut seen: usize = 0;
     for (place, turn) in order.iter().enumerate() {

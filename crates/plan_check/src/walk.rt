@@ -1,7 +1,7 @@
 //! A walk over the text of a plan, which says where its parts stand.
 //!
-//! The text is one that the reader of TOML has taken, so the walk asks only what comes next. Where it meets what it does not
-//! expect it ends, and the parts behind that place have none.
+//! The text is one that the reader of TOML has taken, so the walk asks only what comes next. Where it meets something
+//! that it does not expect it ends, and the parts behind that place are not found.
 ghost use Rattle.std.specs.Prelude.{◌<◌};
 
 use crate::places::Places;
@@ -89,7 +89,7 @@ fn walk(source: Source, text: &str, places: &mut Places) -> Result<(), Lost> {
     Ok(())
 }
 
-// A header or a key with its value: what the keys below belong to, and the text behind it.
+// Reads a header, or a key with its value. Returns what the keys below belong to, and the text behind it.
 fn line<'a>(
     source: Source,
     s: &'a str,
@@ -105,7 +105,7 @@ fn line<'a>(
     }
 }
 
-// A line `[KEY]` or `[[KEY]]`: what the keys below it belong to, and the text behind it.
+// Reads a line `[KEY]` or `[[KEY]]`. Returns what the keys below it belong to, and the text behind it.
 fn header<'a>(source: Source, s: &'a str, places: &mut Places) -> Result<(Section, &'a str), Lost> {
     let is_array = s.starts_with("[[");
     match header_key(source.alloc, s, is_array) {
@@ -191,7 +191,7 @@ fn second_part(key: &Key) -> &String {
     }
 }
 
-// A line `KEY = VALUE`: the text behind it.
+// Reads a line `KEY = VALUE`. Returns the text behind it.
 fn statement<'a>(
     source: Source,
     s: &'a str,
@@ -204,7 +204,8 @@ fn statement<'a>(
     }
 }
 
-// Adds a key with the parts that its value has, where it is one of the plan or of the last build: the text behind the value.
+// Adds a key with the parts that its value has, if it is one of the plan or of the last build. Returns the text behind
+// the value.
 fn add_statement<'a>(
     source: Source,
     section: Section,
@@ -229,7 +230,7 @@ fn pair_at(alloc: Global, s: &str) -> Result<(Key, &str), Lost> {
     }
 }
 
-// Adds a key of the plan with the parts that its value has: the text behind the value.
+// Adds a key of the plan with the parts that its value has. Returns the text behind the value.
 fn add_to_plan<'a>(
     source: Source,
     key: &Key,
@@ -246,7 +247,7 @@ fn add_to_plan<'a>(
     after_value(source.alloc, value)
 }
 
-// Adds a key of the last build with the parts that its value has: the text behind the value.
+// Adds a key of the last build with the parts that its value has. Returns the text behind the value.
 fn add_to_build<'a>(
     source: Source,
     key: &Key,
@@ -265,7 +266,7 @@ fn add_to_build<'a>(
     after_value(source.alloc, value)
 }
 
-// The name that a key is. One with dots is none: what it names lies deeper than any part of a plan.
+// The name of a key. A key with dots has none: what it names lies deeper than any part of a plan.
 fn name_of(key: &Key) -> &str {
     if key.path.is_empty() {
         key.last.as_str()
@@ -288,7 +289,7 @@ fn builds_in(source: Source, s: &str, places: &mut Places) -> Result<(), Lost> {
     Err(Lost::Unread)
 }
 
-// A build of such an array: the text behind it.
+// Reads a build of such an array. Returns the text behind it.
 fn build_in<'a>(source: Source, s: &'a str, places: &mut Places) -> Result<&'a str, Lost> {
     places.add_build(source.before(s))?;
     match keys_in(source, s, places) {
@@ -312,7 +313,7 @@ fn keys_in(source: Source, s: &str, places: &mut Places) -> Result<(), Lost> {
     Err(Lost::Unread)
 }
 
-// A key of the last build and its value: the text behind them.
+// Reads a key of the last build and its value. Returns the text behind them.
 fn pair_of_build<'a>(source: Source, s: &'a str, places: &mut Places) -> Result<&'a str, Lost> {
     match pair_at(source.alloc, s) {
         Ok((key, value)) => add_to_build(source, &key, source.before(s), value, places),
@@ -320,7 +321,7 @@ fn pair_of_build<'a>(source: Source, s: &'a str, places: &mut Places) -> Result<
     }
 }
 
-// Adds where the items of an array stand. What is no array has none.
+// Adds where the items of an array stand. A value that is no array has none.
 fn add_items(source: Source, s: &str, found: &mut Vec<usize>) -> Result<(), Lost> {
     let Some(mut rest) = behind_mark(s, b'[') else {
         return Ok(());
@@ -347,7 +348,7 @@ fn behind_comma(s: &str) -> &str {
     behind_mark(s, b',').unwrap_or(s)
 }
 
-// The text behind a character of one byte and the blanks behind it, where it begins with that byte.
+// The text behind the byte `mark` and the blanks that follow it, if the text begins with that byte.
 fn behind_mark(s: &str, mark: u8) -> Option<&str>
     requires there { 0 < mark }
     requires ascii { mark < 128 }
@@ -374,7 +375,7 @@ fn after_value(alloc: Global, s: &str) -> Result<&str, Lost> {
     Err(Lost::Unread)
 }
 
-// The text behind a string, a scalar that is a whole value, or a byte, where so many arrays and tables are open.
+// The text behind a string, a scalar that is a whole value, or a byte, where `depth` arrays and tables are open.
 fn after_part(alloc: Global, s: &str, depth: usize) -> Result<&str, Lost> {
     let next = first(s);
     if starts_string(s) {

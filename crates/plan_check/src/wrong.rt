@@ -42,8 +42,8 @@ pub fn tell_words(
     tell(found, fault, at, filled(alloc, words, pieces))
 }
 
-/// Adds that there are more of something than there may be, where so many are more than the most. The words have a gap for each
-/// of the two numbers.
+/// Adds that there are more of something than there may be, if `count` is more than `most`. The words have a gap for
+/// each of the two numbers.
 pub fn tell_too_many(
     alloc: Global,
     found: &mut Vec<Wrong>,
@@ -72,7 +72,7 @@ pub fn kind_of(value: &Value) -> &'static str {
     }
 }
 
-/// Adds that a value is none of the kind that is wanted at its place.
+/// Adds that a value is not of the kind that is wanted at its place.
 pub fn tell_kind(
     alloc: Global,
     found: &mut Vec<Wrong>,

@@ -35,7 +35,7 @@ start host = record { host = host; places = replicate 8 first_place }
 abbrev pub place_of : List Place → ℕ → Place
 place_of places build = slice_index_or places build first_place
 
--- the step of a build that comes after so many, if there is one
+-- the step of a build that comes after `done` others, if there is one
 abbrev pub step_after : Plan → ℕ → ℕ → Option PlanStep
 step_after plan build done = option_and_then (λ steps. slice_get steps done) (slice_get plan.builds build)
 

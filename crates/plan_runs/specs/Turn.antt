@@ -66,14 +66,14 @@ abbrev pub left_after : ℕ → Result Undone Refusal → ℕ
 left_after left (Ok it) = left
 left_after left (Err refusal) = 0
 
--- one undo, behind which so many are left
+-- one undo, with `left` more to come
 pub record IsOneOfMany (host : HostView) (build : ℕ) (place : Place) (left : ℕ) (answer : TurnAnswer) (new : HostView) (after : Place) : Type 0 where
   pub result : Result Undone Refusal
   pub is_answer : IsAnswer host build call.Undo (undone result) new
   pub told : answer ≡ told_of_one left result
   pub place_is : after ≡ record place { left = left_after left result }
 
--- The turn of a step that has so many acts to undo, or is refused: one of them is undone, where there is one.
+-- The turn of a step that has a number of acts to undo, or is refused: one of the acts is undone, if there is any.
 abbrev pub IsTurnOfMany : Result ℕ Refusal → HostView → ℕ → Place → TurnAnswer → HostView → Place → Type 0
 IsTurnOfMany (Err refusal) host build place answer new after = (answer ≡ tells.Refused refusal) × (new ≡ host) × (after ≡ place)
 IsTurnOfMany (Ok count) host build place answer new after =

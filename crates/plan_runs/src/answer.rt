@@ -9,9 +9,9 @@ use std::fmt;
 pub enum TurnAnswer {
     /// The command was accepted.
     Replied(Reply),
-    /// The build's point is kept, at so many acts that are open.
+    /// The build's point is kept, with that many acts open.
     Marked(u16),
-    /// An act was undone; of an abort or a way back, others are still to be.
+    /// An act was undone; if in an abort or a way back, more are to come.
     Undone(Kind),
     /// The last act of an abort or of a way back was undone.
     Ended(Kind),

@@ -44,7 +44,7 @@ fn told_of_line(answer: Answer, ends: bool) -> TurnAnswer
     }
 }
 
-// Appends a line of a step. Of the next line is asked whether it is of that step too.
+// Appends a line of a step. The next line is looked at only to see whether it is of that step too.
 fn push_step_line(
     text: &mut String,
     build: BuildId,
@@ -58,7 +58,7 @@ fn push_step_line(
     push_turn(text, build, step, told_of_line(line.answer, ends))
 }
 
-// Appends a line, if its step is in the plan. Of the next line is asked whether it is of the same step.
+// Appends a line, if its step is in the plan. The next line is looked at only to see whether it is of the same step.
 fn push_line(
     text: &mut String,
     build: BuildId,

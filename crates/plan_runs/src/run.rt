@@ -14,7 +14,7 @@ use realm_host::Host;
 use realm_plan::Plan;
 use std::alloc::AllocError;
 
-/// The step of a build that comes after so many; None where it has no more.
+/// The step of a build that comes after `done` others; None where it has no more.
 pub fn step_after(plan: &Plan, build: usize, done: usize) -> Option<&PlanStep>
     ensures value { option_map (λ step. step.now) result ≡ nth_step (plan_view plan.now) build done }
     ensures few { IfSome result (λ _. done < 1024) }

@@ -39,7 +39,7 @@ fn mark_turn<S: PageStore>(host: &mut Host<S>, build: BuildId, place: &mut Place
     }
 }
 
-// One undo, behind which so many are left.
+// One undo, with `left` more to come.
 fn one_of_many<S: PageStore>(
     host: &mut Host<S>,
     build: BuildId,
@@ -64,7 +64,7 @@ fn one_of_many<S: PageStore>(
     }
 }
 
-// The turn of a step that has so many acts to undo, or is refused.
+// The turn of a step that has `count` acts to undo, or is refused.
 fn turn_of_many<S: PageStore>(
     host: &mut Host<S>,
     build: BuildId,

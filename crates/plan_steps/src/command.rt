@@ -122,7 +122,7 @@ fn rec_step(word: &str, numbers: &[u32]) -> Option<PlanStep>
     }
 }
 
-// The step, which is a word alone.
+// The step, if it is written as a word alone.
 fn word_alone(step: Step, numbers: &[u32]) -> Option<PlanStep>
     ensures { result ≡ none (Whole step) numbers.now }
 {

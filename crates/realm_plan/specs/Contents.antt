@@ -19,7 +19,7 @@ abbrev pub whole_of : Option ℤ → Option Data → Option ℤ
 whole_of default None = default
 whole_of default (Some value) = as_integer value
 
--- the whole numbers, of which all but `pages` have a default
+-- the whole numbers; all but `pages` have a default
 unfoldable pub wholes_at : Members → Option Wholes
 wholes_at ms =
     whole_of None (get_member (codes "pages") ms) >>= (λ pages.
@@ -55,7 +55,7 @@ build_texts_of (item value more) = step_texts_of value >>= (λ b. option_map (λ
 abbrev pub builds_at : Members → Option (List (List (List ℕ)))
 builds_at ms = get_member (codes "build") ms >>= as_array >>= build_texts_of
 
--- no order is the empty one
+-- where there is no order, it is the empty one
 abbrev pub order_numbers_of : Option Data → Option (List ℤ)
 order_numbers_of None = Some []
 order_numbers_of (Some value) = as_array value >>= wholes_of

@@ -18,7 +18,7 @@ abbrev pub Fails : {Y : Type 0} → PlanError → Result Y PlanFault → Type 0
 Fails errors.Memory read = Unit {0}
 Fails (errors.Fault fault) read = read ≡ Err fault
 
--- What a call gave, seen by `view`, is what is read, and its fault is the one that is read; too little memory says nothing.
+-- A call gave what is read, as `view` sees it, or the fault that is read; too little memory says nothing.
 abbrev pub Gives : {X Y : Type 0} → (X → Y) → Result X PlanError → Result Y PlanFault → Type 0
 Gives view (Ok x) read = read ≡ Ok (view x)
 Gives view (Err e) read = Fails e read

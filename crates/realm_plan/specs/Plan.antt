@@ -14,7 +14,7 @@ use Rattle.realm_plan.specs.declared.limits.Numbers.{Numbers}
 
 -- ---- steps and turns
 
--- the steps of build b from its k-th text on, or the first text that is none
+-- the steps of build b from its k-th text on, or the first text that is no step
 abbrev pub steps_of : ℕ → ℕ → List (List ℕ) → Result (List PlanStep) PlanFault
 steps_of b k [] = Ok []
 steps_of b k (text ∷ texts) = or_fault (fault.Step b k) (step_of text) >>= (λ s. steps_of b (k + 1) texts >>= (λ ss. Ok (s ∷ ss)))
@@ -24,7 +24,7 @@ abbrev pub builds_of : ℕ → List (List (List ℕ)) → Result (List (List Pla
 builds_of b [] = Ok []
 builds_of b (texts ∷ more) = steps_of b 0 texts >>= (λ ss. builds_of (b + 1) more >>= (λ bs. Ok (ss ∷ bs)))
 
--- the build that an entry of the order names, among so many
+-- the build that an entry of the order names, among `count` builds
 abbrev pub build_named : ℕ → ℤ → Option ℕ
 build_named count (pos n) = if nat_lt n count then Some n else None
 build_named count (negsuc n) = None
@@ -36,7 +36,7 @@ order_of count k (entry ∷ entries) = or_fault (fault.Order k) (build_named cou
 
 -- ---- limits
 
--- the number, where it is one of these
+-- the number, where it is one from `low` to `high`
 abbrev pub between : ℕ → ℕ → ℤ → Result ℕ PlanFault
 between low high (pos n) = if nat_le low n && nat_le n high then Ok n else Err fault.Limit
 between low high (negsuc n) = Err fault.Limit
@@ -83,8 +83,8 @@ plan_of_contents c =
 unfoldable pub document_of : List ℕ → Option Members
 document_of bytes = if is_utf8 bytes then parse_document bytes else None
 
--- The plan that the bytes are, or the one fault: of several, the first in the order of their numbers, but that too many
--- bytes are a limit before all others.
+-- The plan that the bytes are, or the one fault. Of several faults it is the first in the order of their numbers, but
+-- too many bytes, a fault of limits, come before all others.
 unfoldable pub plan_of : List ℕ → Result Plan PlanFault
 plan_of bytes =
     if nat_lt 1048576 (length bytes) then Err fault.Limit

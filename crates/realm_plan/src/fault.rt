@@ -5,7 +5,7 @@ ghost use Rattle.realm_plan.specs.declared.fault.PlanError.TheVariants.{Memory};
 use std::alloc::{AllocError, AllocFailed};
 use thiserror::Error;
 
-/// The fault of the bytes. Of several that they have, the one that stands first here is given.
+/// The fault of the bytes. If they have several, it is the one that stands first here.
 #[derive(Clone, Copy, Debug, PartialEq, Eq, Error)]
 pub enum PlanFault {
     /// The bytes are no UTF-8, or no TOML.
@@ -20,7 +20,7 @@ pub enum PlanFault {
     /// An entry of `order` names no build: the first one, counted from 0.
     #[error("plan 23 order {place}")]
     Order { place: usize },
-    /// A number or a length is outside its limits. Given before all others where there are too many bytes.
+    /// A number or a length is outside its limits. Where there are too many bytes, this comes before all others.
     #[error("plan 24 limit")]
     Limit,
 }

@@ -28,7 +28,7 @@ pub struct Numbers {
     pub history: u16,
 }
 
-/// The number, where it is one of these.
+/// The number, where it is one from `low` to `high`.
 fn between(low: u16, high: u16, whole: i64) -> Result<u16, PlanError>
     ensures value { Gives (λ n. n) result (between_at low high whole) }
     ensures low { IfOk result (λ n. low ≤ n) }

@@ -34,7 +34,7 @@ pub(crate) fn builds_of(alloc: Global, texts: &[Vec<&str>]) -> Result<Vec<Vec<Pl
     Ok(found)
 }
 
-/// The build that an entry of the order names, among so many.
+/// The build that an entry of the order names, among `count` builds.
 fn build_named(count: usize, entry: i64) -> Option<usize>
     ensures value { result ≡ build_named_at count entry }
     ensures below { IfSome result (λ build. build < count) }
@@ -45,7 +45,7 @@ fn build_named(count: usize, entry: i64) -> Option<usize>
     }
 }
 
-/// The builds of the turns, each one of so many.
+/// The builds of the turns, each one of `count` builds.
 pub fn order_of(alloc: Global, count: usize, entries: &[i64]) -> Result<Vec<usize>, PlanError>
     ensures value { Gives (λ v. v.items) result (order_of count 0 entries.now) }
     ensures below { IfOk result (λ v. All (λ build. build < count) v.items) }

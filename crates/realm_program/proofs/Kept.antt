@@ -7,7 +7,7 @@ use Rattle.std.proofs.Math.Seq.{take-append_seam}
 use Rattle.std.proofs.lemmas.List.{take_all}
 use Rattle.realm_program.specs.Whole.{kept_of}
 
--- so many bytes were read
+-- `kept` bytes were read
 taken_at_limit : (kept : ℕ) (xs ys front : List ℕ) → xs ≡ front ++ ys → length front ≡ kept → front ≡ take kept xs
 taken_at_limit kept xs ys front joined full = rw (joined, ← full) (sym (take-append_seam front ys))
 

@@ -1,4 +1,5 @@
--- What is printed of a plan, and how that ends. Which texts a plan has, and why it may have none, is what is asked for.
+-- What is printed of a plan, and how that ends. What is asked for says which texts a plan has, and why it may have
+-- none.
 use Rattle.std.specs.Prelude.{◌≡◌, ℕ, Bool, true, false, List, Option, IfSome, Result, Ok, Err}
 use Rattle.std.specs.Io.KnownBytes.{Appends, Keeps}
 use Rattle.realm_plan.specs.Plan.{Plan, plan_of}
@@ -45,7 +46,7 @@ pub record IsCut (texts : Plan → List ℕ → Type 0) (input old new : Option 
   pub text_of : IsTextOf texts input text
   pub written : AppendsFront old new text
 
--- a reason why a plan has no text: that the input is no plan is none, nor that a device failed
+-- a reason why a plan has no text; a faulty plan and a failed device are no such reasons
 abbrev pub IsFaultOfText : Fault → Type 0
 IsFaultOfText (PlanIsFaulty fault) = ⊥
 IsFaultOfText Device = ⊥
@@ -53,12 +54,12 @@ IsFaultOfText fault = Unit {0}
 
 -- ---- the end
 
--- where a device failed: nothing was written where it was a read, and a prefix of the text where it was a write
+-- a device failed: nothing was written if it was a read, and a prefix of the text if it was a write
 abbrev pub IsEndOfDevice : (Plan → List ℕ → Type 0) → Bool → Option (List ℕ) → Option (List ℕ) → Option (List ℕ) → Type 0
 IsEndOfDevice texts true input old new = Keeps old new
 IsEndOfDevice texts false input old new = IsCut texts input old new
 
--- The text is printed whole, or nothing, but that a write may fail between. `unread` is whether a read failed.
+-- The text is printed whole or not at all, unless a write fails on the way. `unread` is whether a read failed.
 abbrev pub IsEnd : (Plan → List ℕ → Type 0) → (Plan → Fault → Type 0) → Bool → Option (List ℕ) → Option (List ℕ) → Option (List ℕ) → Result (Unit {0}) Fault → Type 0
 IsEnd texts without unread input old new (Ok _) = IsPrinted texts input old new
 IsEnd texts without unread input old new (Err (PlanIsFaulty fault)) = HasNoPlan input (PlanIsFaulty fault) × Keeps old new

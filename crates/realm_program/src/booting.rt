@@ -10,7 +10,7 @@ use realm_host::{Host, Settings};
 use realm_plan::Plan;
 use std::alloc::{AllocError, Global};
 
-/// A host with these settings, over so many pages that are all free.
+/// A host with these settings, over `pages` pages that are all free.
 pub fn boot_by<S: Built>(
     alloc: Global,
     settings: Settings,

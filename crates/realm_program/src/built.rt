@@ -6,10 +6,10 @@ use buddy::BuddyArena;
 use page_arena::{BuildError, PageStore, PlainStore};
 use std::alloc::Global;
 
-/// A store that can be built of so many pages.
+/// A store that can be built of any number of pages that a machine can have.
 pub trait Built: PageStore + Drop {
-    /// All pages are free and zero. `BadSize` comes exactly where the number is not 1 to 4,096, and else the one error is
-    /// `Memory`.
+    /// A store of `pages` pages, all free and zero. `BadSize` comes exactly where `pages` is not 1 to 4,096; the only
+    /// other error is `Memory`.
     fn built(alloc: Global, pages: u16) -> Result<Self, BuildError>
         ensures bad_size { IsErrOf result BuildError.BadSize ↔ ((pages < 1) ⊎ (4096 < pages)) }
         ensures zero { IfOk result (λ store. Self.page_bytes store ≡ replicate pages zero_page) }

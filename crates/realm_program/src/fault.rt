@@ -10,13 +10,13 @@ use std::alloc::AllocError;
 use thiserror::Error;
 use told_device::DeviceFailed;
 
-/// Why nothing is printed, or a prefix of the text alone. Its line goes to standard error.
+/// Why nothing is printed, or only a prefix of the text. Its line goes to standard error.
 #[derive(Clone, Copy, Debug, PartialEq, Eq, Error)]
 pub enum Fault {
     /// The input is no plan.
     #[error(transparent)]
     Plan(PlanFault),
-    /// The build to be left out is none of the plan's.
+    /// The build to be left out is not one of the plan's.
     #[error("erase names no build")]
     EraseNamesNoBuild,
     /// Allocation failed.
@@ -25,8 +25,8 @@ pub enum Fault {
     /// A build's worker waited in vain for a turn.
     #[error("thread")]
     Stuck(BuildId),
-    /// What workers report, or what their seats have noted, does not fit the history: of a run in threads. Or an order of turns
-    /// cannot be gone on with as the run before it says: of runs in many orders.
+    /// In a run in threads: what workers report, or what their seats have noted, does not fit the history. In runs in
+    /// many orders: an order of turns cannot begin as the run before it says.
     #[error("mismatch")]
     Mismatch,
     /// A read or a write failed.

@@ -22,8 +22,8 @@ pub enum ReadError {
     Device,
 }
 
-// An empty list of bytes, with room for all that is kept, if there is so much: one that grows is copied, and takes the memory of both
-// meanwhile.
+// An empty list of bytes, with room for all that is kept, if there is memory for it. A list that grows is copied, and
+// takes the memory of both meanwhile.
 fn room(alloc: Global) -> Vec<u8>
     ensures { result.items ≡ [] }
 {

@@ -28,8 +28,8 @@ pub trait PlanText {
 
 /// Reads a plan, and writes the text of it that is asked for.
 ///
-/// The text is made whole before any of it is written. Errors: the fault of a plan; why it has no text; Device, where a read
-/// failed, and then nothing is written, or a write, and then a prefix of the text is.
+/// The text is made whole before any of it is written. Errors: the fault of a plan; why it has no text; Device, where a
+/// read failed and nothing is written, or where a write failed and a prefix of the text is written.
 pub fn print<T: PlanText, R: Read, W: Write>(
     asked: &T,
     alloc: Global,

@@ -123,9 +123,9 @@ impl PlanText for Replayed {
 /// Reads a plan, runs it, and writes the text of the run; or, where a build is to be left out, the map that its history
 /// leads to without the build's events.
 ///
-/// The text is made whole before any of it is written. Errors: the fault of a plan; EraseNamesNoBuild, where the build to be
-/// left out is none of the plan's; Memory, where allocation failed; Device, where a read failed, and then nothing is
-/// written, or a write, and then a prefix of the text is.
+/// The text is made whole before any of it is written. Errors: the fault of a plan; EraseNamesNoBuild, where the build
+/// to be left out is not one of the plan's; Memory, where allocation failed; Device, where a read failed and nothing is
+/// written, or where a write failed and a prefix of the text is written.
 pub fn replay<R: Read, W: Write>(
     alloc: Global,
     input: &mut Told<R>,

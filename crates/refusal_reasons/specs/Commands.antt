@@ -18,7 +18,7 @@ use Rattle.refusal_reasons.specs.declared.look.Look.{Look}
 abbrev pub take_looks : HostView → ℕ → List Look
 take_looks host order = if nat_le order 9 then block_look host order ∷ [] else []
 
--- the level above one of a table
+-- the level above that of a table
 abbrev pub above_of : ℕ → ℕ
 above_of level = if level == 3 then 2 else 1
 
@@ -54,14 +54,14 @@ guest_write_looks host build number ipa =
 
 -- ---- the table
 
--- on RECs that are there
+-- the checks of commands on RECs that are there
 abbrev pub recs_looks : HostView → ℕ → Cmd → List Look
 recs_looks host build (Enter number) = enter_looks host build number
 recs_looks host build (Exit number) = exit_looks host build number
 recs_looks host build (Poke number ipa offset value) = guest_write_looks host build number ipa
 recs_looks host build _ = []
 
--- on the tables, the pages and the state of a realm that is there
+-- the checks of commands on the tables, the pages and the state of a realm that is there
 abbrev pub tables_looks : HostView → ℕ → Cmd → List Look
 tables_looks host build (Rtt page ipa level) = rtt_create_looks host build page ipa level
 tables_looks host build (Ripas ipa count) = init_ripas_looks host build ipa count
@@ -70,7 +70,7 @@ tables_looks host build (Unknown page ipa) = unknown_looks host build page ipa
 tables_looks host build Activate = realm_new host build ∷ []
 tables_looks host build cmd = recs_looks host build cmd
 
--- of the store for a Take, and of the monitor for any other command, of these pages and granules
+-- the checks of the store for a Take, and of the monitor for any other command, on these pages and granules
 abbrev pub monitor_looks : HostView → ℕ → Cmd → List ℕ → List ℕ → List Look
 monitor_looks host build (Take order) pages granules = take_looks host order
 monitor_looks host build (Fill page value) pages granules = page_undelegated host build page ∷ []

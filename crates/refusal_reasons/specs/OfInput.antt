@@ -30,7 +30,7 @@ abbrev pub is_undelegated_state : Option GranuleState → Bool
 is_undelegated_state (Some Undelegated) = true
 is_undelegated_state _ = false
 
--- a state that was found, against the one that is wanted
+-- a check of the state that was found, against the one that is wanted
 abbrev pub page_look : ℕ → Option GranuleState → GranuleState → Bool → Look
 page_look page found wanted fails = input_look (fact.Input (input.Page page wanted found)) fails
 
@@ -58,7 +58,7 @@ table_level level = input_look (fact.Input (input.Level level)) (not (level == 2
 abbrev pub table_start : ℕ → ℕ → Look
 table_start ipa level = input_look (fact.Input (input.Start ipa level)) (not (ipa % (if level == 2 then 262144 else 512) == 0))
 
--- a count of pages that may become RAM at once, and that they lie in one table
+-- the count of pages may become RAM at once, and they lie in one table
 abbrev pub run_count : ℕ → Look
 run_count count = input_look (fact.Input (input.Count count)) (not (nat_le 1 count && nat_le count 512))
 

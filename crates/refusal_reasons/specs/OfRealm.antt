@@ -27,7 +27,7 @@ abbrev pub is_active_state : Option RealmState → Bool
 is_active_state (Some Active) = true
 is_active_state _ = false
 
--- a state that was found, against the one that is wanted
+-- a check of the state that was found, against the one that is wanted
 abbrev pub state_look : Option RealmState → RealmState → Bool → Look
 state_look found wanted fails = rmi_look (fact.Realm (realm_fact.State wanted found)) fails error_realm
 
@@ -47,7 +47,7 @@ realm_active host build = record {
 
 -- ---- a realm that is to be made
 
--- the granules are that one and those behind it, in their order
+-- the granules are `next` and those behind it, in their order
 abbrev pub follow : ℕ → List ℕ → Bool
 follow next [] = true
 follow next (granule ∷ rest) = granule == next && follow (next + 1) rest
@@ -68,14 +68,14 @@ width_look width = input_look (fact.Realm (realm_fact.Width width)) (not (is_wid
 abbrev pub apart_look : ℕ → List ℕ → Look
 apart_look rd tables = input_look (fact.Realm realm_fact.Apart) (is_in rd tables)
 
--- of the starting tables, but for their states
+-- the checks of the starting tables, but for their states
 abbrev pub start_looks : ℕ → List ℕ → List Look
 start_looks rd tables =
     input_look (fact.Realm realm_fact.Adjacent) (not (are_adjacent tables))
     ∷ input_look (fact.Realm (realm_fact.Multiple (length tables))) (not (begins_right tables))
     ∷ apart_look rd tables ∷ []
 
--- All that RMI_REALM_CREATE asks has one answer, so the order of these is this profile's own.
+-- All checks of RMI_REALM_CREATE have one answer, so the order of these is this profile's own.
 unfoldable pub realm_create_looks : HostView → ℕ → ℕ → List ℕ → List ℕ → List Look
 realm_create_looks host build width pages [] = []
 realm_create_looks host build width pages (rd ∷ tables) = width_look width ∷ (start_looks rd tables ++ map (page_delegated host build) pages)

@@ -37,7 +37,7 @@ is_running_state _ = false
 abbrev pub rec_there : HostView → ℕ → ℕ → Look
 rec_there host build number = input_look (fact.Rec (rec_fact.There number)) (is_none (state_of_rec host build number))
 
--- a state that was found, against the one that is wanted
+-- a check of the state that was found, against the one that is wanted
 abbrev pub rec_look : ℕ → Option RecState → RecState → Bool → Look
 rec_look number found wanted fails = rmi_look (fact.Rec (rec_fact.State number wanted found)) fails error_rec
 

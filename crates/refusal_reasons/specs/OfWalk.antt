@@ -71,7 +71,7 @@ entry_leads host build ipa =
 abbrev pub is_free_entry : HostView → ℕ → ℕ → Bool
 is_free_entry host build ipa = is_unassigned_entry (state_of (row_at (world_of host) build ipa 3))
 
--- so many from an IPA granule on are
+-- the `count` entries from an IPA granule on are UNASSIGNED
 abbrev pub are_free : HostView → ℕ → ℕ → ℕ → Bool
 are_free host build ipa count = list_all (is_free_entry host build) (range_with_len ipa count)
 

@@ -1,11 +1,11 @@
--- The pages of which is told.
+-- The pages that the checks of a command tell of.
 use Rattle.std.specs.Prelude.{ℕ, ◌+◌, nat_le, List, ◌∷◌, if◌then◌else◌}
 use Rattle.std.specs.List.{range_with_len}
 use Rattle.build_commands.specs.Needs.{operands, tables_named}
 use Rattle.build_commands.specs.declared.cmd.Cmd.{Cmd}
 use Rattle.build_commands.specs.declared.cmd.Cmd.TheVariants.{Realm}
 
--- of how many starting tables: where the numbers of the last are none that pages have, of the first alone
+-- how many starting tables are told of: only the first, where no pages have the numbers of the last ones
 abbrev pub tables_told : ℕ → ℕ → ℕ
 tables_told root width = if nat_le (root + tables_named width) 65536 then tables_named width else 1
 

@@ -58,7 +58,7 @@ back_looks host build (Some mark) =
 
 -- ---- the turn of a step
 
--- Of an abort and a way back it is the first turn that has checks of its own; each later one is an undo.
+-- The first turn of an abort or of a way back has checks of its own; each later turn is an undo.
 unfoldable pub step_looks : HostView → ℕ → Place → Step → List Look
 step_looks host build place (Ask cmd) = command_looks host build cmd
 step_looks host build place Undo = undo_looks host build

@@ -1,4 +1,4 @@
--- Which refusal the checks of a step tell, beside that which the host gives.
+-- The refusal that the checks of a step tell, beside the one that the host gives.
 use Rattle.std.specs.Prelude.{◌≡◌, ℕ, ◌+◌, nat_le, List, map, true, Option, Some, None}
 use Rattle.build_commands.specs.Checks.{Check, build_checks, checks_of, first_that_holds}
 use Rattle.build_commands.specs.Needs.{tables_named}
@@ -22,7 +22,7 @@ use Rattle.refusal_reasons.specs.declared.look.Look.{Look}
 abbrev pub as_check : Look → Check
 as_check look = (look.fails, look.refusal)
 
--- the refusal of the first that fails
+-- the refusal of the first check that fails
 abbrev pub refusal_told : List Look → Option Refusal
 refusal_told looks = first_that_holds (map as_check looks)
 
@@ -37,7 +37,7 @@ MarkIsTold host build = refusal_told (build_looks host build) ≡ first_that_hol
 abbrev pub BeginIsTold : HostView → ℕ → Type 0
 BeginIsTold host build = refusal_told (begin_looks host build) ≡ first_that_holds (checks_of_begin host build)
 
--- of a way back without a mark, and to one
+-- the refusal of a way back, without a mark or to one
 abbrev pub refusal_of_back : HostView → ℕ → Option Mark → Option Refusal
 refusal_of_back host build None = Some NothingToUndo
 refusal_of_back host build (Some mark) = first_that_holds (checks_of_back host build mark)

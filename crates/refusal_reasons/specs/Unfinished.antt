@@ -4,13 +4,13 @@ use Rattle.std.specs.List.{flat_map, range_with_len}
 use Rattle.std.specs.Fmt.{decimal}
 use Rattle.build_books.specs.View.{HostView, open_of, is_aborting}
 
--- of a build that is in abort: how many acts it has open
+-- the line of a build that is in abort: how many acts it has open
 abbrev pub unfinished_line : HostView → ℕ → List ℕ
 unfinished_line host build =
     if is_aborting host build
     then codes "    no    the abort of build " ++ (decimal build ++ (codes " is done; acts that are open: " ++ (decimal (length (open_of host build)) ++ 10 ∷ [])))
     else []
 
--- of each of eight builds
+-- the lines of those of eight builds that are in abort
 abbrev pub unfinished_lines : HostView → List ℕ
 unfinished_lines host = flat_map (unfinished_line host) (range_with_len 0 8)

@@ -4,16 +4,16 @@ use granule_addr::Gran;
 /// What refusals 1 to 6 ask.
 #[derive(Clone, Copy)]
 pub enum BuildFact {
-    /// The build is one of so many.
+    /// The build is one of that many builds.
     There(u8),
-    /// It is not in abort.
+    /// The build is not in abort.
     NotAborting,
     /// The order of a block is at most 9; it is this.
     Order(u8),
-    /// The build has the page, which is that granule; so many pages it has.
+    /// The build has the page, which is that granule; it has that many pages.
     Page(u16, Option<Gran>, u16),
-    /// It has a realm, of that RD.
+    /// The build has a realm, with that RD.
     Realm(Option<Gran>),
-    /// It has none.
+    /// The build has no realm.
     NoRealm(Option<Gran>),
 }

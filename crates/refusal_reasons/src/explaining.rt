@@ -75,8 +75,8 @@ fn explain_turn<S: PageStore>(
     Ok(())
 }
 
-/// Does the turns of a plan, and appends their lines, and below the line of each turn that is refused those of its checks, up
-/// to the first that fails. At an `Err` allocation failed.
+/// Does the turns of a plan, and appends their lines. Below the line of each turn that is refused, appends the lines of
+/// its checks, up to the first that fails. At an `Err` allocation failed.
 pub fn explain_turns<S: PageStore>(
     alloc: Global,
     host: &mut Host<S>,

@@ -4,7 +4,7 @@ use realm_model::GranuleState;
 /// What is asked of pages and of IPAs.
 #[derive(Clone, Copy)]
 pub enum InputFact {
-    /// The granule of the build's page is in the state that is wanted, and it is in that which was found.
+    /// The granule of the build's page is in the first state, which is wanted; the second is the one that was found.
     Page(u16, GranuleState, Option<GranuleState>),
     /// The IPA granule lies in the protected half of an address space of that width.
     Protected(u32, u8),
@@ -12,8 +12,8 @@ pub enum InputFact {
     Level(u8),
     /// A table of the level may begin at the IPA granule.
     Start(u32, u8),
-    /// So many pages may become RAM at once.
+    /// That many pages may become RAM at once.
     Count(u16),
-    /// From the IPA granule on, so many pages lie in one table.
+    /// That many pages from the IPA granule on lie in one table.
     OneTable(u32, u16),
 }

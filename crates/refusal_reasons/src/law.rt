@@ -5,8 +5,8 @@ ghost use Rattle.build_books.specs.View.{HostView};
 ghost use Rattle.build_books.specs.declared.mark.Mark.{Mark};
 ghost use Rattle.refusal_reasons.specs.Told.{UndoIsTold, MarkIsTold, BeginIsTold, BackIsTold, NeedsAreTold};
 
-/// Of an undo, of a mark, of an abort that begins and of a way back, the first check that fails is the refusal that the host
-/// gives, and none fails exactly where it gives none.
+/// For an undo, a mark, an abort that begins and a way back: the first check that fails is the refusal that the host
+/// gives, and no check fails exactly where the host gives none.
 pub fn own_steps_are_told()
     ensures undo { (host : HostView) (build : ℕ) → UndoIsTold host build }
     ensures mark { (host : HostView) (build : ℕ) → MarkIsTold host build }
@@ -14,8 +14,8 @@ pub fn own_steps_are_told()
     ensures back { (host : HostView) (build : ℕ) (mark : Option Mark) → BackIsTold host build mark }
 {}
 
-/// Of a command, the first check by its needs that fails is the refusal that the host gives before it asks the store or the
-/// monitor: 1 to 6, 9, 10 and 12. None fails exactly where it gives none of these.
+/// For a command: the first check by its needs that fails is the refusal that the host gives before it asks the store
+/// or the monitor: 1 to 6, 9, 10 and 12. No check fails exactly where the host gives none of these.
 pub fn needs_are_told()
     ensures { (host : HostView) (build : ℕ) (cmd : Cmd) → NeedsAreTold host build cmd }
 {}

@@ -1,9 +1,9 @@
 //! Why a step is refused: its checks in their order, each with the numbers that it looks at.
 //!
-//! A `Look` is one check of a step's turn: what it asks, whether that does not hold in the host as it is, and the refusal
-//! that it gives then. `step_looks` makes the checks of a step, from what can be read of the host. Their lines end with the
-//! first that fails; `law` says of which refusals that is the one of the host. `explain_turns` runs a plan as `plan_runs`
-//! does, and tells them below each turn that is refused.
+//! A `Look` is one check of a step's turn: what it asks, whether it fails on the host as it is, and the refusal that it
+//! gives then. `step_looks` makes the checks of a step, from what can be read of the host. Their lines end with the
+//! first check that fails; `law` says for which refusals this is the one that the host gives. `explain_turns` runs a
+//! plan as `plan_runs` does, and tells the checks below each turn that is refused.
 #![tactic(auto)]
 
 mod build_fact;

@@ -38,7 +38,7 @@ impl fmt::Display for Fact {
     }
 }
 
-/// A check: what it asks, whether that does not hold, and the refusal that it gives then.
+/// A check: what it asks, whether it fails, and the refusal that it gives then.
 #[derive(Clone, Copy)]
 pub struct Look {
     pub fact: Fact,
@@ -46,7 +46,7 @@ pub struct Look {
     pub refusal: Refusal,
 }
 
-/// A check of the monitor, and what it answers where that fails.
+/// A check of the monitor, and what the monitor answers where it fails.
 pub(crate) fn rmi_look(fact: Fact, fails: bool, rmi: Rmi) -> Look
     ensures { result ≡ rmi_look fact fails rmi }
 {

@@ -20,7 +20,7 @@ fn is_unleased<S: PageStore>(host: &Host<S>, number: u16) -> bool
     }
 }
 
-// Whether the granules from one on are inside the machine, so many of them, and nobody leases one.
+// Whether the `count` granules from `first` on are inside the machine, and nobody leases one.
 fn are_unleased<S: PageStore>(host: &Host<S>, first: u16, count: u16) -> bool
     requires { first + count ≤ 65536 }
     ensures { result ≡ are_unleased host.now first count }

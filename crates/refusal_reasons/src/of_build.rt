@@ -24,7 +24,7 @@ pub(crate) fn build_there<S: PageStore>(host: &Host<S>, build: BuildId) -> Look
     }
 }
 
-/// 2: it is not in abort.
+/// 2: the build is not in abort.
 pub(crate) fn not_aborting<S: PageStore>(host: &Host<S>, build: BuildId) -> Look
     ensures { result ≡ not_aborting host.now build }
 {
@@ -118,7 +118,7 @@ fn journal_look<S: PageStore>(host: &Host<S>, build: BuildId, paired: bool) -> O
     })
 }
 
-// How much of its room a build has left; nothing where there is no such build.
+// How much of its room a build has left; 0 where there is no such build.
 fn room_left<S: PageStore>(host: &Host<S>, build: BuildId) -> u16
     ensures { result ≡ room_left host.now build }
 {
@@ -129,7 +129,7 @@ fn room_left<S: PageStore>(host: &Host<S>, build: BuildId) -> u16
     }
 }
 
-// 10: the build has so much of its room left.
+// 10: the build has `needed` entries of its room left.
 fn room_look<S: PageStore>(host: &Host<S>, build: BuildId, needed: u16) -> Look
     ensures { result ≡ room_look host.now build needed }
 {

@@ -57,7 +57,7 @@ fn enter<S: PageStore>(host: &Host<S>, build: BuildId, number: RecNo) -> [Look; 
     ]
 }
 
-// The level above one of a table.
+// The level above that of a table.
 fn above_of(level: u8) -> Level
     ensures { result ≡ above_of level }
 {

@@ -114,7 +114,7 @@ pub(crate) fn table_start(ipa: u32, level: u8) -> Look
     )
 }
 
-/// So many pages may become RAM at once.
+/// `count` pages may become RAM at once.
 pub(crate) fn run_count(count: u16) -> Look
     ensures { result ≡ run_count count }
 {
@@ -124,7 +124,7 @@ pub(crate) fn run_count(count: u16) -> Look
     )
 }
 
-/// So many pages from the IPA granule on lie in one table.
+/// The `count` pages from the IPA granule on lie in one table.
 pub(crate) fn one_table(ipa: u32, count: u16) -> Look
     ensures { result ≡ one_table ipa count }
 {

@@ -45,7 +45,7 @@ pub(crate) fn realm_active<S: PageStore>(host: &Host<S>, build: BuildId) -> Look
     state_look(found, Active, !matches!(found, Some(Active)))
 }
 
-// Whether the granules are that of a number and those behind it, in their order.
+// Whether the granules are the one with number `first` and those behind it, in their order.
 fn follow(first: u16, granules: &[Gran]) -> bool
     requires { first ≤ 4096 }
     ensures { result ≡ follow first granules.now }
@@ -62,7 +62,7 @@ fn follow(first: u16, granules: &[Gran]) -> bool
     true
 }
 
-// Whether each granule is the one behind that before it.
+// Whether each granule is the next one after the one before it.
 fn are_adjacent(tables: &[Gran]) -> bool
     ensures { result ≡ are_adjacent tables.now }
 {
@@ -72,7 +72,7 @@ fn are_adjacent(tables: &[Gran]) -> bool
     }
 }
 
-// Whether the first granule is a multiple of their count.
+// Whether the first of the granules is a multiple of their count.
 fn begins_right(tables: &[Gran]) -> bool
     ensures { result ≡ begins_right tables.now }
 {

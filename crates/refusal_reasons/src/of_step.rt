@@ -60,7 +60,7 @@ fn begin<S: PageStore>(host: &Host<S>, build: BuildId) -> [Look; 3]
     ]
 }
 
-// 7 of a way back, where the build has no mark, or one that is kept no more.
+// 7 of a way back: the build has a mark, and it is still kept.
 fn has_mark(fails: bool) -> Look
     ensures { result ∷ [] ≡ mark_looks fails }
 {
@@ -88,7 +88,7 @@ fn back<S: PageStore>(host: &Host<S>, build: BuildId, mark: Mark) -> [Look; 4]
     ]
 }
 
-// Adds those of a way back to the build's mark, if it has one.
+// Adds the checks of a way back to the build's mark, if it has one.
 fn add_back<S: PageStore>(
     host: &Host<S>,
     build: BuildId,

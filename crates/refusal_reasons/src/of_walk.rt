@@ -116,7 +116,7 @@ fn is_free_entry<S: PageStore>(host: &Host<S>, build: BuildId, ipa: u32) -> bool
     matches!(found, Some(EntryState::Unassigned))
 }
 
-// Whether so many entries of level 3 from an IPA granule on are UNASSIGNED.
+// Whether the `count` entries of level 3 from an IPA granule on are UNASSIGNED.
 fn are_free<S: PageStore>(host: &Host<S>, build: BuildId, ipa: u32, count: u16) -> bool
     requires { ipa + count ≤ 4294967296 }
     ensures { result ≡ are_free host.now build ipa count }
@@ -129,7 +129,7 @@ fn are_free<S: PageStore>(host: &Host<S>, build: BuildId, ipa: u32, count: u16) 
     true
 }
 
-/// So many entries of level 3 from an IPA granule on are UNASSIGNED.
+/// The `count` entries of level 3 from an IPA granule on are UNASSIGNED.
 pub(crate) fn entries_free<S: PageStore>(
     host: &Host<S>,
     build: BuildId,

@@ -21,7 +21,7 @@ fn tables_named(width: u8) -> u16
     width.start_count()
 }
 
-// How many of them are told: where their numbers are none of pages, the first alone.
+// How many of them are told of: only the first, where no pages have the numbers of the last ones.
 fn tables_told(root: u16, width: u8) -> u16
     ensures value { result ≡ tables_told root width }
     ensures few { result ≤ 16 }
@@ -35,7 +35,7 @@ fn tables_told(root: u16, width: u8) -> u16
     }
 }
 
-// Adds pages with numbers from one on.
+// Adds `count` pages with numbers from `first` on.
 fn push_run(pages: &mut ArrayVec<u16, 17>, first: u16, count: u16)
     requires room { length pages.old.items + count ≤ 17 }
     requires inside { first + count ≤ 65536 }
@@ -97,7 +97,7 @@ fn push_found(granules: &mut ArrayVec<Gran, 17>, found: Option<Gran>)
     }
 }
 
-/// The granules of a build's pages, of those that it has.
+/// The granules of those of the pages that the build has.
 pub(crate) fn granules_of<S: PageStore>(
     host: &Host<S>,
     build: BuildId,

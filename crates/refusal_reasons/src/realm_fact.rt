@@ -8,10 +8,10 @@ pub enum RealmFact {
     Width(u8),
     /// The starting tables are adjacent granules, in the order of their pages.
     Adjacent,
-    /// The first of them is a multiple of their count, which is this.
+    /// The first starting table is a multiple of their count, which is this.
     Multiple(usize),
     /// The RD is none of the starting tables.
     Apart,
-    /// The realm is in the state that is wanted, and it is in that which was found.
+    /// The realm is in the first state, which is wanted; the second is the one that was found.
     State(RealmState, Option<RealmState>),
 }

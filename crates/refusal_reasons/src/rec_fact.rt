@@ -7,10 +7,10 @@ use realm_model::RecState;
 pub enum RecFact {
     /// No granule is named twice.
     Distinct,
-    /// So many auxiliary granules are named, and so many a REC has.
+    /// As many auxiliary granules are named as a REC has: how many are named, and how many it has.
     Auxiliaries(usize, u8),
     /// The realm has a REC of that number.
     There(RecNo),
-    /// The REC is in the state that is wanted, and it is in that which was found.
+    /// The REC is in the first state, which is wanted; the second is the one that was found.
     State(RecNo, RecState, Option<RecState>),
 }

@@ -127,7 +127,7 @@ pub(crate) fn one_name(
     ])
 }
 
-/// What of a number is in a state, the name of the one that is wanted, and that of the one that was found.
+/// Words, a number, the name of the state that is wanted, and that of the one that was found.
 pub(crate) fn one_names(
     first: &'static str,
     number: usize,

@@ -3,11 +3,11 @@
 /// What refusals 7 and 8 ask.
 #[derive(Clone, Copy)]
 pub enum UndoFact {
-    /// The build has something open; so many acts.
+    /// The build has something open; that many acts.
     Open(usize),
-    /// The newest of them made no REC that runs.
+    /// The newest open act made no REC that runs.
     NewestRests,
-    /// No REC of the build is RUNNING; so many are.
+    /// No REC of the build is RUNNING; that many are.
     AllRest(u16),
     /// The build has a mark.
     Mark,

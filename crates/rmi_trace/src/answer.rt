@@ -41,7 +41,7 @@ pub enum Answer {
     ResultWord(u64),
     /// RMI_SUCCESS, and the byte that was read or the number of the REC.
     Value(u16),
-    /// The reading is of nothing.
+    /// There is nothing to read.
     Nothing,
     State(State),
     Sum(u32),

@@ -101,9 +101,9 @@ pub enum Command {
 pub enum Reading {
     /// The granule's state.
     State { granule: u16 },
-    /// The sum of the granule's bytes, which of a table is 0.
+    /// The sum of the granule's bytes, which for a table is 0.
     Sum { granule: u16 },
-    /// The eight bytes at eight times the index, little endian; of a table, the word of an entry.
+    /// The eight bytes at eight times the index, little endian; in a table, the word of an entry.
     Word { granule: u16, index: u16 },
     /// The attributes of the realm of this RD.
     Realm { granule: u16 },

@@ -1,10 +1,10 @@
--- What an act changes of granules, RECs and realms. Of the rows, and what is told of each, see Turns.
+-- What an act changes of granules, RECs and realms. For the rows, and for what is told of each, see Turns.
 use Rattle.std.specs.Prelude.{ℕ, ◌+◌, ◌-◌, ◌^◌, ◌==◌, if◌then◌else◌, List, [], Bool, true, false, Option, Some, None}
 use Rattle.granule_addr.specs.Root.{start_count}
 use Rattle.realm_model.specs.declared.act.Act.{Act}
 use Rattle.realm_model.specs.declared.act.Act.TheVariants.{Take, UnTake, Delegate, Undelegate, Realm, UnRealm, Activate, Rtt, UnRtt, Ripas, Data, Unknown, UnData, Rec, UnRec, Enter, Exit}
 
--- one granule, so many from a number on, and others
+-- one granule, `count` granules from the number `from` on, and others
 pub record ChangedGranules : Type 0 where
   pub granule : ℕ
   pub from : ℕ

@@ -45,7 +45,7 @@ granule_item granule (Some view) =
     ++ (codes "\",\"build\":" ++ (or_null view.build
     ++ (codes ",\"realm\":" ++ (or_null view.realm ++ codes "}")))))))
 
--- which rows these are: so many of one level, from one on
+-- which rows these are: their level, the first one, and how many there are
 abbrev pub row_place : ℕ → ℕ → ℕ → List ℕ
 row_place level first count = codes "\"level\":" ++ (decimal level ++ (codes ",\"first\":" ++ (decimal first ++ (codes ",\"count\":" ++ decimal count))))
 

@@ -26,7 +26,7 @@ use Rattle.run_json.specs.Items.{or_null, array_text, bool_text, granule_item, r
 abbrev pub granule_after : HostView → ℕ → List ℕ
 granule_after host granule = granule_item granule (granule_at (world_of host) granule)
 
--- behind a comma, where there can be such a granule
+-- the granule behind a comma, where there can be such a granule
 abbrev pub another_granule : HostView → ℕ → List ℕ
 another_granule host granule = if nat_lt granule 4096 then codes "," ++ granule_after host granule else []
 
@@ -47,7 +47,7 @@ granules_after host act = changed_granules_text host (granules_of act)
 
 -- ---- rows
 
--- so many rows of the build's realm, of which the first is where the walk ends
+-- `count` rows of the build's realm; the first is where the walk ends
 abbrev pub rows_from : HostView → ℕ → ℕ → ℕ → ℕ → List ℕ
 rows_from host build ipa level count = row_item (row_at (world_of host) build ipa level) count
 

@@ -16,7 +16,7 @@ use Rattle.run_json.specs.Turns.{granule_after, mark_length}
 
 -- ---- arrays
 
--- a granule, of which there are 4,096 at most
+-- a granule; there are at most 4,096
 abbrev pub world_granule : HostView → ℕ → List ℕ
 world_granule host granule = if nat_lt granule 4096 && nat_lt granule host.limits.pages then comma granule ++ granule_after host granule else []
 
@@ -49,7 +49,7 @@ open_acts_text build (act ∷ more) = open_item build act ++ more_open build mor
 abbrev pub open_text : HostView → ℕ → List ℕ
 open_text host build = open_acts_text build (open_of host build)
 
--- RECs with the numbers below one; there is none where the state is null
+-- the REC of a number below that of the next, or null as its state where there is none
 abbrev pub numbered_rec : HostView → ℕ → ℕ → List ℕ
 numbered_rec host build number = comma number ++ rec_item number (rec_at (world_of host) build number)
 

@@ -5,7 +5,7 @@ ghost use Rattle.run_json.specs.Changes.{one_granule, granules_of, changes_realm
 use granule_addr::{Gran, Level, RecNo};
 use realm_model::Act;
 
-/// Granules: one, so many from a number on, and others.
+/// Granules: one, `count` granules from the number `from` on, and others.
 #[derive(Drop)]
 pub struct Changed<'a> {
     pub granule: Gran,

@@ -38,7 +38,7 @@ fn push_settings(text: &mut String, plan: &Plan) -> Pushed
     push_room(text, plan)
 }
 
-// Appends a comma and a line feed, but to an empty text.
+// Appends a comma and a line feed, unless the text is empty.
 fn push_separator(text: &mut String) -> Pushed
     ensures { OnOk result (string_bytes text.new ≡ string_bytes text.old ++ separator (string_bytes text.old)) }
 {

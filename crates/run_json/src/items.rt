@@ -30,7 +30,7 @@ impl fmt::Display for GranuleItem {
     }
 }
 
-/// Which rows these are: so many of one level, from one on.
+/// Which rows these are: their level, the first one, and how many there are.
 #[derive(Clone, Copy)]
 struct RowPlace(Level, IpaGran, u32);
 
@@ -70,7 +70,7 @@ impl fmt::Display for RowSays {
     }
 }
 
-/// So many rows of one level that say the same, from one on.
+/// Rows of one level that say the same: the first one, and how many there are.
 #[derive(Clone, Copy)]
 pub struct RowItem(pub Option<RowView>, pub u32);
 

@@ -1,4 +1,4 @@
-//! Numbers that may be none, and arrays of numbers.
+//! Numbers that may be null, and arrays of numbers.
 ghost use Rattle.std.specs.Prelude.{◌≡◌, ◌≤◌, length};
 ghost use Rattle.run_json.specs.Items.{comma};
 

@@ -23,7 +23,7 @@ fn says_the_same(row: &RowView, before: &RowView) -> bool {
     row.level == before.level && row.entry == before.entry && !begins_table(row)
 }
 
-// Appends so many rows, behind a comma but for the first.
+// Appends an item of `count` rows, behind a comma unless it is the first.
 fn push_item(text: &mut String, row: RowView, count: u32) -> Result<(), AllocError> {
     if !text.is_empty() {
         text.push_str(",")?;
@@ -51,7 +51,7 @@ fn push_tables_above<S: PageStore>(
     Ok(())
 }
 
-// How many rows from one on say the same, one after another in a table, and where the next begins.
+// How many rows, from one on and one after another in a table, say the same, and where the next begins.
 fn count_same<S: PageStore>(host: &Host<S>, build: BuildId, row: &RowView) -> (u32, u32) {
     let mut next = row.next();
     for count in 1..8192 {

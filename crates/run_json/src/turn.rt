@@ -34,7 +34,7 @@ fn push_another_granule<S: PageStore>(text: &mut String, host: &Host<S>, number:
     }
 }
 
-// Appends so many granules from a number on, each behind a comma.
+// Appends `count` granules from the number `from` on, each behind a comma.
 fn push_more_granules<S: PageStore>(
     text: &mut String,
     host: &Host<S>,
@@ -218,7 +218,7 @@ pub fn push_idle(text: &mut String, place: usize) -> Pushed
     text.push_str("\"place\":null,\"step\":null,\"answer\":null,\"accepted\":null,\"numbers\":[],")
 }
 
-// Appends the members of the event that a turn added, where it did, and of what that changed.
+// Appends the members of the event that a turn added, if it added one, and of what that changed.
 fn push_added<S: PageStore>(
     alloc: Global,
     text: &mut String,
@@ -246,8 +246,8 @@ fn push_build_members<S: PageStore>(text: &mut String, host: &Host<S>, build: Bu
     )
 }
 
-/// Appends what a turn of a build did, before which the history had so many events: the event that it added, what that changed,
-/// and what the host keeps of the build.
+/// Appends what a turn of a build did, where the history had `before` events before it: the event that it added, what
+/// that changed, and what the host keeps of the build.
 pub fn push_behind<S: PageStore>(
     alloc: Global,
     text: &mut String,

@@ -30,7 +30,7 @@ pub fits_here_of : (steps : List Step) (acts opened : List Act) (next : Option E
     ↔ FitsHere steps acts next line → IsTrue r ↔ FitsHere steps opened next line
 fits_here_of steps acts opened next line r same says = subst (λ (xs : List Act). IsTrue r ↔ FitsHere steps xs next line) same says
 
--- So many events of the build are followed: its next one is at this place of the history, and this is open.
+-- `count` events of the build are followed: its next one is at `next` in the history, and `opened` is open.
 pub record IsAt (build : ℕ) (history : List Event) (count next : ℕ) (opened : List Act) : Type 0 where
   pub within : next ≤ length history
   pub rest : drop count (events_of build history) ≡ events_of build (drop next history)
@@ -38,7 +38,7 @@ pub record IsAt (build : ℕ) (history : List Event) (count next : ℕ) (opened 
   pub enough : count ≤ length (events_of build history)
   pub opened_is : opened ≡ open_entries build (take count (events_of build history))
 
--- So many lines are read, each of them fits, and the events that they tell are followed.
+-- `count` lines are read, each of them fits, and the events that they tell are followed.
 pub record IsReadTo (build : ℕ) (steps : List Step) (lines : List Line) (history : List Event) (count next : ℕ) (opened : List Act) : Type 0 where
   pub at : IsAt build history (accepted_count (take count lines)) next opened
   pub fit : (place : ℕ) → place < count → (line : Line) → slice_get lines place ≡ Some line → LineFits build steps history (accepted_count (take place lines)) line

@@ -13,7 +13,7 @@ middle : {X : Type 0} (xs ys : List X) (x d : X) → get_or (xs ++ x ∷ ys) (le
 middle [] ys x d = refl
 middle (y ∷ xs) ys x d = middle xs ys x d
 
--- the seats of so many builds, of which some were taken, then this one, and others are left
+-- the seats of `count` builds, of which some were taken, then this one, and others are left
 module _ (count : ℕ) (taken left : List SeatView) (seat : SeatView) (are : taken ++ seat ∷ left ≡ map new_seat (range_with_len 0 count)) where
   longer : length taken < length (taken ++ seat ∷ left)
   longer = let long = length-append taken (seat ∷ left) in omega arith

@@ -27,7 +27,7 @@ use Rattle.workers.specs.declared.report.Report.{Report}
 
 -- ---- commands
 
--- The granule of a build's page. A number that the largest machine has not is no granule.
+-- The granule of a build's page. A number above those of the largest machine is no granule.
 abbrev pub granule_of_number : List ℕ → ℕ → Option ℕ
 granule_of_number pages page = option_and_then (λ number. if nat_lt number 4096 then Some number else None) (slice_get pages page)
 
@@ -35,19 +35,19 @@ granule_of_number pages page = option_and_then (λ number. if nat_lt number 4096
 abbrev pub AreGranules : List ℕ → List ℕ → List ℕ → Type 0
 AreGranules pages numbers granules = map (granule_of_number pages) numbers ≡ map (λ granule. Some granule) granules
 
--- The act is the command's of the granules of its pages, whatever was picked for it.
+-- The act is that of the command with the granules of its pages, whatever was picked for it.
 pub record IsMadeOf (pages : List ℕ) (cmd : Cmd) (act : Act) : Type 0 where
   pub granules : List ℕ
   pub picked : Picked
   pub are_granules : AreGranules pages (operands cmd) granules
   pub act_is : act_of cmd granules picked ≡ Some act
 
--- The act is that of the command of a build with these pages. The block of a Take is any.
+-- The act is that of the command of a build with these pages. The block of a Take may be any.
 abbrev pub IsFittingAct : List ℕ → Cmd → Act → Type 0
 IsFittingAct pages (Take order) act = (first : ℕ) × (act ≡ acts.Take order first)
 IsFittingAct pages cmd act = IsMadeOf pages cmd act
 
--- and the reply is that to it
+-- the act is that of the command, and the reply is the reply to it
 pub record IsFittingReply (pages : List ℕ) (cmd : Cmd) (reply : Reply) (act : Act) : Type 0 where
   pub act_is : IsFittingAct pages cmd act
   pub reply_is : reply ≡ reply_of (length pages) act
@@ -72,7 +72,7 @@ AnswerFits pages opened next asked Nothing = Unit {0}
 AnswerFits pages opened next asked (Refused refusal) = Unit {0}
 AnswerFits pages opened next asked answer = ⊥
 
--- A line fits after so many events of its build: it asks for something, and its answer fits there.
+-- A line fits after `count` events of its build: it asks for something, and its answer fits there.
 abbrev pub LineFits : ℕ → List Step → List Event → ℕ → Line → Type 0
 LineFits build steps history count line =
     let before = take count (events_of build history) in

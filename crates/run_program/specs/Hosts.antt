@@ -22,13 +22,13 @@ pub record FitsNext (host : HostView) (build : ℕ) (asked : Question) (told : A
   pub grows : new.history ≡ host.history ++ by build act ∷ []
   pub fits : AnswerFits (pages_of build host.history) (open_entries build host.history) (Some (by build act)) asked told
 
--- so does the reply to a command
+-- the reply of a host to a command fits
 abbrev pub HostReplyFits : HostView → ℕ → Cmd → Reply → HostView → Type 0
 HostReplyFits host build cmd reply new =
     IsLegal host.limits host.history → host.limits.pages ≤ 4096 → IsReplied host build cmd reply new
     → FitsNext host build (question.Do cmd) (answer.Replied reply) new
 
--- and what is told of an undo
+-- what a host tells of an undo fits
 abbrev pub HostUndoFits : HostView → ℕ → Undone → HostView → Type 0
 HostUndoFits host build undone new = IsUndone host build undone new → FitsNext host build question.Undo (answer.Undone undone) new
 

@@ -7,7 +7,7 @@ use Rattle.realm_model.specs.declared.act.Act.TheVariants.{Peek, Realm, Rec}
 abbrev pub picks : ℕ → ℕ → ℕ → Picked
 picks vmid number byte = record { vmid = vmid; number = number; byte = byte }
 
--- what was picked for an act; what it does not hold is any
+-- what was picked for an act; what the act does not hold may be anything
 abbrev pub picked_in : Act → Picked
 picked_in (Realm rd root vmid) = picks vmid 0 0
 picked_in (Rec granule auxiliaries number) = picks 1 number 0

@@ -27,7 +27,7 @@ use Rattle.run_program.specs.declared.fault.RunFault.TheVariants.{Memory, Stuck,
 abbrev pub new_worker : Plan → ℕ → WorkerView
 new_worker plan build = record { seat = new_seat build; steps = map asked (steps_of_build plan build); lines = []; ended = false }
 
--- one for each build of the plan
+-- a new worker for each build of the plan
 abbrev pub new_workers : Plan → List WorkerView
 new_workers plan = map (new_worker plan) (range_with_len 0 (length plan.builds))
 
@@ -40,8 +40,8 @@ IsReportOf worker (report, asks) = (report.build ≡ worker.seat.build) × (repo
 
 -- ---- runs
 
--- The workers of the plan's builds have run, started with the host `opened`, and this is the host that they leave. Of each build
--- the gate lets these turns pass, and stops those.
+-- The workers of the plan's builds have run, started with the host `opened`, and this is the host that they leave. For
+-- each build, the gate lets the turns of `passes` pass, and stops those of `stops`.
 pub record IsEndedRun (plan : Plan) (passes stops : ℕ → ℕ → Type 0) (opened host : HostView) (workers : List WorkerView) : Type 0 where
   pub run : AreRun opened passes stops (new_workers plan) workers
   pub ended : All (λ worker. worker.ended ≡ true) workers
@@ -65,8 +65,9 @@ WorkerFits history worker = DoesFit worker.seat.build worker.steps worker.lines 
 abbrev pub worker_text : Plan → WorkerView → List ℕ
 worker_text plan worker = report_text worker.seat.build (steps_of_build plan worker.seat.build) worker.lines
 
--- The text of some run in which each worker has ended: its history is legal, each seat has what it has of the seat's build, and
--- each report fits it. It is the lines of the reports by build, the map of the history, and the line of the audit.
+-- The text of some run in which each worker has ended: its history is legal, each seat has what the history has of the
+-- seat's build, and each report fits the history. The text is the lines of the reports by build, the map of the
+-- history, and the line of the audit.
 pub record IsWorkersText (plan : Plan) (passes stops : ℕ → ℕ → Type 0) (opened : HostView) (text : List ℕ) : Type 0 where
   pub host : HostView
   pub workers : List WorkerView

@@ -12,7 +12,7 @@ use realm_model::{Act, Event};
 use std::alloc::{AllocError, Global};
 use workers::Report;
 
-// The place of a build's next event from one on, or the end of the history.
+// The place of a build's next event from `from` on, or the end of the history.
 fn next_of(history: &[Event], build: BuildId, from: usize) -> usize
     requires { from ≤ length history.now }
     ensures within { result ≤ length history.now }

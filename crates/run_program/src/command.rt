@@ -11,7 +11,7 @@ use build_commands::{Cmd, Picked, Reply, act_of, reply_of};
 use granule_addr::{RecNo, Vmid};
 use realm_model::Act;
 
-// What was picked for an act, where it holds what was.
+// What was picked for an act, as far as the act holds it.
 fn picked_for(act: &Act) -> Picked
     ensures { result ≡ picked_in act.now }
 {
@@ -42,7 +42,7 @@ fn is_made_of(opened: &[Act], cmd: &Cmd, act: &Act) -> bool
     }
 }
 
-// Whether an act is a command's. The block of a Take is any.
+// Whether an act is a command's. The block of a Take may be any.
 fn is_act_of(opened: &[Act], cmd: &Cmd, act: &Act) -> bool
     ensures { IsTrue result ↔ IsFittingAct (flat_map pages_held opened.now) cmd.now act.now }
 {

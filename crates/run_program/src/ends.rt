@@ -8,7 +8,7 @@ use builders::{Ledgers, Seat, Worker};
 use std::alloc::{AllocError, Global};
 use workers::Report;
 
-/// What workers leave: the seats, and the reports, each with the steps that it is of.
+/// What workers leave: the seats, and the reports, each with its steps.
 #[derive(Drop)]
 pub struct Ends<L: Ledgers> {
     pub seats: Vec<Seat<L>>,

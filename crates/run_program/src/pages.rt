@@ -48,7 +48,7 @@ fn granule_at(opened: &[Act], page: usize) -> Option<Gran>
     None
 }
 
-/// Whether a build that has these acts open has so many pages.
+/// Whether a build that has these acts open has `count` pages.
 pub(crate) fn has_pages(opened: &[Act], count: u16) -> bool
     ensures { IsTrue result ↔ (length (flat_map pages_held opened.now) ≡ count) }
 {
@@ -71,7 +71,7 @@ fn tables_named(width: u8) -> u16
     IpaWidth::new(width).map_or(1, |width| width.start_count())
 }
 
-// Puts the numbers from one on at the end.
+// Puts `count` numbers from `first` on at the end.
 fn push_run(numbers: &mut ArrayVec<usize, 17>, first: usize, count: u16)
     requires room { length numbers.old.items + count ≤ 17 }
     requires first { first ≤ 65535 }

@@ -43,14 +43,14 @@ fn threads_text_of<H: Threads + Wait + Sync, G: Gate + Sync>(
     run_text(rt, alloc, plan, host, gate).map_err(fault_of)
 }
 
-/// Reads a plan, runs each of its builds by a worker in a thread of its own, with its turns from the gate, and writes the text
-/// of the run. The plan's order of turns plays no part; and in which order the builds came through the lock is not printed: runs
-/// of a plan in which each build got the same answers, with the same picks, have the same text.
+/// Reads a plan, runs each of its builds by a worker in a thread of its own, with its turns from the gate, and writes
+/// the text of the run. The plan's order of turns plays no part. The order in which the builds came through the lock is
+/// not printed: runs of a plan in which each build got the same answers, with the same picks, have the same text.
 ///
-/// The text is made whole before any of it is written. Errors: the fault of a plan; Stuck, with the lowest build whose worker
-/// waited in vain for a turn; Mismatch, where the events of a build's seat are not what the history has of the build, or a
-/// report does not fit it; Memory, where allocation failed; Device, where a read failed, and then nothing is written, or a
-/// write, and then a prefix of the text is.
+/// The text is made whole before any of it is written. Errors: the fault of a plan; Stuck, with the lowest build whose
+/// worker waited in vain for a turn; Mismatch, where the events of a build's seat are not what the history has of the
+/// build, or a report does not fit it; Memory, where allocation failed; Device, where a read failed and nothing is
+/// written, or where a write failed and a prefix of the text is written.
 pub fn run<H: Threads + Wait + Sync, R: Read, W: Write, G: Gate + Sync>(
     rt: &H,
     alloc: Global,

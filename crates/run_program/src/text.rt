@@ -51,7 +51,7 @@ fn text_of<S: PageStore>(
     Ok(text)
 }
 
-/// The text, where each report fits the host's history. Errors: Mismatch, where one does not; Memory, where allocation
+/// The text, if each report fits the host's history. Errors: Mismatch, where one does not; Memory, where allocation
 /// failed.
 pub fn audited_text_of<S: PageStore>(
     alloc: Global,

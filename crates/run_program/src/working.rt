@@ -21,7 +21,7 @@ use std::sync::Wait;
 use std::thread::Threads;
 use workers::Gate;
 
-// The workers of the plan's builds run in new seats of a shared host, and end. What they leave.
+// Runs the workers of the plan's builds in new seats of a shared host to their end, and returns what they leave.
 fn work_all<
     R: Threads + Wait + Sync,
     S: PageStore + Send,
@@ -47,7 +47,8 @@ fn work_all<
     Ok(ends)
 }
 
-// The workers of the plan's builds run in new seats of a shared host, which is closed then. The text of the run.
+// Runs the workers of the plan's builds in new seats of a shared host, closes the host, and returns the text of the
+// run.
 fn run_shared<
     R: Threads + Wait + Sync,
     S: PageStore + Drop + Send,

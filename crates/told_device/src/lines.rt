@@ -66,7 +66,7 @@ impl Lines {
         }
     }
 
-    // Reads on where nothing is left: whether there is a byte to be taken.
+    // Reads on where nothing is left, and returns whether there is a byte to take.
     fn fill<R: Read>(&mut self, input: &mut Told<R>) -> Result<bool, DeviceFailed>
         requires { input.old.failed ≡ false }
         ensures told { input.new.failed ≡ is_err result }

@@ -9,7 +9,7 @@ use Rattle.trace_program.specs.Session.{Now, IsSession}
 unfoldable pub kept_of_line : List ℕ → List ℕ
 kept_of_line line = take 65537 line
 
--- What was read is these lines and a rest, of which so much is kept.
+-- What was read is these lines and a rest; `kept` is what is kept of the rest.
 pub record AreLinesRead (read kept : List ℕ) : Type 0 where
   pub lines : List (List ℕ)
   pub rest : List ℕ
@@ -26,7 +26,7 @@ pub record AreLinesAnswered (input left old new : Option (List ℕ)) : Type 0 wh
   pub session : IsSession None (map kept_of_line (lines_in bytes)) text last
   pub written : Appends old new text
 
--- A prefix of the answers was written: to the first lines of a prefix of what was read, of which the last may be cut.
+-- A prefix of the answers was written, to the first lines of a prefix of what was read; the last of them may be cut.
 pub record IsCutShort (old new : Option (List ℕ)) (read : List ℕ) : Type 0 where
   pub front : List ℕ
   pub ahead : List ℕ

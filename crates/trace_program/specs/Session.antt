@@ -24,7 +24,7 @@ Now = Option MonitorView
 abbrev pub IsNoCommand : Now → Option Answer → Now → Type 0
 IsNoCommand old given new = (given ≡ Some NoCommand) × (new ≡ old)
 
--- a fresh machine, with no answer; numbers that no machine has are no command
+-- a fresh machine, with no answer; a line with numbers that no machine has is no command
 abbrev pub IsOpening : Bool → Opening → Now → Option Answer → Now → Type 0
 IsOpening true o old given new = (given ≡ None) × (new ≡ Some (opened o.pages o.vmids o.auxiliaries))
 IsOpening false o old given new = IsNoCommand old given new

@@ -11,7 +11,8 @@ abbrev pub trace_status_of : Fault → ℕ
 trace_status_of Memory = 3
 trace_status_of Device = 5
 
--- a program that has done what it was asked for ends with 0, unless a line of the trace is wrong, or no answer of it was compared
+-- a program that has done what it was asked for ends with 0, unless a line of the trace is wrong, or no answer of it
+-- was compared
 abbrev pub trace_exit_status : Result Verdict (Stop Fault) → ℕ
 trace_exit_status (Ok Agree) = 0
 trace_exit_status (Ok NoAnswers) = 1

@@ -1,4 +1,5 @@
--- Whether the lines of a trace are right: an answer that stands there is the one that the rules give, and a line that is no command says so.
+-- Whether the lines of a trace are right: an answer that stands there is the one that the rules give, and a line that
+-- is no command says so.
 use Rattle.std.specs.Prelude.{◌≡◌, ℕ, ◌+◌, ◌<◌, ◌&&◌, Bool, true, false, List, [], ◌∷◌, ◌++◌, codes, decimal, length, map, filter, is_some, is_none, Option, Some, None, ◌⊎◌}
 use Rattle.std.specs.Io.KnownBytes.{Consumes, IsAtEnd, Appends}
 use Rattle.told_device.specs.Whole.{AppendsFront}
@@ -37,7 +38,8 @@ is_command_or_reading _ = false
 abbrev pub is_only_performed : List ℕ → Bool
 is_only_performed bytes = is_command_or_reading (line_of_trace bytes) && is_none (stated_in bytes)
 
--- A line that is answered `no command` has to say so. Any other may be without an answer; the one that it has is the one that the rules give.
+-- A line that is answered `no command` has to say so. Any other line may be without an answer; if it has one, it is the
+-- one that the rules give.
 abbrev pub IsRight : Option (List ℕ) → Option Answer → Type 0
 IsRight None given = ¬ (given ≡ Some NoCommand)
 IsRight (Some stated) None = ⊥
@@ -95,7 +97,7 @@ pub record LastDiffers (lines : List (List ℕ)) (text : List ℕ) : Type 0 wher
 abbrev pub EndsWithFeed : List ℕ → Type 0
 EndsWithFeed bytes = (most : List ℕ) × (bytes ≡ most ++ 10 ∷ [])
 
--- The first line of what was read that is wrong: a line feed ends it, or the input. `left` is what the reader has left.
+-- The first wrong line of what was read, ended by a line feed or the input. `left` is what the reader has left.
 pub record HasDifference (left : Option (List ℕ)) (read text : List ℕ) : Type 0 where
   pub front : List ℕ
   pub ahead : List ℕ
@@ -103,7 +105,8 @@ pub record HasDifference (left : Option (List ℕ)) (read text : List ℕ) : Typ
   pub ends : EndsWithFeed front ⊎ (IsAtEnd left × (ahead ≡ []))
   pub first : LastDiffers (map kept_of_line (lines_in front)) text
 
--- The verdict on what was read, and its text. Where no line is wrong, the input was read to its end. Where none has an answer, nothing was compared, and that is no agreement.
+-- The verdict on what was read, and its text. Where no line is wrong, the input was read to its end. Where no line has
+-- an answer, nothing was compared, and that is no agreement.
 abbrev pub IsVerdict : Verdict → Option (List ℕ) → List ℕ → List ℕ → Type 0
 IsVerdict Agree left read text = IsAtEnd left × AllAgree (map kept_of_line (lines_in read)) text × (0 < answers_in (map kept_of_line (lines_in read)))
 IsVerdict NoAnswers left read text = IsAtEnd left × AllAgree (map kept_of_line (lines_in read)) text × (answers_in (map kept_of_line (lines_in read)) ≡ 0)
@@ -115,13 +118,13 @@ pub record IsTraceJudged (input left : Option (List ℕ)) (verdict : Verdict) (t
   pub consumed : Consumes input left read
   pub judged : IsVerdict verdict left read text
 
--- and the verdict's text was written
+-- the verdict's text was written as well
 pub record IsChecked (input left old new : Option (List ℕ)) (verdict : Verdict) : Type 0 where
   pub text : List ℕ
   pub judged : IsTraceJudged input left verdict text
   pub written : Appends old new text
 
--- or a prefix of it
+-- or only a prefix of it was written
 pub record IsCheckedInPart (input left old new : Option (List ℕ)) : Type 0 where
   pub verdict : Verdict
   pub text : List ℕ

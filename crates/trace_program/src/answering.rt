@@ -111,7 +111,8 @@ impl Answering {
         Ok(())
     }
 
-    // Reads once, and takes what was read; at the end of the input, ends the last line. Whether there may be more.
+    // Reads once, and takes what was read; at the end of the input, ends the last line. Returns whether there may be
+    // more.
     fn read_on<R: Read, W: Write>(
         &mut self,
         alloc: Global,
@@ -141,9 +142,9 @@ impl Answering {
 
 /// Reads the lines of a trace to their end, and writes each with its answer as soon as it has it.
 ///
-/// Memory is taken for a fresh machine and for a line, of which no more than 65,537 bytes are kept. Errors: Memory, where
-/// allocation failed; Device, where a read or a write failed, or after 2^64 - 1 reads. Then the answers to the first lines were
-/// written, and of the last of them at least a prefix.
+/// Memory is taken for a fresh machine and for a line, of which no more than 65,537 bytes are kept. Errors: Memory,
+/// where allocation failed; Device, where a read or a write failed, or after 2^64 - 1 reads. In both cases the answers
+/// to the first lines were written, and at least a prefix of the last of these answers.
 pub fn answer<R: Read, W: Write>(
     alloc: Global,
     input: &mut Told<R>,

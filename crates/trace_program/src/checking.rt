@@ -17,15 +17,15 @@ use std::alloc::{AllocError, Global};
 use std::io::{Read, Write};
 use told_device::Told;
 
-/// Whether the lines of a trace are right: each has the answer of the rules, where it has one, and one that is answered
-/// `no command` says so.
+/// Whether the lines of a trace are right: each has the answer of the rules, or none, and a line that is answered `no
+/// command` says so.
 #[derive(Clone, Copy)]
 pub enum Verdict {
-    /// All are, and there is an answer among them.
+    /// All lines are right, and there is an answer among them.
     Agree,
-    /// All are, but none has an answer: nothing was compared.
+    /// All lines are right, but none has an answer: nothing was compared.
     NoAnswers,
-    /// One is not.
+    /// A line is not right.
     Differ,
 }
 
@@ -46,7 +46,7 @@ fn stated<'a>(bytes: &'a [u8], line: &Line) -> Option<&'a [u8]>
     }
 }
 
-// Whether a line in which this answer stands, if one does, is right where this one is given.
+// Whether a line with the stated answer, or with none, is right where the answer `given` is given.
 fn is_right(stated: Option<&[u8]>, given: &Option<Answer>) -> bool
     ensures { IsTrue result ↔ IsRight (option_copied stated.entry) given.now }
 {
@@ -275,8 +275,8 @@ fn judge<R: Read>(alloc: Global, input: &mut Told<R>) -> Result<Judged, Fault>
 /// to the end, and writes how many lines have an answer, and how many commands and readings have none and are only
 /// performed. With no answer at all, nothing was compared, and the verdict is `NoAnswers`. Memory is taken for a fresh
 /// machine, for a line, of which no more than 65,537 bytes are kept, and for what is written. Errors: Memory, where an
-/// allocation failed, and nothing is written; Device, where a read failed, and nothing is written, or a write, and then a
-/// prefix of the text is, or after 2^64 - 1 reads.
+/// allocation failed and nothing is written; Device, where a read failed or after 2^64 - 1 reads, and nothing is
+/// written, or where a write failed and a prefix of the text is written.
 pub fn check<R: Read, W: Write>(
     alloc: Global,
     input: &mut Told<R>,

@@ -79,7 +79,7 @@ pub record IsEventRefused (why : WhyNot) (host : HostView) (line : List ℕ) : T
   pub cannot : CanApply host event → ⊥
   pub because : IsWhyNot host event why
 
--- Lines are taken up to this one, whose number is counted from 1, the opening with it.
+-- Lines are taken up to the line of this number, which is not. The opening is line 1.
 pub record StopsAt (IsReason : HostView → List ℕ → Type 0) (lines : List (List ℕ)) (number : ℕ) : Type 0 where
   pub o : Opening
   pub host : HostView
@@ -113,7 +113,7 @@ abbrev pub IsMap : Option ℕ → Opening → HostView → List ℕ → Type 0
 IsMap None o host text = text ≡ map_text host
 IsMap (Some build) o host text = IsMapOfHistoryWithout o host build text
 
--- Why there is no map: allocation failed, or the build to be left out is none of the machine's.
+-- Why there is no map: allocation failed, or the build to be left out is not one of the machine's.
 abbrev pub HasNoMap : Option ℕ → Opening → Fault → Type 0
 HasNoMap erase o Memory = Unit {0}
 HasNoMap (Some build) o EraseNamesNoBuild = o.builds ≤ build

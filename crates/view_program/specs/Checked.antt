@@ -15,7 +15,7 @@ abbrev pub verdict_of : Bool → Verdict
 verdict_of true = Done
 verdict_of false = HasErrors
 
--- what is told of the input, of which no more is kept than a plan can have, and a byte
+-- what is told of the input; at most one byte more of it is kept than a plan can have
 abbrev pub IsReportOn : Option (List ℕ) → Report → Type 0
 IsReportOn input report = IfSome input (λ bytes. IsReport (kept_of bytes) report)
 
@@ -36,12 +36,12 @@ pub record IsReportCut (input old new : Option (List ℕ)) : Type 0 where
   pub of_input : IsReportOn input report
   pub written : AppendsFront old new (string_bytes report.text)
 
--- where a device failed: nothing was written where it was a read, and a prefix of the text where it was a write
+-- a device failed: nothing was written if it was a read, and a prefix of the text if it was a write
 abbrev pub IsReportEndOfDevice : Bool → Option (List ℕ) → Option (List ℕ) → Option (List ℕ) → Type 0
 IsReportEndOfDevice true input old new = Keeps old new
 IsReportEndOfDevice false input old new = IsReportCut input old new
 
--- The text is written whole, or nothing, but that a write may fail between. `unread` is whether a read failed.
+-- The text is written whole or not at all, unless a write fails on the way. `unread` is whether a read failed.
 abbrev pub IsCheckEnd : Bool → Option (List ℕ) → Option (List ℕ) → Option (List ℕ) → Result Verdict Fault → Type 0
 IsCheckEnd unread input old new (Ok verdict) = IsReported input old new verdict
 IsCheckEnd unread input old new (Err Memory) = Keeps old new

@@ -16,7 +16,7 @@ use Rattle.order_runs.specs.Lines.{orders_text, drawn_text}
 use Rattle.command_line.specs.declared.realmview.Orders.{Orders}
 use Rattle.command_line.specs.declared.realmview.Orders.TheVariants.{First, Drawn}
 
--- of all orders that there are, from the lowest on, or of the first so many
+-- what the orders of a plan come to, from the lowest on: all that there are, or the first `most`
 pub record IsFirstText (most : ℕ) (plan : Plan) (text : List ℕ) : Type 0 where
   pub totals : Totals
   pub is_whole : Bool
@@ -27,7 +27,7 @@ pub record IsFirstText (most : ℕ) (plan : Plan) (text : List ℕ) : Type 0 whe
 abbrev pub random_numbers : ℕ → Stream
 random_numbers seed = stream_of (steps_u64_high plus_plus) (of_seed (splitmix_seed 32 seed))
 
--- of so many orders that are drawn by the numbers of a seed
+-- what `count` orders, drawn by the numbers of a seed, come to
 pub record IsDrawnText (count seed : ℕ) (plan : Plan) (text : List ℕ) : Type 0 where
   pub totals : Totals
   pub sampled : IsSampled plan (opening_host plan) (random_numbers seed) count totals
@@ -37,7 +37,7 @@ abbrev pub IsOrdersText : Orders → Plan → List ℕ → Type 0
 IsOrdersText (First most) plan text = IsFirstText most plan text
 IsOrdersText (Drawn count seed) plan text = IsDrawnText count seed plan text
 
--- why there is none: allocation failed, or a host did not answer the same to the same
+-- why there is no such text: allocation failed, or a host did not give the same answers to the same calls
 abbrev pub IsWithoutOrders : Orders → Plan → Fault → Type 0
 IsWithoutOrders (First most) plan fault = IsNotExplored plan fault
 IsWithoutOrders (Drawn count seed) plan Memory = Unit {0}

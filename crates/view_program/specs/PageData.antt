@@ -10,7 +10,7 @@ use Rattle.run_json.specs.Worlds.{IsWorldText}
 use Rattle.run_json.specs.Document.{IsDocument}
 use Rattle.run_json.specs.Page.{page_bytes}
 
--- the world of a host that has another's history without a build's events
+-- the world of a host that has the history of another without a build's events
 pub record IsWithoutWorld (host : HostView) (build : ℕ) (old new : List ℕ) : Type 0 where
   pub fresh : HostView
   pub without : IsWithout host build fresh

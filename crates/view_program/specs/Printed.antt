@@ -42,19 +42,19 @@ pub record IsMapCut (erase : Option ℕ) (input old new : Option (List ℕ)) : T
   pub map : HasMap erase input text
   pub written : AppendsFront old new text
 
--- the input is a history, and there is no build to be left out
+-- the input is a history, and its machine does not have the build to be left out
 pub record NamesNoBuild (erase : Option ℕ) (input : Option (List ℕ)) : Type 0 where
   pub o : Opening
   pub host : HostView
   pub history : IsHistoryIn input o host
   pub none : HasNoMap erase o EraseNamesNoBuild
 
--- where a device failed: nothing was written where it was a read, and a prefix of the map where it was a write
+-- a device failed: nothing was written if it was a read, and a prefix of the map if it was a write
 abbrev pub IsApplyEndOfDevice : Option ℕ → Bool → Option (List ℕ) → Option (List ℕ) → Option (List ℕ) → Type 0
 IsApplyEndOfDevice erase true input old new = Keeps old new
 IsApplyEndOfDevice erase false input old new = IsMapCut erase input old new
 
--- The map is printed whole, or nothing, but that a write may fail between. `unread` is whether a read failed.
+-- The map is printed whole or not at all, unless a write fails on the way. `unread` is whether a read failed.
 abbrev pub IsApplyEnd : Option ℕ → Bool → Option (List ℕ) → Option (List ℕ) → Option (List ℕ) → Result (Unit {0}) Fault → Type 0
 IsApplyEnd erase unread input old new (Ok _) = IsMapPrinted erase input old new
 IsApplyEnd erase unread input old new (Err NoOpening) = IsNoHistoryIn input NoOpening × Keeps old new
@@ -67,13 +67,13 @@ IsApplyEnd erase unread input old new (Err fault) = ⊥
 
 -- ---- what is asked
 
--- of a text that a plan has, where the program's faults are those of a plan
+-- the end of a text that a plan has, where the program's faults are those of a plan
 abbrev pub IsPlanEnd : (plan.Plan → List ℕ → Type 0) → (plan.Plan → plan_fault.Fault → Type 0) → Bool → Option (List ℕ) → Option (List ℕ) → Option (List ℕ) → Result (Unit {0}) Fault → Type 0
 IsPlanEnd texts without unread input old new (Ok done) = IsEnd texts without unread input old new (Ok done)
 IsPlanEnd texts without unread input old new (Err (Plan fault)) = IsEnd texts without unread input old new (Err fault)
 IsPlanEnd texts without unread input old new (Err fault) = ⊥
 
--- what is done, where no plan is checked
+-- the end of what is done where no plan is checked
 abbrev pub EndsAs : (Result (Unit {0}) Fault → Type 0) → Result Verdict Fault → Type 0
 EndsAs IsEndOf (Ok Done) = IsEndOf (Ok tt)
 EndsAs IsEndOf (Ok HasErrors) = ⊥

@@ -29,7 +29,7 @@ abbrev pub view_fault_of_read : ReadError → Fault
 view_fault_of_read read_error.Memory = Memory
 view_fault_of_read read_error.Device = Device
 
--- a program that has done what it was asked for ends with 0, but where a plan has errors
+-- a program that has done what it was asked for ends with 0, unless a plan has errors
 abbrev pub view_exit_status : Result Verdict (Stop Fault) → ℕ
 view_exit_status (Ok Done) = 0
 view_exit_status (Ok HasErrors) = 1

@@ -7,8 +7,8 @@ use Rattle.refusal_reasons.specs.Explained.{IsExplainedRun}
 use Rattle.refusal_reasons.specs.Unfinished.{unfinished_lines}
 use Rattle.realm_program.specs.Replay.{opening_host}
 
--- The text of some run of the plan: the line of each turn, below those that are refused the lines of their checks, the map of the
--- world that the run ends in, and the aborts that are under way then.
+-- The text of some run of the plan: the line of each turn, with the lines of its checks below it if it is refused; the
+-- map of the world that the run ends in; and the aborts that are under way then.
 pub record IsWhyText (plan : Plan) (text : List ℕ) : Type 0 where
   pub last : HostView
   pub lines : List ℕ

@@ -77,11 +77,12 @@ fn asked_map(
 /// Reads a history, applies each of its events as it is recorded, and writes the map of the machine that it leads to; or,
 /// where a build is to be left out, the map that the history without the build's events leads to.
 ///
-/// The map is made whole before any of it is written. Errors: NoOpening, where the first line opens no machine, or there is
-/// none; NoEvent, with the first line that is no event, and Refused, with the first that is one and cannot be applied,
-/// whichever comes first; EraseNamesNoBuild, where all is a history and the build to be left out is none of the machine's;
-/// Memory, where allocation failed; Device, where a read failed, and then nothing is written, or a write, and then a prefix
-/// of the map is. The input is read line by line, and of a line no more than 256 bytes are kept.
+/// The map is made whole before any of it is written. Errors: NoOpening, where the first line opens no machine, or
+/// there is none; NoEvent, with the first line that is no event, or Refused, with the first event that cannot be
+/// applied, whichever comes first; EraseNamesNoBuild, where all is a history and the build to be left out is not one of
+/// the machine's; Memory, where allocation failed; Device, where a read failed and nothing is written, or where a write
+/// failed and a prefix of the map is written. The input is read line by line, and of a line no more than 256 bytes are
+/// kept.
 pub fn apply<R: Read, W: Write>(
     alloc: Global,
     input: &mut Told<R>,

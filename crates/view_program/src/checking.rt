@@ -19,7 +19,7 @@ pub enum Verdict {
     HasErrors,
 }
 
-// What is to be said in the end of bytes that are a plan or none.
+// The verdict on bytes, by whether they are a plan.
 fn verdict_of(is_plan: bool) -> Verdict
     ensures { result ≡ verdict_of is_plan }
 {
@@ -30,11 +30,11 @@ fn verdict_of(is_plan: bool) -> Verdict
     }
 }
 
-/// Reads bytes, and writes what is wrong with them as a plan: all errors of bytes that are none, and of a plan its likely
-/// slips and how much it has.
+/// Reads bytes, and writes what is wrong with them as a plan: all errors, if they are no plan; if they are one, its
+/// likely slips and how much it has.
 ///
-/// The text is made whole before any of it is written. Errors: Memory, where allocation failed; Device, where a read failed, and
-/// then nothing is written, or a write, and then a prefix of the text is.
+/// The text is made whole before any of it is written. Errors: Memory, where allocation failed; Device, where a read
+/// failed and nothing is written, or where a write failed and a prefix of the text is written.
 pub fn check<R: Read, W: Write>(
     alloc: Global,
     input: &mut Told<R>,

@@ -1,4 +1,4 @@
-//! Why nothing is printed, or a prefix of the text alone.
+//! Why nothing is printed, or only a prefix of the text.
 ghost use Rattle.std.specs.Prelude.{◌≡◌};
 ghost use Rattle.view_program.specs.declared.fault.Fault.TheVariants.{Plan, Memory, Device};
 
@@ -9,8 +9,8 @@ use std::alloc::AllocError;
 use thiserror::Error;
 use told_device::{DeviceFailed, LineError};
 
-/// Why what was asked for is not printed, or a prefix of the text alone. Its line goes to standard error. Lines are counted
-/// from 1.
+/// Why what was asked for is not printed, or only a prefix of the text. Its line goes to standard error. Lines are
+/// counted from 1.
 #[derive(Clone, Copy, Debug, Error)]
 pub enum Fault {
     /// A plan has no history, for this reason.
@@ -25,7 +25,7 @@ pub enum Fault {
     /// The event of the line cannot be applied, for this reason.
     #[error("line {0} is refused: {1}")]
     Refused(usize, WhyNot),
-    /// The build to be left out is none of the machine's.
+    /// The build to be left out is not one of the machine's.
     #[error("erase names no build")]
     EraseNamesNoBuild,
     /// Allocation failed.

@@ -68,8 +68,8 @@ fn run_text(alloc: Global, plan: &Plan, erase: Option<BuildId>) -> Result<String
     text_after_run(alloc, plan, &mut host, erase)
 }
 
-/// The histories of runs of plans, whole or without a build. A plan has none where that build is none of its own:
-/// EraseNamesNoBuild; or where allocation failed.
+/// The histories of runs of plans, whole or without a build. A plan has none where the build is not one of its own
+/// (EraseNamesNoBuild), or where allocation failed.
 #[derive(Drop)]
 pub struct Histories {
     /// The build that is left out.

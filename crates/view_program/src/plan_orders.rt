@@ -33,7 +33,7 @@ fn text_of_drawn(alloc: Global, plan: &Plan, totals: &Totals) -> Result<String, 
     Ok(text)
 }
 
-// Runs the orders of a plan, at most so many, and tells what they come to.
+// Runs the orders of a plan, at most `most` of them, and tells what they come to.
 fn run_first_of<P: Progress>(
     alloc: Global,
     plan: &Plan,
@@ -47,7 +47,7 @@ fn run_first_of<P: Progress>(
     Ok(text_of_first(alloc, plan, &explored)?)
 }
 
-// Runs so many orders that are drawn by the numbers of a seed, and tells what they come to.
+// Runs `count` orders that are drawn by the numbers of a seed, and tells what they come to.
 fn run_drawn_of<P: Progress>(
     alloc: Global,
     plan: &Plan,
@@ -81,7 +81,8 @@ fn orders_text_of<P: Progress>(
 /// What other orders of the turns of a plan's builds come to: how many these are, how each step of each build ended, in how many
 /// orders each build was never refused, and the maps in the end, each with the first order that shows it.
 ///
-/// A plan has no such text where a host did not answer the same to the same: Mismatch; or where allocation failed.
+/// A plan has no such text where a host did not give the same answers to the same calls (Mismatch), or where allocation
+/// failed.
 #[derive(Drop)]
 pub struct Exploring<'a, P> {
     /// Which orders are run.

@@ -28,9 +28,9 @@ fn push_run(
     push_unfinished(text, host)
 }
 
-/// The texts of runs of plans: the line of each turn, below those that are refused the lines of their checks, up to the one
-/// that fails, the map in the end, and a line for each build whose abort is under way then. A plan has none only where
-/// allocation failed.
+/// The texts of runs of plans: the line of each turn, with the lines of its checks below it if it is refused, up to the
+/// one that fails; the map in the end; and a line for each build whose abort is under way then. A plan has none only
+/// where allocation failed.
 #[derive(Drop)]
 pub struct Reasons;
 

@@ -36,7 +36,7 @@ fn take_line<S: PageStore>(host: &mut Host<S>, line: &[u8]) -> Result<(), Fault>
     }
 }
 
-/// Applies the events that the lines to come are, in their order, up to the first that is none or cannot be applied.
+/// Applies the events of the lines to come, in their order, up to the first line that is no event or cannot be applied.
 pub fn take_lines<R: Read, S: PageStore>(
     lines: &mut Lines,
     input: &mut Told<R>,
