@@ -188,7 +188,7 @@ def fault_of_threads(replayed, ran):
 # A finding: its line, its column, and `error` or `warning`.
 FINDING = re.compile(r"plan:(\d+):(\d+): (error|warning): (.+)\n")
 SIZE = re.compile(r"plan: (\d+) builds, (\d+) steps, (\d+) turns\n")
-# Of a line, so many bytes are shown on either side of a place, or so many less two.
+# How many bytes of a line are shown on either side of a place; two fewer where some are left out.
 SHOWN = 80
 
 

@@ -53,7 +53,7 @@ def aborted(build, steps):
 
 
 def failing_build(done):
-    """A plan in which build 1 aborts after so many steps, the text of its run, and the map of the run without build 1."""
+    """A plan in which build 1 aborts after `done` steps, the text of its run, and the map of the run without build 1."""
     lives = [life(7), life(8)[:done], life(9)]
     # A REC that runs would stand in the way of the abort.
     exits = ["exit 0"] if "enter 0" in lives[1] else []

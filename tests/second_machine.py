@@ -53,7 +53,7 @@ class Granule:
 
 
 class Machine:
-    """Granules of the host, all zero, so many VMIDs, and so many auxiliary granules of each REC."""
+    """`granules` granules of the host, all zero, `vmids` VMIDs, and `aux` auxiliary granules of each REC."""
 
     def __init__(self, granules: int, vmids: int, aux: int) -> None:
         self.granules, self.vmids, self.aux = [Granule() for _ in range(granules)], vmids, aux

@@ -304,7 +304,7 @@ class Monitor:
         yield None, self.keeps("may_be_16") or len(auxiliaries) < 16, INPUT
         yield "each_once", len(set(auxiliaries)) == len(auxiliaries), INPUT
         yield "apart", granule not in auxiliaries, INPUT
-        # (no trace has so many RECs)
+        # (no trace has that many RECs)
         yield None, realm.next < 65535, INPUT
         yield "new", realm.state == "NEW", REALM
         number, realm.next = realm.next, realm.next + (1 if self.keeps("then_next_rises") else 0)

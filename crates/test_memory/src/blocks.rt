@@ -29,7 +29,8 @@ fn is_named_and_goes(arena: &mut BuddyArena, order: Order, first: Gran) -> bool 
     true
 }
 
-/// Blocks of so many pages come and go, by their names or as the store picks them. Nothing else happens between the lines.
+/// Blocks of a store of `pages` pages come and go, by their names or as the store picks them. Nothing else happens
+/// between the lines.
 pub(crate) fn come_and_go(
     rt: &impl Print,
     alloc: Global,

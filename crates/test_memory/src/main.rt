@@ -22,7 +22,7 @@ use std::thread::Threads;
 pub(crate) enum Fault {
     /// Memory was refused where nothing was handed in.
     Memory,
-    /// Something else went wrong, which is not to be.
+    /// Something else went wrong, which should not happen.
     Other,
 }
 

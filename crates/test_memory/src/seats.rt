@@ -43,7 +43,7 @@ fn few_steps(alloc: Global) -> Result<Vec<Step>, Fault> {
     Ok(Vec::from_array(alloc, [take, Step::Mark, delegate, Step::Back, fill])?)
 }
 
-// A worker of what came back where there was no memory for one.
+// A worker, built of what came back where there was no memory for one.
 fn built_again<L: Ledgers>(
     alloc: Global,
     back: (AllocError, Seat<L>, Vec<Step>),
@@ -117,7 +117,7 @@ fn ask_and_work<R: Print + Threads + Wait + Sync, L: Ledgers + Send + Sync>(
     Ok(())
 }
 
-// Such a host of what came back where there was no memory to share it.
+// A shared host, started from what came back where there was no memory to share it.
 fn shared_again<L: Ledgers>(
     alloc: Global,
     back: (AllocError, Blanks, Host<BuddyArena>),

@@ -80,7 +80,7 @@ fn three_builds() -> [Event; 9] {
     ]
 }
 
-// Whether these lines of a build fit is as wanted.
+// Whether these lines of a build fit is what is wanted.
 fn fit(
     rt: &impl Abort,
     alloc: Global,

@@ -138,7 +138,7 @@ impl<'a> Devices<'a> {
         }
     }
 
-    /// Devices of which that read fails. Each of the others gives 25 bytes.
+    /// Devices that fail at that read. Each other read gives 25 bytes.
     pub(crate) fn read_fails(input: &'a [u8], read: usize) -> Devices<'a> {
         Devices {
             most_read: 25,
@@ -147,7 +147,7 @@ impl<'a> Devices<'a> {
         }
     }
 
-    /// Devices of which that write fails. Each of the others takes one byte.
+    /// Devices that fail at that write. Each other write takes one byte.
     pub(crate) fn write_fails(input: &'a [u8], write: usize) -> Devices<'a> {
         Devices {
             most_read: 25,
@@ -181,7 +181,7 @@ pub(crate) struct Outcome<'a> {
 }
 
 impl<'a> Outcome<'a> {
-    /// A text is written whole, in so many writes.
+    /// A text is written whole, in that many writes.
     pub(crate) fn printed(text: &'a [u8], writes: u64) -> Outcome<'a> {
         Outcome {
             end: Ok(()),

@@ -1,9 +1,9 @@
 //! Tests of hosts that builds share, of workers in threads, and of the parts of the programs over devices in memory.
 //!
-//! What a call answers, what a worker does after a refusal, that a history without a build is a history, and what is printed where
-//! no device fails, is proved. That each worker has a thread of its own, that threads come to their end, which world is left then,
-//! how often a device is asked, and what follows where it fails, is for these tests. What the built programs print is compared by
-//! `tests/program`.
+//! It is proved what a call answers, what a worker does after a refusal, that a history without a build is a history,
+//! and what is printed where no device fails. These tests are for the rest: that each worker has a thread of its own,
+//! that threads come to their end, which world is left then, how often a device is asked, and what follows where it
+//! fails. What the built programs print is compared by `tests/program`.
 #![tactic(auto)]
 
 #[cfg(test)]

@@ -16,7 +16,7 @@ pub(crate) fn replied(place: usize, reply: Reply) -> Line {
     step(place, Answer::Replied(reply))
 }
 
-/// An act is undone, which leaves so many open.
+/// An act is undone, which leaves `left` acts open.
 pub(crate) fn undone(asked: Asked, kind: Kind, left: u16) -> Line {
     Line {
         asked,

@@ -93,7 +93,7 @@ fn work_together<
     closed(rt, shared, seats)
 }
 
-// What is left of a host on which build 1 is refused that step, at a gate where they wait so.
+// What is left of a host on which build 1 is refused that step, at a gate where builds wait like this.
 fn host_after<R: Threads + Wait + Abort + Clock + Sync>(
     rt: &R,
     alloc: Global,
@@ -112,7 +112,7 @@ fn is_left_by_two(rt: &impl Abort, alloc: Global, host: &Host<PlainStore>) {
     is_without_build_1(rt, alloc, host, &mut fresh);
 }
 
-// Of build 1, refused that step, nothing is left, and the others have all that they have built.
+// Nothing is left of build 1, which is refused that step, and the others have all that they have built.
 fn refused_at<R: Threads + Wait + Abort + Clock + Sync>(
     rt: &R,
     alloc: Global,

@@ -98,7 +98,7 @@ fn fault_of_close(
     fault
 }
 
-// Two builds work on a shared host. It is closed with so many of their seats, the first ones; at `Some` is what was wrong
+// Two builds work on a shared host. It is closed with the first `kept` of their seats; at `Some` is what was wrong
 // then.
 fn closed<R: Wait + Abort, L: Ledgers>(
     rt: &R,

@@ -18,7 +18,7 @@ pub struct Refusing<'a, R: Wait, S: PageStore, L: Ledgers> {
 
 const REFUSAL: Refusal = Refusal::Rmi(Rmi::INPUT);
 
-// Counts a question. Whether it is that one.
+// Counts a question, and returns whether it is the one to be refused.
 fn is_refused(asked: &mut usize, refused: Option<usize>) -> bool {
     let question = *asked;
     *asked = question.saturating_add(1);
@@ -28,7 +28,7 @@ fn is_refused(asked: &mut usize, refused: Option<usize>) -> bool {
 impl<'a, R: Wait, S: PageStore, L: Ledgers> Teller for Refusing<'a, R, S, L> {
     ghost tells = { λ refusing exchanges. Unit {0} };
 
-    // that of the seat
+    // the loan of the seat
     ghost loan = { λ refusing. 8 * refusing.teller.seat.ghost_name + refusing.teller.seat.now.build };
 
     fn ask(&mut self, cmd: Cmd) -> Result<Reply, Refusal> {

@@ -1,4 +1,5 @@
-//! Workers of a shared host in threads of their own: what they are answered, and which build is told that has not ended.
+//! Workers of a shared host in threads of their own: what they are answered, and which build is named that has not
+//! ended.
 ghost use Rattle.std.specs.Prelude.{◌≡◌, [], All};
 ghost use Rattle.builders.specs.Names.{AreNamed};
 

@@ -8,14 +8,14 @@ use std::alloc::Global;
 use std::process::Abort;
 use told_device::Told;
 
-// A reader was asked so often, and that is told.
+// A reader was asked `reads` times, and this is told.
 fn was_read(rt: &impl Abort, input: &Told<Source<'_>>, has_failed: bool, reads: u64) {
     holds(rt, "failure", input.has_failed() == has_failed);
     equal(rt, "reads", input.device().reads, reads);
     equal(rt, "reads that are told", input.reads(), reads);
 }
 
-// A writer was asked so often, and its failure is told.
+// A writer was asked for `writes` writes and `flushes` flushes, and its failure is told.
 fn was_written(rt: &impl Abort, output: &Told<Sink>, has_failed: bool, writes: u64, flushes: u64) {
     holds(rt, "failure", output.has_failed() == has_failed);
     equal(rt, "writes", output.device().writes, writes);

@@ -66,7 +66,7 @@ impl Teller for Fake<'_> {
     }
 }
 
-// Lets so many turns pass, each of them once, and only when as many questions were asked: right before its own.
+// Lets the first `most` turns pass, each of them once, and only right before its own question: when as many were asked.
 #[derive(Drop)]
 struct Turns<'a> {
     most: u64,
@@ -83,7 +83,7 @@ impl Gate for Turns<'_> {
         let (_build, turn) = (build, turn as u64);
         let passed = self.passed.load(Ordering::SeqCst);
         let is_next = turn == passed && turn == self.asked.load(Ordering::SeqCst);
-        // Once a turn was asked for that is not the next, none passes.
+        // Once a turn was asked for that is not the next, no turn passes.
         let after = if is_next {
             passed.saturating_add(1)
         } else {

@@ -25,7 +25,7 @@ pub(crate) fn done<S: PageStore>(rt: &impl Abort, host: &mut Host<S>, number: u8
     ask(rt, host, number, cmd, Ok(Reply::Done));
 }
 
-/// An undo reverses an act of that kind, and leaves so many open.
+/// An undo reverses an act of that kind, and leaves `left` acts open.
 pub(crate) fn undone<S: PageStore>(
     rt: &impl Abort,
     host: &mut Host<S>,
@@ -42,7 +42,7 @@ pub(crate) fn counted(rt: &impl Abort, answer: Result<u16, Refusal>, want: Resul
     holds(rt, "counted", answer == want);
 }
 
-/// So many pages are free.
+/// `count` pages are free.
 pub(crate) fn free<S: PageStore>(rt: &impl Abort, host: &Host<S>, count: u16) {
     equal(rt, "free pages", host.free_count() as u64, count as u64);
 }

@@ -1,4 +1,4 @@
-//! Hosts of which no build has done anything, over either store.
+//! Hosts on which no build has done anything, over either store.
 ghost use Rattle.std.specs.Prelude.{◌≡◌, true, length, replicate};
 ghost use Rattle.granule_addr.specs.Page.{zero_page};
 
@@ -9,7 +9,7 @@ use realm_host::{Host, Settings};
 use std::alloc::Global;
 use std::process::Abort;
 
-/// A host over a plain store of so many pages.
+/// A host over a plain store of `pages` pages.
 pub(crate) fn plain(rt: &impl Abort, alloc: Global, pages: u16, builds: u8) -> Host<PlainStore> {
     match PlainStore::build(alloc, pages) {
         Ok(store) => boot(rt, alloc, store, builds),
@@ -17,7 +17,7 @@ pub(crate) fn plain(rt: &impl Abort, alloc: Global, pages: u16, builds: u8) -> H
     }
 }
 
-/// A host over an arena of so many pages.
+/// A host over an arena of `pages` pages.
 pub(crate) fn arena(rt: &impl Abort, alloc: Global, pages: u16, builds: u8) -> Host<BuddyArena> {
     match BuddyArena::build(alloc, pages) {
         Ok(store) => boot(rt, alloc, store, builds),

@@ -1,8 +1,8 @@
 //! Worked values of stores, of what the monitor stands on, and of the host.
 //!
-//! Of both stores of pages: sizes, blocks, bytes, and how many orders a call of the arena looks at. Of the monitor: the numbers of
-//! a machine, the words of results and of table entries, and the bytes that are measured. Of the host, over both stores: calls that no
-//! plan makes, or whose answers no plan prints.
+//! For both stores of pages: sizes, blocks, bytes, and how many orders a call of the arena looks at. For the monitor:
+//! the numbers of a machine, the words of results and of table entries, and the bytes that are measured. For the host,
+//! over both stores: calls that no plan makes, or whose answers no plan prints.
 //!
 //! The expected values are worked out by hand or by another tool, since a proof cannot see a mistake that a definition and the
 //! code share. What the monitor's commands answer, and what they leave in their pages, is in `traces/`.

@@ -17,14 +17,14 @@ fn delegates<S: PageStore>(rt: &impl Abort, host: &mut Host<S>, page: u16) {
     calls::done(rt, host, 0, Cmd::Delegate { page });
 }
 
-// The mark of build 0, which has so many acts open.
+// The mark of build 0, which has `length` acts open.
 fn marks<S: PageStore>(rt: &impl Abort, host: &mut Host<S>, length: u16) -> Mark {
     let mark = host.mark(build(0)).expect(rt, "a mark");
     calls::counted(rt, Ok(mark.length()), Ok(length));
     mark
 }
 
-// A build is told so of the way back, and goes it.
+// A build is told how far the way back is, and goes it.
 fn goes_back<S: PageStore>(
     rt: &impl Abort,
     host: &mut Host<S>,

@@ -17,7 +17,7 @@ fn level(rt: &impl Abort, number: u8) -> Level {
     Level::new(number).expect(rt, "a level")
 }
 
-// The last number of each kind, and the first that is none.
+// The last number of each kind, and the first that is out of range.
 #[test]
 fn ends_of_ranges(rt: HostRuntime) {
     holds(&rt, "granule 4095", Gran::new(4095, 4096).is_some());
@@ -77,7 +77,7 @@ fn entries(rt: HostRuntime) {
     covers(&rt, ipa, level(&rt, 3), 7);
 }
 
-// A width has so many starting tables, and this is its first IPA granule that is not protected.
+// A width has `tables` starting tables, and its first IPA granule that is not protected is `unprotected`.
 fn is_width(rt: &impl Abort, number: u8, tables: u64, unprotected: u32) {
     let width = IpaWidth::new(number).expect(rt, "a width");
     equal(rt, "tables", width.start_count() as u64, tables);

@@ -144,7 +144,8 @@ fn a_walk_is_read<S: PageStore + Drop>(rt: &impl Abort, mut host: Host<S>) {
     row_is_read(rt, &host, SECOND + 1029, Level::last(), gone, 524_288);
 }
 
-// A build has so many acts open, the first a take of two pages, the last the delegation of granule 1; it is in abort or not.
+// Build 0 has three acts open, the first a take of two pages, the last the delegation of granule 1; it is in abort or
+// not.
 fn open_is_read<S: PageStore>(rt: &impl Abort, host: &Host<S>, is_aborting: bool) {
     let acts = host.open_acts(build(0));
     let order = Order::new(1).unwrap();

@@ -13,7 +13,7 @@ fn has_bad_size<S: Drop>(rt: &impl Abort, built: Result<S, BuildError>) {
     holds(rt, "no store", matches!(built, Err(BuildError::BadSize)));
 }
 
-// There is a store of so many pages, and all are free.
+// There is a store of `pages` pages, and all are free.
 fn has_pages<S: PageStore + Drop>(rt: &impl Abort, store: Result<S, BuildError>, pages: u16) {
     let store = built(rt, store);
     equal(rt, "pages", store.pages() as u64, pages as u64);

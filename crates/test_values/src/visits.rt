@@ -5,12 +5,12 @@ use buddy::BuddyArena;
 use page_arena::PageStore;
 use std::process::Abort;
 
-// The last call looked at so many orders.
+// The last call looked at `count` orders.
 fn visited(rt: &impl Abort, arena: &BuddyArena, count: u64) {
     equal(rt, "visits", arena.visits() as u64, count);
 }
 
-// A page is taken and given back, and each call looks at so many orders.
+// A page is taken and given back, and each call looks at `count` orders.
 #[tactic(auto, using(page_arena::specs::Blocks::taken_block))]
 fn comes_and_goes(rt: &impl Abort, arena: &mut BuddyArena, count: u64) {
     let one = order(0);
