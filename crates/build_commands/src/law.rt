@@ -12,7 +12,7 @@ pub fn act_is_that_of_its_command()
     ensures { (cmd : Cmd) (granules : List ℕ) (picked : Picked) (act : Act) → ActIsOfCommand cmd granules picked act }
 {}
 
-/// Where what was picked is what is there, what the act says of it fits.
+/// Where what was picked is there, what the act says of it fits.
 pub fn act_fits_what_is_there()
     ensures { (cmd : Cmd) (granules : List ℕ) (picked : Picked) (act : Act) (realm : Option Seen) (cells : List Seen) → ActFits cmd granules picked act realm cells }
 {}

@@ -14,7 +14,7 @@ use Rattle.builders.specs.Start.{IsOfStart}
 abbrev pub seats_of : ℕ → List SeatView → ℕ
 seats_of build seats = length (filter (λ seat. seat.build == build) seats)
 
--- of each build of a host there is one seat
+-- each build of a host has exactly one seat
 unfoldable pub AreSeatsWhole : ℕ → List SeatView → Type 0
 AreSeatsWhole builds seats = (build : ℕ) → build < builds → seats_of build seats ≡ 1
 

@@ -11,7 +11,7 @@ rmitrace_alone = program_named (codes "rmitrace")
 unfoldable pub rmitrace : App
 rmitrace = with_subcommand (with_subcommand rmitrace_alone (new_app (codes "answer")).top) (new_app (codes "check")).top
 
--- by what `clap` says of the words' subcommand
+-- what the words ask for, by what `clap` says of their subcommand
 abbrev pub IsTraceSubcommand : Option (Text × List Row) → Asked → Type 0
 IsTraceSubcommand None asked = ⊥
 IsTraceSubcommand (Some found) Answer = found.0 ≡ codes "answer"

@@ -5,8 +5,8 @@
 //! numbers run from 0 in the order of taking. The reverse of the take removes it again. Memory is taken by `build`
 //! alone, and no later call fails. The caller sees to it that a block that is pushed has room.
 //!
-//! `Holders` tells by a granule's number whether a build leases it, so that no stack is looked through. It is 2 bytes a
-//! page, taken at boot.
+//! `Holders` tells by a granule's number whether a build leases it, so that no stack is searched. It is 2 bytes a page,
+//! taken at boot.
 //!
 //! The pool of VMIDs tells the lowest one that is free; a VMID is claimed, and given back.
 #![tactic(auto)]

@@ -33,7 +33,7 @@ drawn_line orders = codes "orders drawn " ++ (decimal orders ++ 10 ∷ [])
 abbrev pub shown_text : ℕ → ℕ → List ℕ → List ℕ
 shown_text orders count first = if count == orders then codes " in all\n" else codes " in " ++ (decimal count ++ (codes ", " ++ (order_text first ++ 10 ∷ [])))
 
--- of whole orders: whether any step was refused, and in how many
+-- what is said of whole orders, by whether any step was refused
 abbrev pub whole_words : Bool → List ℕ
 whole_words true = codes "some step refused"
 whole_words false = codes "no step refused"
@@ -89,10 +89,10 @@ totals_text plan totals =
     ++ (flat_map (build_lines plan totals) (range_with_len 0 (length plan.builds))
     ++ (flat_map (smooth_lines totals.orders totals.smooth.items) (range_with_len 0 (length plan.builds)) ++ flat_map (map_lines totals.orders) totals.maps.items))
 
--- of all orders, or of the first ones
+-- what all orders come to, or the first ones
 abbrev pub orders_text : Plan → Totals → Bool → List ℕ
 orders_text plan totals is_whole = orders_line totals.orders is_whole ++ totals_text plan totals
 
--- of orders that were drawn
+-- what orders that were drawn come to
 abbrev pub drawn_text : Plan → Totals → List ℕ
 drawn_text plan totals = drawn_line totals.orders ++ totals_text plan totals

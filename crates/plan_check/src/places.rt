@@ -107,7 +107,7 @@ impl Places {
         Ok(())
     }
 
-    /// Adds a build, of which no step is known yet.
+    /// Adds a build whose steps are not known yet.
     pub fn add_build(&mut self, at: usize) -> Result<(), AllocError> {
         let first = self.steps.len();
         self.builds.push(BuildPlace {

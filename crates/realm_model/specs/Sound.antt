@@ -53,7 +53,7 @@ pub record IsFull (width : ℕ) (rows : ℕ × ℕ → Option Mapping) : Type 0 
   pub root : (ipa : ℕ) → ipa < served_space width → is_some (rows (1, first_covered 1 ipa)) ≡ true
   pub tables : (level ipa : ℕ) → is_table_kind (rows (level, first_covered level ipa)) ≡ true → is_some (rows (level + 1, first_covered (level + 1) ipa)) ≡ true
 
--- in a realm of that width the rows that cover an unprotected IPA granule are UNASSIGNED and EMPTY, and a TABLE row counts as EMPTY
+-- in a realm of that width, rows of unprotected IPA granules are UNASSIGNED and EMPTY, and TABLE rows count as EMPTY
 pub record HasEmptyRows (width : ℕ) (rows : Rows) : Type 0 where
   pub unprotected : (level ipa : ℕ) (row : Row) → is_protected_at ipa width ≡ false → row_at rows level ipa ≡ Some row → row ≡ unassigned Empty
   pub tables : (place : ℕ × ℕ) (row : Row) → get rows place ≡ Some row → is_table row ≡ true → row.ripas ≡ Empty

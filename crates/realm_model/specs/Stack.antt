@@ -9,6 +9,6 @@ unfoldable pub pushed : List Act → Act → List Act
 pushed stack act =
     cond (is_paired act) (stack ++ act ∷ []) (cond (is_reverse act) (take (length stack - 1) stack) stack)
 
--- what nothing matches is what is left on the stack
+-- the acts that nothing matches are those that are left on the stack
 abbrev pub MatchingIsAStack : List Act → Type 0
 MatchingIsAStack acts = unmatched acts ≡ fold pushed [] acts

@@ -92,7 +92,7 @@ fn width_look(width: u8) -> Look
     )
 }
 
-// The RD is none of the starting tables.
+// The RD is not one of the starting tables.
 fn apart_look(rd: Gran, tables: &[Gran]) -> Look
     ensures { result ≡ apart_look rd tables.now }
 {

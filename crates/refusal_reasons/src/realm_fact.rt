@@ -10,7 +10,7 @@ pub enum RealmFact {
     Adjacent,
     /// The first starting table is a multiple of their count, which is this.
     Multiple(usize),
-    /// The RD is none of the starting tables.
+    /// The RD is not one of the starting tables.
     Apart,
     /// The realm is in the first state, which is wanted; the second is the one that was found.
     State(RealmState, Option<RealmState>),

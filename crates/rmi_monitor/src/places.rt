@@ -71,7 +71,7 @@ pub(crate) fn are_delegated(granules: &GranuleTable, all: &[Gran]) -> bool
     true
 }
 
-// Whether a granule is none of the others.
+// Whether a granule is not one of the others.
 pub(crate) fn is_apart(granule: Gran, others: &[Gran]) -> bool
     ensures { result ≡ is_apart_from granule others.now }
 {

@@ -37,11 +37,11 @@ pub record Keeps (rd : ℕ) (root : Root) (pages : List (List ℕ)) (free : List
   pub tables : HasTables new_pages new_granules rd root
   pub rest : KeepsRest rd pages free granules new_pages new_free new_granules
 
--- A page that is none of the realm's tables is as it was.
+-- A page that is not one of the realm's tables is as it was.
 abbrev pub ChangesTablesOnly : Root → List (List ℕ) → List (List ℕ) → Type 0
 ChangesTablesOnly root pages new_pages = (granule : ℕ) → ¬ (IsTableOf pages root granule) → page_at new_pages granule ≡ page_at pages granule
 
--- A page that is none of the realm's tables is as it was, but for one more page.
+-- A page that is not one of the realm's tables is as it was, but for one more page.
 abbrev pub ChangesTablesAnd : (ℕ → Type 0) → Root → List (List ℕ) → List (List ℕ) → Type 0
 ChangesTablesAnd IsOneMore root pages new_pages =
     (granule : ℕ) → ¬ (IsOneMore granule) → ¬ (IsTableOf pages root granule) → page_at new_pages granule ≡ page_at pages granule

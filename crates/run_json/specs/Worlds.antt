@@ -23,7 +23,7 @@ world_granule host granule = if nat_lt granule 4096 && nat_lt granule host.limit
 abbrev pub granules_text : HostView → List ℕ
 granules_text host = flat_map (world_granule host) (range_with_len 0 host.limits.pages)
 
--- a build's page: its granule, and the sum of its bytes; there is none behind the last
+-- a build's page: its granule, and the sum of its bytes; null where there is no such page
 abbrev pub page_object : Option ℕ → Option ℕ → List ℕ
 page_object (Some granule) (Some total) = codes "{\"granule\":" ++ (decimal granule ++ (codes ",\"sum\":" ++ (decimal total ++ codes "}")))
 page_object _ _ = codes "null"

@@ -194,7 +194,7 @@ fn work_together<R: Threads + Wait + Abort + Sync, G: Gate + Sync, L: Ledgers + 
     Outcome { ends, reports, map }
 }
 
-// As `work_together`, on a host of which no build has done anything.
+// As `work_together`, on a host on which no build has done anything.
 fn boot_and_work<R: Threads + Wait + Abort + Sync, G: Gate + Sync>(
     rt: &R,
     alloc: Global,

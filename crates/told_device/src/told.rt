@@ -29,7 +29,7 @@ impl<D> Model for Told<D> {
 }
 
 impl<D> Told<D> {
-    /// A device of which no call has failed.
+    /// A device whose calls have not failed.
     pub fn new(device: D) -> Told<D>
         ensures { result ≡ record { device = device; failed = false; reads = 0 } }
     {

@@ -18,7 +18,7 @@ use Rattle.trace_program.specs.declared.checking.Verdict.TheVariants.{Agree, NoA
 
 -- ---- one line
 
--- the answer that a line has; what stands in a remark is none
+-- the answer that a line has; a remark has none
 abbrev pub stated_with : List ℕ → Line → Option (List ℕ)
 stated_with bytes line.Remark = None
 stated_with bytes _ = answer_in (text_of bytes)
