@@ -31,7 +31,8 @@ impl<L: Ledgers> Model for Worker<L> {
 
     ghost view = { λ w. record { seat = w.seat; steps = w.steps.items; lines = w.report.lines.items; ended = w.ended } };
 
-    ghost invariant = { λ w. IsFaithful L.opened (record { seat = w.seat; steps = w.steps.items; lines = w.report.lines.items; ended = w.ended }) × (w.report.build ≡ w.seat.build) × (vec_len w.steps ≤ 1024) × (2 * vec_len w.steps + 1 ≤ vec_capacity w.report.lines) };
+    ghost invariant = { λ w. IsFaithful L.opened (record { seat = w.seat; steps = w.steps.items; lines = w.report.lines.items; ended = w.ended })
+        × (w.report.build ≡ w.seat.build) × (vec_len w.steps ≤ 1024) × (2 * vec_len w.steps + 1 ≤ vec_capacity w.report.lines) };
 }
 
 impl<L: Ledgers> Worker<L> {

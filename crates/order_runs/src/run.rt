@@ -3,7 +3,8 @@ ghost use Rattle.std.specs.Prelude.{◌≡◌, ◌^◌, ◌<◌, ◌↔◌, IsTr
 ghost use Rattle.std.specs.Bool.{OnTrue, OnFalse, MatchBool};
 ghost use Rattle.realm_plan.specs.PlanView.{plan_view};
 ghost use Rattle.plan_runs.specs.Run.{place_of};
-ghost use Rattle.order_runs.specs.Chosen.{has_left, builds_left, lowest_of, refusal_in, IsOpen, Stage, IsStageTurn, AreChosen, first_stage, IsChosenRun, IsLowestAfter, GoesOnTo, CannotBeKept, stage_at};
+ghost use Rattle.order_runs.specs.Chosen.{has_left, builds_left, lowest_of, refusal_in, IsOpen, Stage, IsStageTurn, AreChosen};
+ghost use Rattle.order_runs.specs.Chosen.{first_stage, IsChosenRun, IsLowestAfter, GoesOnTo, CannotBeKept, stage_at};
 ghost use Rattle.order_runs.specs.TurnsLeft.{AreSteady, turns_left};
 
 use crate::choice::Choice;

@@ -33,7 +33,8 @@ pub fn take_turn<'a, S: PageStore>(
     build: usize,
 ) -> Option<(&'a PlanStep, TurnAnswer)>
     requires { build < vec_len plan.now.builds }
-    ensures { IsTurn (plan_view plan.now) (record { host = host.old; places = places.old }) (record { build = build; told = option_map (λ told. (told.0.now, told.1)) result }) (record { host = host.new; places = places.new }) }
+    ensures { IsTurn (plan_view plan.now) (record { host = host.old; places = places.old })
+        (record { build = build; told = option_map (λ told. (told.0.now, told.1)) result }) (record { host = host.new; places = places.new }) }
 {
     let mut place = places[build];
     let step = step_after(plan, build, place.done)?;
@@ -52,7 +53,8 @@ fn turn<S: PageStore>(
     text: &mut String,
 ) -> Result<(), AllocError>
     requires { build < vec_len plan.now.builds }
-    ensures { OnOk result (IsToldTurn (plan_view plan.now) (record { host = host.old; places = places.old }) build (record { host = host.new; places = places.new }) (string_bytes text.old) (string_bytes text.new)) }
+    ensures { OnOk result (IsToldTurn (plan_view plan.now) (record { host = host.old; places = places.old }) build
+        (record { host = host.new; places = places.new }) (string_bytes text.old) (string_bytes text.new)) }
 {
     match take_turn(host, plan, places, build) {
         Some((step, answer)) => push_turn(text, id_of(build), step, answer),

@@ -9,7 +9,11 @@
 --     fresh, all_room      a new row, with no item;  the whole row is room
 --     closed, Rest, one_back, PairRest, pair_back      the row behind a `&mut`, with other items: all of them, all but one, all but two
 --     Others           the tokens of the parameters' lifetimes
-use Rattle.raw_pages.proofs.Steps.{◌≡◌, refl, sym, ap, ◌∙◌, List, [], ◌∷◌, ◌++◌, ℕ, zero, suc, ◌+◌, ◌-◌, ◌*◌, ◌<◌, ◌≤◌, ◌^◌, arith, length, get_or, set, length-set, Ura, full_share, ent, sep, never, sem, Logic, Lft, Fml, Ty, Val, ftrue, fsep, froom, ty_array, vstruct, vcons, vnil, ‵, ◌⊛◌, given, learn, ◌$◌, ◌∵◌, !, qed, done, by, drop, move, use0, use1, use2, use3, split, split3, fsplit, fjoin, rewrite, RattleType, Array, part_at, shared_of, each_shared, Ptr, block_ptr, null_ptr, ptr_val, room_for, ◌+ₚ◌, mem, cell_at, fpack, flft, Item}
+use Rattle.raw_pages.proofs.Steps.{◌≡◌, refl, sym, ap, ◌∙◌, List, [], ◌∷◌, ◌++◌, ℕ, zero, suc, ◌+◌, ◌-◌, ◌*◌, ◌<◌, ◌≤◌, ◌^◌, arith, length}
+use Rattle.raw_pages.proofs.Steps.{get_or, set, length-set, Ura, full_share, ent, sep, never, sem, Logic, Lft, Fml, Ty, Val, ftrue}
+use Rattle.raw_pages.proofs.Steps.{fsep, froom, ty_array, vstruct, vcons, vnil, ‵, ◌⊛◌, given, learn, ◌$◌, ◌∵◌, !, qed, done, by, drop}
+use Rattle.raw_pages.proofs.Steps.{move, use0, use1, use2, use3, split, split3, fsplit, fjoin, rewrite, RattleType, Array, part_at, shared_of}
+use Rattle.raw_pages.proofs.Steps.{each_shared, Ptr, block_ptr, null_ptr, ptr_val, room_for, ◌+ₚ◌, mem, cell_at, fpack, flft, Item}
 use native.Mathlib.Nat.{zero-mul, suc-mul}
 use lib.ListN.{length-append}
 use base.Logic.{emp, fst∗}

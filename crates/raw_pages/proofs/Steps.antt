@@ -14,9 +14,12 @@ pub use mir.Val.{Val, vptr, vint, vunit, vstruct, vcons, vnil, of_list}
 pub use types.Logic.{Logic, sem}
 pub use contract.Monad.{fact}
 pub use contract.Running.{tables}
-pub use types.Kit.{Item, Goal, Seq, Step, step, ‵, raw, ◌⊛◌, some, given, later, prop, at_ret, ◌$◌, ◌∵◌, !, qed, by, done, move, keep, drop, use0, use1, use2, use3, split, split3, join, group, fsplit, fsplit3, fjoin, fjoin3, fpick, fpack, feq_i, feq_l, flt_i, flt_l, pick, learn, await, rewrite, regoal, suffices, frame}
+pub use types.Kit.{Item, Goal, Seq, Step, step, ‵, raw, ◌⊛◌, some, given, later, prop, at_ret, ◌$◌, ◌∵◌, !, qed, by, done}
+pub use types.Kit.{move, keep, drop, use0, use1, use2, use3, split, split3, join, group, fsplit, fsplit3, fjoin, fjoin3}
+pub use types.Kit.{fpick, fpack, feq_i, feq_l, flt_i, flt_l, pick, learn, await, rewrite, regoal, suffices, frame}
 pub use types.Part.{whole, sub, agg}
-pub use types.Run.{enter, of_opd, lit, unit_lit, bin, size_lit, size_word, align_word, addr, load, look, store, init, stop, fld, hop, no_more, and_then, assigns, assigns_last, first, blocks, branches, skips, exec, returns, returns_within, well_typed, switches_on}
+pub use types.Run.{enter, of_opd, lit, unit_lit, bin, size_lit, size_word, align_word, addr, load, look, store, init, stop, fld, hop, no_more}
+pub use types.Run.{and_then, assigns, assigns_last, first, blocks, branches, skips, exec, returns, returns_within, well_typed, switches_on}
 pub use types.ByLocal.{alloc_all, pass_all, free_all, look_at, get, get_in, get_tag, through, sets, sets_last, lands_as, lands_last, take_at, give_at, is, env}
 pub use denote.Exit.{yes, no}
 pub use denote.RattleType.{RattleType}

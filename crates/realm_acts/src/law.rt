@@ -30,7 +30,8 @@ pub fn what_is_performed_is_a_step()
 /// The monitor does not refuse the reverse of the newest act that a build has open, unless that act made a REC that
 /// runs.
 pub fn newest_is_accepted()
-    ensures { (limits : Limits) (history : List Event) (world : World) (monitor : MonitorView) (build : ℕ) (act back : Act) (place : Place) → NewestIsAccepted limits history world monitor build act back place }
+    ensures { (limits : Limits) (history : List Event) (world : World) (monitor : MonitorView) (build : ℕ) (act back : Act) (place : Place)
+        → NewestIsAccepted limits history world monitor build act back place }
 {}
 
 /// The REC that is taken away has the granule that its act names.
@@ -55,5 +56,6 @@ pub fn recs_are_open_acts()
 
 /// The VMIDs in use after an act are those before it, with that of a realm that is made, and without that of one that ends.
 pub fn vmids_follow_steps()
-    ensures { (limits : Limits) (history : List Event) (world : World) (build : ℕ) (act : Act) (next : World) → IsLegal limits history → replay limits history ≡ Some world → VmidsFollowSteps limits history world build act next }
+    ensures { (limits : Limits) (history : List Event) (world : World) (build : ℕ) (act : Act) (next : World)
+        → IsLegal limits history → replay limits history ≡ Some world → VmidsFollowSteps limits history world build act next }
 {}

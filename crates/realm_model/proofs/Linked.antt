@@ -12,7 +12,8 @@ use Rattle.realm_model.specs.declared.states.Ripas.{Ripas}
 use Rattle.realm_model.specs.declared.states.Ripas.TheVariants.{Ram}
 use Rattle.realm_model.specs.declared.states.RecState.TheVariants.{Ready, Running}
 use Rattle.realm_model.specs.declared.act.Act.{Act}
-use Rattle.realm_model.specs.declared.act.Act.TheVariants.{Take, UnTake, Fill, Peek, Delegate, Undelegate, Realm, UnRealm, Activate, Rtt, UnRtt, Ripas as ToRam, Data, Unknown, UnData, Rec, UnRec, Enter, Exit, Poke}
+use Rattle.realm_model.specs.declared.act.Act.TheVariants.{Take, UnTake, Fill, Peek, Delegate, Undelegate, Realm, UnRealm, Activate, Rtt}
+use Rattle.realm_model.specs.declared.act.Act.TheVariants.{UnRtt, Ripas as ToRam, Data, Unknown, UnData, Rec, UnRec, Enter, Exit, Poke}
 use Rattle.realm_model.specs.declared.act.Event.{Event}
 use Rattle.realm_model.specs.Rows.{Row, unassigned, assigned, put_row, with_table, without_table, with_ram, unmapped_ripas, is_unassigned}
 use Rattle.realm_model.specs.Machine.{Limits, RecRow, RealmRow, Cell, Seen, numbers_of, left, held, cell_at, seen}

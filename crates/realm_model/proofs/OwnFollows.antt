@@ -14,7 +14,8 @@ use Rattle.realm_model.specs.declared.states.RecState.TheVariants.{Ready}
 use Rattle.realm_model.specs.declared.states.Ripas.TheVariants.{Ram}
 use Rattle.arrayvec.specs.declared.array_vec.ArrayVec.{ArrayVec}
 use Rattle.realm_model.specs.declared.act.Act.{Act}
-use Rattle.realm_model.specs.declared.act.Act.TheVariants.{Take, UnTake, Fill, Peek, Delegate, Undelegate, Realm, UnRealm, Activate, Rtt, UnRtt, Ripas as ToRam, Data, Unknown, UnData, Rec, UnRec, Enter, Exit, Poke}
+use Rattle.realm_model.specs.declared.act.Act.TheVariants.{Take, UnTake, Fill, Peek, Delegate, Undelegate, Realm, UnRealm, Activate, Rtt}
+use Rattle.realm_model.specs.declared.act.Act.TheVariants.{UnRtt, Ripas as ToRam, Data, Unknown, UnData, Rec, UnRec, Enter, Exit, Poke}
 use Rattle.realm_model.specs.declared.act.Event.{Event}
 use Rattle.realm_model.specs.Rows.{Rows, assigned, unassigned, unmapped_ripas, Walk, walk}
 use Rattle.realm_model.specs.Machine.{Limits, RecRow, RealmRow, Machine, Seen, numbers_of, left, held, cell_at, seen}
@@ -37,7 +38,8 @@ use Rattle.realm_model.proofs.OwnsSame.{cell_itself, own_chain, own_turned}
 use Rattle.realm_model.proofs.Unpaired.{own_step}
 use Rattle.realm_model.proofs.Reversal.{seen_numbers}
 use Rattle.realm_model.proofs.LookSame.{LookSame, both_insert, both_remove, both_put, both_with_table, both_without_table}
-use Rattle.realm_model.proofs.Alike.{IsAlike, alike_put, alike_lease, alike_free, alike_more, alike_seen, alike_lefts, own_alike, Agree, Agree-Ok, Agree-Err, Agree-check, Agree-with_realm, Agree-with_rec, Agree-with_granule, Agree-with_end}
+use Rattle.realm_model.proofs.Alike.{IsAlike, alike_put, alike_lease, alike_free, alike_more, alike_seen, alike_lefts, own_alike, Agree}
+use Rattle.realm_model.proofs.Alike.{Agree-Ok, Agree-Err, Agree-check, Agree-with_realm, Agree-with_rec, Agree-with_granule, Agree-with_end}
 
 -- ---- the realm of a build in both worlds
 

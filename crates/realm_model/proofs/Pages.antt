@@ -21,7 +21,8 @@ use Rattle.realm_model.specs.Undoing.{by}
 use Rattle.realm_model.proofs.Leases.{lease_same, leased_from, in_leased, leased_all, leased}
 use Rattle.realm_model.proofs.Reached.{sized_reached, of_legal, clean_reached}
 use Rattle.realm_model.specs.Command.Check.{is_in}
-use Rattle.realm_model.proofs.Lists.{is_in_at, in_from_Contains, AllPairs-from_distinct, AllDistinct-append, AllDistinct, Contains-from_in, AllDistinct-range, length-le_distinct, AllDistinct_parts, is_in-append}
+use Rattle.realm_model.proofs.Lists.{is_in_at, in_from_Contains, AllPairs-from_distinct, AllDistinct-append, AllDistinct}
+use Rattle.realm_model.proofs.Lists.{Contains-from_in, AllDistinct-range, length-le_distinct, AllDistinct_parts, is_in-append}
 use Rattle.realm_model.proofs.Stack.{paired, pushed_other, back, kind, pushed_paired, other}
 use Rattle.realm_model.proofs.Growth.{takes_away, TakesAway, open_entries-own, open_entries-other}
 use Rattle.realm_model.proofs.StepSays.{step_is}

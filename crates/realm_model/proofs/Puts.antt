@@ -3,7 +3,8 @@ use Rattle.std.proofs.Common.{◌≡◌, ℕ, Bool, true, false, List, map, Opti
 use Rattle.std.specs.List.{list_all}
 use Rattle.granule_addr.specs.Root.{starting_tables}
 use Rattle.realm_model.specs.declared.act.Act.{Act}
-use Rattle.realm_model.specs.declared.act.Act.TheVariants.{Take, UnTake, Fill, Peek, Delegate, Undelegate, Realm, UnRealm, Activate, Rtt, UnRtt, Ripas, Data, Unknown, UnData, Rec, UnRec, Enter, Exit, Poke}
+use Rattle.realm_model.specs.declared.act.Act.TheVariants.{Take, UnTake, Fill, Peek, Delegate, Undelegate, Realm, UnRealm, Activate}
+use Rattle.realm_model.specs.declared.act.Act.TheVariants.{Rtt, UnRtt, Ripas, Data, Unknown, UnData, Rec, UnRec, Enter, Exit, Poke}
 use Rattle.realm_model.specs.declared.states.GranuleState.TheVariants.{RecAux, Rtt as InRtt}
 use Rattle.realm_model.specs.Machine.{Limits, Machine, Seen, seen, left, held}
 use Rattle.realm_model.specs.Act.{named}

@@ -24,8 +24,11 @@ use Rattle.realm_model.specs.declared.states.Ripas.{Ripas}
 use Rattle.realm_model.specs.declared.states.Ripas.TheVariants.{Ram, Empty}
 use Rattle.realm_model.specs.declared.rmi.Rmi.{Rmi}
 use Rattle.realm_model.specs.declared.act.Act.{Act}
-use Rattle.realm_model.specs.declared.act.Act.TheVariants.{Take, UnTake, Fill, Peek, Delegate, Undelegate, Realm, UnRealm, Activate, Rtt, UnRtt, Ripas as ToRam, Data, Unknown, UnData, Rec, UnRec, Enter, Exit, Poke}
-use Rattle.realm_model.specs.Rows.{Row, row_at, put_row, assigned, unassigned, unmapped_ripas, with_table, without_table, root_rows, is_unassigned, is_assigned, is_table, is_table_unused, place_cmp, is_table_place, has_root_table, is_unassigned_state, is_assigned_state, is_table_state}
+use Rattle.realm_model.specs.declared.act.Act.TheVariants.{Take, UnTake, Fill, Peek, Delegate, Undelegate, Realm, UnRealm, Activate, Rtt}
+use Rattle.realm_model.specs.declared.act.Act.TheVariants.{UnRtt, Ripas as ToRam, Data, Unknown, UnData, Rec, UnRec, Enter, Exit, Poke}
+use Rattle.realm_model.specs.Rows.{Row, row_at, put_row, assigned, unassigned, unmapped_ripas, with_table, without_table}
+use Rattle.realm_model.specs.Rows.{root_rows, is_unassigned, is_assigned, is_table, is_table_unused, place_cmp}
+use Rattle.realm_model.specs.Rows.{is_table_place, has_root_table, is_unassigned_state, is_assigned_state, is_table_state}
 use Rattle.realm_model.specs.Machine.{Limits, RecRow, RealmRow, Cell, Machine, Seen, numbers_of, left, held, held as held_cell, cell_at, seen}
 use Rattle.realm_model.specs.Update.{Update, Put, granule_of}
 use Rattle.realm_model.specs.Command.Check.{error_input, check, is_undelegated, is_delegated, is_ready, is_protected, error_rec, is_in}

@@ -9,7 +9,8 @@ use Rattle.realm_model.specs.declared.states.EntryState.TheVariants.{Unassigned,
 use Rattle.realm_model.specs.declared.states.Ripas.{Ripas}
 use Rattle.realm_model.specs.declared.states.Ripas.TheVariants.{Empty, Destroyed}
 use Rattle.realm_model.specs.declared.states.EntryState.{EntryState}
-use Rattle.realm_model.specs.Rows.{Row, Rows, place_cmp, put_rows, drop_rows, put_row, with_table, without_table, with_ram, root_rows, unassigned, table, is_table, is_unassigned, is_table_unused, all_rows, has_root_table, is_table_state}
+use Rattle.realm_model.specs.Rows.{Row, Rows, place_cmp, put_rows, drop_rows, put_row, with_table, without_table, with_ram, root_rows}
+use Rattle.realm_model.specs.Rows.{unassigned, table, is_table, is_unassigned, is_table_unused, all_rows, has_root_table, is_table_state}
 use Rattle.realm_model.specs.Ownership.{mapping_of_row, Mapping, mapping}
 use Rattle.realm_model.specs.Sound.{look, IsShaped, is_table_kind, has_table, IsSoundRows, IsPlace}
 use Rattle.realm_model.specs.Roles.{row_target}

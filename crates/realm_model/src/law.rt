@@ -71,7 +71,8 @@ pub fn at_rest_is_none_running()
 
 /// What an accepted event takes of the room of builds.
 pub fn room_is_taken()
-    ensures { (limits : Limits) (history : List Event) (world : World) (event : Event) (next : World) → IsLegal limits history → replay limits history ≡ Some world → RoomIsTaken limits history world event next }
+    ensures { (limits : Limits) (history : List Event) (world : World) (event : Event) (next : World)
+        → IsLegal limits history → replay limits history ≡ Some world → RoomIsTaken limits history world event next }
 {}
 
 /// The room that a build has used is the sum of what its acts took.
@@ -87,7 +88,8 @@ pub fn others_keep_their_room()
 /// Each event of a history without a build is accepted in turn, from nothing on, by a machine with the same limits and
 /// room, where each build can have as many acts open.
 pub fn what_is_left_is_accepted()
-    ensures { (limits : Limits) (capacity most : ℕ) (history : List Event) (world : World) (build : ℕ) → IsLegal limits history → replay limits history ≡ Some world → WhatIsLeftIsAccepted limits capacity most history world build }
+    ensures { (limits : Limits) (capacity most : ℕ) (history : List Event) (world : World) (build : ℕ)
+        → IsLegal limits history → replay limits history ≡ Some world → WhatIsLeftIsAccepted limits capacity most history world build }
 {}
 
 /// The realm of a build is that of its open Realm act.
@@ -102,7 +104,8 @@ pub fn vmids_are_of_open_acts()
 
 /// A paired act can be taken back right after it, which leads back to a world that owns the same.
 pub fn pairs_lead_back()
-    ensures { (limits : Limits) (history : List Event) (world : World) (build : ℕ) (act back : Act) (middle : World) → replay limits history ≡ Some world → PairLeadsBack limits build world act back middle }
+    ensures { (limits : Limits) (history : List Event) (world : World) (build : ℕ) (act back : Act) (middle : World)
+        → replay limits history ≡ Some world → PairLeadsBack limits build world act back middle }
 {}
 
 /// An act that has no reverse, and is no reverse, leads to a world that owns the same.
@@ -112,12 +115,14 @@ pub fn other_acts_own_the_same()
 
 /// What an act makes of ownership is a function of ownership and of the act's fields: worlds that own the same still do after it.
 pub fn ownership_follows()
-    ensures { (limits : Limits) (history past : List Event) (world twin : World) (build : ℕ) (act : Act) (next other : World) → replay limits history ≡ Some world → replay limits past ≡ Some twin → OwnershipFollows limits build act world twin next other }
+    ensures { (limits : Limits) (history past : List Event) (world twin : World) (build : ℕ) (act : Act) (next other : World)
+        → replay limits history ≡ Some world → replay limits past ≡ Some twin → OwnershipFollows limits build act world twin next other }
 {}
 
 /// The newest open act of a build can be undone, whatever others did since, unless it is a REC that runs.
 pub fn newest_can_be_undone()
-    ensures { (limits : Limits) (history : List Event) (world : World) (build : ℕ) (act : Act) → IsLegal limits history → replay limits history ≡ Some world → NewestCanBeUndone limits history build world act }
+    ensures { (limits : Limits) (history : List Event) (world : World) (build : ℕ) (act : Act)
+        → IsLegal limits history → replay limits history ≡ Some world → NewestCanBeUndone limits history build world act }
 {}
 
 /// Where nothing of a build is open, the world is that of the history without it.
@@ -137,7 +142,9 @@ pub fn builds_stay_at_rest()
 
 /// From the begin of an abort to its end each undo is accepted, whatever others do, and then the build leaves no trace.
 pub fn aborts_go_on()
-    ensures { (limits : Limits) (history later : List Event) (build : ℕ) (begun world : World) → IsLegal limits (history ++ later) → replay limits history ≡ Some begun → replay limits (history ++ later) ≡ Some world → AbortGoesOn limits history later build begun world }
+    ensures { (limits : Limits) (history later : List Event) (build : ℕ) (begun world : World)
+        → IsLegal limits (history ++ later) → replay limits history ≡ Some begun → replay limits (history ++ later) ≡ Some world
+        → AbortGoesOn limits history later build begun world }
 {}
 
 /// A mark stands when it is made.

@@ -63,7 +63,8 @@ fn explain_turn<S: PageStore>(
     text: &mut String,
 ) -> Result<(), AllocError>
     requires { build < vec_len plan.now.builds }
-    ensures { OnOk result (IsExplainedTurn (plan_view plan.now) (record { host = host.old; places = places.old }) build (record { host = host.new; places = places.new }) (string_bytes text.old) (string_bytes text.new)) }
+    ensures { OnOk result (IsExplainedTurn (plan_view plan.now) (record { host = host.old; places = places.old }) build
+        (record { host = host.new; places = places.new }) (string_bytes text.old) (string_bytes text.new)) }
 {
     let id = id_of(build);
     let mut place = places[build];

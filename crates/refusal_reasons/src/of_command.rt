@@ -1,6 +1,7 @@
 //! The checks of the commands, each in its order. RMM 1.0, RMI commands.
 ghost use Rattle.std.specs.Prelude.{◌≡◌, ◌++◌, ◌≤◌, OnOk, length};
-ghost use Rattle.refusal_reasons.specs.Commands.{above_of, take_looks, rtt_create_looks, init_ripas_looks, data_create_looks, unknown_looks, guest_write_looks, enter_looks, tables_looks, monitor_looks, command_looks};
+ghost use Rattle.refusal_reasons.specs.Commands.{above_of, take_looks, rtt_create_looks, init_ripas_looks, data_create_looks, unknown_looks};
+ghost use Rattle.refusal_reasons.specs.Commands.{guest_write_looks, enter_looks, tables_looks, monitor_looks, command_looks};
 
 use crate::look::{Look, add};
 use crate::of_block::block_look;

@@ -1,7 +1,8 @@
 //! Checks of where a walk ends. RMM 1.0, RTT walk, RMI_ERROR_RTT.
 ghost use Rattle.std.specs.Prelude.{◌≡◌, ◌+◌, ◌-◌, ◌≤◌};
 ghost use Rattle.realm_host.specs.declared.reading.RowView.{RowView as Row};
-ghost use Rattle.refusal_reasons.specs.OfWalk.{rtt_look, level_of, state_of, granule_of_row, walk_ends, entry_unassigned, entry_assigned, entry_no_table, entry_leads, is_free_entry, are_free, entries_free};
+ghost use Rattle.refusal_reasons.specs.OfWalk.{rtt_look, level_of, state_of, granule_of_row, walk_ends, entry_unassigned};
+ghost use Rattle.refusal_reasons.specs.OfWalk.{entry_assigned, entry_no_table, entry_leads, is_free_entry, are_free, entries_free};
 
 use crate::look::{Fact, Look};
 use crate::of_input::input_look;

@@ -65,7 +65,8 @@ fn push_turn<S: PageStore>(
     build: usize,
 ) -> Pushed
     requires { build < vec_len plan.now.builds }
-    ensures { OnOk result (IsTurnItem (plan_view plan.now) (record { host = host.old; places = places.old }) build (record { host = host.new; places = places.new }) (string_bytes text.old) (string_bytes text.new)) }
+    ensures { OnOk result (IsTurnItem (plan_view plan.now) (record { host = host.old; places = places.old }) build
+        (record { host = host.new; places = places.new }) (string_bytes text.old) (string_bytes text.new)) }
 {
     let (place, before) = (places[build].done, host.history().len());
     push_separator(text)?;

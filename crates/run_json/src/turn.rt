@@ -2,7 +2,8 @@
 ghost use Rattle.std.specs.Prelude.{◌≡◌, ◌+◌, ◌≤◌, ◌++◌, OnOk, Some, None, option_map, string_bytes};
 ghost use Rattle.build_books.specs.View.{world_of};
 ghost use Rattle.realm_host.specs.Readings.{row_at};
-ghost use Rattle.run_json.specs.Turns.{another_granule, more_granules_after, each_granule_after, granules_after, rows_after, changed_recs, realm_after, event_members, step_members, answer_members, told_members, build_members, behind_members};
+ghost use Rattle.run_json.specs.Turns.{another_granule, more_granules_after, each_granule_after, granules_after, rows_after, changed_recs};
+ghost use Rattle.run_json.specs.Turns.{realm_after, event_members, step_members, answer_members, told_members, build_members, behind_members};
 
 use crate::answer::{is_accepted_answer, numbers_of};
 use crate::changed::{changes_realm, granules_of, level_above, rec_named_by};

@@ -1,7 +1,8 @@
 //! The object of a world: all granules, and what each build has.
 ghost use Rattle.std.specs.Prelude.{◌≡◌, ◌++◌, OnOk, Some, string_bytes};
 ghost use Rattle.run_json.specs.Items.{comma};
-ghost use Rattle.run_json.specs.Worlds.{world_granule, granules_text, page_object, page_item, page_items, open_item, more_open, open_acts_text, numbered_rec, recs_text, IsRealmText, build_front, IsBuildText, AreBuildTexts, IsWorldText};
+ghost use Rattle.run_json.specs.Worlds.{world_granule, granules_text, page_object, page_item, page_items, open_item, more_open, open_acts_text};
+ghost use Rattle.run_json.specs.Worlds.{numbered_rec, recs_text, IsRealmText, build_front, IsBuildText, AreBuildTexts, IsWorldText};
 
 use crate::build_id::id_of;
 use crate::items::{GranuleItem, RecItem};

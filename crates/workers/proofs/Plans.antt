@@ -1,5 +1,6 @@
 -- Loops that take the steps of a plan.
-use Rattle.std.proofs.Common.{◌≡◌, ℕ, ◌+◌, ◌<◌, ◌≤◌, Bool, true, false, List, [], ◌∷◌, ◌++◌, length, drop, get_or, refl, sym, ap, subst, ◌∙◌, arith, append_assoc, add-one, drop-cons, drop_of_length-le, length-append}
+use Rattle.std.proofs.Common.{◌≡◌, ℕ, ◌+◌, ◌<◌, ◌≤◌, Bool, true, false, List, [], ◌∷◌, ◌++◌, length, drop, get_or, refl, sym}
+use Rattle.std.proofs.Common.{ap, subst, ◌∙◌, arith, append_assoc, add-one, drop-cons, drop_of_length-le, length-append}
 use Rattle.std.proofs.lemmas.List.{append-nil}
 use Rattle.build_commands.specs.declared.cmd.Step.{Step}
 use Rattle.workers.specs.Asked.{ArePut}

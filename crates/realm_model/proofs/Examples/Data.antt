@@ -32,7 +32,8 @@ use Rattle.realm_model.proofs.Maps.{place_total}
 use Rattle.realm_model.proofs.Outcomes.{check_true, end_there, rec_there}
 use Rattle.realm_model.proofs.Rows.{place_self, differs, get-put_row_other}
 use Rattle.realm_model.proofs.Walks.{walk_there}
-use Rattle.realm_model.proofs.Examples.Worlds.{machine_of, page, delegated, rd, of_realm, table_page, start, start_rows, fresh, world_of, OneRec, ready, running, stopped, gone, latest, step_by, and_then, at_end, forward, joined}
+use Rattle.realm_model.proofs.Examples.Worlds.{machine_of, page, delegated, rd, of_realm, table_page, start, start_rows, fresh, world_of}
+use Rattle.realm_model.proofs.Examples.Worlds.{OneRec, ready, running, stopped, gone, latest, step_by, and_then, at_end, forward, joined}
 use Rattle.realm_model.proofs.Examples.Tables.{vacant, root-walk, tabled, tabled-first}
 use Rattle.realm_model.proofs.Examples.Ram.{mapped, mapped-row, ram, ram-first, ram-zero, ram-one, all_free}
 

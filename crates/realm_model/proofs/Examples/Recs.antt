@@ -37,7 +37,8 @@ use Rattle.realm_model.proofs.Outcomes.{check_true, rec_there}
 use Rattle.realm_model.proofs.Reversal.{no_recs}
 use Rattle.realm_model.proofs.RowKinds.{Vacant}
 use Rattle.realm_model.proofs.Rows.{all_rows_from, put_there}
-use Rattle.realm_model.proofs.Examples.Worlds.{machine_of, page, delegated, rd, table_page, of_realm, start, start_rows, fresh, world_of, Recs, OneRec, ready, running, stopped, gone, latest, step_by, and_then, at_end, forward, joined}
+use Rattle.realm_model.proofs.Examples.Worlds.{machine_of, page, delegated, rd, table_page, of_realm, start, start_rows, fresh, world_of, Recs}
+use Rattle.realm_model.proofs.Examples.Worlds.{OneRec, ready, running, stopped, gone, latest, step_by, and_then, at_end, forward, joined}
 use Rattle.realm_model.proofs.Examples.Realms.{on_four}
 
 -- ---- the REC of number 0

@@ -8,7 +8,8 @@ use Rattle.realm_model.specs.Rows.{is_assigned}
 use Rattle.realm_model.specs.Measurement.{measurement_after, rec_event}
 use Rattle.realm_model.specs.Machine.{Seen, numbers_of, left, held}
 use Rattle.realm_model.specs.Update.{Outcome, Put, PutByte}
-use Rattle.realm_model.specs.Command.Check.{check, error_input, error_realm, error_rec, error_rtt, is_delegated, are_distinct, is_new, is_ready, is_protected, with_realm, with_rec, with_end, with_granule, put_realm, put_rec}
+use Rattle.realm_model.specs.Command.Check.{check, error_input, error_realm, error_rec, error_rtt, is_delegated, are_distinct, is_new}
+use Rattle.realm_model.specs.Command.Check.{is_ready, is_protected, with_realm, with_rec, with_end, with_granule, put_realm, put_rec}
 
 -- DELEGATED granules become a REC of a NEW realm and its `aux` auxiliaries. The REC gets the realm's next number.
 -- RMM 1.0, RMI_REC_CREATE.

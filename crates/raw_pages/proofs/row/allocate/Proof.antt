@@ -1,5 +1,10 @@
 -- `allocate` makes an empty row of the new block, with the right to give it back. Assumes `Logic`.
-use Rattle.raw_pages.proofs.Steps.{◌*◌, ◌<◌, ◌^◌, ◌∷◌, ◌∵◌, ◌⊛◌, ◌$◌, !, Ended, Stays, Val, [], agg, ap, arith, align_word, alloc_all, and_then, at_ret, await, bin, block_ptr, done, drop, ends_at, enter, env, exec, fact, first, fjoin, flft, fld, framed, free_all, fsplit, get, get_in, get_tag, Goes-dropped, heard, inst_fn, is, join, keep, lands_as, later, layout, lit, look_at, move, named, no_more, nothing, of_opd, owned, pass_all, plain, proved, qed, raw, refl, returns, says, sets, sets_last, size_word, RattleType, split, split3, stay_dropped, stop, subst, suffices, switches_on, sym, tables, usize, use0, use1, use2, vcons, vint, vnil, vstruct, w64, walk_of, whole, yes, ℕ, ‵}
+use Rattle.raw_pages.proofs.Steps.{◌*◌, ◌<◌, ◌^◌, ◌∷◌, ◌∵◌, ◌⊛◌, ◌$◌, !, Ended, Stays, Val, [], agg, ap, arith, align_word, alloc_all, and_then}
+use Rattle.raw_pages.proofs.Steps.{at_ret, await, bin, block_ptr, done, drop, ends_at, enter, env, exec, fact, first, fjoin, flft, fld, framed}
+use Rattle.raw_pages.proofs.Steps.{free_all, fsplit, get, get_in, get_tag, Goes-dropped, heard, inst_fn, is, join, keep, lands_as, later}
+use Rattle.raw_pages.proofs.Steps.{layout, lit, look_at, move, named, no_more, nothing, of_opd, owned, pass_all, plain, proved, qed, raw, refl}
+use Rattle.raw_pages.proofs.Steps.{returns, says, sets, sets_last, size_word, RattleType, split, split3, stay_dropped, stop, subst, suffices}
+use Rattle.raw_pages.proofs.Steps.{switches_on, sym, tables, usize, use0, use1, use2, vcons, vint, vnil, vstruct, w64, walk_of, whole, yes, ℕ, ‵}
 use base.Fml.{Incl-trans}
 use lib.Dec.{lit<}
 use mir.Syntax.{Body}

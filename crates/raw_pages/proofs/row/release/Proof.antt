@@ -1,5 +1,10 @@
 -- `release` gives the block of a row back, its items let go. Assumes `Logic`.
-use Rattle.raw_pages.proofs.Steps.{◌*◌, ◌<◌, ◌≤◌, ◌^◌, ◌≡◌, ◌∙◌, ◌∷◌, ◌∵◌, ◌⊛◌, ◌$◌, !, Ended, List, Stays, Val, [], ap, arith, align_word, alloc_all, and_then, at_ret, await, bin, block_ptr, blocks, done, drop, ends_at, enter, env, exec, fact, feq_i, first, fjoin, flft, fld, framed, free_all, froom, fsplit, get, get_in, given, Goes-dropped, group, heard, in_a_block, inst_fn, is, join, keep, lands_last, later, learn, length, look_at, move, named, no, no_more, nothing, of_opd, pass_all, plain, proved, ptr_val, qed, raw, refl, returns, rewrite, sets, size_word, split, split3, stay_dropped, stop, sub, subst, suffices, sym, tables, ty_array, unit_lit, usize, use1, vint, vunit, w64, walk_of, whole, yes, ℕ, ‵, after}
+use Rattle.raw_pages.proofs.Steps.{◌*◌, ◌<◌, ◌≤◌, ◌^◌, ◌≡◌, ◌∙◌, ◌∷◌, ◌∵◌, ◌⊛◌, ◌$◌, !, Ended, List, Stays, Val, [], ap, arith, align_word, alloc_all}
+use Rattle.raw_pages.proofs.Steps.{and_then, at_ret, await, bin, block_ptr, blocks, done, drop, ends_at, enter, env, exec, fact, feq_i, first, fjoin}
+use Rattle.raw_pages.proofs.Steps.{flft, fld, framed, free_all, froom, fsplit, get, get_in, given, Goes-dropped, group, heard, in_a_block, inst_fn}
+use Rattle.raw_pages.proofs.Steps.{is, join, keep, lands_last, later, learn, length, look_at, move, named, no, no_more, nothing, of_opd, pass_all}
+use Rattle.raw_pages.proofs.Steps.{plain, proved, ptr_val, qed, raw, refl, returns, rewrite, sets, size_word, split, split3, stay_dropped, stop, sub}
+use Rattle.raw_pages.proofs.Steps.{subst, suffices, sym, tables, ty_array, unit_lit, usize, use1, vint, vunit, w64, walk_of, whole, yes, ℕ, ‵, after}
 use base.Fml.{Incl-trans}
 use lib.Dec.{T as Yes}
 use mir.Syntax.{ty_unit}

@@ -41,7 +41,8 @@ returns-in_err-write_whole-clause-end g c =
     let unread = c.plan_in.new.input.failed in
     rw (told.1, told.2)
     (cut (IsThreadsText passes stops) (IsWithoutThreadsText passes stops) unread (g.R.Read.remaining c.args.input.now.device) old new (plan_view c.in_ok-plan.plan) (string_bytes c.in_ok-text.text)
-    (read_well unread c.in_ok-plan.plan c.in_ok-plan.ensures.told) c.in_ok-plan.ensures.ok c.in_ok-text.ensures.ok (subst (AppendsFront old new) c.as_bytes.ensures.value c.in_err-write_whole.ensures.err))
+    (read_well unread c.in_ok-plan.plan c.in_ok-plan.ensures.told) c.in_ok-plan.ensures.ok c.in_ok-text.ensures.ok
+    (subst (AppendsFront old new) c.as_bytes.ensures.value c.in_err-write_whole.ensures.err))
 
 pub returns-clause-end : goal.returns-clause-end
 returns-clause-end g c =

@@ -32,14 +32,18 @@ pub invariant_of-self : goal.invariant_of-self
 invariant_of-self c =
     let now = without c.args.granule c.args.order c.self.invariant (ap (λ heads. head_at heads c.args.granule) c.self.view_is ∙ c.requires.head) c.index-prev.ensures c.index-next.ensures in
     elim c.if-prev-len.branch [
-      | then-prev-len w ↦ let same = ap (λ links. length links.heads.items) w.self-inside-is in rw w.self-inside-is (now.between (omega (arith, w.if-prev-len.true, length-set {A = ℕ})) (omega (arith, length-set {A = ℕ})))
-      | else-prev-len w ↦ let same = ap (λ links. length links.heads.items) w.self-inside-is in rw w.self-inside-is (now.front (omega (arith, w.if-prev-len.false, length-set {A = ℕ})) (omega (arith, length-set {A = ℕ})))
+      | then-prev-len w ↦ let same = ap (λ links. length links.heads.items) w.self-inside-is in
+          rw w.self-inside-is (now.between (omega (arith, w.if-prev-len.true, length-set {A = ℕ})) (omega (arith, length-set {A = ℕ})))
+      | else-prev-len w ↦ let same = ap (λ links. length links.heads.items) w.self-inside-is in
+          rw w.self-inside-is (now.front (omega (arith, w.if-prev-len.false, length-set {A = ℕ})) (omega (arith, length-set {A = ℕ})))
     ]
 
 pub invariant_of-self-else-next-len : goal.invariant_of-self-else-next-len
 invariant_of-self-else-next-len c =
     let now = without c.args.granule c.args.order c.self.invariant (ap (λ heads. head_at heads c.args.granule) c.self.view_is ∙ c.requires.head) c.index-prev.ensures c.index-next.ensures in
     elim c.if-prev-len.branch [
-      | then-prev-len w ↦ let same = ap (λ links. length links.heads.items) w.self-inside-is in rw w.self-inside-is (now.last (omega (arith, w.if-prev-len.true, length-set {A = ℕ})) (omega (arith, length-set {A = ℕ})))
-      | else-prev-len w ↦ let same = ap (λ links. length links.heads.items) w.self-inside-is in rw w.self-inside-is (now.only (omega (arith, w.if-prev-len.false, length-set {A = ℕ})) (omega (arith, length-set {A = ℕ})))
+      | then-prev-len w ↦ let same = ap (λ links. length links.heads.items) w.self-inside-is in
+          rw w.self-inside-is (now.last (omega (arith, w.if-prev-len.true, length-set {A = ℕ})) (omega (arith, length-set {A = ℕ})))
+      | else-prev-len w ↦ let same = ap (λ links. length links.heads.items) w.self-inside-is in
+          rw w.self-inside-is (now.only (omega (arith, w.if-prev-len.false, length-set {A = ℕ})) (omega (arith, length-set {A = ℕ})))
     ]

@@ -1,5 +1,9 @@
 -- `get` shows one item that the row lends. Assumes `Logic`.
-use Rattle.raw_pages.proofs.Steps.{◌+◌, ◌*◌, ◌∙◌, ◌∷◌, ◌∵◌, ◌⊛◌, ◌$◌, !, Ended, List, Ptr, ShrRef, Stays, Val, [], addr, alloc_all, at_ret, bin, blocks, done, drop, ends_at, enter, env, exec, fact, fat, feq_i, first, fjoin, fld, free_all, fsplit, full_share, get, get_in, get_or, give_at, Goes-dropped, heard, hide, in_a_block, inst_fn, join, keep, layout, length, look_at, move, named, no, nothing, of_opd, pass_all, plain, proved, qed, raw, refl, returns, rewrite, says, sets, sets_last, shared_of, size_lit, split, split3, stay_dropped, stop, sub, suffices, sym, tables, take_at, through, unhide, usize, use1, vptr, w64, walk_of, whole, yes, ‵}
+use Rattle.raw_pages.proofs.Steps.{◌+◌, ◌*◌, ◌∙◌, ◌∷◌, ◌∵◌, ◌⊛◌, ◌$◌, !, Ended, List, Ptr, ShrRef, Stays, Val, [], addr, alloc_all, at_ret, bin, blocks, done}
+use Rattle.raw_pages.proofs.Steps.{drop, ends_at, enter, env, exec, fact, fat, feq_i, first, fjoin, fld, free_all, fsplit, full_share, get, get_in, get_or}
+use Rattle.raw_pages.proofs.Steps.{give_at, Goes-dropped, heard, hide, in_a_block, inst_fn, join, keep, layout, length, look_at, move, named, no, nothing}
+use Rattle.raw_pages.proofs.Steps.{of_opd, pass_all, plain, proved, qed, raw, refl, returns, rewrite, says, sets, sets_last, shared_of, size_lit, split, split3}
+use Rattle.raw_pages.proofs.Steps.{stay_dropped, stop, sub, suffices, sym, tables, take_at, through, unhide, usize, use1, vptr, w64, walk_of, whole, yes, ‵}
 use denote.Builtin.{RefOf}
 use denote.RattleType.{owns}
 use denote.Signature.{types_at}

@@ -1,5 +1,10 @@
 -- `get_mut` lends one item for writing, and the row follows it. Assumes `Logic`.
-use Rattle.raw_pages.proofs.Steps.{◌+◌, ◌*◌, ◌∙◌, ◌∷◌, ◌∵◌, ◌⊛◌, ◌$◌, !, Ended, GName, MutRef, Ptr, Stays, [], addr, alloc_all, at_ret, await, bin, blocks, done, drop, ends_at, enter, env, exec, fact, fat, fjoin, first, flft, fld, frame, free_all, fsplit, fsplit3, full_share, get, get_in, get_or, give_at, Goes-dropped, Goes-spent_ref, group, heard, id⊢, in_a_block, inst_fn, join, keep, later, layout, length, look_at, move, named, no, nothing, of_opd, opens, part_at, pass_all, pick, plain, proved, qed, raw, refl, returns, rewrite, says, sem, sets, sets_last, size_lit, some, split, split3, stay_dropped, stop, sub, suffices, sym, tables, take_at, through, usize, use1, vptr, w64, walk_of, whole, yes, ‵}
+use Rattle.raw_pages.proofs.Steps.{◌+◌, ◌*◌, ◌∙◌, ◌∷◌, ◌∵◌, ◌⊛◌, ◌$◌, !, Ended, GName, MutRef, Ptr, Stays, [], addr, alloc_all, at_ret, await, bin}
+use Rattle.raw_pages.proofs.Steps.{blocks, done, drop, ends_at, enter, env, exec, fact, fat, fjoin, first, flft, fld, frame, free_all, fsplit, fsplit3}
+use Rattle.raw_pages.proofs.Steps.{full_share, get, get_in, get_or, give_at, Goes-dropped, Goes-spent_ref, group, heard, id⊢, in_a_block, inst_fn}
+use Rattle.raw_pages.proofs.Steps.{join, keep, later, layout, length, look_at, move, named, no, nothing, of_opd, opens, part_at, pass_all, pick}
+use Rattle.raw_pages.proofs.Steps.{plain, proved, qed, raw, refl, returns, rewrite, says, sem, sets, sets_last, size_lit, some, split, split3}
+use Rattle.raw_pages.proofs.Steps.{stay_dropped, stop, sub, suffices, sym, tables, take_at, through, usize, use1, vptr, w64, walk_of, whole, yes, ‵}
 use denote.Follow.{follows, Part, lends_Part}
 use denote.Ref.{mut_vals, mut_Tells}
 use denote.RattleType.{owns}

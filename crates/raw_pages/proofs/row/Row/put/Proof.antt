@@ -1,5 +1,10 @@
 -- `put` writes an item in the place of one, or behind the last. Assumes `Logic`.
-use Rattle.raw_pages.proofs.Steps.{◌+◌, ◌*◌, ◌<◌, ◌≤◌, ◌≡◌, ◌∙◌, ◌∷◌, ◌++◌, ◌∵◌, ◌⊛◌, ◌$◌, !, Ended, List, Ptr, SProp, Stays, Val, [], alloc_all, assigns_last, at_ret, bin, blocks, closes, done, drop, ends_at, ent, enter, env, exec, fact, fat, feq_i, first, fjoin, fjoin3, flft, fld, free_all, froom, fsplit, fsplit3, full_share, get, get_in, give_at, Goes-dropped, Goes-ref, heard, in_a_block, init, inst_fn, join, keep, layout, length, look_at, move, named, no, nothing, of_opd, opens, part_at, pass_all, plain, proved_at, qed, raw, refl, returns, rewrite, says, sets, size_lit, split, split3, stay_dropped, stay_ref, stop, sub, subst, suffices, sym, tables, take_at, through, unit_lit, usize, use1, use2, vptr, vunit, w64, walk_of, whole, yes, ℕ, ‵, after}
+use Rattle.raw_pages.proofs.Steps.{◌+◌, ◌*◌, ◌<◌, ◌≤◌, ◌≡◌, ◌∙◌, ◌∷◌, ◌++◌, ◌∵◌, ◌⊛◌, ◌$◌, !, Ended, List, Ptr, SProp, Stays, Val, [], alloc_all, assigns_last}
+use Rattle.raw_pages.proofs.Steps.{at_ret, bin, blocks, closes, done, drop, ends_at, ent, enter, env, exec, fact, fat, feq_i, first, fjoin, fjoin3, flft}
+use Rattle.raw_pages.proofs.Steps.{fld, free_all, froom, fsplit, fsplit3, full_share, get, get_in, give_at, Goes-dropped, Goes-ref, heard, in_a_block, init}
+use Rattle.raw_pages.proofs.Steps.{inst_fn, join, keep, layout, length, look_at, move, named, no, nothing, of_opd, opens, part_at, pass_all, plain}
+use Rattle.raw_pages.proofs.Steps.{proved_at, qed, raw, refl, returns, rewrite, says, sets, size_lit, split, split3, stay_dropped, stay_ref, stop, sub, subst}
+use Rattle.raw_pages.proofs.Steps.{suffices, sym, tables, take_at, through, unit_lit, usize, use1, use2, vptr, vunit, w64, walk_of, whole, yes, ℕ, ‵, after}
 use prog.Wp.{WpFn}
 use denote.Ref.{mut_vals, mut_Tells}
 use denote.RattleType.{owns}
@@ -24,7 +29,8 @@ module _ (E : El) where
 pub put_spec : {M : Type 1} → statement M
 put_spec 𝓤 𝓛 𝓜 𝓡 wired X W LX LW g d dd met md =
     let E : El = record { row = X; laws = LX; al = record { row = W; laws = LW; g = g; d = d; drops = dd } } in
-    let T : Ended = f.ended X W g d dd in let stayed : Stays T.signature.params T.kept = (stay_ref (0 ∷ []) tt (plain (λ _. Owner E)), (stay_dropped _ no, (stay_dropped _ yes, (stay_dropped _ no, tt)))) in
+    let T : Ended = f.ended X W g d dd in
+    let stayed : Stays T.signature.params T.kept = (stay_ref (0 ∷ []) tt (plain (λ _. Owner E)), (stay_dropped _ no, (stay_dropped _ yes, (stay_dropped _ no, tt)))) in
     let c = f.clauses X W g d dd 𝓛 𝓜.mem 𝓡.returns in let 𝓣 = tables 𝓤 𝓛.H 𝓜 𝓡 𝓡.env in let fn = inst_fn (args E) code.function in
     proved_at 𝓛 T stayed c 𝓜 𝓡 (
       Goes-ref 𝓛 3 0 tt (plain (λ _. Owner E)),

@@ -1,5 +1,11 @@
 -- `two` shows one item and lends another for writing, and the row follows the second. Assumes `Logic`.
-use Rattle.raw_pages.proofs.Steps.{◌+◌, ◌*◌, ◌∙◌, ◌∷◌, ◌∵◌, ◌⊛◌, ◌$◌, !, Ended, GName, List, Logic, MutRef, Ptr, ShrRef, Stays, Val, [], addr, agg, alloc_all, and_then, at_ret, await, bin, blocks, done, drop, ends_at, enter, env, exec, fact, fat, fbor, feq_i, first, fjoin, fjoin3, flft, fld, fobs, frame, free_all, fsep, fsplit, fsplit3, ftrue, full_share, get, get_in, get_or, give_at, Goes-dropped, Goes-spent_ref, group, heard, hidden_shr, id⊢, in_a_block, inst_fn, join, keep, later, layout, length, look_at, mem, ent, Ura, Fml, move, named, no, no_more, nothing, of_opd, opens, part_at, pass_all, pick, plain, proved, qed, raw, refl, returns, rewrite, says, sem, sets, sets_last, size_lit, some, split, split3, stay_dropped, stop, sub, suffices, sym, tables, take_at, through, usize, use1, use2, vptr, w64, walk_of, whole, yes, ‵}
+use Rattle.raw_pages.proofs.Steps.{◌+◌, ◌*◌, ◌∙◌, ◌∷◌, ◌∵◌, ◌⊛◌, ◌$◌, !, Ended, GName, List, Logic, MutRef, Ptr, ShrRef, Stays, Val, [], addr, agg}
+use Rattle.raw_pages.proofs.Steps.{alloc_all, and_then, at_ret, await, bin, blocks, done, drop, ends_at, enter, env, exec, fact, fat, fbor, feq_i, first}
+use Rattle.raw_pages.proofs.Steps.{fjoin, fjoin3, flft, fld, fobs, frame, free_all, fsep, fsplit, fsplit3, ftrue, full_share, get, get_in, get_or}
+use Rattle.raw_pages.proofs.Steps.{give_at, Goes-dropped, Goes-spent_ref, group, heard, hidden_shr, id⊢, in_a_block, inst_fn, join, keep, later, layout}
+use Rattle.raw_pages.proofs.Steps.{length, look_at, mem, ent, Ura, Fml, move, named, no, no_more, nothing, of_opd, opens, part_at, pass_all, pick}
+use Rattle.raw_pages.proofs.Steps.{plain, proved, qed, raw, refl, returns, rewrite, says, sem, sets, sets_last, size_lit, some, split, split3}
+use Rattle.raw_pages.proofs.Steps.{stay_dropped, stop, sub, suffices, sym, tables, take_at, through, usize, use1, use2, vptr, w64, walk_of, whole, yes, ‵}
 use base.Fml.{fseps, Incl-refl, Incl-trans}
 use types.Follow.{takes_beside}
 use types.SemTy.{Body as Borrowed}
