@@ -44,6 +44,10 @@ class RecParams:
     aux: list
 
 
+class RecRun:
+    """RmiRecRun: a line says nothing of it."""
+
+
 class Driver:
     """Which call a line is. RMI_REC_CREATE takes the MPIDR of the realm's next REC alone, so the RECs are counted."""
 
@@ -70,8 +74,12 @@ class Driver:
             case "rec_create", [rd, rec, *auxiliaries]:
                 params = RecParams(1, mpidr(self.recs.get(rd, 0)), [address(it) for it in auxiliaries])
                 return [address(rd), address(rec), params]
+            case "rec_enter", [rec]:
+                return [address(rec), RecRun()]
+            case "granule_delegate" | "granule_undelegate" | "realm_activate" | "realm_destroy" | "rec_destroy", [granule]:
+                return [address(granule)]
             case _:
-                return [address(it) for it in numbers]
+                sys.exit(f"{name} with {len(numbers)} numbers is no call: see docs/TRACES.md")
 
     def accepted(self, name, numbers):
         """What an accepted command changes for the calls to come."""
@@ -136,14 +144,18 @@ def main(lines):
         if not asked or asked.startswith("#"):
             continue
         name, *operands = asked.split(" ")
+        # Nothing but a debugger makes the readings of a real monitor, and what is no command of a trace reaches none.
+        if name in READINGS or wanted == "no command":
+            left_out += 1
+            continue
+        if not all(it.isdecimal() for it in operands) or wanted and not wanted.split(" ")[0].isdecimal():
+            sys.exit(f"line {number}: {line.rstrip()}: numbers are decimal, and an answer begins with one")
         numbers = [int(it) for it in operands]
         if name == "machine":
             driver, monitor = Driver(), Toy(*numbers[:2])
             continue
-        if name in READINGS:
-            # (nothing but a debugger reads these of a real monitor)
-            left_out += 1
-            continue
+        if monitor is None:
+            sys.exit(f"line {number}: {asked}: there is no `machine` line before it")
         if not hasattr(monitor, name):
             print(f"line {number}: {asked}: this monitor has no such command; {agreed} answers agree before")
             return 1
@@ -154,8 +166,9 @@ def main(lines):
         agreed += bool(wanted)
         if word == 0:
             driver.accepted(name, numbers)
-    print(f"{agreed} answers agree, {left_out} readings are left out")
-    return 0
+    print(f"{agreed} answers agree, {left_out} lines are left out")
+    # (a trace of which nothing was compared shows nothing)
+    return 0 if agreed else 1
 
 
 sys.exit(main(sys.stdin))

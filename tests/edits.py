@@ -111,7 +111,9 @@ class Sources:
             trait = self.toolchain.reader.named(block.trait)[0]
             # (that of an impl for u8 begins with U8)
             owner = [function.owner[:1].upper() + function.owner[1:] + (rf"\w*{trait}\w*" if trait else "")]
-            modules |= {module for module, *_ in self.parsed.declared.get(function.owner, ())}
+            declared = {module for module, *_ in self.parsed.declared.get(function.owner, ())}
+            # (another module may have a type of the same name)
+            modules |= set() if function.module in declared else declared
         forms = ["::".join([self.crate.name, *module, *owner, function.name]) for module in modules]
         found = {name for name in self.printed for form in forms if re.fullmatch(form, name)}
         if len(found) > 1 and block:

@@ -76,28 +76,29 @@ def make(crate, made, work):
 
 
 class Lanes:
-    """Runs the work of crates side by side, each after that of its libraries, with no more jobs in all than processors.
+    """Runs the work of crates side by side, each after that of its libraries.
 
-    The crate with the longest way of others above it comes first, and gets the processors that no other crate waits for. The
-    others have one job each, and less priority: two jobs of one crate do less than two crates, since each reads the libraries
-    anew. No more crates run at once than memory holds."""
+    The crate with the longest way of others above it comes first: nothing above it begins before it is done. It gets two
+    processors where there are more, and all that no other crate waits for. The others have one job each, and less priority, since
+    two jobs of one crate do less than two crates: each reads the libraries anew. No more crates run at once than memory holds."""
 
     def __init__(self, toolchain):
         self.rt, self.processors, self.memory = toolchain.rt, toolchain.rt.processors(), 0.85 * toolchain.rt.free()
 
-    def run(self, crates, work):
-        """Does `work(crate, jobs, nice, failed)` for each crate, where `failed` has its libraries whose work failed. Returns
-        whether all went well."""
-        left, way, waits, running, went = list(crates), ways_above(crates), waits_of(crates), {}, {}
+    def run(self, crates, work, soon=()):
+        """Does `work(crate, jobs, nice, failed)` for each crate, where `failed` has its libraries whose work failed. Crates of
+        the names `soon`, and all that they stand on, come before others. Returns whether all went well."""
+        left, way, waits, running, went = list(crates), ranks_of(crates, soon), waits_of(crates), {}, {}
         with ThreadPoolExecutor(len(left) or 1) as pool:
             while left or running:
                 ready = [it for it in left if all(name in went for name in waits[it.name])]
-                ready.sort(key=lambda it: -way[it.name])
+                ready.sort(key=lambda it: way[it.name], reverse=True)
                 for place, crate in enumerate(ready):
                     held = [it for it, _ in running.values()]
                     is_first = way[crate.name] >= max(way[it.name] for it in [crate, *left, *held])
                     free = self.processors - sum(jobs for _, jobs in running.values())
-                    jobs = max(free - len(ready[place + 1 :]), min(free, 1)) if is_first else min(free, 1)
+                    # (the first one gets its two even where others have them: these give way)
+                    jobs = max(free - len(ready[place + 1 :]), 2 if self.processors > 2 else 1) if is_first else min(free, 1)
                     if not running or jobs > 0 and self.has_room(crate, jobs, running.values()):
                         left.remove(crate)
                         failed = [name for name in waits[crate.name] if not went[name]]
@@ -116,6 +117,15 @@ def waits_of(crates):
     """Returns of each crate, by its name, those of these crates that it stands on."""
     names = {it.name for it in crates}
     return {it.name: [below.name for below in it.below() if below.name in names] for it in crates}
+
+
+def ranks_of(crates, soon):
+    """Returns of each crate, by its name, when it has its turn: the greatest comes first. What is wanted soon comes before all
+    else; then the crate with the longest way above it."""
+    waits = waits_of(crates)
+    wanted = {name for it in soon if it in waits for name in [it, *waits[it]]}
+    ways = ways_above(crates) | ways_above([it for it in crates if it.name in wanted])
+    return {it.name: (it.name in wanted, ways[it.name]) for it in crates}
 
 
 def ways_above(crates):
@@ -144,9 +154,9 @@ def prove(toolchain, crate, jobs, nice, failed, progress):
     return is_proved
 
 
-def prove_all(toolchain, libraries, programs=(), build=None):
-    """Proves what is not proved yet, and does `build(program, jobs, nice, failed, progress)` for programs. Returns whether all
-    went well."""
+def prove_all(toolchain, libraries, programs=(), build=None, soon=()):
+    """Proves what is not proved yet, and does `build(program, jobs, nice, failed, progress)` for programs, those of the names
+    `soon` before others. Returns whether all went well."""
     left = [it for it in libraries if not is_stamped(it, it.rlib)]
     progress = Progress(len(left) + len(programs))
     if left:
@@ -155,7 +165,7 @@ def prove_all(toolchain, libraries, programs=(), build=None):
     # Until these are closed, no other rt works in the libraries' folders.
     held = toolchain.library.lock(libraries)
     try:
-        return Lanes(toolchain).run([*left, *programs], work)
+        return Lanes(toolchain).run([*left, *programs], work, soon)
     finally:
         for it in held:
             os.close(it)

@@ -3,8 +3,8 @@ ghost use Rattle.std.specs.Prelude.{◌≡◌, ◌+◌, ◌-◌, ◌<◌, [], �
 ghost use Rattle.realm_acts.specs.RecsOpen.{granule_in};
 ghost use Rattle.build_books.specs.Recs.{IsAbove};
 
-use build_journal::JOURNAL_ROOM;
 use granule_addr::{Gran, RecNo};
+use realm_model::JOURNAL_ROOM;
 use std::alloc::{AllocError, Global};
 use std::marker::Model;
 

@@ -6,9 +6,7 @@ use crate::pages::granules_of;
 use crate::{Cmd, Desk, Needs, Refusal, Wants};
 use arrayvec::ArrayVec;
 use granule_addr::{BuildId, Gran};
-
-// How many acts a build can have open.
-const JOURNAL_ROOM: u16 = 512;
+use realm_model::JOURNAL_ROOM;
 
 /// Refusals 1 and 2: the build is there, and it is not in abort.
 pub fn check_build<D: Desk>(desk: &D, build: BuildId) -> Result<(), Refusal>
@@ -23,7 +21,7 @@ pub fn check_build<D: Desk>(desk: &D, build: BuildId) -> Result<(), Refusal>
     Ok(())
 }
 
-// 3: a block is not too large.
+// Refusal 3: a block is not too large.
 fn check_order(cmd: &Cmd) -> Result<(), Refusal>
     ensures { result ≡ checked (order_checks cmd.now) }
 {
@@ -33,7 +31,7 @@ fn check_order(cmd: &Cmd) -> Result<(), Refusal>
     }
 }
 
-// 5 and 6: the build has a realm, or none.
+// Refusals 5 and 6: the build has a realm, or none.
 fn check_realm<D: Desk>(desk: &D, build: BuildId, wants: Wants) -> Result<(), Refusal>
     requires { build < (D.seen desk.now).builds }
     ensures { result ≡ checked (realm_checks (D.seen desk.now) build wants) }
@@ -45,7 +43,7 @@ fn check_realm<D: Desk>(desk: &D, build: BuildId, wants: Wants) -> Result<(), Re
     }
 }
 
-// 9: one more act may be open.
+// Refusal 9: one more act may be open.
 fn check_journal<D: Desk>(desk: &D, build: BuildId, paired: bool) -> Result<(), Refusal>
     requires { build < (D.seen desk.now).builds }
     ensures { result ≡ checked (journal_checks (D.seen desk.now) build paired) }
@@ -56,7 +54,7 @@ fn check_journal<D: Desk>(desk: &D, build: BuildId, paired: bool) -> Result<(), 
     Ok(())
 }
 
-// 10: the build has `needed` entries of its room left.
+// Refusal 10: the build has `needed` entries of its room left.
 fn check_room<D: Desk>(desk: &D, build: BuildId, needed: u16) -> Result<(), Refusal>
     requires { build < (D.seen desk.now).builds }
     ensures { result ≡ checked (room_checks (D.seen desk.now) build needed) }
@@ -67,7 +65,7 @@ fn check_room<D: Desk>(desk: &D, build: BuildId, needed: u16) -> Result<(), Refu
     Ok(())
 }
 
-// 12: a VMID is free.
+// Refusal 12: a VMID is free.
 fn check_vmid<D: Desk>(desk: &D, wanted: bool) -> Result<(), Refusal>
     ensures { result ≡ checked (vmid_checks (D.seen desk.now) wanted) }
 {
@@ -77,7 +75,7 @@ fn check_vmid<D: Desk>(desk: &D, wanted: bool) -> Result<(), Refusal>
     Ok(())
 }
 
-// 5 to 12: what is asked of the build's state.
+// Refusals 5 to 12: what is asked of the build's state.
 fn check_state<D: Desk>(desk: &D, build: BuildId, needs: &Needs) -> Result<(), Refusal>
     requires { build < (D.seen desk.now).builds }
     ensures { result ≡ checked (state_checks (D.seen desk.now) build needs.now) }

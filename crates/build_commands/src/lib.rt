@@ -22,7 +22,7 @@ pub use act::act_of;
 pub use checks::{check_build, check_needs};
 pub use cmd::{Cmd, Step};
 pub use desk::Desk;
-pub use needs::{Needs, Wants};
+pub use needs::{Needs, Wants, tables_named};
 pub use picked::Picked;
 pub use refusal::Refusal;
 pub use reply::{Reply, reply_of};

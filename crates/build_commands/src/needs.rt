@@ -1,8 +1,9 @@
 //! What a command needs of its build.
-ghost use Rattle.std.specs.Prelude.{◌≡◌};
-ghost use Rattle.build_commands.specs.Needs.{needs_of, needs_but_vmid};
+ghost use Rattle.std.specs.Prelude.{◌≡◌, ◌≤◌};
+ghost use Rattle.build_commands.specs.Needs.{needs_of, needs_but_vmid, tables_named};
 
 use crate::Cmd;
+use granule_addr::IpaWidth;
 
 /// Whether a command wants its build to have a realm.
 #[derive(Clone, Copy)]
@@ -23,6 +24,15 @@ pub struct Needs {
     pub room: u16,
     /// whether it picks a VMID
     pub vmid: bool,
+}
+
+/// The number of starting tables that a command of this width names: as many as a realm of that width has, and one where
+/// no realm has that width.
+pub fn tables_named(width: u8) -> u16
+    ensures value { result ≡ tables_named width }
+    ensures few { result ≤ 16 }
+{
+    IpaWidth::new(width).map_or(1, |width| width.start_count())
 }
 
 // Needs but for a VMID.

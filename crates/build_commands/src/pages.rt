@@ -1,14 +1,14 @@
 //! The granules of the pages that a command names.
 ghost use Rattle.std.specs.Prelude.{◌≡◌, ◌+◌, ◌<◌, ◌≤◌, ℕ, List, [], ◌∷◌, length, IsOk, Some, IfOk, IfErr};
 ghost use Rattle.std.specs.List.{range_with_len};
-ghost use Rattle.granule_addr.specs.Ipa.{is_width};
-ghost use Rattle.build_commands.specs.Needs.{operands, tables_named};
+ghost use Rattle.build_commands.specs.Needs.{operands};
 ghost use Rattle.build_commands.specs.Checks.{AreFound, page_checks, first_that_holds};
 ghost use Rattle.build_commands.specs.Found.{AreFoundNext};
 
+use crate::needs::tables_named;
 use crate::{Cmd, Desk, Refusal};
 use arrayvec::ArrayVec;
-use granule_addr::{BuildId, Gran, IpaWidth};
+use granule_addr::{BuildId, Gran};
 
 // One page.
 fn find<D: Desk>(
@@ -64,14 +64,6 @@ fn find_run<D: Desk>(
         page += 1;
     }
     Ok(())
-}
-
-// How many starting tables are looked for.
-fn tables_named(width: u8) -> u16
-    ensures value { result ≡ tables_named width }
-    ensures few { result ≤ 16 }
-{
-    IpaWidth::new(width).map_or(1, |width| width.start_count())
 }
 
 // The pages that a command names.

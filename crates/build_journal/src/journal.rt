@@ -4,12 +4,9 @@ ghost use Rattle.std.specs.List.{last_or};
 ghost use Rattle.realm_model.specs.Act.{is_paired};
 ghost use Rattle.realm_model.specs.Stack.{pushed};
 
-use realm_model::Act;
+use realm_model::{Act, JOURNAL_ROOM};
 use std::alloc::{AllocError, Global};
 use std::marker::Model;
-
-/// How many acts a build has open at most.
-pub const JOURNAL_ROOM: u16 = 512;
 
 /// The acts that a build has open, the newest last. All its memory is taken when it is built.
 #[derive(Drop)]

@@ -4,5 +4,5 @@
 mod journal;
 mod reverse;
 
-pub use journal::{JOURNAL_ROOM, Journal};
+pub use journal::Journal;
 pub use reverse::{reverse_of, takes_back};

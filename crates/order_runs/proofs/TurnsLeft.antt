@@ -15,7 +15,7 @@ use Rattle.plan_steps.specs.declared.step.PlanStep.{PlanStep}
 use Rattle.plan_steps.specs.declared.step.PlanStep.TheVariants.{Whole, WidthLeftOut}
 use Rattle.realm_plan.specs.Plan.{Plan}
 use Rattle.plan_runs.specs.Place.{first_place, moved_on}
-use Rattle.plan_runs.specs.Report.{undoes_many}
+use Rattle.plan_runs.specs.Turn.{undoes_many}
 use Rattle.plan_runs.specs.Run.{Position, Turn, place_of, step_after, IsTurnOf, IsTurn}
 use Rattle.plan_runs.specs.Turn.{told_of_one, left_after, to_go_back, above_mark, IsOneOfMany, IsTurnOfMany, IsToAbort, IsStepTurn}
 use Rattle.plan_runs.specs.declared.answer.TurnAnswer.{TurnAnswer}

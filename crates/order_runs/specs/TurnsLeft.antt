@@ -2,7 +2,7 @@
 use Rattle.std.specs.Prelude.{◌≡◌, ℕ, ◌+◌, ◌-◌, ◌*◌, ◌^◌, ◌==◌, if◌then◌else◌, Bool, false, List, ◌∷◌, length, Option, Some, None}
 use Rattle.plan_steps.specs.declared.step.PlanStep.{PlanStep}
 use Rattle.realm_plan.specs.Plan.{Plan}
-use Rattle.plan_runs.specs.Report.{undoes_many}
+use Rattle.plan_runs.specs.Turn.{undoes_many}
 use Rattle.plan_runs.specs.Run.{place_of, step_after}
 use Rattle.plan_runs.specs.declared.place.Place.{Place}
 

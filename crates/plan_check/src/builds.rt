@@ -4,16 +4,10 @@ use crate::places::Places;
 use crate::reason::{Reason, why_no_step};
 use crate::wrong::{Wrong, tell, tell_kind, tell_too_many, tell_words};
 use plan_steps::step_from_text;
-use realm_plan::PlanFault;
+use realm_plan::{MOST_BUILDS, MOST_STEPS, PlanFault};
 use std::alloc::{AllocError, Global};
 use toml::value::Array;
 use toml::{Table, Value};
-
-/// The most builds of a plan.
-const MOST_BUILDS: usize = 8;
-
-/// The most steps of a build.
-const MOST_STEPS: usize = 1024;
 
 /// Tells what is wrong with the builds.
 pub fn builds(

@@ -6,13 +6,10 @@ use crate::order::order;
 use crate::places::Places;
 use crate::walk::places_of;
 use crate::wrong::{Wrong, tell, tell_words};
-use realm_plan::PlanFault;
+use realm_plan::{MOST_BYTES, PlanFault};
 use std::alloc::{AllocError, Global};
 use std::str::from_utf8;
 use toml::Table;
-
-/// The most bytes of a plan.
-const MOST_BYTES: usize = 1_048_576;
 
 /// All that is found wrong with the bytes, kind by kind.
 pub fn wrongs_in(alloc: Global, bytes: &[u8]) -> Result<Vec<Wrong>, AllocError> {

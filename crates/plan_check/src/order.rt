@@ -2,13 +2,10 @@
 use crate::filled::{Piece, filled};
 use crate::places::Places;
 use crate::wrong::{Wrong, tell, tell_kind, tell_too_many};
-use realm_plan::PlanFault;
+use realm_plan::{MOST_TURNS, PlanFault};
 use std::alloc::{AllocError, Global};
 use toml::value::Array;
 use toml::{Table, Value};
-
-/// The most turns of a plan.
-const MOST_TURNS: usize = 16384;
 
 /// Tells what is wrong with `order`.
 pub fn order(

@@ -2,4 +2,3 @@ pub mod Text
 pub mod Place
 pub mod Turn
 pub mod Run
-pub mod Report

@@ -1,5 +1,5 @@
 -- What a turn does with its build's step, and what it tells of it.
-use Rattle.std.specs.Prelude.{◌≡◌, ℕ, ◌-◌, ◌==◌, if◌then◌else◌, Option, Some, None, Result, Ok, Err}
+use Rattle.std.specs.Prelude.{◌≡◌, ℕ, ◌-◌, ◌==◌, Bool, true, false, if◌then◌else◌, Option, Some, None, Result, Ok, Err}
 use Rattle.std.specs.Bool.{OnTrue, OnFalse}
 use Rattle.build_books.specs.View.{HostView}
 use Rattle.build_books.specs.declared.mark.Mark.{Mark}
@@ -14,6 +14,8 @@ use Rattle.realm_host.specs.Answer.{IsAnswer, replied, undone}
 use Rattle.realm_host.specs.Call as call
 use Rattle.realm_host.specs.Marked.{IsMarked, way_back}
 use Rattle.build_commands.specs.declared.undone.Undone.{Undone}
+use Rattle.plan_steps.specs.declared.step.PlanStep.{PlanStep}
+use Rattle.plan_steps.specs.declared.step.PlanStep.TheVariants.{Whole}
 use Rattle.plan_runs.specs.declared.answer.TurnAnswer.{TurnAnswer}
 use Rattle.plan_runs.specs.declared.answer.TurnAnswer.TheVariants as tells
 use Rattle.plan_runs.specs.declared.place.Place.{Place}
@@ -55,6 +57,12 @@ pub record IsMarkTurn (host : HostView) (build : ℕ) (place : Place) (answer : 
   pub place_is : after ≡ record place { mark = last_mark place.mark result }
 
 -- ---- steps of many turns: an undo at each
+
+-- An abort and a step back undo any number of acts, with a line for each.
+abbrev pub undoes_many : PlanStep → Bool
+undoes_many (Whole Abort) = true
+undoes_many (Whole Back) = true
+undoes_many _ = false
 
 -- The kind of what was undone is told, and whether it was the last.
 abbrev pub told_of_one : ℕ → Result Undone Refusal → TurnAnswer

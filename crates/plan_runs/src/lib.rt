@@ -2,7 +2,7 @@
 //!
 //! A turn asks the host for the next step of its build, and tells the step as it stands in the plan, with the host's own
 //! answer (`specs/Turn.antt`, `specs/Run.antt`, `specs/Text.antt`). An abort and a way back take a turn for each act that they
-//! undo. The lines of a worker's report are told alike (`specs/Report.antt`). What a plan is and how a step is spelled is
+//! undo. What a plan is and how a step is spelled is
 //! `realm_plan`'s and `plan_steps`'; nothing here reads or writes a device.
 #![tactic(auto)]
 
@@ -12,7 +12,6 @@ pub mod law;
 mod lines;
 mod map;
 mod place;
-mod report;
 mod room;
 mod run;
 mod turn;
@@ -21,7 +20,6 @@ pub use answer::TurnAnswer;
 pub use lines::push_turn;
 pub use map::{map_text, push_map};
 pub use place::Place;
-pub use report::push_report;
 pub use room::text_for;
 pub use run::{run_turns, step_after, take_turn};
 pub use turn::step_turn;

@@ -31,11 +31,11 @@ asked_of limits world next build act command stepped =
 
 pub newest_is_accepted : (limits : Limits) (history : List Event) (world : World) (monitor : MonitorView) (build : ℕ) (act back : Act) (place : Place)
     → NewestIsAccepted limits history world monitor build act back place
-newest_is_accepted limits history world monitor build act back place mirror at newest back_is command rests =
-    let can = undoable limits build history world act back mirror.legal mirror.world_is newest back_is rests in
+newest_is_accepted limits history world monitor build act back place mirror at is_newest =
+    let can = undoable limits build history world act back mirror.legal mirror.world_is is_newest.newest is_newest.reverse is_newest.at_rest in
     let is = step_is limits world can.world (by build back) can.stepped in
     record {
-      asked = asked_of limits world can.world build back command can.stepped;
+      asked = asked_of limits world can.world build back is_newest.command can.stepped;
       turn = can.in_turn;
       updates = is.updates;
       accepted = same_outcome limits history world monitor mirror build back place at ∙ is.outcome;

@@ -109,9 +109,15 @@ pub record IsAccepted (limits : Limits) (history : List Event) (world : World) (
   pub updates : List Update
   pub accepted : outcome_on monitor place.realm back ≡ Ok updates
 
--- this holds where the reverse is a command, and the act made no REC that runs
+-- The newest act that a build has open can be undone by a command: it has a reverse that is one, and made no REC that runs.
+pub record CanBeUndone (history : List Event) (world : World) (build : ℕ) (act back : Act) : Type 0 where
+  pub newest : last_or None (open_entries build history) ≡ Some act
+  pub reverse : reverse_of act ≡ Some back
+  pub command : is_command back ≡ true
+  pub at_rest : is_running (realm_of build world) act ≡ false
+
+-- then the monitor accepts the reverse
 abbrev pub NewestIsAccepted : Limits → List Event → World → MonitorView → ℕ → Act → Act → Place → Type 0
 NewestIsAccepted limits history world monitor build act back place =
-    IsMirror limits history world monitor → IsPlaceOf world build back place → last_or None (open_entries build history) ≡ Some act
-    → reverse_of act ≡ Some back → is_command back ≡ true → is_running (realm_of build world) act ≡ false
+    IsMirror limits history world monitor → IsPlaceOf world build back place → CanBeUndone history world build act back
     → IsAccepted limits history world monitor build back place

@@ -50,13 +50,15 @@ impl<S: PageStore> Host<S> {
         Ok(count)
     }
 
-    // Undoes what a build has open above the first `count` acts, the newest first. None of these made a REC that runs.
+    // Undoes what a build has open above the first `count` acts, the newest first. The caller has seen that none of these
+    // made a REC that runs.
     pub(crate) fn undo_down_to(&mut self, build: BuildId, count: u16)
         requires there { build < self.old.limits.builds }
         requires enough { count ≤ length (open_of self.old build) }
         requires rest { list_any (is_running (realm_of build (world_of self.old))) (drop count (open_of self.old build)) ≡ false }
         ensures { IsDown self.old build count self.new }
     {
+        // (no undo is refused here: that is a law of histories, newest_can_be_undone)
         for _ in count..self.books.open_count(build) {
             let Ok(_) = self.undo(build) else {
                 unreachable!()

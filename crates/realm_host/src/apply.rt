@@ -15,10 +15,10 @@ ghost use Rattle.realm_host.specs.Acting.{HasRoomFor, IsApplied, IsNoStep};
 ghost use Rattle.realm_host.specs.Recorded.{CanApply};
 
 use crate::Host;
-use build_journal::{JOURNAL_ROOM, takes_back};
+use build_journal::takes_back;
 use granule_addr::{BuildId, Gran, Order, Root};
 use page_arena::PageStore;
-use realm_model::{Act, Event};
+use realm_model::{Act, Event, JOURNAL_ROOM};
 
 // How many entries of its build's room an act takes.
 #[tactic(auto, unfolding(realm_model::specs::Room::room_taken, realm_model::specs::Act::reverse_of, realm_model::specs::Act::is_reverse))]

@@ -16,7 +16,8 @@ impl<S: PageStore> Host<S> {
     /// Performs a command of a build and returns the reply to it. One event then ends the history.
     ///
     /// Where the command is refused, returns the refusal with the lowest number of those that apply and hold; then
-    /// nothing changes. No memory is taken, and neither the machine nor the history nor a journal is searched.
+    /// nothing changes. No memory is taken, which tests see and no clause says, and neither the machine nor the history nor a
+    /// journal is searched, which is read in the code.
     pub fn command(&mut self, build: BuildId, cmd: Cmd) -> Result<Reply, Refusal>
         ensures { IsAnswer self.old build (Ask cmd) (replied result) self.new }
     {
@@ -28,6 +29,7 @@ impl<S: PageStore> Host<S> {
             Ok(picked) => picked,
             Err(rmi) => return Err(Refusal::Rmi(rmi)),
         };
+        // (a number that no act can hold is an input error at once)
         let Some(act) = act_of(&cmd, &granules, picked) else {
             return Err(Refusal::Rmi(Rmi::INPUT));
         };

@@ -1,6 +1,8 @@
 //! How large a host is.
 ghost use Rattle.std.specs.Prelude.{◌≡◌, ◌≤◌, ◌↔◌, IsSome, IfSome};
 
+use realm_model::{LEAST_HISTORY, MOST_HISTORY};
+
 /// The numbers that a host is booted with: VMIDs, auxiliary granules of each REC, events of each build in the history,
 /// and builds.
 #[derive(Clone, Copy, Debug, PartialEq, Eq)]
@@ -28,8 +30,8 @@ impl Settings {
     {
         let are_settings = vmids >= 1
             && aux <= 16
-            && history >= 16
-            && history <= 16_384
+            && history >= LEAST_HISTORY
+            && history <= MOST_HISTORY
             && builds >= 1
             && builds <= 8;
         if are_settings {

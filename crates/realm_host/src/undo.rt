@@ -22,8 +22,8 @@ impl<S: PageStore> Host<S> {
     /// are left open.
     ///
     /// Refused with NoBuild, with NothingToUndo if the build has nothing open, or with RecRunning if that act made a REC that
-    /// runs; then nothing changes. An undo right after the act that it reverses leads back to a world that owns
-    /// the same. If it leaves nothing open, the world is that of the history without the build.
+    /// runs; then nothing changes. An undo right after the act that it reverses leads back to a world in which everybody has
+    /// the same granules and mappings. If it leaves nothing open, the world is that of the history without the build.
     pub fn undo(&mut self, build: BuildId) -> Result<Undone, Refusal>
         ensures answer { IsAnswer self.old build Undo (undone result) self.new }
         ensures pair { OnOk result (LeadsBack self.old build self.new) }
@@ -38,6 +38,7 @@ impl<S: PageStore> Host<S> {
         if self.is_running(build, newest) {
             return Err(Refusal::RecRunning);
         }
+        // (an open act has a kind and a reverse)
         let kind = kind_of(newest).unwrap();
         let back = reverse_of(newest).unwrap();
         let left = self.books.open_count(build) - 1;

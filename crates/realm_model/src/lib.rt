@@ -6,12 +6,14 @@
 #![tactic(auto)]
 
 mod act;
+mod bounds;
 mod kind;
 pub mod law;
 mod rmi;
 mod states;
 
 pub use act::{Act, Event, granules_again};
+pub use bounds::{JOURNAL_ROOM, LEAST_HISTORY, MOST_HISTORY};
 pub use kind::{Kind, kind_of};
 pub use rmi::{Rmi, Status};
 pub use states::{EntryState, GranuleState, RealmState, RecState, Ripas};

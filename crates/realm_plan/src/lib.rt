@@ -11,4 +11,5 @@ mod plan;
 mod turns;
 
 pub use fault::{PlanError, PlanFault};
-pub use plan::Plan;
+pub use limits::{MOST_BUILDS, MOST_STEPS, MOST_TURNS};
+pub use plan::{MOST_BYTES, Plan};

@@ -9,6 +9,7 @@ use crate::contents::Contents;
 use crate::fault::{PlanError, PlanFault};
 use granule_addr::MOST_PAGES;
 use plan_steps::PlanStep;
+use realm_model::{LEAST_HISTORY, MOST_HISTORY};
 
 /// The most builds of a plan.
 pub const MOST_BUILDS: usize = 8;
@@ -63,7 +64,7 @@ pub fn numbers_of(contents: &Contents<'_>) -> Result<Numbers, PlanError>
     let pages = between(1, MOST_PAGES, contents.pages)?;
     let vmids = between(1, 255, contents.vmids)?;
     let aux = between(0, 16, contents.aux)?;
-    let history = between(16, 16384, contents.history)?;
+    let history = between(LEAST_HISTORY, MOST_HISTORY, contents.history)?;
     Ok(Numbers {
         pages,
         vmids: vmids as u8,

@@ -4,11 +4,11 @@ use Rattle.std.specs.List.{flat_map, range_with_len}
 use Rattle.std.specs.Fmt.{decimal}
 use Rattle.build_books.specs.View.{HostView, open_of, is_aborting}
 
--- the line of a build that is in abort: how many acts it has open
+-- the line of a build that is in abort: how many acts it has open, each of which needs a turn
 abbrev pub unfinished_line : HostView → ℕ → List ℕ
 unfinished_line host build =
     if is_aborting host build
-    then codes "    no    the abort of build " ++ (decimal build ++ (codes " is done; acts that are open: " ++ (decimal (length (open_of host build)) ++ 10 ∷ [])))
+    then codes "    no    the abort of build " ++ (decimal build ++ (codes " has all its turns; turns that order lacks: " ++ (decimal (length (open_of host build)) ++ 10 ∷ [])))
     else []
 
 -- the lines of those of eight builds that are in abort

@@ -55,7 +55,7 @@ fn has_block<S: PageStore>(host: &Host<S>, order: Order) -> bool
     false
 }
 
-/// 11: an aligned block of the order is free.
+/// Refusal 11: an aligned block of the order is free.
 pub(crate) fn block_look<S: PageStore>(host: &Host<S>, order: Order) -> Look
     ensures { result ≡ block_look host.now order }
 {

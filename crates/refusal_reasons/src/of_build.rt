@@ -10,9 +10,10 @@ use build_commands::{Desk, Needs, Wants};
 use granule_addr::BuildId;
 use page_arena::PageStore;
 use realm_host::{Cmd, Host, Refusal};
+use realm_model::JOURNAL_ROOM;
 use std::alloc::AllocError;
 
-/// 1: there is such a build.
+/// Refusal 1: there is such a build.
 pub(crate) fn build_there<S: PageStore>(host: &Host<S>, build: BuildId) -> Look
     ensures { result ≡ build_there host.now build }
 {
@@ -24,7 +25,7 @@ pub(crate) fn build_there<S: PageStore>(host: &Host<S>, build: BuildId) -> Look
     }
 }
 
-/// 2: the build is not in abort.
+/// Refusal 2: the build is not in abort.
 pub(crate) fn not_aborting<S: PageStore>(host: &Host<S>, build: BuildId) -> Look
     ensures { result ≡ not_aborting host.now build }
 {
@@ -35,14 +36,14 @@ pub(crate) fn not_aborting<S: PageStore>(host: &Host<S>, build: BuildId) -> Look
     }
 }
 
-/// 1 and 2: the build is there, and it is not in abort.
+/// Refusals 1 and 2: the build is there, and it is not in abort.
 pub(crate) fn build_looks<S: PageStore>(host: &Host<S>, build: BuildId) -> [Look; 2]
     ensures { result ≡ build_looks host.now build }
 {
     [build_there(host, build), not_aborting(host, build)]
 }
 
-// 3: a block is not too large.
+// Refusal 3: a block is not too large.
 fn order_look(cmd: &Cmd) -> Option<Look>
     ensures { cons_option result [] ≡ order_looks cmd.now }
 {
@@ -56,7 +57,7 @@ fn order_look(cmd: &Cmd) -> Option<Look>
     }
 }
 
-// 4: the build has the page.
+// Refusal 4: the build has the page.
 fn page_there<S: PageStore>(host: &Host<S>, build: BuildId, page: u16) -> Look
     ensures { result ≡ page_there host.now build page }
 {
@@ -83,7 +84,7 @@ fn add_pages<S: PageStore>(
     Ok(())
 }
 
-// 5 and 6: the build has a realm, or none.
+// Refusals 5 and 6: the build has a realm, or none.
 fn realm_look<S: PageStore>(host: &Host<S>, build: BuildId, wants: Wants) -> Option<Look>
     ensures { cons_option result [] ≡ realm_looks host.now build wants }
 {
@@ -103,7 +104,7 @@ fn realm_look<S: PageStore>(host: &Host<S>, build: BuildId, wants: Wants) -> Opt
     }
 }
 
-// 9: one more act may be open.
+// Refusal 9: one more act may be open.
 fn journal_look<S: PageStore>(host: &Host<S>, build: BuildId, paired: bool) -> Option<Look>
     ensures { cons_option result [] ≡ journal_looks host.now build paired }
 {
@@ -113,7 +114,7 @@ fn journal_look<S: PageStore>(host: &Host<S>, build: BuildId, paired: bool) -> O
     let open = host.open_acts(build).len();
     Some(Look {
         fact: Fact::Room(RoomFact::Journal(open)),
-        fails: open >= 512,
+        fails: open >= JOURNAL_ROOM as usize,
         refusal: Refusal::JournalFull,
     })
 }
@@ -129,7 +130,7 @@ fn room_left<S: PageStore>(host: &Host<S>, build: BuildId) -> u16
     }
 }
 
-// 10: the build has `needed` entries of its room left.
+// Refusal 10: the build has `needed` entries of its room left.
 fn room_look<S: PageStore>(host: &Host<S>, build: BuildId, needed: u16) -> Look
     ensures { result ≡ room_look host.now build needed }
 {
@@ -141,7 +142,7 @@ fn room_look<S: PageStore>(host: &Host<S>, build: BuildId, needed: u16) -> Look
     }
 }
 
-// 12: a VMID is free.
+// Refusal 12: a VMID is free.
 fn vmid_look<S: PageStore>(host: &Host<S>, wanted: bool) -> Option<Look>
     ensures { cons_option result [] ≡ vmid_looks host.now wanted }
 {

@@ -13,7 +13,7 @@ use plan_runs::Place;
 use realm_host::{Host, Mark, Refusal};
 use std::alloc::{AllocError, Global};
 
-// 1, 7 and 8 of an undo.
+// Refusals 1, 7 and 8 of an undo.
 fn undo<S: PageStore>(host: &Host<S>, build: BuildId) -> [Look; 3]
     ensures { result ≡ undo_looks host.now build }
 {
@@ -44,7 +44,7 @@ fn running_of<S: PageStore>(host: &Host<S>, build: BuildId) -> u16
     }
 }
 
-// 1, 2 and 8 of an abort that begins.
+// Refusals 1, 2 and 8 of an abort that begins.
 fn begin<S: PageStore>(host: &Host<S>, build: BuildId) -> [Look; 3]
     ensures { result ≡ begin_looks host.now build }
 {
@@ -60,7 +60,7 @@ fn begin<S: PageStore>(host: &Host<S>, build: BuildId) -> [Look; 3]
     ]
 }
 
-// 7 of a way back: the build has a mark, and it is still kept.
+// Refusal 7 of a way back: the build has a mark, and it is still kept.
 fn has_mark(fails: bool) -> Look
     ensures { result ∷ [] ≡ mark_looks fails }
 {
@@ -71,7 +71,7 @@ fn has_mark(fails: bool) -> Look
     }
 }
 
-// 1, 2, 7 and 8 of a way back to a mark.
+// Refusals 1, 2, 7 and 8 of a way back to a mark.
 fn back<S: PageStore>(host: &Host<S>, build: BuildId, mark: Mark) -> [Look; 4]
     ensures { result ≡ back_looks host.now build (Some mark) }
 {

@@ -1,25 +1,14 @@
 //! The pages that a command names, and their granules.
 ghost use Rattle.std.specs.Prelude.{◌≡◌, ◌++◌, ◌+◌, ◌<◌, ◌≤◌, [], length};
 ghost use Rattle.std.specs.List.{filter_map, cons_option, range_with_len};
-ghost use Rattle.build_commands.specs.Needs.{tables_named};
 ghost use Rattle.build_books.specs.View.{granule_of_page};
 ghost use Rattle.refusal_reasons.specs.Pages.{tables_told, pages_told};
 
 use arrayvec::ArrayVec;
-use granule_addr::{BuildId, Gran, IpaWidth};
+use build_commands::tables_named;
+use granule_addr::{BuildId, Gran};
 use page_arena::PageStore;
 use realm_host::{Cmd, Host};
-
-// How many starting tables are named.
-fn tables_named(width: u8) -> u16
-    ensures value { result ≡ tables_named width }
-    ensures few { result ≤ 16 }
-{
-    let Some(width) = IpaWidth::new(width) else {
-        return 1;
-    };
-    width.start_count()
-}
 
 // How many of them are told of: only the first, where no pages have the numbers of the last ones.
 fn tables_told(root: u16, width: u8) -> u16

@@ -21,7 +21,7 @@ fn push_line<S: PageStore>(
     }
     writeln!(
         text,
-        "    no    the abort of build {} is done; acts that are open: {}",
+        "    no    the abort of build {} has all its turns; turns that order lacks: {}",
         build.number(),
         host.open_acts(build).len()
     )

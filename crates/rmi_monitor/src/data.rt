@@ -46,7 +46,7 @@ impl<S: PageStore> Monitor<S> {
         Ok(())
     }
 
-    // Where a page that gets the bytes of `source` is mapped in a NEW realm.
+    // The checks of `data_create`: the realm's tables and the IPA granule, or the refusal. Nothing changes.
     fn check_copy(
         &self,
         rd: Gran,

@@ -6,7 +6,7 @@ use Rattle.std.proofs.lemmas.List.Elements.{All-nil, All-cons, All-head, All-tai
 use Rattle.std.specs.Prelude.{All}
 use Rattle.build_commands.specs.declared.cmd.Step.{Step}
 use Rattle.builders.specs.Workers.{WorkerView}
-use Rattle.plan_runs.specs.Report.{report_text}
+use Rattle.run_program.specs.Report.{report_text}
 use Rattle.realm_model.specs.declared.act.Event.{Event}
 use Rattle.realm_plan.specs.Plan.{Plan}
 use Rattle.run_program.specs.Fitting.{DoesFit, ReportFits}

@@ -2,6 +2,7 @@ pub mod Fault
 pub mod Threads
 pub mod Fitting
 pub mod Picks
+pub mod Report
 pub mod Hosts
 pub mod Text
 pub mod Workers

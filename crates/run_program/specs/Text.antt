@@ -3,7 +3,7 @@ use Rattle.std.specs.Prelude.{ℕ, List, [], codes, slice_index_or}
 use Rattle.std.specs.Global.{Vec}
 use Rattle.build_commands.specs.declared.cmd.Step.{Step}
 use Rattle.plan_steps.specs.declared.step.PlanStep.{PlanStep}
-use Rattle.plan_runs.specs.Report.{report_text}
+use Rattle.run_program.specs.Report.{report_text}
 use Rattle.realm_plan.specs.Plan.{Plan}
 use Rattle.workers.specs.declared.report.Report.{Report}
 

@@ -10,7 +10,7 @@ use Rattle.builders.specs.Runs.{AreRun, IsLowestWaiting}
 use Rattle.builders.specs.Seats.{SeatView, new_seat}
 use Rattle.builders.specs.Workers.{WorkerView}
 use Rattle.builders.specs.declared.close.CloseFault.{CloseFault}
-use Rattle.plan_runs.specs.Report.{report_text}
+use Rattle.run_program.specs.Report.{report_text}
 use Rattle.plan_runs.specs.Run.{map_text}
 use Rattle.plan_steps.specs.Asked.{asked}
 use Rattle.realm_model.specs.declared.act.Event.{Event}

@@ -12,6 +12,7 @@ pub mod law;
 mod line;
 mod new_workers;
 mod pages;
+mod report;
 mod running;
 mod text;
 mod undo;

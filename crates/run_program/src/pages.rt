@@ -1,13 +1,13 @@
 //! The granules of a command's pages, by what a build has open.
 ghost use Rattle.std.specs.Prelude.{◌≡◌, ◌↔◌, ◌+◌, ◌<◌, ◌≤◌, ◌++◌, List, ℕ, length, IsTrue, IfSome, IfNone};
 ghost use Rattle.std.specs.List.{flat_map, range_with_len};
-ghost use Rattle.build_commands.specs.Needs.{operands, tables_named};
+ghost use Rattle.build_commands.specs.Needs.{operands};
 ghost use Rattle.realm_model.specs.History.{pages_held};
 ghost use Rattle.run_program.specs.Fitting.{granule_of_number, AreGranules};
 
 use arrayvec::ArrayVec;
-use build_commands::Cmd;
-use granule_addr::{Gran, IpaWidth, MOST_PAGES};
+use build_commands::{Cmd, tables_named};
+use granule_addr::{Gran, MOST_PAGES};
 use realm_model::Act;
 
 // How many pages an open act holds.
@@ -61,14 +61,6 @@ pub(crate) fn has_pages(opened: &[Act], count: u16) -> bool
         left -= held;
     }
     left == 0
-}
-
-// How many starting tables a command names.
-fn tables_named(width: u8) -> u16
-    ensures value { result ≡ tables_named width }
-    ensures few { result ≤ 16 }
-{
-    IpaWidth::new(width).map_or(1, |width| width.start_count())
 }
 
 // Puts `count` numbers from `first` on at the end.

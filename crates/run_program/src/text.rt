@@ -9,9 +9,10 @@ ghost use Rattle.run_program.specs.declared.fault.RunFault.TheVariants.{Memory, 
 
 use crate::fault::RunFault;
 use crate::fit_all;
+use crate::report::push_report;
 use build_commands::Step;
 use page_arena::PageStore;
-use plan_runs::{push_map, push_report, text_for};
+use plan_runs::{push_map, text_for};
 use realm_host::Host;
 use realm_plan::Plan;
 use std::alloc::{AllocError, Global};

@@ -5,7 +5,7 @@ use Rattle.build_books.specs.View.{open_of, is_aborting}
 use Rattle.refusal_reasons.proofs.unfinished.push_line.Goals as goal
 
 abbrev line : ℕ → ℕ → List ℕ
-line build left = codes "    no    the abort of build " ++ (decimal build ++ (codes " is done; acts that are open: " ++ (decimal left ++ 10 ∷ [])))
+line build left = codes "    no    the abort of build " ++ (decimal build ++ (codes " has all its turns; turns that order lacks: " ++ (decimal left ++ 10 ∷ [])))
 
 pub returns : goal.returns
 returns g c =

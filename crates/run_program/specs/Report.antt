@@ -1,7 +1,7 @@
 -- The text of a report: each of its lines is told as that of a turn.
 use Rattle.std.specs.Prelude.{ℕ, ◌==◌, Bool, true, false, not, ◌&&◌, if◌then◌else◌, List, [], ◌∷◌, ◌++◌, Option, Some, None, slice_get}
 use Rattle.build_commands.specs.declared.cmd.Cmd.TheVariants.{Exit}
-use Rattle.build_commands.specs.declared.cmd.Step.TheVariants.{Ask, Undo, Abort, Back}
+use Rattle.build_commands.specs.declared.cmd.Step.TheVariants.{Ask, Undo}
 use Rattle.plan_steps.specs.declared.step.PlanStep.{PlanStep}
 use Rattle.plan_steps.specs.declared.step.PlanStep.TheVariants.{Whole}
 use Rattle.workers.specs.declared.report.Asked.{Asked}
@@ -10,6 +10,7 @@ use Rattle.workers.specs.declared.report.Answer.{Answer}
 use Rattle.workers.specs.declared.report.Answer.TheVariants as answer
 use Rattle.workers.specs.declared.report.Line.{Line}
 use Rattle.plan_runs.specs.Text.{turn_line}
+use Rattle.plan_runs.specs.Turn.{undoes_many}
 use Rattle.plan_runs.specs.declared.answer.TurnAnswer.{TurnAnswer}
 use Rattle.plan_runs.specs.declared.answer.TurnAnswer.TheVariants as tells
 
@@ -19,12 +20,6 @@ abbrev pub step_of_line : List PlanStep → Asked → Option PlanStep
 step_of_line steps (asked.Step place) = slice_get steps place
 step_of_line steps (asked.Exit number) = Some (Whole (Ask (Exit number)))
 step_of_line steps asked.Undo = Some (Whole Undo)
-
--- An abort and a step back undo any number of acts, with a line for each.
-abbrev pub undoes_many : PlanStep → Bool
-undoes_many (Whole Abort) = true
-undoes_many (Whole Back) = true
-undoes_many _ = false
 
 -- both are of the plan's step at the same place
 abbrev pub is_same_step : Asked → Asked → Bool

@@ -5,8 +5,8 @@ use Rattle.std.proofs.lemmas.List.{append-nil}
 use Rattle.std.proofs.lemmas.Option.{slice_get_read, slice_get_past}
 use Rattle.plan_steps.specs.declared.step.PlanStep.{PlanStep}
 use Rattle.workers.specs.declared.report.Line.{Line}
-use Rattle.plan_runs.specs.Report.{step_of_line, line_text}
-use Rattle.plan_runs.proofs.report.push_line.Goals as goal
+use Rattle.run_program.specs.Report.{step_of_line, line_text}
+use Rattle.run_program.proofs.report.push_line.Goals as goal
 
 -- a line of the one step is a line of the other
 of_step : {T E : Type 0} (result : Result T E) (new old : List ℕ) (build : ℕ) (line : Line) (next : Option Line) {step its : Option PlanStep}

@@ -1,6 +1,6 @@
 use Rattle.std.proofs.Common.{◌≡◌, ◌++◌, length, string_bytes}
-use Rattle.plan_runs.specs.Report.{report_text}
-use Rattle.plan_runs.proofs.report.push_report.Given as goal
+use Rattle.run_program.specs.Report.{report_text}
+use Rattle.run_program.proofs.report.push_report.Given as goal
 
 abbrev pub invariant-loop-line : goal.invariant-loop-line
 invariant-loop-line l =

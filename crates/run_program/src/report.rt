@@ -1,11 +1,11 @@
 //! The lines of a report.
 ghost use Rattle.std.specs.Prelude.{◌≡◌, ◌++◌, OnOk, Some, string_bytes};
-ghost use Rattle.plan_runs.specs.Report.{step_of_line, undoes_many, ends_step, told_of_line, line_text, report_text};
+ghost use Rattle.plan_runs.specs.Turn.{undoes_many};
+ghost use Rattle.run_program.specs.Report.{step_of_line, ends_step, told_of_line, line_text, report_text};
 
-use crate::answer::TurnAnswer;
-use crate::lines::push_turn;
 use build_commands::{Cmd, Step};
 use granule_addr::BuildId;
+use plan_runs::{TurnAnswer, push_turn};
 use plan_steps::PlanStep;
 use std::alloc::AllocError;
 use workers::{Answer, Asked, Line, Report};
@@ -84,7 +84,11 @@ fn push_line(
 /// Appends the lines of a report, each as the line of a turn: the build, the step as it stands in the plan, and the answer.
 /// An undo is told as `done` at the last line of an abort or a step back, also where the worker was cut short there. A line
 /// whose place the plan does not have is left out: no report of the plan has one. At an `Err` the text may have got a part.
-pub fn push_report(text: &mut String, steps: &[PlanStep], report: &Report) -> Result<(), AllocError>
+pub(crate) fn push_report(
+    text: &mut String,
+    steps: &[PlanStep],
+    report: &Report,
+) -> Result<(), AllocError>
     ensures { OnOk result (string_bytes text.new ≡ string_bytes text.old ++ report_text report.now.build steps.now report.now.lines.items) }
 {
     let mut rest = report.lines.as_slice();
