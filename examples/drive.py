@@ -3,8 +3,8 @@
     python3 examples/drive.py < TRACE
 
 The answers in the trace are those that are wanted; `rmitrace answer` gives them to any trace. `Toy` stands for your
-monitor: it has granules and realms and nothing else, and a bug. Put in its place a class whose `call` reaches yours, by
-an SMC or in a simulator. `Driver.registers` is the table of docs/TRACES.md, "From lines to calls"; that page also says
+monitor: it has granules and realms and nothing else, and a bug. Set MONITOR to a class of your own, made of the three
+numbers of a `machine` line, whose `call` reaches your monitor, by an SMC or in a simulator. `Driver.registers` is the table of docs/TRACES.md, "From lines to calls"; that page also says
 what the lines are that are no calls alone: host_fill, host_peek, rec_enter, rec_exit and guest_write.
 """
 import sys
@@ -55,7 +55,7 @@ class Driver:
         self.recs = {}
 
     def registers(self, name, numbers):
-        """X1, X2 .. of a call; in the place of the address of a structure, the structure."""
+        """X1, X2 .. of a call; in the place of the address of a structure, the structure. None of what is no call."""
         match name, numbers:
             case "realm_create", [rd, root, vmid, width]:
                 return [address(rd), RealmParams(width, address(root), 1, 1 << max(width - 39, 0), vmid)]
@@ -79,7 +79,7 @@ class Driver:
             case "granule_delegate" | "granule_undelegate" | "realm_activate" | "realm_destroy" | "rec_destroy", [granule]:
                 return [address(granule)]
             case _:
-                sys.exit(f"{name} with {len(numbers)} numbers is no call: see docs/TRACES.md")
+                return None
 
     def accepted(self, name, numbers):
         """What an accepted command changes for the calls to come."""
@@ -92,13 +92,14 @@ class Driver:
 class Toy:
     """The monitor that is tried. Its bug: RMI_REALM_DESTROY keeps the VMID in use."""
 
-    def __init__(self, granules, vmids):
+    def __init__(self, granules, vmids, _aux):
         self.states = {address(it): "UNDELEGATED" for it in range(granules)}
         self.vmids, self.used, self.realms = vmids, set(), {}
 
     def call(self, command, registers):
-        """X0 of a call: the result word."""
-        return getattr(self, command)(*registers)
+        """X0 of a call: the result word. None where the monitor has no such call."""
+        answer = getattr(self, command, None)
+        return None if answer is None else answer(*registers)
 
     def granule_delegate(self, granule):
         return self.moved([granule], "UNDELEGATED", "DELEGATED")
@@ -137,6 +138,10 @@ class Toy:
         return 0
 
 
+# The class of the monitor that is tried.
+MONITOR = Toy
+
+
 def main(lines):
     driver, monitor, agreed, left_out = Driver(), None, 0, 0
     for number, line in enumerate(lines, 1):
@@ -152,14 +157,15 @@ def main(lines):
             sys.exit(f"line {number}: {line.rstrip()}: numbers are decimal, and an answer begins with one")
         numbers = [int(it) for it in operands]
         if name == "machine":
-            driver, monitor = Driver(), Toy(*numbers[:2])
+            driver, monitor = Driver(), MONITOR(*numbers)
             continue
         if monitor is None:
             sys.exit(f"line {number}: {asked}: there is no `machine` line before it")
-        if not hasattr(monitor, name):
+        registers = driver.registers(name, numbers)
+        word = None if registers is None else monitor.call(name, registers)
+        if word is None:
             print(f"line {number}: {asked}: this monitor has no such command; {agreed} answers agree before")
             return 1
-        word = monitor.call(name, driver.registers(name, numbers))
         if wanted and word != int(wanted.split(" ")[0]):
             print(f"line {number}: {line.rstrip()}, and this monitor answers {word}; {agreed} answers agree before")
             return 1

@@ -1,7 +1,7 @@
 -- What a stack is after a block is pushed, and what the list of stacks is after one is written.
-use Rattle.std.proofs.Common.{◌≡◌, ℕ, ◌+◌, ◌-◌, ◌<◌, ◌≤◌, List, [], ◌∷◌, ◌++◌, length, get_or, set, vec_len, vec_capacity}
+use Rattle.std.proofs.Common.{◌≡◌, ℕ, ◌+◌, ◌<◌, ◌≤◌, List, [], ◌∷◌, ◌++◌, length, take, get_or, set, vec_len, vec_capacity}
 use Rattle.std.proofs.Common.{Bool, true, false, if◌then◌else◌, Option, Some, None, sym, ap, ◌∙◌, subst, arith, append_assoc}
-use Rattle.std.proofs.lemmas.List.{length-map, get_or-map, map-set}
+use Rattle.std.proofs.lemmas.List.{length-map, get_or-map, map-set, take_more_set}
 use Rattle.std.proofs.lemmas.List.Elements.{All-set}
 use Rattle.std.proofs.lemmas.Option.{same_Some}
 use Rattle.std.specs.Global.{Vec}
@@ -14,16 +14,17 @@ pub granule_is : (fits : Bool) (k granule : ℕ) (found : Option ℕ) → found 
 granule_is true k granule found is found_is = same_Some granule k (sym found_is ∙ is)
 granule_is false k granule found is found_is = let clash : None ≡ Some granule = sym is ∙ found_is in cc
 
--- one more granule of the block
-pub pushed_on : (start before after : List ℕ) (first k granule : ℕ) → first ≤ k → granule ≡ k → before ≡ start ++ range_with_len first (k - first)
-    → after ≡ before ++ granule ∷ [] → after ≡ start ++ range_with_len first (k + 1 - first)
-pushed_on start before after first k granule low same before_is after_is =
-    let here : first + (k - first) ≡ granule = omega arith in
-    let next : k - first + 1 ≡ k + 1 - first = omega arith in
-    after_is
-    ∙ ap (λ pages. pages ++ granule ∷ []) before_is
-    ∙ append_assoc start (range_with_len first (k - first)) (granule ∷ [])
-    ∙ ap (λ run. start ++ run) (sym (range_with_len_more first (k - first) granule here) ∙ ap (range_with_len first) next)
+-- one more granule of the block, in its place
+pub written_on : (pages before : List ℕ) (start first k granule : ℕ) → start + k < length before → granule ≡ first + k
+    → take (start + k) before ≡ pages ++ range_with_len first k
+    → take (start + (k + 1)) (set before (start + k) granule) ≡ pages ++ range_with_len first (k + 1)
+written_on pages before start first k granule inside same before_is =
+    let next : start + (k + 1) ≡ start + k + 1 = omega arith in
+    ap (λ n. take n (set before (start + k) granule)) next
+    ∙ take_more_set before (start + k) granule inside
+    ∙ ap (λ front. front ++ granule ∷ []) before_is
+    ∙ append_assoc pages (range_with_len first k) (granule ∷ [])
+    ∙ ap (λ run. pages ++ run) (sym (range_with_len_more first k granule (sym same)))
 
 module _ (stacks : List (Vec ℕ)) (at build : ℕ) (old new : Vec ℕ) (same : at ≡ build) (there : build < length (contents stacks)) (read : old ≡ get_or stacks at old) where
   inside : at < length stacks

@@ -11,10 +11,12 @@ pub fn push_run(stack: &mut Vec<Gran>, first: Gran, order: Order)
     ensures pushed { stack.new.items ≡ pushed stack.old.items first order }
     ensures memory { vec_capacity stack.old ≤ vec_capacity stack.new }
 {
+    let start = stack.len();
+    stack.resize(start + order.size() as usize, first).unwrap();
     let number = first.number();
-    for k in number..number + order.size() {
-        let granule = Gran::new(k, MOST_PAGES).unwrap();
-        stack.push(granule).unwrap();
+    // (written in their places, and not pushed: so no page waits for the length that the one before it left)
+    for k in 0..order.size() {
+        stack[start + k as usize] = Gran::new(number + k, MOST_PAGES).unwrap();
     }
 }
 

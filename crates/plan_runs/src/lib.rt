@@ -22,4 +22,4 @@ pub use map::{map_text, push_map};
 pub use place::Place;
 pub use room::text_for;
 pub use run::{run_turns, step_after, take_turn};
-pub use turn::step_turn;
+pub use turn::plan_turn;

@@ -7,7 +7,7 @@ use crate::answer::TurnAnswer;
 use crate::build_id::id_of;
 use crate::lines::push_turn;
 use crate::place::Place;
-use crate::turn::step_turn;
+use crate::turn::plan_turn;
 use page_arena::PageStore;
 use plan_steps::{PlanStep, push_idle};
 use realm_host::Host;
@@ -38,7 +38,7 @@ pub fn take_turn<'a, S: PageStore>(
 {
     let mut place = places[build];
     let step = step_after(plan, build, place.done)?;
-    let answer = step_turn(host, id_of(build), &mut place, step.asked());
+    let answer = plan_turn(host, id_of(build), &mut place, step);
     place.move_on();
     places[build] = place;
     Some((step, answer))

@@ -1,5 +1,6 @@
 //! The turn of a step.
 ghost use Rattle.std.specs.Prelude.{◌≡◌};
+ghost use Rattle.plan_steps.specs.Asked.{asked};
 ghost use Rattle.plan_runs.specs.Turn.{to_go_back, IsCommandTurn, IsUndoTurn, IsMarkTurn, IsOneOfMany, IsTurnOfMany, IsToAbort, IsAbortTurn, IsStepTurn};
 
 use crate::answer::TurnAnswer;
@@ -7,12 +8,13 @@ use crate::place::Place;
 use build_commands::Step;
 use granule_addr::BuildId;
 use page_arena::PageStore;
+use plan_steps::PlanStep;
 use realm_host::{Cmd, Host, Refusal};
 
-fn command_turn<S: PageStore>(host: &mut Host<S>, build: BuildId, cmd: Cmd) -> TurnAnswer
-    ensures { IsCommandTurn host.old build cmd result host.new }
+fn command_turn<S: PageStore>(host: &mut Host<S>, build: BuildId, cmd: &Cmd) -> TurnAnswer
+    ensures { IsCommandTurn host.old build cmd.now result host.new }
 {
-    match host.command(build, cmd) {
+    match host.ask(build, cmd) {
         Ok(reply) => TurnAnswer::Replied(reply),
         Err(refusal) => TurnAnswer::Refused(refusal),
     }
@@ -118,14 +120,14 @@ fn back_turn<S: PageStore>(host: &mut Host<S>, build: BuildId, place: &mut Place
     turn_of_many(host, build, place, count)
 }
 
-/// The turn of a build's step, and what it tells. The place says afterwards how many undos of the step are left.
-pub fn step_turn<S: PageStore>(
+// The turn of a build's step, and what it tells.
+fn step_turn<S: PageStore>(
     host: &mut Host<S>,
     build: BuildId,
     place: &mut Place,
-    step: Step,
+    step: &Step,
 ) -> TurnAnswer
-    ensures { IsStepTurn host.old build place.old step result host.new place.new }
+    ensures { IsStepTurn host.old build place.old step.now result host.new place.new }
 {
     match step {
         Step::Ask(cmd) => command_turn(host, build, cmd),
@@ -133,5 +135,20 @@ pub fn step_turn<S: PageStore>(
         Step::Abort => abort_turn(host, build, place),
         Step::Mark => mark_turn(host, build, place),
         Step::Back => back_turn(host, build, place),
+    }
+}
+
+/// The turn of a step of a build's plan, and what it tells. The place says afterwards how many undos of the step are left.
+pub fn plan_turn<S: PageStore>(
+    host: &mut Host<S>,
+    build: BuildId,
+    place: &mut Place,
+    step: &PlanStep,
+) -> TurnAnswer
+    ensures { IsStepTurn host.old build place.old (asked step.now) result host.new place.new }
+{
+    match step {
+        PlanStep::Whole(step) => step_turn(host, build, place, step),
+        PlanStep::WidthLeftOut { .. } => step_turn(host, build, place, &step.asked()),
     }
 }

@@ -21,16 +21,23 @@ impl<S: PageStore> Host<S> {
     pub fn command(&mut self, build: BuildId, cmd: Cmd) -> Result<Reply, Refusal>
         ensures { IsAnswer self.old build (Ask cmd) (replied result) self.new }
     {
-        let granules = check_needs(&self.books, build, &cmd)?;
+        self.ask(build, &cmd)
+    }
+
+    /// Performs a command of a build, as `command` does, and leaves it to the caller: a plan asks its commands without a copy.
+    pub fn ask(&mut self, build: BuildId, cmd: &Cmd) -> Result<Reply, Refusal>
+        ensures { IsAnswer self.old build (Ask cmd.now) (replied result) self.new }
+    {
+        let granules = check_needs(&self.books, build, cmd)?;
         if let Cmd::Take { order } = cmd {
-            return self.take(build, order);
+            return self.take(build, *order);
         }
-        let picked = match self.picked_for(build, &cmd, granules.as_slice()) {
+        let picked = match self.picked_for(build, cmd, granules.as_slice()) {
             Ok(picked) => picked,
             Err(rmi) => return Err(Refusal::Rmi(rmi)),
         };
         // (a number that no act can hold is an input error at once)
-        let Some(act) = act_of(&cmd, &granules, picked) else {
+        let Some(act) = act_of(cmd, &granules, picked) else {
             return Err(Refusal::Rmi(Rmi::INPUT));
         };
         let reply = reply_of(self.books.page_count(build), &act);

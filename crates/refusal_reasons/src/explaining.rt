@@ -10,7 +10,7 @@ use crate::look::Look;
 use crate::of_step::step_looks;
 use granule_addr::BuildId;
 use page_arena::PageStore;
-use plan_runs::{Place, TurnAnswer, push_turn, step_after, step_turn};
+use plan_runs::{Place, TurnAnswer, plan_turn, push_turn, step_after};
 use plan_steps::{PlanStep, push_idle};
 use realm_host::Host;
 use realm_plan::Plan;
@@ -47,7 +47,7 @@ fn explain_step<S: PageStore>(
     ensures { OnOk result (IsExplainedStep host.old build place.old step.now host.new place.new (string_bytes text.old) (string_bytes text.new)) }
 {
     let looks = step_looks(alloc, host, build, place, &step.asked())?;
-    let answer = step_turn(host, build, place, step.asked());
+    let answer = plan_turn(host, build, place, step);
     place.move_on();
     push_turn(text, build, step, answer)?;
     push_below(text, &answer, &looks)

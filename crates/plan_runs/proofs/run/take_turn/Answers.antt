@@ -1,9 +1,10 @@
 use Rattle.std.proofs.Common.{◌<◌, subst, sym}
+use Rattle.plan_steps.specs.Asked.{asked}
 use Rattle.plan_runs.proofs.Turns.{same_done}
 use Rattle.plan_runs.proofs.run.take_turn.Goals as goal
 
 pub move_on-requires : goal.move_on-requires
 move_on-requires g c =
     subst (λ done. done < 1024)
-    (sym (same_done c.args.host.now c.id_of.result _ c.asked.result c.step_turn-answer.result c.step_turn-answer.new.host c.step_turn-answer.new.place c.step_turn-answer.ensures))
+    (sym (same_done c.args.host.now c.id_of.result _ (asked c.in_ok-step.step.now) c.plan_turn-answer.result c.plan_turn-answer.new.host c.plan_turn-answer.new.place c.plan_turn-answer.ensures))
     c.in_ok-step.ensures.few

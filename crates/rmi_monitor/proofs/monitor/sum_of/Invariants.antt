@@ -1,0 +1,12 @@
+use Rattle.std.proofs.Common.{◌≡◌, ◌≤◌, ◌+◌, ◌*◌, length, sum}
+use Rattle.rmi_monitor.proofs.monitor.sum_of.Given as goal
+
+abbrev pub invariant-loop-rest : goal.invariant-loop-rest
+invariant-loop-rest l = record {
+  summed : l.total + sum l.rest ≡ sum l.fn.page;
+  -- no part of 256 bytes adds more than 16 bits hold
+  small : l.total + 256 * length l.rest ≤ 1048576;
+}
+
+abbrev pub decreases-loop-rest : goal.decreases-loop-rest
+decreases-loop-rest l = length l.rest
