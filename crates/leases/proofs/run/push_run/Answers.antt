@@ -8,7 +8,7 @@ loop-k-preserved c =
     let k = c.loop-k.k in
     let inside : c.len-start.result + k < length c.loop-k.stack.items = omega arith in
     let granule : c.unwrap-in-loop-k.result ≡ c.number-number.result + k =
-        granule_is _ (c.number-number.result + k) c.unwrap-in-loop-k.result c.new.result c.new.ensures c.unwrap-in-loop-k.ensures in
+    granule_is _ (c.number-number.result + k) c.unwrap-in-loop-k.result c.new.result c.new.ensures c.unwrap-in-loop-k.ensures in
     record {
       pushed = written_on c.args.stack.now.items c.loop-k.stack.items c.len-start.result c.number-number.result k c.unwrap-in-loop-k.result inside granule kept.pushed;
       long = kept.long;
