@@ -3,6 +3,7 @@ use crate::filled::{Piece, filled};
 use crate::places::Places;
 use crate::walk::places_of;
 use build_commands::{Cmd, Step};
+use granule_addr::BuildId;
 use plan_steps::PlanStep;
 use realm_plan::Plan;
 use std::alloc::{AllocError, Global};
@@ -78,7 +79,7 @@ fn of_turns(
     alloc: Global,
     build: usize,
     steps: &[PlanStep],
-    order: &[usize],
+    order: &[BuildId],
     places: &Places,
     found: &mut Vec<Slip>,
 ) -> Result<(), AllocError> {
@@ -103,10 +104,10 @@ fn of_turns(
 }
 
 // How many turns of the order are a build's.
-fn turns_of(build: usize, order: &[usize]) -> usize {
+fn turns_of(build: usize, order: &[BuildId]) -> usize {
     let mut count: usize = 0;
     for turn in order {
-        if *turn == build {
+        if turn.number() as usize == build {
             count = count.saturating_add(1);
         }
     }
@@ -165,10 +166,10 @@ fn is_opening(cmd: &Cmd) -> bool {
 }
 
 // The place in the order of a build's turn that comes after `done` of its turns.
-fn turn_behind(build: usize, done: usize, order: &[usize]) -> usize {
+fn turn_behind(build: usize, done: usize, order: &[BuildId]) -> usize {
     let mut seen: usize = 0;
     for (place, turn) in order.iter().enumerate() {
-        if *turn == build {
+        if turn.number() as usize == build {
             if seen >= done {
                 return place;
             }

@@ -1,5 +1,5 @@
 -- Runs that get one more turn.
-use Rattle.std.proofs.Common.{◌≡◌, ℕ, ◌+◌, ◌<◌, ◌≤◌, List, [], ◌∷◌, ◌++◌, length, take, slice_index, refl, sym, ap, ◌∙◌, subst}
+use Rattle.std.proofs.Common.{◌≡◌, ℕ, ◌+◌, ◌<◌, ◌≤◌, List, [], ◌∷◌, ◌++◌, length, take, get_or, refl, sym, ap, ◌∙◌, subst}
 use Rattle.std.specs.List.{flat_map}
 use Rattle.std.proofs.lemmas.List.{flat_map_more, take_all, take_more}
 use Rattle.build_books.specs.View.{HostView}
@@ -31,16 +31,17 @@ pub record IsFront {T : Type 0} (Lead : List ℕ → List T → Position → Typ
 module _ {T : Type 0} (Lead : List ℕ → List T → Position → Type 0) (text_of : T → List ℕ) (order : List ℕ) (i : ℕ) (old : List ℕ) where
   -- one more turn, of the build that is next
   pub front_more :
-      (items : List ℕ) (at to : Position) (turn : T) (between new : List ℕ)
+      (items : List ℕ) (build : ℕ) (at to : Position) (turn : T) (between new : List ℕ)
       → items ≡ order
       → i < length items
+      → build ≡ get_or items i build
       → IsFront Lead text_of (take i order) at old between
-      → ((turns : List T) → Lead (take i order) turns at → Lead (take i order ++ slice_index items i ∷ []) (turns ++ turn ∷ []) to)
+      → ((turns : List T) → Lead (take i order) turns at → Lead (take i order ++ build ∷ []) (turns ++ turn ∷ []) to)
       → new ≡ between ++ text_of turn
       → IsFront Lead text_of (take (i + 1) order) to old new
-  front_more items at to turn between new same inside front leads appended =
-      let taken : take i order ++ slice_index items i ∷ [] ≡ take (i + 1) order = ap (λ xs. take i order ++ slice_index xs i ∷ []) same
-      ∙ sym (take_more order i 0 (subst (λ xs. i < length xs) same inside)) in
+  front_more items build at to turn between new same inside next front leads appended =
+      let taken : take i order ++ build ∷ [] ≡ take (i + 1) order = ap (λ b. take i order ++ b ∷ []) (next ∙ ap (λ xs. get_or xs i build) same)
+      ∙ sym (take_more order i build (subst (λ xs. i < length xs) same inside)) in
       record {
         turns = front.turns ++ turn ∷ [];
         is_run = subst (λ o. Lead o (front.turns ++ turn ∷ []) to) taken (leads front.turns front.is_run);

@@ -72,7 +72,7 @@ pub fn run_turns<S: PageStore>(
 {
     let mut places = [Place::first(); 8];
     for build in &plan.order {
-        turn(host, plan, &mut places, *build, text)?;
+        turn(host, plan, &mut places, build.number() as usize, text)?;
     }
     Ok(())
 }

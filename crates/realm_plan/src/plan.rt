@@ -4,7 +4,8 @@ ghost use Rattle.std.specs.Prelude.{◌≡◌, ◌<◌, ◌≤◌, map, All, IfO
 use crate::contents::Contents;
 use crate::fault::{PlanError, PlanFault};
 use crate::limits::{lengths_of, numbers_of};
-use crate::turns::{builds_of, order_of};
+use crate::turns::{builds_of, order_of, turns_of};
+use granule_addr::BuildId;
 use plan_steps::PlanStep;
 use std::alloc::Global;
 use toml::Table;
@@ -24,7 +25,7 @@ pub struct Plan {
     /// The steps of each build.
     pub builds: Vec<Vec<PlanStep>>,
     /// The build of each turn.
-    pub order: Vec<usize>,
+    pub order: Vec<BuildId>,
     pub ghost pages_in_limits: { (1 ≤ pages) × (pages ≤ 4096) },
     pub ghost vmids_in_limits: { 1 ≤ vmids },
     pub ghost aux_in_limits: { aux ≤ 16 },
@@ -70,13 +71,14 @@ impl Plan {
         let order = order_of(alloc, builds.len(), &contents.order)?;
         let numbers = numbers_of(contents)?;
         lengths_of(&builds, &order)?;
+        let turns = turns_of(alloc, &order)?;
         Ok(Plan {
             pages: numbers.pages,
             vmids: numbers.vmids,
             aux: numbers.aux,
             history: numbers.history,
             builds,
-            order,
+            order: turns,
         })
     }
 

@@ -4,8 +4,9 @@ ghost use Rattle.realm_plan.specs.Outcome.{Gives};
 ghost use Rattle.realm_plan.specs.Plan.{steps_of, builds_of, build_named as build_named_at, order_of};
 
 use crate::fault::{PlanError, PlanFault};
+use granule_addr::BuildId;
 use plan_steps::{PlanStep, step_from_text};
-use std::alloc::Global;
+use std::alloc::{AllocError, Global};
 
 /// The steps of one build.
 fn steps_of(alloc: Global, build: usize, texts: &[&str]) -> Result<Vec<PlanStep>, PlanError>
@@ -58,4 +59,16 @@ pub fn order_of(alloc: Global, count: usize, entries: &[i64]) -> Result<Vec<usiz
         found.push(build)?;
     }
     Ok(found)
+}
+
+/// The same builds by their names, in a byte each.
+pub(crate) fn turns_of(alloc: Global, builds: &[usize]) -> Result<Vec<BuildId>, AllocError>
+    requires { All (λ build. build < 8) builds.now }
+    ensures { IfOk result (λ turns. turns.items ≡ builds.now) }
+{
+    let mut turns = Vec::with_capacity(alloc, builds.len())?;
+    for build in builds {
+        turns.push(BuildId::new(*build as u8).unwrap())?;
+    }
+    Ok(turns)
 }

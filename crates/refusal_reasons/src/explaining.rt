@@ -87,8 +87,15 @@ pub fn explain_turns<S: PageStore>(
     ensures { OnOk result (IsExplainedRun (plan_view plan.now) host.old host.new (string_bytes text.old) (string_bytes text.new)) }
 {
     let mut places = [Place::first(); 8];
-    for &build in &plan.order {
-        explain_turn(alloc, host, plan, build, &mut places, text)?;
+    for build in &plan.order {
+        explain_turn(
+            alloc,
+            host,
+            plan,
+            build.number() as usize,
+            &mut places,
+            text,
+        )?;
     }
     Ok(())
 }

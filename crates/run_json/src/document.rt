@@ -89,7 +89,14 @@ fn push_turns<S: PageStore>(
 {
     let mut places = [Place::first(); 8];
     for build in &plan.order {
-        push_turn(alloc, text, host, plan, &mut places, *build)?;
+        push_turn(
+            alloc,
+            text,
+            host,
+            plan,
+            &mut places,
+            build.number() as usize,
+        )?;
     }
     Ok(())
 }

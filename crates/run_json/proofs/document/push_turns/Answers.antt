@@ -1,4 +1,4 @@
-use Rattle.std.proofs.Common.{string_bytes, ◌++◌, ◌<◌, ◌≤◌, length, ◌∷◌, [], ◌∙◌, ap, take, slice_index, subst, sym}
+use Rattle.std.proofs.Common.{string_bytes, ◌++◌, ◌<◌, ◌≤◌, length, ◌∷◌, [], ◌∙◌, ap, take, get_or, subst, sym}
 use Rattle.std.proofs.lemmas.List.{take_more}
 use Rattle.realm_plan.specs.PlanView.{plan_view}
 use Rattle.plan_runs.specs.Run.{Position, start}
@@ -17,11 +17,12 @@ loop-build-preserved g c =
     let old = string_bytes c.args.text.now in
     let between = string_bytes c.loop-build.text in
     let new = string_bytes c.push_turn.new.text in
-    let build = slice_index c.deref-build-items.result.now i in
-    let taken = ap (λ items. take i order ++ slice_index items i ∷ []) c.deref-build-items.ensures.value
-    ∙ sym (take_more order i 0 (subst (λ items. i < length items) c.deref-build-items.ensures.value c.loop-build-test.true)) in
+    let build = c.build-item.result in
+    let taken = ap (λ b. take i order ++ b ∷ []) (c.build-item.is ∙ ap (λ items. get_or items i build) c.deref-build-items.ensures.value)
+    ∙ sym (take_more order i build (subst (λ items. i < length items) c.deref-build-items.ensures.value c.loop-build-test.true)) in
     subst (λ o. AreTurnItems plan o from to old new) taken
-    (AreTurnItems-more plan (take i order) from at build to old between new c.loop-build.invariant c.in_ok-push_turn.ensures)
+    (AreTurnItems-more plan (take i order) from at build to old between new c.loop-build.invariant
+    (rw c.number.ensures.value at c.in_ok-push_turn.ensures))
 
 pub returns : goal.returns
 returns g c =

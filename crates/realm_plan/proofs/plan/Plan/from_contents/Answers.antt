@@ -48,6 +48,7 @@ pub invariant_of-result : goal.invariant_of-result
 invariant_of-result c =
     let limits = c.in_ok-numbers.ensures in
     let short = c.in_ok-lengths_of.ensures in
+    let same = c.in_ok-turns.ensures ∙ c.deref-5.ensures.value in
     record {
       pages_in_limits = limits.pages;
       vmids_in_limits = limits.vmids;
@@ -55,15 +56,16 @@ invariant_of-result c =
       history_in_limits = limits.history;
       builds_in_limits = rw c.deref-3.ensures.len at short.builds;
       steps_in_limits = rw c.deref-3.ensures.value at short.steps;
-      order_in_limits = rw c.deref-4.ensures.len at short.order;
-      turns_of_builds = rw c.len.ensures at c.in_ok-order.ensures.below;
+      order_in_limits = rw (c.in_ok-turns.turns.ok.0, same) (rw c.deref-4.ensures.value at short.order);
+      turns_of_builds = rw same (rw c.len.ensures at c.in_ok-order.ensures.below);
     }
 
 pub returns : goal.returns
 returns c =
     let contents = contents_view c.args.contents.now in
     let count = counted c.in_ok-builds.builds c.len.result c.len.ensures in
+    let same = c.in_ok-turns.ensures ∙ c.deref-5.ensures.value in
     plan_read contents (steps c.in_ok-builds.builds.items) (rw c.deref.ensures.value at c.in_ok-builds.ensures)
-    c.in_ok-order.order.items (rw (count, c.deref-2.ensures.value) at c.in_ok-order.ensures.value)
+    c.in_ok-turns.turns.items (rw same (rw (count, c.deref-2.ensures.value) at c.in_ok-order.ensures.value))
     c.in_ok-numbers.numbers c.in_ok-numbers.ensures.value
-    (rw (c.deref-3.ensures.value, c.deref-4.ensures.value) at c.in_ok-lengths_of.ensures.value)
+    (rw same (rw (c.deref-3.ensures.value, c.deref-4.ensures.value) at c.in_ok-lengths_of.ensures.value))
