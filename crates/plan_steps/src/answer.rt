@@ -1,6 +1,6 @@
 //! How a turn line tells what was answered.
 ghost use Rattle.std.specs.Prelude.{◌≡◌};
-ghost use Rattle.plan_steps.specs.Answers.{kind_word, refusal_name, refusal_numbers, reply_numbers};
+ghost use Rattle.plan_steps.specs.Answers.{kind_word, refusal_name, refusal_numbers};
 
 use crate::numbers::{MOST_NUMBERS, one, two};
 use arrayvec::ArrayVec;
@@ -51,8 +51,13 @@ impl fmt::Display for ReplyText {
     ghost output = { λ r. Some (reply_text r.0) };
 
     fn fmt<W: fmt::Write>(&self, f: &mut fmt::Formatter<W>) -> fmt::Result {
-        let numbers = reply_numbers(self.0);
-        fmt::Display::fmt(&SpelledText("ok", numbers.as_slice()), f)
+        match self.0 {
+            Reply::Done => f.write_str("ok"),
+            Reply::FirstPage(page) => write!(f, "ok {page}"),
+            Reply::Byte(byte) => write!(f, "ok {byte}"),
+            Reply::Vmid(vmid) => write!(f, "ok {}", vmid.number()),
+            Reply::Number(number) => write!(f, "ok {}", number.number()),
+        }
     }
 }
 
@@ -100,17 +105,5 @@ fn refusal_numbers(refusal: Refusal) -> ArrayVec<u32, MOST_NUMBERS>
         Refusal::NoBlock(order) => one(order.number() as u32),
         Refusal::Rmi(rmi) => two(rmi.status.code() as u32, rmi.index as u32),
         _ => ArrayVec::new(),
-    }
-}
-
-fn reply_numbers(reply: Reply) -> ArrayVec<u32, MOST_NUMBERS>
-    ensures { result.items ≡ reply_numbers reply }
-{
-    match reply {
-        Reply::Done => ArrayVec::new(),
-        Reply::FirstPage(page) => one(page as u32),
-        Reply::Byte(byte) => one(byte as u32),
-        Reply::Vmid(vmid) => one(vmid.number() as u32),
-        Reply::Number(number) => one(number.number() as u32),
     }
 }

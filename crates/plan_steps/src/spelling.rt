@@ -1,35 +1,12 @@
 //! Steps as plans and turn lines spell them.
 ghost use Rattle.std.specs.Prelude.{◌≡◌, ◌∷◌, ◌≤◌, length};
-ghost use Rattle.plan_steps.specs.Written.{written_cmd, written_step};
 
-use crate::numbers::{MOST_NUMBERS, four, one, three, two};
+use crate::numbers::{MOST_NUMBERS, one};
 use crate::step::PlanStep;
 use arrayvec::ArrayVec;
 use build_commands::{Cmd, Step};
 use number_text::SpelledText;
 use std::fmt;
-
-// The word of a command.
-fn word_of(cmd: &Cmd) -> &'static str
-    ensures { result.now ≡ (written_cmd cmd.now).word }
-{
-    match cmd {
-        Cmd::Take { .. } => "take",
-        Cmd::Fill { .. } => "fill",
-        Cmd::Peek { .. } => "peek",
-        Cmd::Delegate { .. } => "delegate",
-        Cmd::Realm { .. } => "realm",
-        Cmd::Rtt { .. } => "rtt",
-        Cmd::Ripas { .. } => "ripas",
-        Cmd::Data { .. } => "data",
-        Cmd::Unknown { .. } => "unknown",
-        Cmd::Rec { .. } => "rec",
-        Cmd::Activate => "activate",
-        Cmd::Enter { .. } => "enter",
-        Cmd::Exit { .. } => "exit",
-        Cmd::Poke { .. } => "poke",
-    }
-}
 
 // The page of a REC, and its auxiliaries.
 fn rec_numbers(page: u16, auxiliaries: &[u16]) -> ArrayVec<u32, MOST_NUMBERS>
@@ -43,57 +20,44 @@ fn rec_numbers(page: u16, auxiliaries: &[u16]) -> ArrayVec<u32, MOST_NUMBERS>
     numbers
 }
 
-// The numbers of a command, in the order of its text.
-fn numbers_of(cmd: &Cmd) -> ArrayVec<u32, MOST_NUMBERS>
-    ensures { result.items ≡ (written_cmd cmd.now).numbers }
-{
-    match cmd {
-        Cmd::Take { order } => one(*order as u32),
-        Cmd::Fill { page, value } => two(*page as u32, *value as u32),
-        Cmd::Peek { page, offset } => two(*page as u32, offset.number() as u32),
-        Cmd::Delegate { page } => one(*page as u32),
-        Cmd::Realm { rd, root, width } => three(*rd as u32, *root as u32, *width as u32),
-        Cmd::Rtt { page, ipa, level } => three(*page as u32, *ipa, *level as u32),
-        Cmd::Ripas { ipa, count } => two(*ipa, *count as u32),
-        Cmd::Data { page, ipa, source } => three(*page as u32, *ipa, *source as u32),
-        Cmd::Unknown { page, ipa } => two(*page as u32, *ipa),
-        Cmd::Rec { page, auxiliaries } => rec_numbers(*page, auxiliaries.as_slice()),
-        Cmd::Activate => ArrayVec::new(),
-        Cmd::Enter { number } | Cmd::Exit { number } => one(number.number() as u32),
-        Cmd::Poke {
-            number,
-            ipa,
-            offset,
-            value,
-        } => {
-            let (number, offset) = (number.number() as u32, offset.number() as u32);
-            four(number, *ipa, offset, *value as u32)
+// A command as plans spell it.
+#[derive(Clone, Copy)]
+struct CmdText<'a>(&'a Cmd);
+
+impl fmt::Display for CmdText<'_> {
+    ghost use Rattle.std.specs.Prelude.{Some};
+    ghost use Rattle.plan_steps.specs.Written.{spelling_of, written_cmd};
+
+    ghost output = { λ c. Some (spelling_of (written_cmd c.0.now)) };
+
+    fn fmt<W: fmt::Write>(&self, f: &mut fmt::Formatter<W>) -> fmt::Result {
+        match self.0 {
+            Cmd::Take { order } => write!(f, "take {order}"),
+            Cmd::Fill { page, value } => write!(f, "fill {page} {value}"),
+            Cmd::Peek { page, offset } => write!(f, "peek {page} {}", offset.number()),
+            Cmd::Delegate { page } => write!(f, "delegate {page}"),
+            Cmd::Realm { rd, root, width } => write!(f, "realm {rd} {root} {width}"),
+            Cmd::Rtt { page, ipa, level } => write!(f, "rtt {page} {ipa} {level}"),
+            Cmd::Ripas { ipa, count } => write!(f, "ripas {ipa} {count}"),
+            Cmd::Data { page, ipa, source } => write!(f, "data {page} {ipa} {source}"),
+            Cmd::Unknown { page, ipa } => write!(f, "unknown {page} {ipa}"),
+            Cmd::Rec { page, auxiliaries } => {
+                let numbers = rec_numbers(*page, auxiliaries.as_slice());
+                fmt::Display::fmt(&SpelledText("rec", numbers.as_slice()), f)
+            }
+            Cmd::Activate => f.write_str("activate"),
+            Cmd::Enter { number } => write!(f, "enter {}", number.number()),
+            Cmd::Exit { number } => write!(f, "exit {}", number.number()),
+            Cmd::Poke {
+                number,
+                ipa,
+                offset,
+                value,
+            } => {
+                let (number, offset) = (number.number(), offset.number());
+                write!(f, "poke {number} {ipa} {offset} {value}")
+            }
         }
-    }
-}
-
-// The word of a step.
-fn word_of_step(step: &PlanStep) -> &'static str
-    ensures { result.now ≡ (written_step step.now).word }
-{
-    match step {
-        PlanStep::Whole(Step::Ask(cmd)) => word_of(cmd),
-        PlanStep::Whole(Step::Undo) => "undo",
-        PlanStep::Whole(Step::Abort) => "abort",
-        PlanStep::Whole(Step::Mark) => "mark",
-        PlanStep::Whole(Step::Back) => "back",
-        PlanStep::WidthLeftOut { .. } => "realm",
-    }
-}
-
-// The numbers of a step, in the order of its text.
-fn numbers_of_step(step: &PlanStep) -> ArrayVec<u32, MOST_NUMBERS>
-    ensures { result.items ≡ (written_step step.now).numbers }
-{
-    match step {
-        PlanStep::Whole(Step::Ask(cmd)) => numbers_of(cmd),
-        PlanStep::WidthLeftOut { rd, root } => two(*rd as u32, *root as u32),
-        _ => ArrayVec::new(),
     }
 }
 
@@ -108,7 +72,13 @@ impl fmt::Display for StepText<'_> {
     ghost output = { λ s. Some (spelling s.0.now) };
 
     fn fmt<W: fmt::Write>(&self, f: &mut fmt::Formatter<W>) -> fmt::Result {
-        let numbers = numbers_of_step(self.0);
-        fmt::Display::fmt(&SpelledText(word_of_step(self.0), numbers.as_slice()), f)
+        match self.0 {
+            PlanStep::Whole(Step::Ask(cmd)) => fmt::Display::fmt(&CmdText(cmd), f),
+            PlanStep::Whole(Step::Undo) => f.write_str("undo"),
+            PlanStep::Whole(Step::Abort) => f.write_str("abort"),
+            PlanStep::Whole(Step::Mark) => f.write_str("mark"),
+            PlanStep::Whole(Step::Back) => f.write_str("back"),
+            PlanStep::WidthLeftOut { rd, root } => write!(f, "realm {rd} {root}"),
+        }
     }
 }

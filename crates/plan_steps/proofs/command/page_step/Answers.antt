@@ -1,11 +1,10 @@
 use Rattle.std.proofs.Common.{ℕ}
 use Rattle.number_text.specs.Written.{u8}
 use Rattle.number_text.proofs.Rows.{one_mapped, two_mapped}
-use Rattle.build_commands.specs.declared.cmd.Cmd.TheVariants.{Take, Fill, Peek, Delegate}
-use Rattle.plan_steps.specs.declared.operands.Offset.{Offset}
+use Rattle.build_commands.specs.declared.cmd.Cmd.TheVariants.{Take, Fill, Delegate}
 use Rattle.plan_steps.specs.declared.operands.Page.{Page}
 use Rattle.plan_steps.specs.Steps.{whole}
-use Rattle.plan_steps.specs.Written.{page, page_offset}
+use Rattle.plan_steps.specs.Written.{page}
 use Rattle.plan_steps.proofs.command.page_step.Goals as goal
 
 pub returns-in-Some-made_of : goal.returns-in-Some-made_of
