@@ -28,8 +28,8 @@ impl<'a, R: Wait, S: PageStore, L: Ledgers> Teller for SeatTeller<'a, R, S, L> {
     // the name of the seat, and its build, so that both stay
     ghost loan = { λ teller. 8 * teller.seat.ghost_name + teller.seat.now.build };
 
-    fn ask(&mut self, cmd: Cmd) -> Result<Reply, Refusal> {
-        self.shared.call(self.rt, self.seat, cmd)
+    fn ask(&mut self, cmd: &Cmd) -> Result<Reply, Refusal> {
+        self.shared.ask(self.rt, self.seat, cmd)
     }
 
     fn undo(&mut self) -> Result<Undone, Refusal> {

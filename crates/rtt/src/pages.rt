@@ -52,6 +52,11 @@ pub(crate) fn fill_entries<S: PageStore>(
     ensures flags { S.free_flags store.new ≡ S.free_flags store.old }
 {
     let word = entry.to_word();
+    // (a whole table whose words are 0 is a page of zeros, which a store writes at once)
+    if word == 0 && count == 512 {
+        store.fill(table, 0);
+        return;
+    }
     for index in first..first + count {
         store.set_word(table, index, word);
     }

@@ -31,7 +31,7 @@ impl<'a, R: Wait, S: PageStore, L: Ledgers> Teller for Refusing<'a, R, S, L> {
     // the loan of the seat
     ghost loan = { λ refusing. 8 * refusing.teller.seat.ghost_name + refusing.teller.seat.now.build };
 
-    fn ask(&mut self, cmd: Cmd) -> Result<Reply, Refusal> {
+    fn ask(&mut self, cmd: &Cmd) -> Result<Reply, Refusal> {
         if is_refused(&mut self.asked, self.refused) {
             return Err(REFUSAL);
         }

@@ -40,7 +40,7 @@ impl Teller for Fake<'_> {
 
     ghost loan = { λ fake. 0 };
 
-    fn ask(&mut self, cmd: Cmd) -> Result<Reply, Refusal> {
+    fn ask(&mut self, cmd: &Cmd) -> Result<Reply, Refusal> {
         let _cmd = cmd;
         self.answer()?;
         Ok(Reply::Done)

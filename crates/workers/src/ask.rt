@@ -4,6 +4,7 @@ ghost use Rattle.workers.specs.Asked.{answer_of, line, ArePut};
 ghost use Rattle.workers.specs.Report.{ending_of};
 ghost use Rattle.workers.specs.Standing.{left_to_clear};
 ghost use Rattle.workers.specs.Stretch.{IsExchange, IsStretch};
+ghost use Rattle.workers.specs.declared.ask.Question.TheVariants as question;
 
 use crate::report::{Answer, Asked, Line, Report};
 use crate::standing::Standing;
@@ -29,6 +30,23 @@ pub enum Ending {
     Cut,
 }
 
+// Puts a command to the teller, and counts it. At `Ok` is what the teller accepted.
+fn put_command<T: Teller>(
+    cmd: &Cmd,
+    standing: &mut Standing,
+    teller: &mut T,
+) -> Result<Answer, Refusal>
+    requires turns { standing.old.turn + 1 < 2 ^ 64 }
+    requires few { left_to_clear standing.old < 1024 }
+    ensures exchange { IsExchange (T.tells teller.old) (T.tells teller.new) (question.Do cmd.now) standing.old standing.new (answer_of result) }
+    ensures loan { T.loan teller.new ≡ T.loan teller.old }
+{
+    standing.take_turn();
+    let reply = teller.ask(cmd)?;
+    standing.count_command(cmd);
+    Ok(Answer::Replied(reply))
+}
+
 // Puts a question to the teller, and counts it. At `Ok` is what the teller accepted.
 fn put<T: Teller>(
     question: Question,
@@ -40,19 +58,16 @@ fn put<T: Teller>(
     ensures exchange { IsExchange (T.tells teller.old) (T.tells teller.new) question standing.old standing.new (answer_of result) }
     ensures loan { T.loan teller.new ≡ T.loan teller.old }
 {
-    standing.take_turn();
     match question {
-        Question::Do(cmd) => {
-            let reply = teller.ask(cmd.again())?;
-            standing.count_command(&cmd);
-            Ok(Answer::Replied(reply))
-        }
+        Question::Do(cmd) => put_command(&cmd, standing, teller),
         Question::Undo => {
+            standing.take_turn();
             let undone = teller.undo()?;
             standing.count_undo();
             Ok(Answer::Undone(undone))
         }
         Question::Mark => {
+            standing.take_turn();
             let mark = teller.mark()?;
             standing.count_mark(mark);
             Ok(Answer::Marked(mark.length()))
@@ -80,6 +95,36 @@ pub fn tell(report: &mut Report, asked: Asked, answer: Answer) -> Ending
     let end = ending_of(&answer);
     report.lines.push_reserved(Line { asked, answer });
     end
+}
+
+/// Waits for the next turn, puts a command, and writes the answer's line. The command is lent, not copied: what a worker
+/// does between two calls is time in which others may come through the lock.
+pub fn ask_command<T: Teller, G: Gate>(
+    report: &mut Report,
+    standing: &mut Standing,
+    teller: &mut T,
+    gate: &G,
+    asked: Asked,
+    cmd: &Cmd,
+) -> Ending
+    requires room { vec_len report.old.lines < vec_capacity report.old.lines }
+    requires turns { standing.old.turn + 1 < 2 ^ 64 }
+    requires few { left_to_clear standing.old < 1024 }
+    ensures asked { IsStretch (T.tells teller.old) (T.tells teller.new)
+        (G.passes gate.now report.old.build) (G.stops gate.now report.old.build)
+        standing.old standing.new report.old.lines.items report.new.lines.items result
+        (λ exchanges lines. ArePut ((asked, question.Do cmd.now) ∷ []) exchanges lines result) }
+    ensures loan { T.loan teller.new ≡ T.loan teller.old }
+    ensures same { (report.new.build ≡ report.old.build) × (vec_capacity report.new.lines ≡ vec_capacity report.old.lines) }
+{
+    let turn = standing.turn();
+    match gate.pass(report.build, turn) {
+        Ok(()) => {
+            let answer = put_command(cmd, standing, teller).unwrap_or_else(Answer::Refused);
+            tell(report, asked, answer)
+        }
+        Err(_) => Ending::Cut,
+    }
 }
 
 /// Waits for the next turn, puts a question, and writes the answer's line.

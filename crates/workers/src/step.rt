@@ -6,7 +6,7 @@ ghost use Rattle.workers.specs.Report.{AreUndone, IsAbort, IsStepBack, IsStepTol
 ghost use Rattle.workers.specs.Standing.{left_to_clear, after_exchange};
 ghost use Rattle.workers.specs.Stretch.{IsStretch};
 
-use crate::ask::{Ending, Question, ask, tell};
+use crate::ask::{Ending, Question, ask, ask_command, tell};
 use crate::report::{Answer, Asked, Report};
 use crate::standing::Standing;
 use crate::teller::{Gate, Teller};
@@ -165,10 +165,7 @@ pub(crate) fn take_step<T: Teller, G: Gate>(
     ensures same { (report.new.build ≡ report.old.build) × (vec_capacity report.new.lines ≡ vec_capacity report.old.lines) }
 {
     match step {
-        Step::Ask(cmd) => {
-            let question = Question::Do(cmd.again());
-            ask(report, standing, teller, gate, Asked::Step(place), question)
-        }
+        Step::Ask(cmd) => ask_command(report, standing, teller, gate, Asked::Step(place), cmd),
         Step::Undo => ask(
             report,
             standing,

@@ -15,9 +15,9 @@ pub trait Teller {
     /// The loan that it writes through, if there is one.
     ghost loan: { Self → ℕ };
 
-    /// Asks for a command.
-    fn ask(&mut self, cmd: Cmd) -> Result<Reply, Refusal>
-        ensures told { (earlier : List Exchange) → tells self.old earlier → tells self.new (earlier ++ Did cmd result ∷ []) }
+    /// Asks for a command, which stays with the worker.
+    fn ask(&mut self, cmd: &Cmd) -> Result<Reply, Refusal>
+        ensures told { (earlier : List Exchange) → tells self.old earlier → tells self.new (earlier ++ Did cmd.now result ∷ []) }
         ensures loan { loan self.new ≡ loan self.old };
 
     /// Asks for the reverse of the newest act that the build has open.

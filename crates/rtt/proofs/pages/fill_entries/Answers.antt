@@ -1,9 +1,11 @@
-use Rattle.std.proofs.Common.{◌≡◌, ◌≢◌, ◌<◌, ◌^◌, ℕ, List, length, ap, ◌∙◌, arith, inl, inr, ⊎_elim}
+use Rattle.std.proofs.Common.{◌≡◌, ◌≢◌, ◌<◌, ◌^◌, ℕ, List, [], length, sym, ap, ◌∙◌, arith, inl, inr, ⊎_elim}
 use Rattle.std.proofs.lemmas.Bool.{cases_eq}
+use Rattle.std.proofs.lemmas.List.{get_or-set_same}
+use Rattle.granule_addr.specs.Page.{zero_page}
 use Rattle.page_arena.specs.Page.{page_at}
 use Rattle.page_arena.specs.Pages.{length-page_at}
-use Rattle.page_arena.specs.Word.{word_at, with_word}
-use Rattle.page_arena.specs.Words.{word_at-with_word_same, word_at-with_word_other, page_at-with_word_other, length-with_word}
+use Rattle.page_arena.specs.Word.{word_of_page, word_at, with_word}
+use Rattle.page_arena.specs.Words.{word_of_page-zero_page, word_at-with_word_same, word_at-with_word_other, page_at-with_word_other, length-with_word}
 use Rattle.rtt.proofs.pages.fill_entries.Goals as goal
 
 pub loop-index-preserved : goal.loop-index-preserved
@@ -31,3 +33,12 @@ loop-index-preserved g c =
       pages = ap length written ∙ length-with_word pages table index w ∙ c.loop-index.invariant.pages;
       flags = c.set_word.ensures.flags ∙ c.loop-index.invariant.flags;
     }
+
+pub returns-then-count-eq512-clause-written : goal.returns-then-count-eq512-clause-written
+returns-then-count-eq512-clause-written g c =
+    λ index low high.
+    ap (λ (p : List (List ℕ)). word_at p c.args.table index) c.fill.ensures.filled
+    ∙ ap (λ (page : List ℕ). word_of_page page index) (get_or-set_same (g.S.PageStore.page_bytes c.args.store.now) c.args.table zero_page [] c.requires.inside)
+    ∙ word_of_page-zero_page index (omega (arith, high, c.requires.fits))
+    ∙ sym c.if-word-eq0.true
+    ∙ c.to_word-word.ensures

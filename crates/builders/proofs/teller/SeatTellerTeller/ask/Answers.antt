@@ -3,5 +3,5 @@ use Rattle.builders.proofs.teller.SeatTellerTeller.ask.Goals as goal
 
 pub returns-clause-told : goal.returns-clause-told
 returns-clause-told g c =
-    answer_more g.L.Ledgers.opened _ _ _ (asked_build g.L.Ledgers.opened _ _ _ _ c.call.ensures.told c.call.ensures.refused)
-    (asked g.L.Ledgers.opened _ _ _ _ c.call.ensures.told c.call.ensures.refused)
+    answer_more g.L.Ledgers.opened _ _ _ (asked_build g.L.Ledgers.opened _ _ _ _ c.ask.ensures.told c.ask.ensures.refused)
+    (asked g.L.Ledgers.opened _ _ _ _ c.ask.ensures.told c.ask.ensures.refused)
