@@ -4,8 +4,9 @@
 
 The answers in the trace are those that are wanted; `rmitrace answer` gives them to any trace. `Toy` stands for your
 monitor: it has granules and realms and nothing else, and a bug. Set MONITOR to a class of your own, made of the three
-numbers of a `machine` line, whose `call` reaches your monitor, by an SMC or in a simulator. `Driver.registers` is the table of docs/TRACES.md, "From lines to calls"; that page also says
-what the lines are that are no calls alone: host_fill, host_peek, rec_enter, rec_exit and guest_write.
+numbers of a `machine` line, whose `call` reaches your monitor, by an SMC or in a simulator. `Driver.registers` is the table
+of docs/TRACES.md, "From lines to calls"; that page also says what the lines are that are no calls alone: host_fill,
+host_peek, rec_enter, rec_exit and guest_write.
 """
 import sys
 from dataclasses import dataclass
@@ -48,6 +49,11 @@ class RecRun:
     """RmiRecRun: a line says nothing of it."""
 
 
+def starting_tables(width):
+    """How many tables a realm of a width starts with. Of a width that no realm has, one."""
+    return 1 << width - 39 if 39 <= width <= 43 else 1
+
+
 class Driver:
     """Which call a line is. RMI_REC_CREATE takes the MPIDR of the realm's next REC alone, so the RECs are counted."""
 
@@ -58,7 +64,7 @@ class Driver:
         """X1, X2 .. of a call; in the place of the address of a structure, the structure. None of what is no call."""
         match name, numbers:
             case "realm_create", [rd, root, vmid, width]:
-                return [address(rd), RealmParams(width, address(root), 1, 1 << max(width - 39, 0), vmid)]
+                return [address(rd), RealmParams(width, address(root), 1, starting_tables(width), vmid)]
             case "rtt_create", [rd, table, ipa, level]:
                 return [address(rd), address(table), ipa << 12, level]
             case "rtt_destroy", [rd, ipa, level]:
@@ -86,7 +92,7 @@ class Driver:
         if name == "realm_create":
             self.recs[numbers[0]] = 0
         if name == "rec_create":
-            self.recs[numbers[0]] += 1
+            self.recs[numbers[0]] = self.recs.get(numbers[0], 0) + 1
 
 
 class Toy:
@@ -164,7 +170,8 @@ def main(lines):
         registers = driver.registers(name, numbers)
         word = None if registers is None else monitor.call(name, registers)
         if word is None:
-            print(f"line {number}: {asked}: this monitor has no such command; {agreed} answers agree before")
+            why = "no call has these operands, or this monitor has no such command"
+            print(f"line {number}: {asked}: {why}; {agreed} answers agree before")
             return 1
         if wanted and word != int(wanted.split(" ")[0]):
             print(f"line {number}: {line.rstrip()}, and this monitor answers {word}; {agreed} answers agree before")

@@ -98,7 +98,7 @@ impl<S: PageStore, L: Ledgers> Kept<S, L> {
         let build = seat.pass.build();
         self.books.audit(&mut seat.pass);
         let mark = self.host.mark(build)?;
-        // The contract of `history` tells what a host keeps.
+        // (for its contract alone, which tells what always holds of a host)
         let _ = self.host.history();
         Ok(mark)
     }

@@ -52,7 +52,7 @@ impl<S: PageStore, L: Ledgers> Shared<S, L> {
         let Ok(seats) = Vec::with_capacity(alloc, count as usize) else {
             return Err((AllocError, blanks, host));
         };
-        // The contract of `history` tells what a host keeps.
+        // (for its contract alone, which tells what always holds of a host)
         let _ = host.history();
         let Opened { books, passes } = Opened::new(blanks);
         let seats = seated(seats, passes, trails);
@@ -96,7 +96,8 @@ impl<S: PageStore, L: Ledgers> Shared<S, L> {
         self.hold(rt).undo(seat)
     }
 
-    /// Keeps the point of the seat's build, which it can go back to by undos.
+    /// Keeps the point of the seat's build, which it can go back to by undos. The seat is lent for writing since its count
+    /// is compared with the book behind the lock; it stays as it is.
     pub fn mark(&self, rt: &impl Wait, seat: &mut Seat<L>) -> Result<Mark, Refusal>
         ensures told { IsMarkTold L.opened seat.old result }
         ensures seat { seat.new ≡ seat.old }
@@ -104,7 +105,7 @@ impl<S: PageStore, L: Ledgers> Shared<S, L> {
         self.hold(rt).mark(seat)
     }
 
-    /// How many acts the seat's build has open above a mark.
+    /// How many acts the seat's build has open above a mark. The seat is lent as for `mark`.
     pub fn check_back(&self, rt: &impl Wait, seat: &mut Seat<L>, mark: Mark) -> Result<u16, Refusal>
         ensures told { IsBackTold L.opened seat.old mark result }
         ensures seat { seat.new ≡ seat.old }
@@ -113,8 +114,9 @@ impl<S: PageStore, L: Ledgers> Shared<S, L> {
     }
 
     /// Gives the host back, in return for its builds' seats: each has to be there once, with the events that the
-    /// history has of its build. At `Err` the host comes back too. Its machine is that of the start. Its world is a
-    /// function of the seats' lists alone: in which order the builds came through the lock leaves no trace.
+    /// history has of its build. At `Err` the host comes back too. Its limits and its room are those of the host that
+    /// was handed to `start`. Its world is a function of the seats' lists alone: the order in which the builds came
+    /// through the lock stands in the history, and leaves no trace in the world.
     pub fn close(self, seats: Vec<Seat<L>>) -> Result<Host<S>, (CloseFault, Host<S>)>
         ensures closed { IfOk result (λ host. IsClosed host seats.items) }
         ensures order { IfOk result (λ host. IsWorldOfSeats host seats.items) }

@@ -26,11 +26,11 @@ pub enum Ending {
     Done,
     /// The last one was refused.
     Refused,
-    /// A turn does not come.
+    /// The gate gave no turn, and nothing was asked.
     Cut,
 }
 
-// Puts a command to the teller, and counts it. At `Ok` is what the teller accepted.
+// Takes a turn and puts a command to the teller. What is accepted is counted, and is at `Ok`.
 fn put_command<T: Teller>(
     cmd: &Cmd,
     standing: &mut Standing,
@@ -47,7 +47,7 @@ fn put_command<T: Teller>(
     Ok(Answer::Replied(reply))
 }
 
-// Puts a question to the teller, and counts it. At `Ok` is what the teller accepted.
+// Takes a turn and puts a question to the teller. What is accepted is counted, and is at `Ok`.
 fn put<T: Teller>(
     question: Question,
     standing: &mut Standing,
@@ -84,7 +84,7 @@ fn ending_of(answer: &Answer) -> Ending
     }
 }
 
-/// Writes a line.
+/// Writes a line, and returns whether more may be asked behind it.
 pub fn tell(report: &mut Report, asked: Asked, answer: Answer) -> Ending
     requires room { vec_len report.old.lines < vec_capacity report.old.lines }
     ensures ending { result ≡ ending_of answer }
