@@ -19,11 +19,7 @@ use crate::seat::{Seat, Trail, new_trails};
 use page_arena::PageStore;
 use realm_host::{Cmd, Host, Mark, Refusal, Reply, Undone};
 use std::alloc::{AllocError, Global};
-use std::sync::{Mutex, MutexGuard, Wait};
-use std::thread::yield_now;
-
-// How often a thread looks whether the lock is free, and lets others run in between, before it waits for it.
-const LOOKS: u8 = 2;
+use std::sync::{Mutex, Wait};
 
 /// A host that threads share. Each call takes the lock once.
 #[derive(Drop)]
@@ -60,17 +56,6 @@ impl<S: PageStore, L: Ledgers> Shared<S, L> {
         Ok((Shared { kept }, seats))
     }
 
-    // Takes the lock. Where another thread has it, looks again before it sleeps: a call is shorter than a sleep.
-    fn hold(&self, rt: &impl Wait) -> MutexGuard<'_, Kept<S, L>> {
-        for _look in 0..LOOKS {
-            if let Some(kept) = self.kept.try_lock() {
-                return kept;
-            }
-            yield_now();
-        }
-        self.kept.lock(rt)
-    }
-
     /// Asks a command of the seat's build.
     pub fn call(&self, rt: &impl Wait, seat: &mut Seat<L>, cmd: Cmd) -> Result<Reply, Refusal>
         ensures told { IfOk result (λ reply. IsCallTold L.opened (Ask cmd) (Replied reply) seat.old seat.new) }
@@ -85,7 +70,7 @@ impl<S: PageStore, L: Ledgers> Shared<S, L> {
         ensures told { IfOk result (λ reply. IsCallTold L.opened (Ask cmd.now) (Replied reply) seat.old seat.new) }
         ensures refused { IfErr result (λ refusal. IsCallRefused L.opened (Ask cmd.now) refusal seat.old × (seat.new ≡ seat.old)) }
     {
-        self.hold(rt).ask(seat, cmd)
+        self.kept.lock(rt).ask(seat, cmd)
     }
 
     /// Undoes the newest act that the seat's build has open.
@@ -93,7 +78,7 @@ impl<S: PageStore, L: Ledgers> Shared<S, L> {
         ensures told { IfOk result (λ done. IsCallTold L.opened Undo (WasUndone done) seat.old seat.new) }
         ensures refused { IfErr result (λ refusal. IsCallRefused L.opened Undo refusal seat.old × (seat.new ≡ seat.old)) }
     {
-        self.hold(rt).undo(seat)
+        self.kept.lock(rt).undo(seat)
     }
 
     /// Keeps the point of the seat's build, which it can go back to by undos. The seat is lent for writing since its count
@@ -102,7 +87,7 @@ impl<S: PageStore, L: Ledgers> Shared<S, L> {
         ensures told { IsMarkTold L.opened seat.old result }
         ensures seat { seat.new ≡ seat.old }
     {
-        self.hold(rt).mark(seat)
+        self.kept.lock(rt).mark(seat)
     }
 
     /// How many acts the seat's build has open above a mark. The seat is lent as for `mark`.
@@ -110,7 +95,7 @@ impl<S: PageStore, L: Ledgers> Shared<S, L> {
         ensures told { IsBackTold L.opened seat.old mark result }
         ensures seat { seat.new ≡ seat.old }
     {
-        self.hold(rt).check_back(seat, mark)
+        self.kept.lock(rt).check_back(seat, mark)
     }
 
     /// Gives the host back, in return for its builds' seats: each has to be there once, with the events that the
