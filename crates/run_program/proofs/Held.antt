@@ -1,9 +1,9 @@
 -- Pages by what is open, and lists of granules.
-use Rattle.std.proofs.Common.{Bool, true, false, subst, ◌≡◌, ℕ, zero, suc, ◌+◌, ◌^◌, ◌<◌, ◌≤◌, List, [], ◌∷◌, ◌++◌, length}
-use Rattle.std.proofs.Common.{map, take, drop, get_or, Option, Some, None, refl, sym, ap, ◌∙◌, arith, length-append}
+use Rattle.std.proofs.Common.{Bool, true, false, subst, ◌≡◌, ℕ, zero, suc, ◌+◌, ◌^◌, ◌<◌, List, [], ◌∷◌, ◌++◌, length}
+use Rattle.std.proofs.Common.{map, drop, get_or, Option, Some, None, refl, sym, ap, ◌∙◌, arith, length-append}
 use Rattle.std.specs.Prelude.{slice_get, option_and_then, nat_lt, ◌&&◌, if◌then◌else◌}
 use Rattle.std.specs.List.{flat_map, range_with_len}
-use Rattle.std.proofs.lemmas.List.{drop_more, map_more, map-append, length-map, length-take-le}
+use Rattle.std.proofs.lemmas.List.{drop_more}
 use Rattle.std.proofs.lemmas.List.FromFn.{length-range_with_len, get_or-range_with_len}
 use Rattle.std.proofs.lemmas.Option.{slice_get-get_or, same_Some}
 use Rattle.realm_model.specs.declared.act.Act.{Act}
@@ -94,17 +94,3 @@ granule_of_number-block act order first place number made is same inside made_is
     twice : (test : Bool) (n : ℕ) → (if test && test then Some n else None) ≡ (if test then Some n else None)
     twice true n = refl
     twice false n = refl
-
--- as many granules as pages
-pub granules_so_far : (f : ℕ → Option ℕ) (numbers granules : List ℕ) (i : ℕ) → i ≤ length numbers → map f (take i numbers) ≡ map (λ granule. Some granule) granules → length granules ≡ i
-granules_so_far f numbers granules i inside are =
-    sym (length-map granules (λ granule. Some granule)) ∙ sym (ap length are) ∙ length-map (take i numbers) f ∙ length-take-le i numbers inside
-
--- the granule of one more page
-pub granules_more : (f : ℕ → Option ℕ) (numbers granules after : List ℕ) (i d granule : ℕ) → i < length numbers → map f (take i numbers) ≡ map (λ granule. Some granule) granules
-    → f (get_or numbers i d) ≡ Some granule → after ≡ granules ++ granule ∷ [] → map f (take (i + 1) numbers) ≡ map (λ granule. Some granule) after
-granules_more f numbers granules after i d granule inside are is after_is =
-    map_more f numbers i d inside
-    ∙ (λ j. are j ++ is j ∷ [])
-    ∙ sym (map-append (λ granule. Some granule) granules (granule ∷ []))
-    ∙ ap (map (λ granule. Some granule)) (sym after_is)

@@ -1,5 +1,6 @@
 mod Faults
 pub mod Held
+pub mod Pushed
 pub mod Done
 pub mod Reading
 pub mod Answered

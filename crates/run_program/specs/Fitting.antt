@@ -1,5 +1,5 @@
 -- Whether the lines of a report tell the events of its build in a history, one by one.
-use Rattle.std.specs.Prelude.{◌≡◌, ℕ, ◌-◌, nat_lt, List, filter, map, length, take, Option, Some, None, slice_get, option_and_then, IsSomeAnd, if◌then◌else◌}
+use Rattle.std.specs.Prelude.{◌≡◌, ℕ, ◌-◌, ◌++◌, nat_lt, List, filter, map, length, take, Option, Some, None, slice_get, option_and_then, IsSomeAnd, if◌then◌else◌}
 use Rattle.std.specs.Global.{Vec}
 use Rattle.std.specs.List.{last_or}
 use Rattle.build_commands.specs.Acts.{act_of}
@@ -34,6 +34,14 @@ granule_of_number pages page = option_and_then (λ number. if nat_lt number 4096
 -- the granules are those of the pages with these numbers, each of them there
 abbrev pub AreGranules : List ℕ → List ℕ → List ℕ → Type 0
 AreGranules pages numbers granules = map (granule_of_number pages) numbers ≡ map (λ granule. Some granule) granules
+
+-- one of the pages with these numbers is not there, or is no granule
+abbrev pub HaveNoGranules : List ℕ → List ℕ → Type 0
+HaveNoGranules pages numbers = (granules : List ℕ) → ¬ AreGranules pages numbers granules
+
+-- a list of granules, and behind it the granules of the pages with these numbers
+abbrev pub ArePushed : List ℕ → List ℕ → List ℕ → List ℕ → Type 0
+ArePushed pages numbers before after = (granules : List ℕ) × (AreGranules pages numbers granules × (after ≡ before ++ granules))
 
 -- The act is that of the command with the granules of its pages, whatever was picked for it.
 pub record IsMadeOf (pages : List ℕ) (cmd : Cmd) (act : Act) : Type 0 where

@@ -3,7 +3,7 @@ ghost use Rattle.std.specs.Prelude.{◌≡◌, ◌↔◌, ◌+◌, ◌<◌, ◌�
 ghost use Rattle.std.specs.List.{flat_map, range_with_len};
 ghost use Rattle.build_commands.specs.Needs.{operands};
 ghost use Rattle.realm_model.specs.History.{pages_held};
-ghost use Rattle.run_program.specs.Fitting.{granule_of_number, AreGranules};
+ghost use Rattle.run_program.specs.Fitting.{granule_of_number, AreGranules, ArePushed, HaveNoGranules};
 
 use arrayvec::ArrayVec;
 use build_commands::{Cmd, tables_named};
@@ -63,63 +63,54 @@ pub(crate) fn has_pages(opened: &[Act], count: u16) -> bool
     left == 0
 }
 
-// Puts `count` numbers from `first` on at the end.
-fn push_run(numbers: &mut ArrayVec<usize, 17>, first: usize, count: u16)
-    requires room { length numbers.old.items + count ≤ 17 }
-    requires first { first ≤ 65535 }
-    ensures { numbers.new.items ≡ numbers.old.items ++ range_with_len first count }
+// Puts the granules of these pages at the end. None where one of them is not there, or is no granule of a machine.
+fn push_granules(granules: &mut ArrayVec<Gran, 17>, opened: &[Act], pages: &[u16]) -> Option<()>
+    requires room { length granules.old.items + length pages.now ≤ 17 }
+    ensures some { IfSome result (λ _. ArePushed (flat_map pages_held opened.now) pages.now granules.old.items granules.new.items) }
+    ensures none { IfNone result (HaveNoGranules (flat_map pages_held opened.now) pages.now) }
+{
+    for page in pages {
+        granules.push(granule_at(opened, *page as usize)?);
+    }
+    Some(())
+}
+
+// Puts the granules of `count` pages from `first` on at the end. None as above.
+fn push_run(granules: &mut ArrayVec<Gran, 17>, opened: &[Act], first: u16, count: u16) -> Option<()>
+    requires room { length granules.old.items + count ≤ 17 }
+    ensures some { IfSome result (λ _. ArePushed (flat_map pages_held opened.now) (range_with_len first count) granules.old.items granules.new.items) }
+    ensures none { IfNone result (HaveNoGranules (flat_map pages_held opened.now) (range_with_len first count)) }
 {
     for place in 0..count {
-        numbers.push(first + place as usize);
+        granules.push(granule_at(opened, first as usize + place as usize)?);
     }
+    Some(())
 }
 
-// Puts the numbers of a list at the end.
-fn push_all(numbers: &mut ArrayVec<usize, 17>, more: &[u16])
-    requires { length numbers.old.items + length more.now ≤ 17 }
-    ensures { numbers.new.items ≡ numbers.old.items ++ more.now }
-{
-    for number in more {
-        numbers.push(*number as usize);
-    }
-}
-
-// The numbers of the pages that a command names.
+/// The granules of the pages that a command names, for a build that has these acts open. None where one of the pages is
+/// not there, or is no granule of a machine.
 #[tactic(auto, unfolding(build_commands::specs::Needs::operands))]
-fn operands(cmd: &Cmd) -> ArrayVec<usize, 17>
-    ensures { result.items ≡ operands cmd.now }
+pub(crate) fn granules_of(opened: &[Act], cmd: &Cmd) -> Option<ArrayVec<Gran, 17>>
+    ensures some { IfSome result (λ granules. AreGranules (flat_map pages_held opened.now) (operands cmd.now) granules.items) }
+    ensures none { IfNone result (HaveNoGranules (flat_map pages_held opened.now) (operands cmd.now)) }
 {
-    let mut numbers = ArrayVec::new();
+    let mut granules = ArrayVec::new();
     match cmd {
         Cmd::Fill { page, .. }
         | Cmd::Peek { page, .. }
         | Cmd::Delegate { page }
         | Cmd::Rtt { page, .. }
-        | Cmd::Unknown { page, .. } => numbers.push(*page as usize),
-        Cmd::Data { page, source, .. } => push_all(&mut numbers, &[*page, *source]),
+        | Cmd::Unknown { page, .. } => push_granules(&mut granules, opened, &[*page])?,
+        Cmd::Data { page, source, .. } => push_granules(&mut granules, opened, &[*page, *source])?,
         Cmd::Realm { rd, root, width } => {
-            numbers.push(*rd as usize);
-            push_run(&mut numbers, *root as usize, tables_named(*width));
+            push_granules(&mut granules, opened, &[*rd])?;
+            push_run(&mut granules, opened, *root, tables_named(*width))?;
         }
         Cmd::Rec { page, auxiliaries } => {
-            numbers.push(*page as usize);
-            push_all(&mut numbers, auxiliaries.as_slice());
+            push_granules(&mut granules, opened, &[*page])?;
+            push_granules(&mut granules, opened, auxiliaries.as_slice())?;
         }
         _ => {}
-    }
-    numbers
-}
-
-/// The granules of the pages that a command names, for a build that has these acts open. None where one of the pages is
-/// not there, or is no granule of a machine.
-pub(crate) fn granules_of(opened: &[Act], cmd: &Cmd) -> Option<ArrayVec<Gran, 17>>
-    ensures some { IfSome result (λ granules. AreGranules (flat_map pages_held opened.now) (operands cmd.now) granules.items) }
-    ensures none { IfNone result ((granules : List ℕ) → ¬ AreGranules (flat_map pages_held opened.now) (operands cmd.now) granules) }
-{
-    let numbers = operands(cmd);
-    let mut granules = ArrayVec::new();
-    for page in numbers.as_slice() {
-        granules.push(granule_at(opened, *page)?);
     }
     Some(granules)
 }
