@@ -60,12 +60,12 @@ impl Act {
         }
     }
 
-    fn is_reverse(self) -> bool {
+    pub fn is_reverse(self) -> bool {
         use Act::*;
         matches!(self, UnTake { .. } | Undelegate { .. } | UnRealm { .. } | UnRtt { .. } | UnData { .. } | UnRec { .. })
     }
 
-    fn kind(self) -> &'static str {
+    pub fn kind(self) -> &'static str {
         match self {
             Act::Take { .. } => "take",
             Act::Delegate { .. } => "delegate",
@@ -141,6 +141,28 @@ fn refused(rmi: Rmi) -> Answer {
     Answer::Rmi(rmi)
 }
 
+/// The act that a command asks for, with the granules of its pages. What is picked for it, a VMID or the number of a REC, is
+/// 0 in it.
+pub fn act_of(pages: &[u16], step: Step) -> Result<Act, Answer> {
+    let granule = |page: u16| pages.get(page as usize).copied().ok_or(Answer::No(4, "NotLeased", Some(page)));
+    Ok(match step {
+        Step::Fill(page, value) => Act::Fill { granule: granule(page)?, value },
+        Step::Delegate(page) => Act::Delegate { granule: granule(page)? },
+        Step::Realm(page, root) => Act::Realm { rd: granule(page)?, root: granule(root)?, vmid: 0 },
+        Step::Activate => Act::Activate,
+        Step::Rtt(page, ipa, level) => Act::Rtt { granule: granule(page)?, ipa, level },
+        Step::Data(page, ipa, source) => Act::Data { granule: granule(page)?, ipa, source: granule(source)? },
+        Step::Rec(page, named) => {
+            let of = |page: &u16| granule(*page);
+            let auxiliaries: Vec<u16> = named.numbers().iter().map(of).collect::<Result<_, _>>()?;
+            Act::Rec { granule: granule(page)?, auxiliaries: Auxiliaries::new(auxiliaries), number: 0 }
+        }
+        Step::Enter(number) => Act::Enter { number },
+        Step::Exit(number) => Act::Exit { number },
+        Step::Take(_) | Step::Undo | Step::Abort => unreachable!(),
+    })
+}
+
 impl Books {
     fn new(pages: usize, builds: usize, room: usize) -> Books {
         let build = || Build {
@@ -159,10 +181,6 @@ impl Books {
             vmids: Vec::with_capacity(255),
             room,
         }
-    }
-
-    fn granule(&self, build: usize, page: u16) -> Result<u16, Answer> {
-        self.builds[build].pages.get(page as usize).copied().ok_or(Answer::No(4, "NotLeased", Some(page)))
     }
 
     fn rd(&self, build: usize) -> Result<usize, Answer> {
@@ -272,32 +290,11 @@ impl Host {
         Ok(Answer::Told(page as u16))
     }
 
-    // The act that a command asks for, with the granules of its pages.
-    fn act_of(&self, build: usize, step: Step) -> Result<Act, Answer> {
-        let books = &self.books;
-        let granule = |page| books.granule(build, page);
-        Ok(match step {
-            Step::Fill(page, value) => Act::Fill { granule: granule(page)?, value },
-            Step::Delegate(page) => Act::Delegate { granule: granule(page)? },
-            Step::Realm(page, root) => {
-                Act::Realm { rd: granule(page)?, root: granule(root)?, vmid: books.lowest_vmid() }
-            }
-            Step::Activate => Act::Activate,
-            Step::Rtt(page, ipa, level) => Act::Rtt { granule: granule(page)?, ipa, level },
-            Step::Data(page, ipa, source) => Act::Data { granule: granule(page)?, ipa, source: granule(source)? },
-            Step::Rec(page, named) => {
-                let of = |page: &u16| granule(*page);
-                let auxiliaries: Vec<u16> = named.numbers().iter().map(of).collect::<Result<_, _>>()?;
-                Act::Rec { granule: granule(page)?, auxiliaries: Auxiliaries::new(auxiliaries), number: 0 }
-            }
-            Step::Enter(number) => Act::Enter { number },
-            Step::Exit(number) => Act::Exit { number },
-            Step::Take(_) | Step::Undo | Step::Abort => unreachable!(),
-        })
-    }
-
     fn command(&mut self, build: usize, step: Step) -> Done {
-        let act = self.act_of(build, step)?;
+        let mut act = act_of(&self.books.builds[build].pages, step)?;
+        if let Act::Realm { vmid, .. } = &mut act {
+            *vmid = self.books.lowest_vmid();
+        }
         self.books.has_room(build, act.reverse().is_some() || matches!(act, Act::Enter { .. }))?;
         let act = self.perform(build, act)?;
         self.books.record(build, act);

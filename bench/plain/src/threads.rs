@@ -1,7 +1,7 @@
 //! Builds worked on by threads: each asks its steps on one host behind a lock, as fast as they are answered, and keeps
 //! a report, and a list of the events that its calls made. In the end each list is compared with what the history has of
 //! its build, and each report is held against the history.
-use crate::host::{Act, Answer, Event, Host, Step};
+use crate::host::{Act, Answer, Event, Host, Step, act_of};
 use crate::text::{push_answer, push_map, push_step};
 use std::sync::Mutex;
 
@@ -45,29 +45,81 @@ fn work(seat: &mut Seat, steps: &[Step]) -> Report {
     report
 }
 
-// Whether an accepted line is told of that act.
-fn fits(step: Step, answer: Answer, act: Act) -> bool {
-    match (step, act) {
-        (Step::Take(order), Act::Take { order: taken, .. }) => order == taken,
-        (Step::Fill(_, value), Act::Fill { value: written, .. }) => value == written,
-        (Step::Delegate(_), Act::Delegate { .. }) | (Step::Activate, Act::Activate) => true,
-        (Step::Realm(..), Act::Realm { vmid, .. }) => matches!(answer, Answer::Told(told) if told == vmid.into()),
-        (Step::Rtt(_, ipa, level), Act::Rtt { ipa: at, level: of, .. }) => ipa == at && level == of,
-        (Step::Data(_, ipa, _), Act::Data { ipa: at, .. }) => ipa == at,
-        (Step::Rec(..), Act::Rec { number, .. }) => matches!(answer, Answer::Told(told) if told == number),
-        (Step::Enter(number), Act::Enter { number: of }) | (Step::Exit(number), Act::Exit { number: of }) => {
-            number == of
+// What a build has open, and its pages, after some of its events.
+#[derive(Default)]
+struct Standing {
+    opened: Vec<Act>,
+    pages: Vec<u16>,
+}
+
+impl Standing {
+    fn follow(&mut self, act: Act) {
+        if act.is_reverse() {
+            self.opened.pop();
+        } else if act.reverse().is_some() {
+            self.opened.push(act);
         }
-        (Step::Undo | Step::Abort, _) => matches!(answer, Answer::Undone(..)) && act.reverse().is_none(),
-        _ => false,
+        match act {
+            Act::Take { order, first } => self.pages.extend(first..first + (1 << order)),
+            Act::UnTake { order, .. } => self.pages.truncate(self.pages.len() - (1 << order)),
+            _ => {}
+        }
+    }
+
+    // Whether an accepted line is told of that act: the command's, with the granules of its pages, or the reverse of the
+    // newest open act.
+    fn fits(&self, step: Step, answer: Answer, act: Act) -> bool {
+        match step {
+            Step::Undo | Step::Abort => self.is_undone(answer, act),
+            Step::Take(order) => {
+                matches!(act, Act::Take { order: taken, .. } if order == taken)
+                    && matches!(answer, Answer::Told(page) if page as usize == self.pages.len())
+            }
+            _ => self.is_made_of(step, act) && is_told_of(answer, act),
+        }
+    }
+
+    fn is_undone(&self, answer: Answer, act: Act) -> bool {
+        let (Some(newest), Answer::Undone(kind, left)) = (self.opened.last(), answer) else { return false };
+        newest.reverse() == Some(act) && newest.kind() == kind && left as usize == self.opened.len() - 1
+    }
+
+    fn is_made_of(&self, step: Step, act: Act) -> bool {
+        let Ok(mut made) = act_of(&self.pages, step) else { return false };
+        match (&mut made, act) {
+            (Act::Realm { vmid, .. }, Act::Realm { vmid: picked, .. }) => *vmid = picked,
+            (Act::Rec { number, .. }, Act::Rec { number: picked, .. }) => *number = picked,
+            _ => {}
+        }
+        made == act
     }
 }
 
+// Whether that is the answer to an act other than a take.
+fn is_told_of(answer: Answer, act: Act) -> bool {
+    match act {
+        Act::Realm { vmid, .. } => matches!(answer, Answer::Told(told) if told == vmid.into()),
+        Act::Rec { number, .. } => matches!(answer, Answer::Told(told) if told == number),
+        _ => matches!(answer, Answer::Ok),
+    }
+}
+
+// Whether the accepted lines of a report tell the events of its build, one by one.
 fn is_told(host: &Host, build: usize, report: &Report) -> bool {
+    let mut standing = Standing::default();
     let mut events = host.books.history.iter().filter(|event| event.build as usize == build);
-    let accepted = report.iter().filter(|(_, answer)| !matches!(answer, Answer::No(..) | Answer::Rmi(_)));
-    let fit = accepted.map(|&(step, answer)| events.next().is_some_and(|event| fits(step, answer, event.act)));
-    fit.fold(true, |all, one| all && one) && events.next().is_none()
+    for &(step, answer) in report {
+        // (what is refused, and an abort of nothing, has no event)
+        if matches!((step, answer), (_, Answer::No(..) | Answer::Rmi(_)) | (Step::Abort, Answer::Ok)) {
+            continue;
+        }
+        let Some(event) = events.next() else { return false };
+        if !standing.fits(step, answer, event.act) {
+            return false;
+        }
+        standing.follow(event.act);
+    }
+    events.next().is_none()
 }
 
 // Whether a seat's list is what the history has of its build.
