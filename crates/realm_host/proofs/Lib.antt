@@ -21,3 +21,4 @@ pub mod LeftOut
 pub mod There
 pub mod Interleaved
 pub mod Readings
+pub mod Sharing

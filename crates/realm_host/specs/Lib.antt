@@ -12,3 +12,4 @@ pub mod Abort
 pub mod Marked
 pub mod Recorded
 pub mod Interleaving
+pub mod Sharing

@@ -1,0 +1,218 @@
+-- An abort during which other builds go on.
+use Rattle.std.proofs.Common.{◌≡◌, ◌≢◌, ℕ, ◌<◌, Bool, true, false, ◌&&◌, cond, eqb, List, [], ◌∷◌, ◌++◌, length, map, reverse, get_or, set, Option, Some, None, Result, Ok, Err, refl, sym, ap, ◌∙◌, subst, arith}
+use Rattle.std.specs.Prelude.{nat_le, nat_lt, option_and_then}
+use Rattle.std.specs.List.{All, last_or}
+use Rattle.std.proofs.lemmas.Bool.{eqb-true, eqb-false, ltb-true, ltb-false}
+use Rattle.std.proofs.lemmas.List.{append-nil, append_assoc, get_or-set_same, get_or-set_other, get_or_past}
+use Rattle.std.proofs.lemmas.List.Elements.{All-append, All-nil, All-cons}
+use Rattle.realm_model.specs.declared.act.Act.{Act}
+use Rattle.realm_model.specs.declared.act.Event.{Event}
+use Rattle.realm_model.specs.Act.{is_reverse, reverse_of}
+use Rattle.realm_model.specs.Aborting.{IsAborting, IsOthersOrReverse}
+use Rattle.realm_model.specs.History.{replay, IsLegal}
+use Rattle.realm_model.specs.Undoing.{by, reverses, undoing}
+use Rattle.realm_model.specs.Running.{running_count, IsAtRest}
+use Rattle.realm_model.specs.World.{realm_of}
+use Rattle.realm_model.proofs.Aborting.{abort_goes_on}
+use Rattle.realm_model.proofs.UndoAll.{undone}
+use Rattle.build_books.specs.declared.mark.Mark.{Mark}
+use Rattle.build_books.specs.Desk.{desk_of}
+use Rattle.build_books.specs.View.{HostView, world_of, open_of, is_aborting, with_event, with_mark}
+use Rattle.build_books.proofs.Worlds.{world_is}
+use Rattle.build_commands.specs.declared.cmd.Cmd.{Cmd}
+use Rattle.build_commands.specs.declared.refusal.Refusal.{Refusal}
+use Rattle.build_commands.specs.declared.refusal.Refusal.TheVariants.{NoBuild, Aborting, RecRunning}
+use Rattle.build_commands.specs.Checks.{Check, build_checks, checks_of, first_that_holds}
+use Rattle.realm_host.specs.declared.reply.Answer.{Answer}
+use Rattle.realm_host.specs.declared.reply.Answer.TheVariants.{Replied, Undone as WasUndone, Refused}
+use Rattle.realm_host.specs.Abort.{undone_to, IsBegun, IsAbortAnswer}
+use Rattle.realm_host.specs.Answer.{IsAnswer}
+use Rattle.realm_host.specs.Call.{Call, Ask, Undo}
+use Rattle.realm_host.specs.Marked.{IsMarked, IsBackAnswer}
+use Rattle.realm_host.specs.Refusals.{refusal_of}
+use Rattle.realm_host.specs.Served.{any_rec_running}
+use Rattle.realm_host.specs.Sharing.{IsInAbortSince}
+use Rattle.realm_host.proofs.Backward.{reverse_is}
+use Rattle.realm_host.proofs.Calls.{passed_parts}
+
+-- ---- what a build in abort may do
+
+-- what is served where the build is there and not in abort, is served to no build in abort
+not_aborting : (host : HostView) (build : ℕ) (rest : Option Refusal) → cond (nat_le host.limits.builds build) (Some NoBuild) (cond (is_aborting host build) (Some Aborting) rest) ≡ None
+    → is_aborting host build ≡ false
+not_aborting host build rest none =
+    let there = passed_parts (nat_le host.limits.builds build) NoBuild _ none in
+    (passed_parts (is_aborting host build) Aborting rest there.1).0
+
+reversed : (newest : Option Act) (back : Act) → option_and_then reverse_of newest ≡ Some back → is_reverse back ≡ true
+reversed None back e = cc
+reversed (Some act) back e = (reverse_is act back e).reverse
+
+-- what an abort undoes are reverses
+own_reverses : (build : ℕ) (acts : List Act) → All (IsOthersOrReverse build) (map (by build) (reverses acts))
+own_reverses build [] = All-nil (IsOthersOrReverse build)
+own_reverses build (act ∷ acts) = at (reverse_of act) refl (own_reverses build acts)
+  where
+    at : (back : Option Act) → reverse_of act ≡ back → All (IsOthersOrReverse build) (map (by build) (reverses acts))
+        → All (IsOthersOrReverse build) (map (by build) (elim back [ Some r ↦ r ∷ reverses acts | None ↦ reverses acts ]))
+    at None is rest = rest
+    at (Some r) is rest = All-cons (IsOthersOrReverse build) (by build r) (map (by build) (reverses acts)) (λ mine. (reverse_is act r is).reverse) rest
+
+-- no event of another build is this one's
+all_others : (build other : ℕ) (acts : List Act) → other ≢ build → All (IsOthersOrReverse build) (map (by other) acts)
+all_others build other [] not = All-nil (IsOthersOrReverse build)
+all_others build other (act ∷ acts) not = All-cons (IsOthersOrReverse build) (by other act) (map (by other) acts) (λ mine. absurd (not mine)) (all_others build other acts not)
+
+-- where no REC runs is the last check, the build is at rest
+at_rest : (host : HostView) (build : ℕ) (checks : List Check) → first_that_holds (checks ++ any_rec_running host build ∷ []) ≡ None → IsAtRest (realm_of build (world_of host))
+at_rest host build [] none =
+    let rests = (passed_parts (nat_lt 0 (running_count (realm_of build (world_of host)))) RecRunning None none).0 in
+    let few = ltb-false 0 (running_count (realm_of build (world_of host))) rests in
+    omega arith
+at_rest host build (check ∷ checks) none = at_rest host build checks (passed_parts check.0 check.1 _ none).1
+
+-- ---- flags
+
+no_more : (acts : List Act) → nat_lt 0 (length acts) ≡ false → acts ≡ []
+no_more [] none = refl
+no_more (act ∷ acts) none = let few = ltb-false 0 (length (act ∷ acts)) none in absurd (omega arith)
+
+-- a build in abort has a flag
+flag_there : (flags : List Bool) (build : ℕ) → get_or flags build false ≡ true → build < length flags
+flag_there flags build set = at (nat_lt build (length flags)) refl
+  where
+    at : (t : Bool) → nat_lt build (length flags) ≡ t → build < length flags
+    at true there = ltb-true build (length flags) there
+    at false past =
+        let none = get_or_past flags build false (ltb-false build (length flags) past) in
+        absurd (let no : true ≡ false = sym set ∙ none in cc)
+
+module _ (old : HostView) (build : ℕ) (host : HostView) (since : IsInAbortSince old build host) (aborts : is_aborting host build ≡ true) where
+  -- ---- one host after another
+
+  led : (new : HostView) (more : List Event) → new.limits ≡ host.limits → new.history ≡ host.history ++ more → All (IsOthersOrReverse build) more
+      → (is_aborting new build ≡ false → open_of new build ≡ []) → IsInAbortSince old build new
+  led new more limits history all until = record {
+    rest = since.rest;
+    limits = limits ∙ since.limits;
+    later = since.later ++ more;
+    since = history ∙ ap (λ (es : List Event). es ++ more) since.since ∙ append_assoc old.history since.later more;
+    reverses = All-append (IsOthersOrReverse build) since.later more since.reverses all;
+    until = until;
+  }
+
+  unchanged : (new : HostView) → new ≡ host → IsInAbortSince old build new
+  unchanged new same = subst (IsInAbortSince old build) (sym same) since
+
+  -- the flag of another build is written
+  still : (other : ℕ) (flag : Bool) → other ≢ build → get_or (set host.aborting other flag) build false ≡ true
+  still other flag not = get_or-set_other host.aborting other build flag false (λ same. not (sym same)) ∙ aborts
+
+  -- it is not over
+  not_over : {P : Type 0} (flags : List Bool) → get_or flags build false ≡ true → get_or flags build false ≡ false → P
+  not_over flags on over = absurd (let no : true ≡ false = sym on ∙ over in cc)
+
+  -- ---- one event
+
+  own_over : (act : Act) → is_aborting (with_event host build act) build ≡ false → open_of (with_event host build act) build ≡ []
+  own_over act over =
+      let opened : ℕ = length (open_of (with_event host build act) build) in
+      let flag : is_aborting (with_event host build act) build ≡ (is_aborting host build && nat_lt 0 opened) =
+      get_or-set_same host.aborting build (is_aborting host build && nat_lt 0 opened) false (flag_there host.aborting build aborts) in
+      no_more (open_of (with_event host build act) build) (sym (ap (λ t. t && nat_lt 0 opened) aborts) ∙ sym flag ∙ over)
+
+  over_after : (other : ℕ) (act : Act) → is_aborting (with_event host other act) build ≡ false → open_of (with_event host other act) build ≡ []
+  over_after other act = at (eqb other build) refl
+    where
+      at : (t : Bool) → eqb other build ≡ t → is_aborting (with_event host other act) build ≡ false → open_of (with_event host other act) build ≡ []
+      at true same = subst (λ b. is_aborting (with_event host b act) build ≡ false → open_of (with_event host b act) build ≡ []) (sym (eqb-true other build same)) (own_over act)
+      at false differs = not_over (with_event host other act).aborting (still other _ (eqb-false other build differs))
+
+  with_one : (other : ℕ) (act : Act) (new : HostView) → new ≡ with_event host other act → IsOthersOrReverse build (by other act) → IsInAbortSince old build new
+  with_one other act new is allowed =
+      subst (IsInAbortSince old build) (sym is) (led (with_event host other act) (by other act ∷ []) refl refl (All-cons (IsOthersOrReverse build) (by other act) [] allowed (All-nil (IsOthersOrReverse build))) (over_after other act))
+
+  -- ---- calls
+
+  -- what the build is refused in abort, it does not do
+  own_refused : (other : ℕ) → is_aborting host other ≡ false → other ≢ build
+  own_refused other out same = let no : true ≡ false = sym aborts ∙ ap (is_aborting host) (sym same) ∙ out in cc
+
+  asked : (other : ℕ) (cmd : Cmd) → refusal_of host other (Ask cmd) ≡ None → is_aborting host other ≡ false
+  unfolding refusal_of checks_of
+  asked other cmd none = not_aborting host other _ none
+
+  pub after_call : (other : ℕ) (call : Call) (answer : Answer) (new : HostView) → IsAnswer host other call answer new → IsInAbortSince old build new
+  after_call other call (Refused refusal) new (refused, same) = unchanged new same
+  after_call other (Ask cmd) (Replied reply) new replied =
+      with_one other replied.act new replied.accepted.grows (λ mine. absurd (own_refused other (asked other cmd replied.accepted.not_refused) mine))
+  after_call other (Ask cmd) (WasUndone undone) new none = absurd none
+  after_call other Undo (Replied reply) new none = absurd none
+  after_call other Undo (WasUndone undone) new done =
+      with_one other done.act new done.accepted.grows (λ mine. reversed (last_or None (open_of host other)) done.act done.accepted.act_of)
+
+  -- another build's flag and history alone
+  after_others : (other : ℕ) (new : HostView) (acts : List Act) (flag : Bool) → other ≢ build → new.limits ≡ host.limits → new.history ≡ host.history ++ map (by other) acts
+      → new.aborting ≡ set host.aborting other flag → IsInAbortSince old build new
+  after_others other new acts flag not limits history flags =
+      led new (map (by other) acts) limits history (all_others build other acts not)
+      (λ over. not_over new.aborting (ap (λ (fs : List Bool). get_or fs build false) flags ∙ still other flag not) over)
+
+  pub after_begin : (other : ℕ) (result : Result ℕ Refusal) (new : HostView) → IsBegun host other result new → IsInAbortSince old build new
+  after_begin other (Err refusal) new (refused, same) = unchanged new same
+  after_begin other (Ok count) new (none, is) =
+      after_others other new [] _ (own_refused other (not_aborting host other _ none)) (ap (λ (h : HostView). h.limits) is.new_is)
+      (ap (λ (h : HostView). h.history) is.new_is ∙ sym (append-nil host.history)) (ap (λ (h : HostView). h.aborting) is.new_is)
+
+  pub after_mark : (other : ℕ) (result : Result Mark Refusal) (new : HostView) → IsMarked host other result new → IsInAbortSince old build new
+  after_mark other (Err refusal) new (refused, same) = unchanged new same
+  after_mark other (Ok mark) new (none, is) =
+      subst (IsInAbortSince old build) (sym is.new_is)
+      (led (with_mark host other mark) [] refl (sym (append-nil host.history)) (All-nil (IsOthersOrReverse build)) (λ over. not_over host.aborting aborts over))
+
+  pub after_back : (other : ℕ) (mark : Mark) (result : Result ℕ Refusal) (new : HostView) → IsBackAnswer host other mark result new → IsInAbortSince old build new
+  after_back other mark (Err refusal) new (refused, same) = unchanged new same
+  after_back other mark (Ok count) new (none, is) =
+      after_others other new _ _ (own_refused other (not_aborting host other _ none)) (ap (λ (h : HostView). h.limits) is.new_is)
+      (ap (λ (h : HostView). h.history) is.new_is) (ap (λ (h : HostView). h.aborting) is.new_is)
+
+  -- its own abort by one call ends it
+  own_abort : (count : ℕ) (new : HostView) → IsLegal host.limits host.history → IsAbortAnswer host build (Ok count) new → IsInAbortSince old build new
+  own_abort count new legal (none, is) =
+      let rests = at_rest host build [] (passed_parts (nat_le host.limits.builds build) NoBuild _ none).1 in
+      let all = undone host.limits host.history build (world_of host) legal (world_is host legal) rests in
+      subst (IsInAbortSince old build) (sym is.new_is)
+      (led (undone_to host build 0) (undoing build host.history) refl refl (own_reverses build (reverse (open_of host build))) (λ over. all.none_open))
+
+  others_abort : (other count : ℕ) (new : HostView) → other ≢ build → IsAbortAnswer host other (Ok count) new → IsInAbortSince old build new
+  others_abort other count new not (none, is) =
+      after_others other new _ _ not (ap (λ (h : HostView). h.limits) is.new_is) (ap (λ (h : HostView). h.history) is.new_is) (ap (λ (h : HostView). h.aborting) is.new_is)
+
+  pub after_abort : (other : ℕ) (result : Result ℕ Refusal) (new : HostView) → IsLegal host.limits host.history → IsAbortAnswer host other result new → IsInAbortSince old build new
+  after_abort other (Err refusal) new legal (refused, same) = unchanged new same
+  after_abort other (Ok count) new legal aborted = at (eqb other build) refl
+    where
+      at : (t : Bool) → eqb other build ≡ t → IsInAbortSince old build new
+      at true same = own_abort count new legal (subst (λ b. IsAbortAnswer host b (Ok count) new) (eqb-true other build same) aborted)
+      at false differs = others_abort other count new (eqb-false other build differs) aborted
+
+-- ---- its begin and its end
+
+pub starts : (old new : HostView) (build count : ℕ) → IsBegun old build (Ok count) new → IsInAbortSince old build new
+starts old new build count (none, is) = record {
+  rest = at_rest old build (build_checks (desk_of old) build) none;
+  limits = ap (λ (h : HostView). h.limits) is.new_is;
+  later = [];
+  since = ap (λ (h : HostView). h.history) is.new_is ∙ sym (append-nil old.history);
+  reverses = All-nil (IsOthersOrReverse build);
+  until = λ over. ap (λ (h : HostView). open_of h build) is.new_is ∙ no_more (open_of old build) (ap (nat_lt 0) (sym is.count_is) ∙ sym is.in_abort ∙ over);
+}
+
+pub ends : (old host : HostView) (build : ℕ) (since : IsInAbortSince old build host) → IsLegal old.limits old.history → IsLegal host.limits host.history
+    → IsAborting old.limits old.history since.later build (world_of host)
+ends old host build since legal_old legal =
+    let legal_later : IsLegal old.limits (old.history ++ since.later) =
+    subst (IsLegal old.limits) since.since (subst (λ l. IsLegal l host.history) since.limits legal) in
+    let at_host : replay old.limits (old.history ++ since.later) ≡ Some (world_of host) =
+    (λ i. replay (sym since.limits i) (sym since.since i)) ∙ world_is host legal in
+    abort_goes_on old.limits old.history since.later build (world_of old) (world_of host) legal_later (world_is old legal_old) at_host since.rest since.reverses
