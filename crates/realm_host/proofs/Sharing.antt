@@ -25,13 +25,13 @@ use Rattle.build_commands.specs.declared.refusal.Refusal.TheVariants.{NoBuild, A
 use Rattle.build_commands.specs.Checks.{Check, build_checks, checks_of, first_that_holds}
 use Rattle.realm_host.specs.declared.reply.Answer.{Answer}
 use Rattle.realm_host.specs.declared.reply.Answer.TheVariants.{Replied, Undone as WasUndone, Refused}
-use Rattle.realm_host.specs.Abort.{undone_to, IsBegun, IsAbortAnswer}
+use Rattle.realm_host.specs.Abort.{undone_to, IsBegun, IsAbortAnswer, GoesOn}
 use Rattle.realm_host.specs.Answer.{IsAnswer}
 use Rattle.realm_host.specs.Call.{Call, Ask, Undo}
 use Rattle.realm_host.specs.Marked.{IsMarked, IsBackAnswer}
 use Rattle.realm_host.specs.Refusals.{refusal_of}
 use Rattle.realm_host.specs.Served.{any_rec_running}
-use Rattle.realm_host.specs.Sharing.{IsInAbortSince}
+use Rattle.realm_host.specs.Sharing.{AnsweredCall, Calls, Begins, Aborts, Marks, GoesBack, IsAnsweredSo, AreWhileAborting, IsInAbortSince}
 use Rattle.realm_host.proofs.Backward.{reverse_is}
 use Rattle.realm_host.proofs.Calls.{passed_parts}
 
@@ -87,11 +87,22 @@ flag_there flags build set = at (nat_lt build (length flags)) refl
         let none = get_or_past flags build false (ltb-false build (length flags) past) in
         absurd (let no : true ≡ false = sym set ∙ none in cc)
 
-module _ (old : HostView) (build : ℕ) (host : HostView) (since : IsInAbortSince old build host) (aborts : is_aborting host build ≡ true) where
+-- ---- on the way
+
+-- what is so at each host on the way
+record Going (old : HostView) (build : ℕ) (host : HostView) : Type 0 where
+  rest : IsAtRest (realm_of build (world_of old))
+  limits : host.limits ≡ old.limits
+  later : List Event
+  since : host.history ≡ old.history ++ later
+  reverses : All (IsOthersOrReverse build) later
+  until : is_aborting host build ≡ false → open_of host build ≡ []
+
+module _ (old : HostView) (build : ℕ) (host : HostView) (since : Going old build host) (aborts : is_aborting host build ≡ true) where
   -- ---- one host after another
 
   led : (new : HostView) (more : List Event) → new.limits ≡ host.limits → new.history ≡ host.history ++ more → All (IsOthersOrReverse build) more
-      → (is_aborting new build ≡ false → open_of new build ≡ []) → IsInAbortSince old build new
+      → (is_aborting new build ≡ false → open_of new build ≡ []) → Going old build new
   led new more limits history all until = record {
     rest = since.rest;
     limits = limits ∙ since.limits;
@@ -101,8 +112,8 @@ module _ (old : HostView) (build : ℕ) (host : HostView) (since : IsInAbortSinc
     until = until;
   }
 
-  unchanged : (new : HostView) → new ≡ host → IsInAbortSince old build new
-  unchanged new same = subst (IsInAbortSince old build) (sym same) since
+  unchanged : (new : HostView) → new ≡ host → Going old build new
+  unchanged new same = subst (Going old build) (sym same) since
 
   -- the flag of another build is written
   still : (other : ℕ) (flag : Bool) → other ≢ build → get_or (set host.aborting other flag) build false ≡ true
@@ -128,9 +139,9 @@ module _ (old : HostView) (build : ℕ) (host : HostView) (since : IsInAbortSinc
       at true same = subst (λ b. is_aborting (with_event host b act) build ≡ false → open_of (with_event host b act) build ≡ []) (sym (eqb-true other build same)) (own_over act)
       at false differs = not_over (with_event host other act).aborting (still other _ (eqb-false other build differs))
 
-  with_one : (other : ℕ) (act : Act) (new : HostView) → new ≡ with_event host other act → IsOthersOrReverse build (by other act) → IsInAbortSince old build new
+  with_one : (other : ℕ) (act : Act) (new : HostView) → new ≡ with_event host other act → IsOthersOrReverse build (by other act) → Going old build new
   with_one other act new is allowed =
-      subst (IsInAbortSince old build) (sym is) (led (with_event host other act) (by other act ∷ []) refl refl (All-cons (IsOthersOrReverse build) (by other act) [] allowed (All-nil (IsOthersOrReverse build))) (over_after other act))
+      subst (Going old build) (sym is) (led (with_event host other act) (by other act ∷ []) refl refl (All-cons (IsOthersOrReverse build) (by other act) [] allowed (All-nil (IsOthersOrReverse build))) (over_after other act))
 
   -- ---- calls
 
@@ -142,7 +153,7 @@ module _ (old : HostView) (build : ℕ) (host : HostView) (since : IsInAbortSinc
   unfolding refusal_of checks_of
   asked other cmd none = not_aborting host other _ none
 
-  pub after_call : (other : ℕ) (call : Call) (answer : Answer) (new : HostView) → IsAnswer host other call answer new → IsInAbortSince old build new
+  after_call : (other : ℕ) (call : Call) (answer : Answer) (new : HostView) → IsAnswer host other call answer new → Going old build new
   after_call other call (Refused refusal) new (refused, same) = unchanged new same
   after_call other (Ask cmd) (Replied reply) new replied =
       with_one other replied.act new replied.accepted.grows (λ mine. absurd (own_refused other (asked other cmd replied.accepted.not_refused) mine))
@@ -153,52 +164,99 @@ module _ (old : HostView) (build : ℕ) (host : HostView) (since : IsInAbortSinc
 
   -- another build's flag and history alone
   after_others : (other : ℕ) (new : HostView) (acts : List Act) (flag : Bool) → other ≢ build → new.limits ≡ host.limits → new.history ≡ host.history ++ map (by other) acts
-      → new.aborting ≡ set host.aborting other flag → IsInAbortSince old build new
+      → new.aborting ≡ set host.aborting other flag → Going old build new
   after_others other new acts flag not limits history flags =
       led new (map (by other) acts) limits history (all_others build other acts not)
       (λ over. not_over new.aborting (ap (λ (fs : List Bool). get_or fs build false) flags ∙ still other flag not) over)
 
-  pub after_begin : (other : ℕ) (result : Result ℕ Refusal) (new : HostView) → IsBegun host other result new → IsInAbortSince old build new
+  after_begin : (other : ℕ) (result : Result ℕ Refusal) (new : HostView) → IsBegun host other result new → Going old build new
   after_begin other (Err refusal) new (refused, same) = unchanged new same
   after_begin other (Ok count) new (none, is) =
       after_others other new [] _ (own_refused other (not_aborting host other _ none)) (ap (λ (h : HostView). h.limits) is.new_is)
       (ap (λ (h : HostView). h.history) is.new_is ∙ sym (append-nil host.history)) (ap (λ (h : HostView). h.aborting) is.new_is)
 
-  pub after_mark : (other : ℕ) (result : Result Mark Refusal) (new : HostView) → IsMarked host other result new → IsInAbortSince old build new
+  after_mark : (other : ℕ) (result : Result Mark Refusal) (new : HostView) → IsMarked host other result new → Going old build new
   after_mark other (Err refusal) new (refused, same) = unchanged new same
   after_mark other (Ok mark) new (none, is) =
-      subst (IsInAbortSince old build) (sym is.new_is)
+      subst (Going old build) (sym is.new_is)
       (led (with_mark host other mark) [] refl (sym (append-nil host.history)) (All-nil (IsOthersOrReverse build)) (λ over. not_over host.aborting aborts over))
 
-  pub after_back : (other : ℕ) (mark : Mark) (result : Result ℕ Refusal) (new : HostView) → IsBackAnswer host other mark result new → IsInAbortSince old build new
+  after_back : (other : ℕ) (mark : Mark) (result : Result ℕ Refusal) (new : HostView) → IsBackAnswer host other mark result new → Going old build new
   after_back other mark (Err refusal) new (refused, same) = unchanged new same
   after_back other mark (Ok count) new (none, is) =
       after_others other new _ _ (own_refused other (not_aborting host other _ none)) (ap (λ (h : HostView). h.limits) is.new_is)
       (ap (λ (h : HostView). h.history) is.new_is) (ap (λ (h : HostView). h.aborting) is.new_is)
 
   -- its own abort by one call ends it
-  own_abort : (count : ℕ) (new : HostView) → IsLegal host.limits host.history → IsAbortAnswer host build (Ok count) new → IsInAbortSince old build new
+  own_abort : (count : ℕ) (new : HostView) → IsLegal host.limits host.history → IsAbortAnswer host build (Ok count) new → Going old build new
   own_abort count new legal (none, is) =
       let rests = at_rest host build [] (passed_parts (nat_le host.limits.builds build) NoBuild _ none).1 in
       let all = undone host.limits host.history build (world_of host) legal (world_is host legal) rests in
-      subst (IsInAbortSince old build) (sym is.new_is)
+      subst (Going old build) (sym is.new_is)
       (led (undone_to host build 0) (undoing build host.history) refl refl (own_reverses build (reverse (open_of host build))) (λ over. all.none_open))
 
-  others_abort : (other count : ℕ) (new : HostView) → other ≢ build → IsAbortAnswer host other (Ok count) new → IsInAbortSince old build new
+  others_abort : (other count : ℕ) (new : HostView) → other ≢ build → IsAbortAnswer host other (Ok count) new → Going old build new
   others_abort other count new not (none, is) =
       after_others other new _ _ not (ap (λ (h : HostView). h.limits) is.new_is) (ap (λ (h : HostView). h.history) is.new_is) (ap (λ (h : HostView). h.aborting) is.new_is)
 
-  pub after_abort : (other : ℕ) (result : Result ℕ Refusal) (new : HostView) → IsLegal host.limits host.history → IsAbortAnswer host other result new → IsInAbortSince old build new
+  after_abort : (other : ℕ) (result : Result ℕ Refusal) (new : HostView) → IsLegal host.limits host.history → IsAbortAnswer host other result new → Going old build new
   after_abort other (Err refusal) new legal (refused, same) = unchanged new same
   after_abort other (Ok count) new legal aborted = at (eqb other build) refl
     where
-      at : (t : Bool) → eqb other build ≡ t → IsInAbortSince old build new
+      at : (t : Bool) → eqb other build ≡ t → Going old build new
       at true same = own_abort count new legal (subst (λ b. IsAbortAnswer host b (Ok count) new) (eqb-true other build same) aborted)
       at false differs = others_abort other count new (eqb-false other build differs) aborted
 
--- ---- its begin and its end
+  after_answer : (other : ℕ) (call : AnsweredCall) (new : HostView) → IsLegal host.limits host.history → IsAnsweredSo host other call new → Going old build new
+  after_answer other (Calls call answer) new legal is = after_call other call answer new is
+  after_answer other (Begins result) new legal is = after_begin other result new is
+  after_answer other (Aborts result) new legal is = after_abort other result new legal is
+  after_answer other (Marks result) new legal is = after_mark other result new is
+  after_answer other (GoesBack mark result) new legal is = after_back other mark result new is
 
-pub starts : (old new : HostView) (build count : ℕ) → IsBegun old build (Ok count) new → IsInAbortSince old build new
+-- ---- what is legal stays so
+
+module _ (host : HostView) (build : ℕ) (legal : IsLegal host.limits host.history) where
+  abbrev IsLegalStill : HostView → Type 0
+  IsLegalStill new = IsLegal new.limits new.history
+
+  still_legal : (new : HostView) → new ≡ host → IsLegalStill new
+  still_legal new same = subst IsLegalStill (sym same) legal
+
+  legal_event : (act : Act) (new : HostView) → IsLegal host.limits (host.history ++ by build act ∷ []) → new ≡ with_event host build act → IsLegalStill new
+  legal_event act new then is = subst IsLegalStill (sym is) then
+
+  legal_call : (call : Call) (answer : Answer) (new : HostView) → IsAnswer host build call answer new → IsLegalStill new
+  legal_call call (Refused refusal) new (refused, same) = still_legal new same
+  legal_call (Ask cmd) (Replied reply) new replied = legal_event replied.act new replied.accepted.legal replied.accepted.grows
+  legal_call (Ask cmd) (WasUndone undone) new none = absurd none
+  legal_call Undo (Replied reply) new none = absurd none
+  legal_call Undo (WasUndone undone) new done = legal_event done.act new done.accepted.legal done.accepted.grows
+
+  legal_abort : (count : ℕ) (new : HostView) → IsAbortAnswer host build (Ok count) new → IsLegalStill new
+  legal_abort count new (none, is) =
+      let rests = at_rest host build [] (passed_parts (nat_le host.limits.builds build) NoBuild _ none).1 in
+      subst IsLegalStill (sym is.new_is) (undone host.limits host.history build (world_of host) legal (world_is host legal) rests).legal
+
+  legal_back : (mark : Mark) (count : ℕ) (new : HostView) → IsBackAnswer host build mark (Ok count) new → IsLegalStill new
+  legal_back mark count new (none, is) =
+      let limits : new.limits ≡ host.limits = ap (λ (h : HostView). h.limits) is.new_is in
+      subst (λ l. IsLegal l new.history) (sym limits) (subst (IsLegal host.limits) (sym is.history) is.rolled_back.legal)
+
+  legal_answer : (call : AnsweredCall) (new : HostView) → IsAnsweredSo host build call new → IsLegalStill new
+  legal_answer (Calls call answer) new is = legal_call call answer new is
+  legal_answer (Begins (Err refusal)) new (refused, same) = still_legal new same
+  legal_answer (Begins (Ok count)) new (none, is) = subst IsLegalStill (sym is.new_is) legal
+  legal_answer (Aborts (Err refusal)) new (refused, same) = still_legal new same
+  legal_answer (Aborts (Ok count)) new is = legal_abort count new is
+  legal_answer (Marks (Err refusal)) new (refused, same) = still_legal new same
+  legal_answer (Marks (Ok mark)) new (none, is) = subst IsLegalStill (sym is.new_is) legal
+  legal_answer (GoesBack mark (Err refusal)) new (refused, same) = still_legal new same
+  legal_answer (GoesBack mark (Ok count)) new is = legal_back mark count new is
+
+-- ---- from the begin to the end
+
+starts : (old new : HostView) (build count : ℕ) → IsBegun old build (Ok count) new → Going old build new
 starts old new build count (none, is) = record {
   rest = at_rest old build (build_checks (desk_of old) build) none;
   limits = ap (λ (h : HostView). h.limits) is.new_is;
@@ -208,7 +266,17 @@ starts old new build count (none, is) = record {
   until = λ over. ap (λ (h : HostView). open_of h build) is.new_is ∙ no_more (open_of old build) (ap (nat_lt 0) (sym is.count_is) ∙ sym is.in_abort ∙ over);
 }
 
-pub ends : (old host : HostView) (build : ℕ) (since : IsInAbortSince old build host) → IsLegal old.limits old.history → IsLegal host.limits host.history
+-- a host on the way, and that it is legal
+abbrev Reached : HostView → ℕ → HostView → Type 0
+Reached old build host = Going old build host × IsLegal host.limits host.history
+
+goes_on : (old : HostView) (build : ℕ) (host : HostView) (calls : List (ℕ × AnsweredCall)) (new : HostView) → Reached old build host → AreWhileAborting build host calls new
+    → Reached old build new
+goes_on old build host [] new reached same = subst (Reached old build) (sym same) reached
+goes_on old build host ((other, call) ∷ calls) new (going, legal) (aborts, (then, (is, meanwhile))) =
+    goes_on old build then calls new (after_answer old build host going aborts other call then legal is, legal_answer host other legal call then is) meanwhile
+
+ends : (old host : HostView) (build : ℕ) (since : Going old build host) → IsLegal old.limits old.history → IsLegal host.limits host.history
     → IsAborting old.limits old.history since.later build (world_of host)
 ends old host build since legal_old legal =
     let legal_later : IsLegal old.limits (old.history ++ since.later) =
@@ -216,3 +284,19 @@ ends old host build since legal_old legal =
     let at_host : replay old.limits (old.history ++ since.later) ≡ Some (world_of host) =
     (λ i. replay (sym since.limits i) (sym since.since i)) ∙ world_is host legal in
     abort_goes_on old.limits old.history since.later build (world_of old) (world_of host) legal_later (world_is old legal_old) at_host since.rest since.reverses
+
+pub shared : (old begun host : HostView) (build count : ℕ) (calls : List (ℕ × AnsweredCall)) → IsLegal old.limits old.history → IsBegun old build (Ok count) begun
+    → GoesOn old build → AreWhileAborting build begun calls host → IsInAbortSince old build host
+shared old begun host build count calls legal begins undos meanwhile =
+    let reached = goes_on old build begun calls host (starts old begun build count begins, legal_answer old build legal (Begins (Ok count)) begun begins) meanwhile in
+    let going = reached.0 in
+    record {
+      limits = going.limits;
+      later = going.later;
+      since = going.since;
+      reverses = going.reverses;
+      legal = reached.1;
+      served = undos going.later host going.limits going.since reached.1 going.reverses;
+      until = going.until;
+      aborting = ends old host build going legal reached.1;
+    }

@@ -1,22 +1,56 @@
 -- An abort during which other builds go on.
-use Rattle.std.specs.Prelude.{◌≡◌, ℕ, List, [], ◌++◌, true, false}
+use Rattle.std.specs.Prelude.{◌≡◌, ◌≢◌, ℕ, List, [], ◌∷◌, ◌++◌, Option, None, Result, true, false}
 use Rattle.std.specs.List.{All}
+use Rattle.build_books.specs.declared.mark.Mark.{Mark}
 use Rattle.build_books.specs.View.{HostView, world_of, open_of, is_aborting}
-use Rattle.realm_model.specs.Aborting.{IsOthersOrReverse}
-use Rattle.realm_model.specs.Running.{IsAtRest}
-use Rattle.realm_model.specs.World.{realm_of}
+use Rattle.build_commands.specs.declared.refusal.Refusal.{Refusal}
+use Rattle.realm_host.specs.Abort.{IsBegun, IsAbortAnswer}
+use Rattle.realm_host.specs.Answer.{IsAnswer}
+use Rattle.realm_host.specs.Call.{Call, Undo}
+use Rattle.realm_host.specs.Marked.{IsMarked, IsBackAnswer}
+use Rattle.realm_host.specs.Refusals.{refusal_of}
+use Rattle.realm_host.specs.declared.reply.Answer.{Answer}
+use Rattle.realm_model.specs.Aborting.{IsAborting, IsOthersOrReverse}
+use Rattle.realm_model.specs.History.{IsLegal}
 use Rattle.realm_model.specs.declared.act.Event.{Event}
 
--- An abort of the build began at the host `old`, where none of its RECs ran. Since then others may have done anything, and the
--- build itself nothing but reverses. It is in abort until it has nothing open.
+-- ---- calls
+
+-- What a build asks of a host, and what it is answered: a command or an undo, the begin of an abort, an abort as a whole,
+-- a mark, the way back to one.
+pub data AnsweredCall : Type 0 where
+  Calls : Call → Answer → AnsweredCall
+  Begins : Result ℕ Refusal → AnsweredCall
+  Aborts : Result ℕ Refusal → AnsweredCall
+  Marks : Result Mark Refusal → AnsweredCall
+  GoesBack : Mark → Result ℕ Refusal → AnsweredCall
+
+-- The call's contract allows this answer, and the host `new` after it.
+abbrev pub IsAnsweredSo : HostView → ℕ → AnsweredCall → HostView → Type 0
+IsAnsweredSo host build (Calls call answer) new = IsAnswer host build call answer new
+IsAnsweredSo host build (Begins result) new = IsBegun host build result new
+IsAnsweredSo host build (Aborts result) new = IsAbortAnswer host build result new
+IsAnsweredSo host build (Marks result) new = IsMarked host build result new
+IsAnsweredSo host build (GoesBack mark result) new = IsBackAnswer host build mark result new
+
+-- Calls of any builds, one after another. The build is in abort before each of them, so at most the last one ends the abort.
+abbrev pub AreWhileAborting : ℕ → HostView → List (ℕ × AnsweredCall) → HostView → Type 0
+AreWhileAborting build host [] new = new ≡ host
+AreWhileAborting build host ((other, call) ∷ calls) new =
+    (is_aborting host build ≡ true) × ((then : HostView) × (IsAnsweredSo host other call then × AreWhileAborting build then calls new))
+
+-- ---- what comes of them
+
+-- An abort of the build began at the host `old`. Of the host `host`, to which all calls since have led:
 pub record IsInAbortSince (old : HostView) (build : ℕ) (host : HostView) : Type 0 where
-  pub rest : IsAtRest (realm_of build (world_of old))
+  -- its history is longer by what others did, and by reverses of the build, and is legal;
   pub limits : host.limits ≡ old.limits
   pub later : List Event
   pub since : host.history ≡ old.history ++ later
   pub reverses : All (IsOthersOrReverse build) later
+  pub legal : IsLegal host.limits host.history
+  -- the build's next undo is not refused, unless nothing is left, and only then it is out of abort;
+  pub served : open_of host build ≢ [] → refusal_of host build Undo ≡ None
   pub until : is_aborting host build ≡ false → open_of host build ≡ []
-
--- A call, however it is answered, leaves it so.
-abbrev pub GoesOnAfter : HostView → ℕ → HostView → Type 0 → HostView → Type 0
-GoesOnAfter old build host IsAnswered new = IsInAbortSince old build host → is_aborting host build ≡ true → IsAnswered → IsInAbortSince old build new
+  -- and the history is that of an abort.
+  pub aborting : IsAborting old.limits old.history later build (world_of host)

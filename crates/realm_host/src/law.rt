@@ -1,16 +1,12 @@
 //! Laws of hosts.
-ghost use Rattle.std.specs.Prelude.{ℕ, Result, Ok};
-ghost use Rattle.build_books.specs.declared.mark.Mark.{Mark};
-ghost use Rattle.build_books.specs.View.{HostView, world_of};
+ghost use Rattle.std.specs.Prelude.{ℕ, List, Result, Ok};
+ghost use Rattle.build_books.specs.View.{HostView};
 ghost use Rattle.build_commands.specs.declared.refusal.Refusal.{Refusal};
-ghost use Rattle.realm_host.specs.Abort.{IsBegun, IsAbortAnswer};
-ghost use Rattle.realm_host.specs.Answer.{IsAnswer};
+ghost use Rattle.realm_host.specs.Abort.{IsBegun, GoesOn};
 ghost use Rattle.realm_host.specs.Call.{Call};
 ghost use Rattle.realm_host.specs.Interleaving.{DidTheSame, LookTheSame, DifferInOrder, CallTellsNothing, BeginTellsNothing, AbortTellsNothing};
-ghost use Rattle.realm_host.specs.Marked.{IsMarked, IsBackAnswer};
-ghost use Rattle.realm_host.specs.Sharing.{IsInAbortSince, GoesOnAfter};
+ghost use Rattle.realm_host.specs.Sharing.{AnsweredCall, AreWhileAborting, IsInAbortSince};
 ghost use Rattle.realm_host.specs.declared.reply.Answer.{Answer};
-ghost use Rattle.realm_model.specs.Aborting.{IsAborting};
 ghost use Rattle.realm_model.specs.History.{IsLegal};
 
 /// Hosts of the same machine in which each build did the same have the same world, and keep the same of each build.
@@ -27,22 +23,12 @@ pub fn no_call_tells_the_order()
     ensures abort { (host twin : HostView) (build : ℕ) (result : Result ℕ Refusal) (new : HostView) → DifferInOrder host twin → AbortTellsNothing host twin build result new }
 {}
 
-/// An abort during which other builds go on. From its begin on, until the build has nothing open, any build may make any
-/// call, and the build's only events are reverses, since anything else that it asks is refused. So the law of such histories
-/// (`aborts_go_on` of `realm_model`) holds: each undo is accepted, and once nothing is open the build has left no trace.
+/// An abort during which other builds go on. `old` is a host at which an abort began, and `calls` are all calls since, of any
+/// builds, each as its contract lets it be answered. While the build is in abort its only events are reverses, since anything
+/// else that it asks is refused; none of its undos is refused; and once it has nothing open it has left no trace.
 ///
-/// Each clause is of one call, and so of any number of them. `apply_recorded` is none of these: it takes any event that is
-/// legal, of a build in abort too.
+/// `apply_recorded` is none of the calls: it takes any event that is legal, of a build in abort too.
 pub fn aborts_are_shared()
-    ensures starts { (old new : HostView) (build count : ℕ) → IsBegun old build (Ok count) new → IsInAbortSince old build new }
-    ensures call { (old host new : HostView) (build other : ℕ) (call : Call) (answer : Answer) → GoesOnAfter old build host (IsAnswer host other call answer new) new }
-    ensures begin { (old host new : HostView) (build other : ℕ) (result : Result ℕ Refusal) → GoesOnAfter old build host (IsBegun host other result new) new }
-    ensures abort { (old host new : HostView) (build other : ℕ) (result : Result ℕ Refusal) → IsLegal host.limits host.history → GoesOnAfter old build host (IsAbortAnswer host other result new) new }
-    ensures ends { (old host : HostView) (build : ℕ) (since : IsInAbortSince old build host) → IsLegal old.limits old.history → IsLegal host.limits host.history → IsAborting old.limits old.history since.later build (world_of host) }
-{}
-
-/// Marks and ways back leave an abort as it is: the build's own are refused, and those of others do not touch it.
-pub fn marks_leave_aborts_alone()
-    ensures mark { (old host new : HostView) (build other : ℕ) (result : Result Mark Refusal) → GoesOnAfter old build host (IsMarked host other result new) new }
-    ensures back { (old host new : HostView) (build other : ℕ) (mark : Mark) (result : Result ℕ Refusal) → GoesOnAfter old build host (IsBackAnswer host other mark result new) new }
+    ensures { (old begun host : HostView) (build count : ℕ) (calls : List (ℕ × AnsweredCall)) → IsLegal old.limits old.history
+        → IsBegun old build (Ok count) begun → GoesOn old build → AreWhileAborting build begun calls host → IsInAbortSince old build host }
 {}
