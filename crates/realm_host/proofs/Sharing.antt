@@ -2,18 +2,20 @@
 use Rattle.std.proofs.Common.{◌≡◌, ◌≢◌, ℕ, ◌<◌, Bool, true, false, ◌&&◌, cond, eqb, List, [], ◌∷◌, ◌++◌, length, map, reverse, get_or, set, Option, Some, None, Result, Ok, Err, refl, sym, ap, ◌∙◌, subst, arith}
 use Rattle.std.specs.Prelude.{nat_le, nat_lt, option_and_then}
 use Rattle.std.specs.List.{All, last_or}
-use Rattle.std.proofs.lemmas.Bool.{eqb-true, eqb-false, ltb-true, ltb-false}
+use Rattle.std.proofs.lemmas.Bool.{eqb-true, eqb-false, ltb-true, ltb-false, leb-false}
 use Rattle.std.proofs.lemmas.List.{append-nil, append_assoc, get_or-set_same, get_or-set_other, get_or_past}
 use Rattle.std.proofs.lemmas.List.Elements.{All-append, All-nil, All-cons}
 use Rattle.realm_model.specs.declared.act.Act.{Act}
 use Rattle.realm_model.specs.declared.act.Event.{Event}
 use Rattle.realm_model.specs.Act.{is_reverse, reverse_of}
 use Rattle.realm_model.specs.Aborting.{IsAborting, IsOthersOrReverse}
-use Rattle.realm_model.specs.History.{replay, IsLegal}
+use Rattle.realm_model.specs.History.{replay, open_entries, IsLegal}
 use Rattle.realm_model.specs.Undoing.{by, reverses, undoing}
 use Rattle.realm_model.specs.Running.{running_count, IsAtRest}
 use Rattle.realm_model.specs.World.{realm_of}
 use Rattle.realm_model.proofs.Aborting.{abort_goes_on}
+use Rattle.realm_model.proofs.Growth.{open_entries-other}
+use Rattle.realm_model.proofs.LeftOut.{leaves_no_trace}
 use Rattle.realm_model.proofs.UndoAll.{undone}
 use Rattle.build_books.specs.declared.mark.Mark.{Mark}
 use Rattle.build_books.specs.Desk.{desk_of}
@@ -32,6 +34,7 @@ use Rattle.realm_host.specs.Marked.{IsMarked, IsBackAnswer}
 use Rattle.realm_host.specs.Refusals.{refusal_of}
 use Rattle.realm_host.specs.Served.{any_rec_running}
 use Rattle.realm_host.specs.Sharing.{AnsweredCall, Calls, Begins, Aborts, Marks, GoesBack, IsAnsweredSo, AreWhileAborting, IsInAbortSince}
+use Rattle.realm_host.proofs.Aborts.{goes_on}
 use Rattle.realm_host.proofs.Backward.{reverse_is}
 use Rattle.realm_host.proofs.Calls.{passed_parts}
 
@@ -73,10 +76,6 @@ at_rest host build (check ∷ checks) none = at_rest host build checks (passed_p
 
 -- ---- flags
 
-no_more : (acts : List Act) → nat_lt 0 (length acts) ≡ false → acts ≡ []
-no_more [] none = refl
-no_more (act ∷ acts) none = let few = ltb-false 0 (length (act ∷ acts)) none in absurd (omega arith)
-
 -- a build in abort has a flag
 flag_there : (flags : List Bool) (build : ℕ) → get_or flags build false ≡ true → build < length flags
 flag_there flags build set = at (nat_lt build (length flags)) refl
@@ -89,6 +88,18 @@ flag_there flags build set = at (nat_lt build (length flags)) refl
 
 -- ---- on the way
 
+-- a build has something open
+abbrev HasOpen : HostView → ℕ → Bool
+HasOpen host build = nat_lt 0 (length (open_of host build))
+
+-- what others do opens nothing of a build
+others_open : (build other : ℕ) (history : List Event) (acts : List Act) → other ≢ build → open_entries build (history ++ map (by other) acts) ≡ open_entries build history
+others_open build other history [] not = ap (open_entries build) (append-nil history)
+others_open build other history (act ∷ acts) not =
+    ap (open_entries build) (sym (append_assoc history (by other act ∷ []) (map (by other) acts)))
+    ∙ others_open build other (history ++ by other act ∷ []) acts not
+    ∙ open_entries-other build history (by other act) not
+
 -- what is so at each host on the way
 record Going (old : HostView) (build : ℕ) (host : HostView) : Type 0 where
   rest : IsAtRest (realm_of build (world_of old))
@@ -96,52 +107,52 @@ record Going (old : HostView) (build : ℕ) (host : HostView) : Type 0 where
   later : List Event
   since : host.history ≡ old.history ++ later
   reverses : All (IsOthersOrReverse build) later
-  until : is_aborting host build ≡ false → open_of host build ≡ []
+  in_abort : is_aborting host build ≡ HasOpen host build
 
 module _ (old : HostView) (build : ℕ) (host : HostView) (since : Going old build host) (aborts : is_aborting host build ≡ true) where
   -- ---- one host after another
 
   led : (new : HostView) (more : List Event) → new.limits ≡ host.limits → new.history ≡ host.history ++ more → All (IsOthersOrReverse build) more
-      → (is_aborting new build ≡ false → open_of new build ≡ []) → Going old build new
-  led new more limits history all until = record {
+      → is_aborting new build ≡ HasOpen new build → Going old build new
+  led new more limits history all in_abort = record {
     rest = since.rest;
     limits = limits ∙ since.limits;
     later = since.later ++ more;
     since = history ∙ ap (λ (es : List Event). es ++ more) since.since ∙ append_assoc old.history since.later more;
     reverses = All-append (IsOthersOrReverse build) since.later more since.reverses all;
-    until = until;
+    in_abort = in_abort;
   }
 
   unchanged : (new : HostView) → new ≡ host → Going old build new
   unchanged new same = subst (Going old build) (sym same) since
 
-  -- the flag of another build is written
-  still : (other : ℕ) (flag : Bool) → other ≢ build → get_or (set host.aborting other flag) build false ≡ true
-  still other flag not = get_or-set_other host.aborting other build flag false (λ same. not (sym same)) ∙ aborts
-
-  -- it is not over
-  not_over : {P : Type 0} (flags : List Bool) → get_or flags build false ≡ true → get_or flags build false ≡ false → P
-  not_over flags on over = absurd (let no : true ≡ false = sym on ∙ over in cc)
+  -- another build's flag is written, and what is open is open still
+  still : (other : ℕ) (flag : Bool) (new : HostView) → other ≢ build → new.aborting ≡ set host.aborting other flag → open_of new build ≡ open_of host build
+      → is_aborting new build ≡ HasOpen new build
+  still other flag new not flags opened =
+      ap (λ (fs : List Bool). get_or fs build false) flags ∙ get_or-set_other host.aborting other build flag false (λ same. not (sym same))
+      ∙ since.in_abort ∙ ap (λ acts. nat_lt 0 (length acts)) (sym opened)
 
   -- ---- one event
 
-  own_over : (act : Act) → is_aborting (with_event host build act) build ≡ false → open_of (with_event host build act) build ≡ []
-  own_over act over =
-      let opened : ℕ = length (open_of (with_event host build act) build) in
-      let flag : is_aborting (with_event host build act) build ≡ (is_aborting host build && nat_lt 0 opened) =
-      get_or-set_same host.aborting build (is_aborting host build && nat_lt 0 opened) false (flag_there host.aborting build aborts) in
-      no_more (open_of (with_event host build act) build) (sym (ap (λ t. t && nat_lt 0 opened) aborts) ∙ sym flag ∙ over)
+  own_flag : (act : Act) → is_aborting (with_event host build act) build ≡ HasOpen (with_event host build act) build
+  own_flag act =
+      let opened : Bool = HasOpen (with_event host build act) build in
+      get_or-set_same host.aborting build (is_aborting host build && opened) false (flag_there host.aborting build aborts) ∙ ap (λ t. t && opened) aborts
 
-  over_after : (other : ℕ) (act : Act) → is_aborting (with_event host other act) build ≡ false → open_of (with_event host other act) build ≡ []
-  over_after other act = at (eqb other build) refl
+  flag_after : (other : ℕ) (act : Act) → is_aborting (with_event host other act) build ≡ HasOpen (with_event host other act) build
+  flag_after other act = at (eqb other build) refl
     where
-      at : (t : Bool) → eqb other build ≡ t → is_aborting (with_event host other act) build ≡ false → open_of (with_event host other act) build ≡ []
-      at true same = subst (λ b. is_aborting (with_event host b act) build ≡ false → open_of (with_event host b act) build ≡ []) (sym (eqb-true other build same)) (own_over act)
-      at false differs = not_over (with_event host other act).aborting (still other _ (eqb-false other build differs))
+      at : (t : Bool) → eqb other build ≡ t → is_aborting (with_event host other act) build ≡ HasOpen (with_event host other act) build
+      at true same =
+          subst (λ b. is_aborting (with_event host b act) build ≡ HasOpen (with_event host b act) build) (sym (eqb-true other build same)) (own_flag act)
+      at false differs =
+          let not = eqb-false other build differs in
+          still other _ (with_event host other act) not refl (open_entries-other build host.history (by other act) not)
 
   with_one : (other : ℕ) (act : Act) (new : HostView) → new ≡ with_event host other act → IsOthersOrReverse build (by other act) → Going old build new
   with_one other act new is allowed =
-      subst (Going old build) (sym is) (led (with_event host other act) (by other act ∷ []) refl refl (All-cons (IsOthersOrReverse build) (by other act) [] allowed (All-nil (IsOthersOrReverse build))) (over_after other act))
+      subst (Going old build) (sym is) (led (with_event host other act) (by other act ∷ []) refl refl (All-cons (IsOthersOrReverse build) (by other act) [] allowed (All-nil (IsOthersOrReverse build))) (flag_after other act))
 
   -- ---- calls
 
@@ -167,7 +178,7 @@ module _ (old : HostView) (build : ℕ) (host : HostView) (since : Going old bui
       → new.aborting ≡ set host.aborting other flag → Going old build new
   after_others other new acts flag not limits history flags =
       led new (map (by other) acts) limits history (all_others build other acts not)
-      (λ over. not_over new.aborting (ap (λ (fs : List Bool). get_or fs build false) flags ∙ still other flag not) over)
+      (still other flag new not flags (ap (open_entries build) history ∙ others_open build other host.history acts not))
 
   after_begin : (other : ℕ) (result : Result ℕ Refusal) (new : HostView) → IsBegun host other result new → Going old build new
   after_begin other (Err refusal) new (refused, same) = unchanged new same
@@ -179,7 +190,7 @@ module _ (old : HostView) (build : ℕ) (host : HostView) (since : Going old bui
   after_mark other (Err refusal) new (refused, same) = unchanged new same
   after_mark other (Ok mark) new (none, is) =
       subst (Going old build) (sym is.new_is)
-      (led (with_mark host other mark) [] refl (sym (append-nil host.history)) (All-nil (IsOthersOrReverse build)) (λ over. not_over host.aborting aborts over))
+      (led (with_mark host other mark) [] refl (sym (append-nil host.history)) (All-nil (IsOthersOrReverse build)) since.in_abort)
 
   after_back : (other : ℕ) (mark : Mark) (result : Result ℕ Refusal) (new : HostView) → IsBackAnswer host other mark result new → Going old build new
   after_back other mark (Err refusal) new (refused, same) = unchanged new same
@@ -193,7 +204,8 @@ module _ (old : HostView) (build : ℕ) (host : HostView) (since : Going old bui
       let rests = at_rest host build [] (passed_parts (nat_le host.limits.builds build) NoBuild _ none).1 in
       let all = undone host.limits host.history build (world_of host) legal (world_is host legal) rests in
       subst (Going old build) (sym is.new_is)
-      (led (undone_to host build 0) (undoing build host.history) refl refl (own_reverses build (reverse (open_of host build))) (λ over. all.none_open))
+      (led (undone_to host build 0) (undoing build host.history) refl refl (own_reverses build (reverse (open_of host build)))
+      (subst (λ (h : HostView). is_aborting h build ≡ false) is.new_is is.over ∙ sym (ap (λ acts. nat_lt 0 (length acts)) all.none_open)))
 
   others_abort : (other count : ℕ) (new : HostView) → other ≢ build → IsAbortAnswer host other (Ok count) new → Going old build new
   others_abort other count new not (none, is) =
@@ -263,18 +275,18 @@ starts old new build count (none, is) = record {
   later = [];
   since = ap (λ (h : HostView). h.history) is.new_is ∙ sym (append-nil old.history);
   reverses = All-nil (IsOthersOrReverse build);
-  until = λ over. ap (λ (h : HostView). open_of h build) is.new_is ∙ no_more (open_of old build) (ap (nat_lt 0) (sym is.count_is) ∙ sym is.in_abort ∙ over);
+  in_abort = is.in_abort ∙ ap (nat_lt 0) is.count_is ∙ ap (λ (h : HostView). HasOpen h build) (sym is.new_is);
 }
 
 -- a host on the way, and that it is legal
 abbrev Reached : HostView → ℕ → HostView → Type 0
 Reached old build host = Going old build host × IsLegal host.limits host.history
 
-goes_on : (old : HostView) (build : ℕ) (host : HostView) (calls : List (ℕ × AnsweredCall)) (new : HostView) → Reached old build host → AreWhileAborting build host calls new
+all_calls : (old : HostView) (build : ℕ) (host : HostView) (calls : List (ℕ × AnsweredCall)) (new : HostView) → Reached old build host → AreWhileAborting build host calls new
     → Reached old build new
-goes_on old build host [] new reached same = subst (Reached old build) (sym same) reached
-goes_on old build host ((other, call) ∷ calls) new (going, legal) (aborts, (then, (is, meanwhile))) =
-    goes_on old build then calls new (after_answer old build host going aborts other call then legal is, legal_answer host other legal call then is) meanwhile
+all_calls old build host [] new reached same = subst (Reached old build) (sym same) reached
+all_calls old build host ((other, call) ∷ calls) new (going, legal) (aborts, (then, (is, meanwhile))) =
+    all_calls old build then calls new (after_answer old build host going aborts other call then legal is, legal_answer host other legal call then is) meanwhile
 
 ends : (old host : HostView) (build : ℕ) (since : Going old build host) → IsLegal old.limits old.history → IsLegal host.limits host.history
     → IsAborting old.limits old.history since.later build (world_of host)
@@ -286,17 +298,20 @@ ends old host build since legal_old legal =
     abort_goes_on old.limits old.history since.later build (world_of old) (world_of host) legal_later (world_is old legal_old) at_host since.rest since.reverses
 
 pub shared : (old begun host : HostView) (build count : ℕ) (calls : List (ℕ × AnsweredCall)) → IsLegal old.limits old.history → IsBegun old build (Ok count) begun
-    → GoesOn old build → AreWhileAborting build begun calls host → IsInAbortSince old build host
-shared old begun host build count calls legal begins undos meanwhile =
-    let reached = goes_on old build begun calls host (starts old begun build count begins, legal_answer old build legal (Begins (Ok count)) begun begins) meanwhile in
+    → AreWhileAborting build begun calls host → IsInAbortSince old build host
+shared old begun host build count calls legal (none, is) meanwhile =
+    let start = starts old begun build count (none, is) in
+    let reached = all_calls old build begun calls host (start, legal_answer old build legal (Begins (Ok count)) begun (none, is)) meanwhile in
     let going = reached.0 in
+    let there = leb-false old.limits.builds build (passed_parts (nat_le old.limits.builds build) NoBuild _ none).0 in
     record {
       limits = going.limits;
       later = going.later;
       since = going.since;
       reverses = going.reverses;
       legal = reached.1;
-      served = undos going.later host going.limits going.since reached.1 going.reverses;
-      until = going.until;
+      in_abort = going.in_abort;
+      served = goes_on old legal build start.rest there going.later host going.limits going.since reached.1 going.reverses;
       aborting = ends old host build going legal reached.1;
+      legal_without = (leaves_no_trace host.limits host.history build reached.1).0;
     }

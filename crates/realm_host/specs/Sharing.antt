@@ -1,5 +1,5 @@
 -- An abort during which other builds go on.
-use Rattle.std.specs.Prelude.{◌≡◌, ◌≢◌, ℕ, List, [], ◌∷◌, ◌++◌, Option, None, Result, true, false}
+use Rattle.std.specs.Prelude.{◌≡◌, ◌≢◌, ℕ, List, [], ◌∷◌, ◌++◌, length, nat_lt, Option, None, Result, true}
 use Rattle.std.specs.List.{All}
 use Rattle.build_books.specs.declared.mark.Mark.{Mark}
 use Rattle.build_books.specs.View.{HostView, world_of, open_of, is_aborting}
@@ -11,7 +11,7 @@ use Rattle.realm_host.specs.Marked.{IsMarked, IsBackAnswer}
 use Rattle.realm_host.specs.Refusals.{refusal_of}
 use Rattle.realm_host.specs.declared.reply.Answer.{Answer}
 use Rattle.realm_model.specs.Aborting.{IsAborting, IsOthersOrReverse}
-use Rattle.realm_model.specs.History.{IsLegal}
+use Rattle.realm_model.specs.History.{erase, IsLegal}
 use Rattle.realm_model.specs.declared.act.Event.{Event}
 
 -- ---- calls
@@ -41,16 +41,17 @@ AreWhileAborting build host ((other, call) ∷ calls) new =
 
 -- ---- what comes of them
 
--- An abort of the build began at the host `old`. Of the host `host`, to which all calls since have led:
+-- An abort of the build began at the host `old`, and all calls since have led to `host`:
 pub record IsInAbortSince (old : HostView) (build : ℕ) (host : HostView) : Type 0 where
-  -- its history is longer by what others did, and by reverses of the build, and is legal;
+  -- its history is legal, and longer by what others did, and by reverses of the build;
   pub limits : host.limits ≡ old.limits
   pub later : List Event
   pub since : host.history ≡ old.history ++ later
   pub reverses : All (IsOthersOrReverse build) later
   pub legal : IsLegal host.limits host.history
-  -- the build's next undo is not refused, unless nothing is left, and only then it is out of abort;
+  -- the build is in abort just as long as it has something open, and its next undo is served then;
+  pub in_abort : is_aborting host build ≡ nat_lt 0 (length (open_of host build))
   pub served : open_of host build ≢ [] → refusal_of host build Undo ≡ None
-  pub until : is_aborting host build ≡ false → open_of host build ≡ []
-  -- and the history is that of an abort.
+  -- the history is that of an abort, and without the build it is legal too.
   pub aborting : IsAborting old.limits old.history later build (world_of host)
+  pub legal_without : IsLegal host.limits (erase build host.history)

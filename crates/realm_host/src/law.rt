@@ -2,7 +2,7 @@
 ghost use Rattle.std.specs.Prelude.{ℕ, List, Result, Ok};
 ghost use Rattle.build_books.specs.View.{HostView};
 ghost use Rattle.build_commands.specs.declared.refusal.Refusal.{Refusal};
-ghost use Rattle.realm_host.specs.Abort.{IsBegun, GoesOn};
+ghost use Rattle.realm_host.specs.Abort.{IsBegun};
 ghost use Rattle.realm_host.specs.Call.{Call};
 ghost use Rattle.realm_host.specs.Interleaving.{DidTheSame, LookTheSame, DifferInOrder, CallTellsNothing, BeginTellsNothing, AbortTellsNothing};
 ghost use Rattle.realm_host.specs.Sharing.{AnsweredCall, AreWhileAborting, IsInAbortSince};
@@ -23,12 +23,12 @@ pub fn no_call_tells_the_order()
     ensures abort { (host twin : HostView) (build : ℕ) (result : Result ℕ Refusal) (new : HostView) → DifferInOrder host twin → AbortTellsNothing host twin build result new }
 {}
 
-/// An abort during which other builds go on. `old` is a host at which an abort began, and `calls` are all calls since, of any
-/// builds, each as its contract lets it be answered. While the build is in abort its only events are reverses, since anything
-/// else that it asks is refused; none of its undos is refused; and once it has nothing open it has left no trace.
+/// An abort during which other builds go on. `old` is a host at which `begin_abort` began one, and `calls` are all calls since, of
+/// any builds, each as its contract lets it be answered. While the build has something open, its events are reverses alone, since
+/// anything else that it asks is refused, and none of its undos is refused. Once it has nothing open, it has left no trace.
 ///
-/// `apply_recorded` is none of the calls: it takes any event that is legal, of a build in abort too.
+/// `apply_recorded` is none of the calls: it applies any legal event for which there is room, even one of a build in abort.
 pub fn aborts_are_shared()
     ensures { (old begun host : HostView) (build count : ℕ) (calls : List (ℕ × AnsweredCall)) → IsLegal old.limits old.history
-        → IsBegun old build (Ok count) begun → GoesOn old build → AreWhileAborting build begun calls host → IsInAbortSince old build host }
+        → IsBegun old build (Ok count) begun → AreWhileAborting build begun calls host → IsInAbortSince old build host }
 {}
