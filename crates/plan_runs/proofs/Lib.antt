@@ -3,3 +3,4 @@ pub mod Runs
 pub mod Settings
 pub mod MapLines
 pub mod Maps
+pub mod Aborts

@@ -2,3 +2,4 @@ pub mod Text
 pub mod Place
 pub mod Turn
 pub mod Run
+pub mod Aborts

@@ -1,10 +1,24 @@
-//! A law of maps.
-ghost use Rattle.std.specs.Prelude.{◌≡◌};
+//! Laws of runs and maps.
+ghost use Rattle.std.specs.Prelude.{◌≡◌, ℕ, List, Some};
 ghost use Rattle.build_books.specs.View.{HostView};
+ghost use Rattle.build_commands.specs.declared.cmd.Step.TheVariants.{Abort};
+ghost use Rattle.plan_steps.specs.declared.step.PlanStep.TheVariants.{Whole};
 ghost use Rattle.realm_host.specs.Interleaving.{DidTheSame};
-ghost use Rattle.plan_runs.specs.Run.{map_text};
+ghost use Rattle.realm_model.specs.History.{IsLegal};
+ghost use Rattle.realm_plan.specs.Plan.{Plan};
+ghost use Rattle.plan_runs.specs.Aborts.{TellsOfAbort};
+ghost use Rattle.plan_runs.specs.Run.{Position, Turn, start, IsTurn, AreTurns, map_text};
+ghost use Rattle.plan_runs.specs.declared.answer.TurnAnswer.{TurnAnswer};
 
 /// Hosts of the same machine in which each build did the same have the same map, in whatever order the builds did it.
 pub fn no_map_tells_the_order()
     ensures { (host twin : HostView) → DidTheSame host twin → map_text twin ≡ map_text host }
+{}
+
+/// What a run tells of an abort is so, whatever other builds did at the turns between. Where an abort is told as done, its build has
+/// left nothing. Before that, the build is in abort after each of its turns, and only the first turn can be refused.
+pub fn aborts_are_told()
+    ensures { (plan : Plan) (host : HostView) (order : List ℕ) (turns : List Turn) (from to : Position) (turn : Turn) (answer : TurnAnswer)
+        → IsLegal host.limits host.history → AreTurns plan order (start host) turns from → IsTurn plan from turn to
+        → turn.told ≡ Some (Whole Abort, answer) → TellsOfAbort answer from turn.build to }
 {}

@@ -1,9 +1,9 @@
 -- An abort during which other builds go on.
-use Rattle.std.proofs.Common.{◌≡◌, ◌≢◌, ℕ, ◌<◌, Bool, true, false, ◌&&◌, cond, eqb, List, [], ◌∷◌, ◌++◌, length, map, reverse, get_or, set, Option, Some, None, Result, Ok, Err, refl, sym, ap, ◌∙◌, subst, arith}
+use Rattle.std.proofs.Common.{◌≡◌, ◌≢◌, ℕ, ◌+◌, ◌<◌, Bool, true, false, ◌&&◌, cond, eqb, List, [], ◌∷◌, ◌++◌, length, map, reverse, get_or, set, Option, Some, None, Result, Ok, Err, refl, sym, ap, ◌∙◌, subst, arith}
 use Rattle.std.specs.Prelude.{nat_le, nat_lt, option_and_then}
 use Rattle.std.specs.List.{All, last_or}
 use Rattle.std.proofs.lemmas.Bool.{eqb-true, eqb-false, ltb-true, ltb-false, leb-false}
-use Rattle.std.proofs.lemmas.List.{append-nil, append_assoc, get_or-set_same, get_or-set_other, get_or_past}
+use Rattle.std.proofs.lemmas.List.{append-nil, append_assoc, length-append, get_or-set_same, get_or-set_other, get_or_past}
 use Rattle.std.proofs.lemmas.List.Elements.{All-append, All-nil, All-cons}
 use Rattle.realm_model.specs.declared.act.Act.{Act}
 use Rattle.realm_model.specs.declared.act.Event.{Event}
@@ -14,21 +14,24 @@ use Rattle.realm_model.specs.Undoing.{by, reverses, undoing}
 use Rattle.realm_model.specs.Running.{running_count, IsAtRest}
 use Rattle.realm_model.specs.World.{realm_of}
 use Rattle.realm_model.proofs.Aborting.{abort_goes_on}
-use Rattle.realm_model.proofs.Growth.{open_entries-other}
+use Rattle.realm_model.proofs.Growth.{open_entries-own, open_entries-other}
 use Rattle.realm_model.proofs.LeftOut.{leaves_no_trace}
+use Rattle.realm_model.proofs.Lists.{front, front_last}
+use Rattle.realm_model.proofs.Stack.{pushed_back}
 use Rattle.realm_model.proofs.UndoAll.{undone}
 use Rattle.build_books.specs.declared.mark.Mark.{Mark}
 use Rattle.build_books.specs.Desk.{desk_of}
 use Rattle.build_books.specs.View.{HostView, world_of, open_of, is_aborting, with_event, with_mark}
 use Rattle.build_books.proofs.Worlds.{world_is}
 use Rattle.build_commands.specs.declared.cmd.Cmd.{Cmd}
+use Rattle.build_commands.specs.declared.undone.Undone.{Undone}
 use Rattle.build_commands.specs.declared.refusal.Refusal.{Refusal}
 use Rattle.build_commands.specs.declared.refusal.Refusal.TheVariants.{NoBuild, Aborting, RecRunning}
 use Rattle.build_commands.specs.Checks.{Check, build_checks, checks_of, first_that_holds}
 use Rattle.realm_host.specs.declared.reply.Answer.{Answer}
 use Rattle.realm_host.specs.declared.reply.Answer.TheVariants.{Replied, Undone as WasUndone, Refused}
 use Rattle.realm_host.specs.Abort.{undone_to, IsBegun, IsAbortAnswer, GoesOn}
-use Rattle.realm_host.specs.Answer.{IsAnswer}
+use Rattle.realm_host.specs.Answer.{IsAnswer, IsUndone}
 use Rattle.realm_host.specs.Call.{Call, Ask, Undo}
 use Rattle.realm_host.specs.Marked.{IsMarked, IsBackAnswer}
 use Rattle.realm_host.specs.Refusals.{refusal_of}
@@ -101,13 +104,14 @@ others_open build other history (act ∷ acts) not =
     ∙ open_entries-other build history (by other act) not
 
 -- what is so at each host on the way
-record Going (old : HostView) (build : ℕ) (host : HostView) : Type 0 where
-  rest : IsAtRest (realm_of build (world_of old))
-  limits : host.limits ≡ old.limits
-  later : List Event
-  since : host.history ≡ old.history ++ later
-  reverses : All (IsOthersOrReverse build) later
-  in_abort : is_aborting host build ≡ HasOpen host build
+pub record Going (old : HostView) (build : ℕ) (host : HostView) : Type 0 where
+  pub there : build < old.limits.builds
+  pub rest : IsAtRest (realm_of build (world_of old))
+  pub limits : host.limits ≡ old.limits
+  pub later : List Event
+  pub since : host.history ≡ old.history ++ later
+  pub reverses : All (IsOthersOrReverse build) later
+  pub in_abort : is_aborting host build ≡ HasOpen host build
 
 module _ (old : HostView) (build : ℕ) (host : HostView) (since : Going old build host) (aborts : is_aborting host build ≡ true) where
   -- ---- one host after another
@@ -115,6 +119,7 @@ module _ (old : HostView) (build : ℕ) (host : HostView) (since : Going old bui
   led : (new : HostView) (more : List Event) → new.limits ≡ host.limits → new.history ≡ host.history ++ more → All (IsOthersOrReverse build) more
       → is_aborting new build ≡ HasOpen new build → Going old build new
   led new more limits history all in_abort = record {
+    there = since.there;
     rest = since.rest;
     limits = limits ∙ since.limits;
     later = since.later ++ more;
@@ -255,7 +260,7 @@ module _ (host : HostView) (build : ℕ) (legal : IsLegal host.limits host.histo
       let limits : new.limits ≡ host.limits = ap (λ (h : HostView). h.limits) is.new_is in
       subst (λ l. IsLegal l new.history) (sym limits) (subst (IsLegal host.limits) (sym is.history) is.rolled_back.legal)
 
-  legal_answer : (call : AnsweredCall) (new : HostView) → IsAnsweredSo host build call new → IsLegalStill new
+  pub legal_answer : (call : AnsweredCall) (new : HostView) → IsAnsweredSo host build call new → IsLegalStill new
   legal_answer (Calls call answer) new is = legal_call call answer new is
   legal_answer (Begins (Err refusal)) new (refused, same) = still_legal new same
   legal_answer (Begins (Ok count)) new (none, is) = subst IsLegalStill (sym is.new_is) legal
@@ -266,52 +271,115 @@ module _ (host : HostView) (build : ℕ) (legal : IsLegal host.limits host.histo
   legal_answer (GoesBack mark (Err refusal)) new (refused, same) = still_legal new same
   legal_answer (GoesBack mark (Ok count)) new is = legal_back mark count new is
 
+-- ---- what others ask opens nothing of the build, and takes nothing back
+
+module _ (host : HostView) (build other : ℕ) (not : other ≢ build) where
+  abbrev OpenedAsBefore : HostView → Type 0
+  OpenedAsBefore new = open_of new build ≡ open_of host build
+
+  unchanged_open : (new : HostView) → new ≡ host → OpenedAsBefore new
+  unchanged_open new same = ap (λ (h : HostView). open_of h build) same
+
+  one_more : (act : Act) (new : HostView) → new ≡ with_event host other act → OpenedAsBefore new
+  one_more act new is = ap (λ (h : HostView). open_of h build) is ∙ open_entries-other build host.history (by other act) not
+
+  many_more : (acts : List Act) (new : HostView) → new.history ≡ host.history ++ map (by other) acts → OpenedAsBefore new
+  many_more acts new is = ap (open_entries build) is ∙ others_open build other host.history acts not
+
+  pub opened_by_others : (call : AnsweredCall) (new : HostView) → IsAnsweredSo host other call new → OpenedAsBefore new
+  opened_by_others (Calls call (Refused refusal)) new (refused, same) = unchanged_open new same
+  opened_by_others (Calls (Ask cmd) (Replied reply)) new replied = one_more replied.act new replied.accepted.grows
+  opened_by_others (Calls (Ask cmd) (WasUndone undone)) new none = absurd none
+  opened_by_others (Calls Undo (Replied reply)) new none = absurd none
+  opened_by_others (Calls Undo (WasUndone undone)) new done = one_more done.act new done.accepted.grows
+  opened_by_others (Begins (Err refusal)) new (refused, same) = unchanged_open new same
+  opened_by_others (Begins (Ok count)) new (none, is) = ap (λ (h : HostView). open_of h build) is.new_is
+  opened_by_others (Aborts (Err refusal)) new (refused, same) = unchanged_open new same
+  opened_by_others (Aborts (Ok count)) new (none, is) = many_more _ new (ap (λ (h : HostView). h.history) is.new_is)
+  opened_by_others (Marks (Err refusal)) new (refused, same) = unchanged_open new same
+  opened_by_others (Marks (Ok mark)) new (none, is) = ap (λ (h : HostView). open_of h build) is.new_is
+  opened_by_others (GoesBack mark (Err refusal)) new (refused, same) = unchanged_open new same
+  opened_by_others (GoesBack mark (Ok count)) new (none, is) = many_more _ new (ap (λ (h : HostView). h.history) is.new_is)
+
+-- the act of which this is the reverse
+reversed_act : (newest : Option Act) (back : Act) → option_and_then reverse_of newest ≡ Some back → (act : Act) × (newest ≡ Some act) × (reverse_of act ≡ Some back)
+reversed_act None back none = cc
+reversed_act (Some act) back is = (act, refl, is)
+
+-- an undo leaves one act less open
+pub one_less : (host : HostView) (build : ℕ) (undone : Undone) (new : HostView) → IsUndone host build undone new → length (open_of host build) ≡ length (open_of new build) + 1
+one_less host build undone new is =
+    let newest = reversed_act (last_or None (open_of host build)) is.act is.accepted.act_of in
+    let back = reverse_is newest.0 is.act newest.2 in
+    let opened : open_of new build ≡ front (open_of host build) =
+    ap (λ (h : HostView). open_of h build) is.accepted.grows ∙ open_entries-own host.history (by build is.act) ∙ pushed_back (open_of host build) is.act back.unpaired back.reverse in
+    ap length (sym (front_last (open_of host build) newest.0 newest.1)) ∙ length-append (front (open_of host build)) (newest.0 ∷ []) ∙ ap (λ (acts : List Act). length acts + 1) (sym opened)
+
 -- ---- from the begin to the end
 
-starts : (old new : HostView) (build count : ℕ) → IsBegun old build (Ok count) new → Going old build new
-starts old new build count (none, is) = record {
-  rest = at_rest old build (build_checks (desk_of old) build) none;
-  limits = ap (λ (h : HostView). h.limits) is.new_is;
-  later = [];
-  since = ap (λ (h : HostView). h.history) is.new_is ∙ sym (append-nil old.history);
-  reverses = All-nil (IsOthersOrReverse build);
-  in_abort = is.in_abort ∙ ap (nat_lt 0) is.count_is ∙ ap (λ (h : HostView). HasOpen h build) (sym is.new_is);
+-- An abort began at the host `old`, and calls since have led to `host`.
+pub record Reached (old : HostView) (build : ℕ) (host : HostView) : Type 0 where
+  pub legal_old : IsLegal old.limits old.history
+  pub going : Going old build host
+  pub legal : IsLegal host.limits host.history
+
+pub starts : (old new : HostView) (build count : ℕ) → IsLegal old.limits old.history → IsBegun old build (Ok count) new → Reached old build new
+starts old new build count legal (none, is) = record {
+  legal_old = legal;
+  going = record {
+    there = leb-false old.limits.builds build (passed_parts (nat_le old.limits.builds build) NoBuild _ none).0;
+    rest = at_rest old build (build_checks (desk_of old) build) none;
+    limits = ap (λ (h : HostView). h.limits) is.new_is;
+    later = [];
+    since = ap (λ (h : HostView). h.history) is.new_is ∙ sym (append-nil old.history);
+    reverses = All-nil (IsOthersOrReverse build);
+    in_abort = is.in_abort ∙ ap (nat_lt 0) is.count_is ∙ ap (λ (h : HostView). HasOpen h build) (sym is.new_is);
+  };
+  legal = subst (λ (h : HostView). IsLegal h.limits h.history) (sym is.new_is) legal;
 }
 
--- a host on the way, and that it is legal
-abbrev Reached : HostView → ℕ → HostView → Type 0
-Reached old build host = Going old build host × IsLegal host.limits host.history
+module _ (old : HostView) (build : ℕ) (host : HostView) (reached : Reached old build host) where
+  pub one_call : is_aborting host build ≡ true → (other : ℕ) (call : AnsweredCall) (new : HostView) → IsAnsweredSo host other call new → Reached old build new
+  one_call aborts other call new is = record {
+    legal_old = reached.legal_old;
+    going = after_answer old build host reached.going aborts other call new reached.legal is;
+    legal = legal_answer host other reached.legal call new is;
+  }
+
+  pub served : open_of host build ≢ [] → refusal_of host build Undo ≡ None
+  served =
+      let going = reached.going in
+      goes_on old reached.legal_old build going.rest going.there going.later host going.limits going.since reached.legal going.reverses
+
+  ends : IsAborting old.limits old.history reached.going.later build (world_of host)
+  ends =
+      let going = reached.going in
+      let legal_later : IsLegal old.limits (old.history ++ going.later) =
+      subst (IsLegal old.limits) going.since (subst (λ l. IsLegal l host.history) going.limits reached.legal) in
+      let at_host : replay old.limits (old.history ++ going.later) ≡ Some (world_of host) =
+      (λ i. replay (sym going.limits i) (sym going.since i)) ∙ world_is host reached.legal in
+      abort_goes_on old.limits old.history going.later build (world_of old) (world_of host) legal_later (world_is old reached.legal_old) at_host going.rest going.reverses
+
+  in_abort_since : IsInAbortSince old build host
+  in_abort_since = record {
+    limits = reached.going.limits;
+    later = reached.going.later;
+    since = reached.going.since;
+    reverses = reached.going.reverses;
+    legal = reached.legal;
+    in_abort = reached.going.in_abort;
+    served = served;
+    aborting = ends;
+    legal_without = (leaves_no_trace host.limits host.history build reached.legal).0;
+  }
 
 all_calls : (old : HostView) (build : ℕ) (host : HostView) (calls : List (ℕ × AnsweredCall)) (new : HostView) → Reached old build host → AreWhileAborting build host calls new
     → Reached old build new
 all_calls old build host [] new reached same = subst (Reached old build) (sym same) reached
-all_calls old build host ((other, call) ∷ calls) new (going, legal) (aborts, (then, (is, meanwhile))) =
-    all_calls old build then calls new (after_answer old build host going aborts other call then legal is, legal_answer host other legal call then is) meanwhile
-
-ends : (old host : HostView) (build : ℕ) (since : Going old build host) → IsLegal old.limits old.history → IsLegal host.limits host.history
-    → IsAborting old.limits old.history since.later build (world_of host)
-ends old host build since legal_old legal =
-    let legal_later : IsLegal old.limits (old.history ++ since.later) =
-    subst (IsLegal old.limits) since.since (subst (λ l. IsLegal l host.history) since.limits legal) in
-    let at_host : replay old.limits (old.history ++ since.later) ≡ Some (world_of host) =
-    (λ i. replay (sym since.limits i) (sym since.since i)) ∙ world_is host legal in
-    abort_goes_on old.limits old.history since.later build (world_of old) (world_of host) legal_later (world_is old legal_old) at_host since.rest since.reverses
+all_calls old build host ((other, call) ∷ calls) new reached (aborts, (then, (is, meanwhile))) =
+    all_calls old build then calls new (one_call old build host reached aborts other call then is) meanwhile
 
 pub shared : (old begun host : HostView) (build count : ℕ) (calls : List (ℕ × AnsweredCall)) → IsLegal old.limits old.history → IsBegun old build (Ok count) begun
     → AreWhileAborting build begun calls host → IsInAbortSince old build host
-shared old begun host build count calls legal (none, is) meanwhile =
-    let start = starts old begun build count (none, is) in
-    let reached = all_calls old build begun calls host (start, legal_answer old build legal (Begins (Ok count)) begun (none, is)) meanwhile in
-    let going = reached.0 in
-    let there = leb-false old.limits.builds build (passed_parts (nat_le old.limits.builds build) NoBuild _ none).0 in
-    record {
-      limits = going.limits;
-      later = going.later;
-      since = going.since;
-      reverses = going.reverses;
-      legal = reached.1;
-      in_abort = going.in_abort;
-      served = goes_on old legal build start.rest there going.later host going.limits going.since reached.1 going.reverses;
-      aborting = ends old host build going legal reached.1;
-      legal_without = (leaves_no_trace host.limits host.history build reached.1).0;
-    }
+shared old begun host build count calls legal begins meanwhile =
+    in_abort_since old build host (all_calls old build begun calls host (starts old begun build count legal begins) meanwhile)
