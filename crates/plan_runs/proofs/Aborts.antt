@@ -118,7 +118,9 @@ left_nothing host build half =
     let none = none_of (open_of host build) half.opened in
     record {
       none_open = none;
-      legal = (leaves_no_trace host.limits host.history build legal).0;
+      over = half.reached.going.in_abort ∙ ap (λ acts. nat_lt 0 (length acts)) none;
+      legal = legal;
+      legal_without = (leaves_no_trace host.limits host.history build legal).0;
       no_trace = emptied host.limits build host.history (world_of host) legal (world_is host legal) none;
     }
 

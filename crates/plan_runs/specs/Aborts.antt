@@ -1,19 +1,22 @@
 -- What the turns of an abort tell of the machine.
-use Rattle.std.specs.Prelude.{◌≡◌, ℕ, [], true, Some}
+use Rattle.std.specs.Prelude.{◌≡◌, ℕ, [], true, false, Some}
 use Rattle.build_books.specs.View.{HostView, world_of, open_of, is_aborting}
 use Rattle.realm_model.specs.History.{erase, replay, IsLegal}
 use Rattle.plan_runs.specs.Run.{Position, place_of}
 use Rattle.plan_runs.specs.declared.answer.TurnAnswer.{TurnAnswer}
 use Rattle.plan_runs.specs.declared.answer.TurnAnswer.TheVariants.{Undone, Ended, Nothing, Refused}
 
--- The build has nothing open, and the world is that of the history without its events, itself a legal history.
+-- The build has nothing open and is out of abort, and the world is that of the history without the build's events, which is legal.
 pub record HasLeftNothing (host : HostView) (build : ℕ) : Type 0 where
   pub none_open : open_of host build ≡ []
-  pub legal : IsLegal host.limits (erase build host.history)
+  pub over : is_aborting host build ≡ false
+  pub legal : IsLegal host.limits host.history
+  pub legal_without : IsLegal host.limits (erase build host.history)
   pub no_trace : replay host.limits (erase build host.history) ≡ Some (world_of host)
 
--- What is told at a turn of an abort, and what is so then: it is done, and the build has left nothing; or one act was undone,
--- and others are to come; or it is refused at its first turn, and nothing changes.
+-- What holds after a turn of an abort, by its answer. The abort is done: the build has left nothing. One act was undone, and more
+-- are to come: the build is in abort. It is refused: this was the abort's first turn, and the host is as it was. There is no
+-- other answer.
 abbrev pub TellsOfAbort : TurnAnswer → Position → ℕ → Position → Type 0
 TellsOfAbort (Ended kind) from build to = HasLeftNothing to.host build
 TellsOfAbort Nothing from build to = HasLeftNothing to.host build

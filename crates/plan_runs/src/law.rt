@@ -15,8 +15,9 @@ pub fn no_map_tells_the_order()
     ensures { (host twin : HostView) → DidTheSame host twin → map_text twin ≡ map_text host }
 {}
 
-/// What a run tells of an abort is so, whatever other builds did at the turns between. Where an abort is told as done, its build has
-/// left nothing. Before that, the build is in abort after each of its turns, and only the first turn can be refused.
+/// In a run from a host with a legal history, what the turns of an abort tell is true, whatever other builds did between them. After
+/// a turn that tells that the abort is done, its build has left nothing. After each earlier turn of the abort the build is in abort,
+/// and only the first can be refused.
 pub fn aborts_are_told()
     ensures { (plan : Plan) (host : HostView) (order : List ℕ) (turns : List Turn) (from to : Position) (turn : Turn) (answer : TurnAnswer)
         → IsLegal host.limits host.history → AreTurns plan order (start host) turns from → IsTurn plan from turn to
