@@ -30,7 +30,7 @@ use Rattle.build_commands.specs.declared.refusal.Refusal.TheVariants.{NoBuild, A
 use Rattle.build_commands.specs.Checks.{Check, build_checks, checks_of, first_that_holds}
 use Rattle.realm_host.specs.declared.reply.Answer.{Answer}
 use Rattle.realm_host.specs.declared.reply.Answer.TheVariants.{Replied, Undone as WasUndone, Refused}
-use Rattle.realm_host.specs.Abort.{undone_to, IsBegun, IsAbortAnswer, GoesOn}
+use Rattle.realm_host.specs.Abort.{undone_to, IsBegun, IsAbortAnswer}
 use Rattle.realm_host.specs.Answer.{IsAnswer, IsUndone}
 use Rattle.realm_host.specs.Call.{Call, Ask, Undo}
 use Rattle.realm_host.specs.Marked.{IsMarked, IsBackAnswer}

@@ -1,5 +1,5 @@
 -- An abort during which other builds go on.
-use Rattle.std.specs.Prelude.{◌≡◌, ◌≢◌, ℕ, List, [], ◌∷◌, ◌++◌, length, nat_lt, Option, None, Result, true}
+use Rattle.std.specs.Prelude.{◌≡◌, ◌≢◌, ℕ, List, [], ◌∷◌, ◌++◌, length, nat_lt, None, Result, true}
 use Rattle.std.specs.List.{All}
 use Rattle.build_books.specs.declared.mark.Mark.{Mark}
 use Rattle.build_books.specs.View.{HostView, world_of, open_of, is_aborting}
