@@ -19,7 +19,7 @@ use crate::seat::{Seat, Trail, new_trails};
 use page_arena::PageStore;
 use realm_host::{Cmd, Host, Mark, Refusal, Reply, Undone};
 use std::alloc::{AllocError, Global};
-use std::sync::{Mutex, Wait};
+use std::sync::{Mutex, MutexGuard, Wait};
 
 /// A host that threads share. Each call takes the lock once.
 #[derive(Drop)]
@@ -56,21 +56,17 @@ impl<S: PageStore, L: Ledgers> Shared<S, L> {
         Ok((Shared { kept }, seats))
     }
 
+    // What is behind the lock.
+    pub(crate) fn lock(&self, rt: &impl Wait) -> MutexGuard<'_, Kept<S, L>> {
+        self.kept.lock(rt)
+    }
+
     /// Asks a command of the seat's build.
     pub fn call(&self, rt: &impl Wait, seat: &mut Seat<L>, cmd: Cmd) -> Result<Reply, Refusal>
         ensures told { IfOk result (λ reply. IsCallTold L.opened (Ask cmd) (Replied reply) seat.old seat.new) }
         ensures refused { IfErr result (λ refusal. IsCallRefused L.opened (Ask cmd) refusal seat.old × (seat.new ≡ seat.old)) }
     {
-        self.ask(rt, seat, &cmd)
-    }
-
-    /// Asks a command of the seat's build, as `call` does, and leaves it to the caller: a worker asks the commands of its steps
-    /// without a copy.
-    pub fn ask(&self, rt: &impl Wait, seat: &mut Seat<L>, cmd: &Cmd) -> Result<Reply, Refusal>
-        ensures told { IfOk result (λ reply. IsCallTold L.opened (Ask cmd.now) (Replied reply) seat.old seat.new) }
-        ensures refused { IfErr result (λ refusal. IsCallRefused L.opened (Ask cmd.now) refusal seat.old × (seat.new ≡ seat.old)) }
-    {
-        self.kept.lock(rt).ask(seat, cmd)
+        self.kept.lock(rt).call(seat, cmd)
     }
 
     /// Undoes the newest act that the seat's build has open.

@@ -2,7 +2,7 @@
 use crate::steps::{STEPS, steps_of};
 use crate::tellers::Refusing;
 use build_commands::Step;
-use builders::{Ledgers, Seat, SeatTeller, Shared};
+use builders::{Caller, Ledgers, Seat, SeatTeller, Shared};
 use page_arena::PageStore;
 use std::alloc::Global;
 use std::process::Abort;
@@ -33,9 +33,12 @@ impl<L: Ledgers> Guest<L> {
             build: self.seat.build(),
             lines,
         };
-        let seat = &mut self.seat;
+        let mut caller = Caller::new(rt, shared, gate);
         let mut teller = Refusing {
-            teller: SeatTeller { rt, shared, seat },
+            teller: SeatTeller {
+                caller: &mut caller,
+                seat: &mut self.seat,
+            },
             asked: 0,
             refused: self.refused,
         };

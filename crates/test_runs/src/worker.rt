@@ -1,5 +1,5 @@
 //! Workers over a teller and a gate in the place of a host.
-ghost use Rattle.std.specs.Prelude.{◌≡◌, ◌+◌, ◌*◌, ◌≤◌, [], length, vec_capacity};
+ghost use Rattle.std.specs.Prelude.{◌≡◌, ◌+◌, ◌*◌, ◌≤◌, false, [], length, vec_capacity};
 
 use crate::lines;
 use crate::lines::{replied, step};
@@ -79,6 +79,8 @@ impl Gate for Turns<'_> {
 
     ghost stops = { λ gate build turn. Unit {0} };
 
+    ghost waits = { λ gate. false };
+
     fn pass(&self, build: BuildId, turn: usize) -> Result<(), Stuck> {
         let (_build, turn) = (build, turn as u64);
         let passed = self.passed.load(Ordering::SeqCst);
@@ -94,6 +96,10 @@ impl Gate for Turns<'_> {
             return Err(Stuck);
         }
         Ok(())
+    }
+
+    fn may_wait(&self) -> bool {
+        false
     }
 }
 

@@ -1,7 +1,7 @@
-use Rattle.builders.proofs.Telling.{answer_more, asked, asked_build}
+use Rattle.builders.proofs.Telling.{answer_more, asked}
 use Rattle.builders.proofs.teller.SeatTellerTeller.ask.Goals as goal
 
 pub returns-clause-told : goal.returns-clause-told
 returns-clause-told g c =
-    answer_more g.L.Ledgers.opened _ _ _ (asked_build g.L.Ledgers.opened _ _ _ _ c.ask.ensures.told c.ask.ensures.refused)
-    (asked g.L.Ledgers.opened _ _ _ _ c.ask.ensures.told c.ask.ensures.refused)
+    let e = c.ask-reply.ensures in
+    answer_more g.L.Ledgers.opened _ _ _ (asked g.L.Ledgers.opened _ _ _ _ e.before e.after _ _ e.answer e.noted e.refused)
