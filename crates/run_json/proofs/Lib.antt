@@ -1,3 +1,5 @@
 pub mod Turns
 mod Builds
 mod Texts
+mod RowTexts
+mod RowRuns

@@ -12,6 +12,7 @@ use Rattle.build_books.specs.View.{HostView, world_of, pages_of_build, granule_o
 use Rattle.realm_host.specs.Readings.{rec_at, row_of}
 use Rattle.history_text.specs.Events.{event_text}
 use Rattle.run_json.specs.Items.{or_null, comma, bool_text, rec_item, realm_fields}
+use Rattle.run_json.specs.Rows.{IsRowsText}
 use Rattle.run_json.specs.Turns.{granule_after, mark_length}
 
 -- ---- arrays
@@ -56,7 +57,7 @@ numbered_rec host build number = comma number ++ rec_item number (rec_at (world_
 abbrev pub recs_text : HostView → ℕ → ℕ → List ℕ
 recs_text host build next = flat_map (numbered_rec host build) (range_with_len 0 next)
 
--- ---- builds. The rows are some text.
+-- ---- builds
 
 abbrev pub rows_part : List ℕ → List ℕ
 rows_part rows = codes ",\"rows\":[" ++ (rows ++ codes "],\"recs\":[")
@@ -69,6 +70,7 @@ realm_member host build rows _ _ = codes "null"
 
 pub record IsRealmText (host : HostView) (build : ℕ) (old new : List ℕ) : Type 0 where
   pub rows : List ℕ
+  pub are_rows : IsRowsText (world_of host) build rows
   pub appended : new ≡ old ++ realm_member host build rows (rd_of build (world_of host)) (option_map attributes_of (row_of (world_of host) build))
 
 abbrev pub build_front : HostView → ℕ → List ℕ

@@ -1,66 +1,113 @@
-//! The rows of a realm's translation.
+//! The rows of a realm's translation, in rising address.
 //!
-//! No clause says which rows these are: contracts say that they are some text. `tests/json` compares them with the rows that
-//! the turns of a run lead to.
+//! A walk to level 3 ends at a row that is not TABLE. The first walk is that of IPA granule 0, and each next one begins behind the
+//! row before. `specs/Rows.antt` says which text is made of them.
+ghost use Rattle.std.specs.Prelude.{◌≡◌, ◌+◌, ◌↔◌, false, IsTrue, IfOk, OnOk, IfSome, IfNone, Some, List, [], ◌∷◌, ◌++◌, string_bytes};
+ghost use Rattle.granule_addr.specs.Ipa.{covered_count, first_covered};
+ghost use Rattle.realm_model.specs.Rows.{is_table_place};
+ghost use Rattle.build_books.specs.View.{world_of};
+ghost use Rattle.run_json.specs.Rows.{behind, GoesOn, IsRun, beginning_at, rows_above, comma_behind, AddsItems, IsRowsText};
+
 use crate::items::RowItem;
-use granule_addr::{BuildId, Level};
+use crate::pushed::Pushed;
+use granule_addr::{BuildId, IpaGran, Level};
 use page_arena::PageStore;
 use realm_host::{Host, RowView};
 use std::alloc::{AllocError, Global};
 
-// Whether a table begins at the row.
-fn begins_table(row: &RowView) -> bool {
+// Whether a table below the starting ones begins at the row.
+fn begins_table(row: &RowView) -> bool
+    ensures { result ≡ is_table_place row.now.first row.now.level }
+{
     let first = row.first.number();
     match row.level.number() {
-        1 => first == 0,
+        1 => false,
         2 => first % 262_144 == 0,
         _ => first % 512 == 0,
     }
 }
 
 // Whether the row says what the one before it does, in the same table.
-fn says_the_same(row: &RowView, before: &RowView) -> bool {
+fn says_the_same(row: &RowView, before: &RowView) -> bool
+    ensures { IsTrue result ↔ ((row.now.level ≡ before.now.level) × (row.now.entry ≡ before.now.entry) × (is_table_place row.now.first row.now.level ≡ false)) }
+{
     row.level == before.level && row.entry == before.entry && !begins_table(row)
 }
 
-// Appends an item of `count` rows, behind a comma unless it is the first.
-fn push_item(text: &mut String, row: RowView, count: u32) -> Result<(), AllocError> {
-    if !text.is_empty() {
-        text.push_str(",")?;
+// Appends a comma, unless the text is empty.
+fn push_comma(text: &mut String) -> Pushed
+    ensures { OnOk result (string_bytes text.new ≡ string_bytes text.old ++ comma_behind (string_bytes text.old)) }
+{
+    if text.is_empty() {
+        Ok(())
+    } else {
+        text.push_str(",")
     }
+}
+
+// Appends an item of `count` rows, behind a comma unless it is the first.
+fn push_item(text: &mut String, row: RowView, count: u32) -> Pushed
+    ensures { OnOk result (AddsItems (string_bytes text.old) (string_bytes text.new) (record { row = row; count = count } ∷ [])) }
+{
+    push_comma(text)?;
     write!(text, "\n{}", RowItem(Some(row), count))
 }
 
+// Appends a row as an item, if there is one and it begins at that IPA granule.
+fn push_beginning(text: &mut String, row: Option<RowView>, ipa: IpaGran) -> Pushed
+    ensures { OnOk result (AddsItems (string_bytes text.old) (string_bytes text.new) (beginning_at ipa row)) }
+{
+    match row {
+        Some(row) if row.first == ipa => push_item(text, row, 1),
+        _ => Ok(()),
+    }
+}
+
 // Appends the TABLE rows above a row that is the first of their tables.
-fn push_tables_above<S: PageStore>(
+fn push_rows_above<S: PageStore>(
     text: &mut String,
     host: &Host<S>,
     build: BuildId,
     row: &RowView,
-) -> Result<(), AllocError> {
+) -> Pushed
+    ensures { OnOk result (AddsItems (string_bytes text.old) (string_bytes text.new) (rows_above (world_of host.now) build row.now)) }
+{
     for number in 1..row.level.number() {
-        let Some(level) = Level::new(number) else {
-            continue;
-        };
-        if let Some(above) = host.row(build, row.first.number(), level) {
-            if above.first == row.first {
-                push_item(text, above, 1)?;
-            }
-        }
+        let level = Level::new(number).unwrap();
+        let above = host.row(build, row.first.number(), level);
+        push_beginning(text, above, row.first)?;
     }
     Ok(())
 }
 
-// How many rows, from one on and one after another in a table, say the same, and where the next begins.
-fn count_same<S: PageStore>(host: &Host<S>, build: BuildId, row: &RowView) -> (u32, u32) {
-    let mut next = row.next();
-    for count in 1..8192 {
-        match host.row(build, next, Level::last()) {
-            Some(other) if says_the_same(&other, row) => next = other.next(),
-            _ => return (count, next),
-        }
+// Whether the run of a row goes on at an IPA granule where rows of its level begin; then what the first one behind it is.
+fn goes_on<S: PageStore>(host: &Host<S>, build: BuildId, row: &RowView, ipa: u32) -> Option<u32>
+    requires { first_covered row.now.level ipa ≡ ipa }
+    ensures goes_on { IfSome result (λ next. GoesOn (world_of host.now) build row.now ipa) }
+    ensures next { IfSome result (λ next. next ≡ ipa + covered_count row.now.level) }
+    ensures ends { IfNone result (¬ GoesOn (world_of host.now) build row.now ipa) }
+{
+    let other = host.row(build, ipa, Level::last())?;
+    if says_the_same(&other, row) {
+        Some(other.next())
+    } else {
+        None
     }
-    (8192, next)
+}
+
+// How many rows, from one on and one after another in a table, say the same, and where the next begins.
+fn count_same<S: PageStore>(host: &Host<S>, build: BuildId, row: &RowView) -> (u32, u32)
+    requires { first_covered row.now.level row.now.first ≡ row.now.first }
+    ensures run { IsRun (world_of host.now) build row.now result.0 }
+    ensures next { result.1 ≡ behind row.now result.0 }
+{
+    let mut count = 1;
+    let mut next = row.next();
+    while let Some(after) = goes_on(host, build, row, next) {
+        count += 1;
+        next = after;
+    }
+    (count, next)
 }
 
 /// The rows of a build's realm in rising address, TABLE rows before those of their tables. Rows of one table that say the
@@ -69,14 +116,13 @@ pub fn rows_of<S: PageStore>(
     alloc: Global,
     host: &Host<S>,
     build: BuildId,
-) -> Result<String, AllocError> {
+) -> Result<String, AllocError>
+    ensures { IfOk result (λ text. IsRowsText (world_of host.now) build (string_bytes text)) }
+{
     let mut text = String::new(alloc);
     let mut next = 0;
-    for _ in 0..u64::MAX {
-        let Some(row) = host.row(build, next, Level::last()) else {
-            break;
-        };
-        push_tables_above(&mut text, host, build, &row)?;
+    while let Some(row) = host.row(build, next, Level::last()) {
+        push_rows_above(&mut text, host, build, &row)?;
         let (count, after) = count_same(host, build, &row);
         push_item(&mut text, row, count)?;
         next = after;

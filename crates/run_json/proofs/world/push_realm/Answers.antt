@@ -25,6 +25,7 @@ returns g c =
     on_ok_weaker c.write-2.result
     (λ last. record {
       rows = rows;
+      are_rows = c.in_ok-rows.ensures;
       appended =
           then_text old (codes "{") opened (fields ++ (rows_part rows ++ (recs ++ codes "]}"))) new c.in_ok-push_str.ensures.bytes
           (then_text opened fields with_fields (rows_part rows ++ (recs ++ codes "]}")) new c.in_ok-push_realm_fields.ensures

@@ -1,0 +1,90 @@
+-- Runs of rows, one behind another.
+use Rattle.std.proofs.Common.{◌≡◌, ℕ, ◌+◌, ◌*◌, ◌<◌, Bool, true, false, List, [], ◌∷◌, ◌++◌, Option, Some, None, refl, sym, ap, ap₂, ◌∙◌, subst, arith, if◌then◌else◌, below_more}
+use Rattle.std.specs.List.{flat_map}
+use Rattle.std.proofs.lemmas.List.{flat_map_more}
+use Rattle.granule_addr.specs.Ipa.{covered_count}
+use Rattle.realm_model.specs.World.{World}
+use Rattle.realm_host.specs.Readings.{row_at}
+use Rattle.realm_host.specs.declared.reading.RowView.{RowView}
+use Rattle.run_json.specs.Rows.{Run, behind, GoesOn, IsRun, AreRuns, rows_above, run_items, items_text, IsRowsText, AddsItems}
+use Rattle.run_json.proofs.RowTexts.{AddsItems-then}
+
+-- ---- what code has read
+
+pub some_of : {A : Type 0} (test : Bool) (it found : A) → Some found ≡ (if test then Some it else None) → found ≡ it
+some_of true it found is = cc
+some_of false it found is = cc
+
+module _ (world : World) (build : ℕ) where
+  -- a row, by the IPA granule and the level that were read
+  pub row_read : (found : Option RowView) (read ipa asked level : ℕ) → found ≡ row_at world build read asked → read ≡ ipa → asked ≡ level → found ≡ row_at world build ipa level
+  row_read found read ipa asked level is same_ipa same_level = is ∙ ap₂ (row_at world build) same_ipa same_level
+
+  -- ---- a run that goes on
+
+  pub behind_more : (row : RowView) (count next after : ℕ) → next ≡ behind row count → after ≡ next + covered_count row.level → after ≡ behind row (count + 1)
+  behind_more row count next after so_far more = by (covered_count row.level) so_far more
+    where
+      by : (covered : ℕ) → next ≡ row.first + count * covered → after ≡ next + covered → after ≡ row.first + (count + 1) * covered
+      by covered so_far more = omega arith
+
+  pub same_more :
+      (row : RowView) (count next : ℕ)
+      → next ≡ behind row count
+      → ((k : ℕ) → 0 < k → k < count → GoesOn world build row (behind row k))
+      → GoesOn world build row next
+      → (k : ℕ) → 0 < k → k < count + 1 → GoesOn world build row (behind row k)
+  same_more row count next so_far same more k some below =
+      below_more (λ n. 0 < n → GoesOn world build row (behind row n)) count (λ n less positive. same n positive less)
+      (λ _. subst (GoesOn world build row) so_far more) k below some
+
+  -- ---- the runs so far
+
+  -- the runs from one IPA granule to another
+  pub RunsTo : ℕ → List Run → ℕ → Type 0
+  RunsTo from [] to = to ≡ from
+  RunsTo from (run ∷ runs) to = (row_at world build from 3 ≡ Some run.row) × IsRun world build run.row run.count × RunsTo (behind run.row run.count) runs to
+
+  RunsTo-then :
+      (runs : List Run) (from ipa : ℕ) (run : Run)
+      → RunsTo from runs ipa
+      → row_at world build ipa 3 ≡ Some run.row
+      → IsRun world build run.row run.count
+      → RunsTo from (runs ++ run ∷ []) (behind run.row run.count)
+  unfolding RunsTo
+  RunsTo-then [] from ipa run lead there is = (ap (λ n. row_at world build n 3) (sym lead) ∙ there, is, refl)
+  RunsTo-then (first ∷ runs) from ipa run lead there is = (lead.0, lead.1, RunsTo-then runs (behind first.row first.count) ipa run lead.2 there is)
+
+  RunsTo-all : (runs : List Run) (from ipa : ℕ) → RunsTo from runs ipa → row_at world build ipa 3 ≡ None → AreRuns world build from runs
+  unfolding RunsTo
+  RunsTo-all [] from ipa lead ends = ap (λ n. row_at world build n 3) (sym lead) ∙ ends
+  RunsTo-all (first ∷ runs) from ipa lead ends = (lead.0, lead.1, RunsTo-all runs (behind first.row first.count) ipa lead.2 ends)
+
+  -- the text of all rows before an IPA granule
+  pub record IsSoFar (ipa : ℕ) (text : List ℕ) : Type 0 where
+    pub runs : List Run
+    pub lead : RunsTo 0 runs ipa
+    pub whole : text ≡ items_text (flat_map (run_items world build) runs)
+
+  pub so_far_none : (text : List ℕ) → text ≡ [] → IsSoFar 0 text
+  unfolding RunsTo
+  so_far_none text none = record { runs = []; lead = refl; whole = none }
+
+  pub so_far_more :
+      (ipa : ℕ) (old mid new : List ℕ) (run : Run)
+      → IsSoFar ipa old
+      → row_at world build ipa 3 ≡ Some run.row
+      → IsRun world build run.row run.count
+      → AddsItems old mid (rows_above world build run.row)
+      → AddsItems mid new (run ∷ [])
+      → IsSoFar (behind run.row run.count) new
+  so_far_more ipa old mid new run so_far there is above itself = record {
+    runs = so_far.runs ++ run ∷ [];
+    lead = RunsTo-then so_far.runs 0 ipa run so_far.lead there is;
+    whole =
+        (AddsItems-then old mid new (rows_above world build run.row) (run ∷ []) above itself).added (flat_map (run_items world build) so_far.runs) so_far.whole
+        ∙ ap items_text (flat_map_more (run_items world build) [] so_far.runs run);
+  }
+
+  pub so_far_all : (ipa : ℕ) (text : List ℕ) → IsSoFar ipa text → row_at world build ipa 3 ≡ None → IsRowsText world build text
+  so_far_all ipa text so_far ends = record { runs = so_far.runs; are_runs = RunsTo-all so_far.runs 0 ipa so_far.lead ends; whole = so_far.whole }
