@@ -3,3 +3,4 @@ mod Builds
 mod Texts
 mod RowTexts
 mod RowRuns
+mod OneText

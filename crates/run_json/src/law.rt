@@ -1,10 +1,16 @@
-//! A law of documents.
-ghost use Rattle.std.specs.Prelude.{ℕ, List};
+//! Laws of documents and of worlds.
+ghost use Rattle.std.specs.Prelude.{◌≡◌, ℕ, List};
 ghost use Rattle.build_books.specs.View.{HostView};
 ghost use Rattle.realm_plan.specs.Plan.{Plan};
 ghost use Rattle.run_json.specs.Document.{IsDocument, IsLed};
+ghost use Rattle.run_json.specs.Worlds.{IsWorldText};
 
 /// The turns of a document are a run of the plan, such as is printed line by line.
 pub fn documents_are_of_runs()
     ensures { (plan : Plan) (from to : HostView) (text : List ℕ) → IsDocument plan from to text → IsLed plan from to }
+{}
+
+/// What is told of a world, with the rows of its realms, is one text.
+pub fn worlds_have_one_text()
+    ensures { (host : HostView) (old text other : List ℕ) → IsWorldText host old text → IsWorldText host old other → text ≡ other }
 {}
