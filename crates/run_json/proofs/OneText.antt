@@ -9,15 +9,15 @@ use Rattle.rmi_monitor.specs.View.{attributes_of}
 use Rattle.build_books.specs.View.{HostView, world_of}
 use Rattle.realm_host.specs.Readings.{row_of}
 use Rattle.realm_host.specs.declared.reading.RowView.{RowView}
-use Rattle.run_json.specs.Rows.{Run, behind, IsRun, AreRuns, run_items, items_text, IsRowsText}
+use Rattle.run_json.specs.Rows.{RowRun, first_behind, IsRowRun, AreRowRuns, run_items, items_text, IsRowsText}
 use Rattle.run_json.specs.Worlds.{realm_member, IsRealmText, build_head, IsBuildText, AreBuilds, world_head, IsWorldText}
 
 module _ (world : World) (build : ℕ) where
   -- a run does not end before it is as long as it can be
-  no_less : (row : RowView) (less more : ℕ) → IsRun world build row less → IsRun world build row more → less < more → ⊥
+  no_less : (row : RowView) (less more : ℕ) → IsRowRun world build row less → IsRowRun world build row more → less < more → ⊥
   no_less row less more short long below = short.longest (long.same less short.some below)
 
-  one_count : (row : RowView) (count other : ℕ) → IsRun world build row count → IsRun world build row other → count ≡ other
+  one_count : (row : RowView) (count other : ℕ) → IsRowRun world build row count → IsRowRun world build row other → count ≡ other
   one_count row count other one two = elim (cases_lt count other) [
     | inl below ↦ absurd (no_less row count other one two below)
     | inr least ↦ elim (cases_lt other count) [
@@ -26,20 +26,20 @@ module _ (world : World) (build : ℕ) where
     ]
   ]
 
-  one_list : (runs others : List Run) (ipa : ℕ) → AreRuns world build ipa runs → AreRuns world build ipa others → runs ≡ others
+  one_list : (runs others : List RowRun) (ipa : ℕ) → AreRowRuns world build ipa runs → AreRowRuns world build ipa others → runs ≡ others
   one_list [] [] ipa one two = refl
   one_list [] (other ∷ others) ipa one two = let e : None ≡ Some other.row = sym one ∙ two.0 in cc
   one_list (run ∷ runs) [] ipa one two = let e : None ≡ Some run.row = sym two ∙ one.0 in cc
   one_list (run ∷ runs) (other ∷ others) ipa one two =
       let row_is : run.row ≡ other.row = let e : Some run.row ≡ Some other.row = sym one.0 ∙ two.0 in cc in
       let count_is : run.count ≡ other.count =
-      one_count run.row run.count other.count one.1 (subst (λ (row : RowView). IsRun world build row other.count) (sym row_is) two.1)
+      one_count run.row run.count other.count one.1 (subst (λ (row : RowView). IsRowRun world build row other.count) (sym row_is) two.1)
       in
       let run_is : run ≡ other = λ i. record { row = row_is i; count = count_is i } in
-      let rest : AreRuns world build (behind run.row run.count) others =
-      subst (λ (r : Run). AreRuns world build (behind r.row r.count) others) (sym run_is) two.2
+      let rest : AreRowRuns world build (first_behind run.row run.count) others =
+      subst (λ (r : RowRun). AreRowRuns world build (first_behind r.row r.count) others) (sym run_is) two.2
       in
-      ap₂ (λ (r : Run) (rs : List Run). r ∷ rs) run_is (one_list runs others (behind run.row run.count) one.2 rest)
+      ap₂ (λ (r : RowRun) (rs : List RowRun). r ∷ rs) run_is (one_list runs others (first_behind run.row run.count) one.2 rest)
 
   one_rows : (text other : List ℕ) → IsRowsText world build text → IsRowsText world build other → text ≡ other
   one_rows text other one two =
@@ -50,7 +50,7 @@ module _ (host : HostView) where
   one_realm build old text other one two =
       one.appended
       ∙ ap (λ rows. old ++ realm_member host build rows (rd_of build (world_of host)) (option_map attributes_of (row_of (world_of host) build)))
-        (one_rows (world_of host) build one.rows two.rows one.are_rows two.are_rows)
+      (one_rows (world_of host) build one.rows two.rows one.are_rows two.are_rows)
       ∙ sym two.appended
 
   one_build : (build : ℕ) (old text other : List ℕ) → IsBuildText host build old text → IsBuildText host build old other → text ≡ other

@@ -3,6 +3,7 @@ pub mod Items
 pub mod Changes
 pub mod Turns
 pub mod Rows
+pub mod RowTexts
 pub mod Worlds
 pub mod Document
 pub mod Page

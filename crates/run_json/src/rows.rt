@@ -1,12 +1,13 @@
 //! The rows of a realm's translation, in rising address.
 //!
-//! A walk to level 3 ends at a row that is not TABLE. The first walk is that of IPA granule 0, and each next one begins behind the
-//! row before. `specs/Rows.antt` says which text is made of them.
+//! A walk to level 3 ends at a row that is not TABLE. The first walk is that of IPA granule 0, and each next one is that of the
+//! first behind the row before. `specs/Rows.antt` says which text is made of these rows.
 ghost use Rattle.std.specs.Prelude.{◌≡◌, ◌+◌, ◌↔◌, false, IsTrue, IfOk, OnOk, IfSome, IfNone, Some, List, [], ◌∷◌, ◌++◌, string_bytes};
 ghost use Rattle.granule_addr.specs.Ipa.{covered_count, first_covered};
 ghost use Rattle.realm_model.specs.Rows.{is_table_place};
 ghost use Rattle.build_books.specs.View.{world_of};
-ghost use Rattle.run_json.specs.Rows.{behind, GoesOn, IsRun, beginning_at, rows_above, comma_behind, AddsItems, IsRowsText};
+ghost use Rattle.run_json.specs.Rows.{first_behind, RunGoesOn, IsRowRun, beginning_at, rows_above, IsRowsText};
+ghost use Rattle.run_json.specs.RowTexts.{comma_behind, AddsItems};
 
 use crate::items::RowItem;
 use crate::pushed::Pushed;
@@ -80,12 +81,12 @@ fn push_rows_above<S: PageStore>(
     Ok(())
 }
 
-// Whether the run of a row goes on at an IPA granule where rows of its level begin; then what the first one behind it is.
+// Where the run of a row goes on at an IPA granule, at which rows of its level begin: the first IPA granule behind the row there.
 fn goes_on<S: PageStore>(host: &Host<S>, build: BuildId, row: &RowView, ipa: u32) -> Option<u32>
     requires { first_covered row.now.level ipa ≡ ipa }
-    ensures goes_on { IfSome result (λ next. GoesOn (world_of host.now) build row.now ipa) }
+    ensures goes_on { IfSome result (λ next. RunGoesOn (world_of host.now) build row.now ipa) }
     ensures next { IfSome result (λ next. next ≡ ipa + covered_count row.now.level) }
-    ensures ends { IfNone result (¬ GoesOn (world_of host.now) build row.now ipa) }
+    ensures ends { IfNone result (¬ RunGoesOn (world_of host.now) build row.now ipa) }
 {
     let other = host.row(build, ipa, Level::last())?;
     if says_the_same(&other, row) {
@@ -98,8 +99,8 @@ fn goes_on<S: PageStore>(host: &Host<S>, build: BuildId, row: &RowView, ipa: u32
 // How many rows, from one on and one after another in a table, say the same, and where the next begins.
 fn count_same<S: PageStore>(host: &Host<S>, build: BuildId, row: &RowView) -> (u32, u32)
     requires { first_covered row.now.level row.now.first ≡ row.now.first }
-    ensures run { IsRun (world_of host.now) build row.now result.0 }
-    ensures next { result.1 ≡ behind row.now result.0 }
+    ensures run { IsRowRun (world_of host.now) build row.now result.0 }
+    ensures next { result.1 ≡ first_behind row.now result.0 }
 {
     let mut count = 1;
     let mut next = row.next();

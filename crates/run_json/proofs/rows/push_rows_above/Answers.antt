@@ -1,7 +1,8 @@
 use Rattle.std.proofs.Common.{string_bytes, sym, ◌∙◌, subst}
 use Rattle.build_books.specs.View.{world_of}
 use Rattle.realm_host.specs.Readings.{row_at}
-use Rattle.run_json.specs.Rows.{beginning_at, AddsItems}
+use Rattle.run_json.specs.Rows.{beginning_at}
+use Rattle.run_json.specs.RowTexts.{AddsItems}
 use Rattle.run_json.proofs.RowTexts.{AddsItems-more}
 use Rattle.run_json.proofs.RowRuns.{some_of, row_read}
 use Rattle.run_json.proofs.rows.push_rows_above.Goals as goal

@@ -2,7 +2,8 @@ use Rattle.std.proofs.Common.{string_bytes, ◌-◌}
 use Rattle.std.specs.List.{flat_map, range_with_len}
 use Rattle.build_books.specs.View.{world_of}
 use Rattle.realm_host.specs.Readings.{row_at}
-use Rattle.run_json.specs.Rows.{beginning_at, AddsItems}
+use Rattle.run_json.specs.Rows.{beginning_at}
+use Rattle.run_json.specs.RowTexts.{AddsItems}
 use Rattle.run_json.proofs.rows.push_rows_above.Given as goal
 
 abbrev pub invariant-loop-number : goal.invariant-loop-number
