@@ -4,3 +4,4 @@ mod Texts
 mod RowTexts
 mod RowRuns
 mod OneText
+mod SameRows

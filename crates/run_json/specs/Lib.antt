@@ -4,6 +4,7 @@ pub mod Changes
 pub mod Turns
 pub mod Rows
 pub mod RowTexts
+pub mod SameRows
 pub mod Worlds
 pub mod Document
 pub mod Page

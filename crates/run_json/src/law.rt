@@ -1,9 +1,12 @@
 //! Laws of documents and of worlds.
-ghost use Rattle.std.specs.Prelude.{◌≡◌, ℕ, List};
-ghost use Rattle.build_books.specs.View.{HostView};
+ghost use Rattle.std.specs.Prelude.{◌≡◌, ℕ, List, [], ◌∷◌, ◌++◌, IsSome};
+ghost use Rattle.realm_model.specs.declared.act.Event.{Event};
+ghost use Rattle.realm_model.specs.History.{replay};
+ghost use Rattle.build_books.specs.View.{HostView, world_of};
 ghost use Rattle.realm_plan.specs.Plan.{Plan};
 ghost use Rattle.run_json.specs.Document.{IsDocument, IsLed};
 ghost use Rattle.run_json.specs.Worlds.{IsWorldText};
+ghost use Rattle.run_json.specs.SameRows.{ItemsSayTheSame};
 
 /// The turns of a document are a run of the plan, such as is printed line by line.
 pub fn documents_are_of_runs()
@@ -13,4 +16,9 @@ pub fn documents_are_of_runs()
 /// What is told of a world, with the rows of its realms, is one text.
 pub fn worlds_have_one_text()
     ensures { (host : HostView) (old text other : List ℕ) → IsWorldText host old text → IsWorldText host old other → text ≡ other }
+{}
+
+/// Rows that a turn tells as one item say the same, behind the turn.
+pub fn rows_of_an_item_say_the_same()
+    ensures { (host : HostView) (before : List Event) (event : Event) → host.history ≡ before ++ event ∷ [] → IsSome (replay host.limits host.history) → ItemsSayTheSame (world_of host) event.build event.act }
 {}
