@@ -5,3 +5,5 @@ mod RowTexts
 mod RowRuns
 mod OneText
 mod SameRows
+mod RowWalks
+mod ToldRows

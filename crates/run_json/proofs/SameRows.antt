@@ -3,11 +3,11 @@ use Rattle.std.proofs.Common.{◌≡◌, ℕ, ◌+◌, ◌-◌, ◌*◌, ◌/◌
 use Rattle.std.specs.Prelude.{◌==◌, ◌&&◌, nat_le, IsSome, unwrap_or, slice_get, option_map, option_and_then, if◌then◌else◌}
 use Rattle.std.specs.FinMap.{empty, get}
 use Rattle.std.specs.List.{list_all}
-use Rattle.std.proofs.lemmas.Bool.{and_parts, ltb-true, lt-ltb, leb-true}
-use Rattle.granule_addr.specs.Ipa.{covered_count, first_covered, is_width, is_in_space, is_protected_at}
+use Rattle.std.proofs.lemmas.Bool.{and_parts, ltb-true, leb-true}
+use Rattle.granule_addr.specs.Ipa.{covered_count, first_covered, is_width, is_protected_at}
 use Rattle.granule_addr.specs.Root.{start_count, served_space, starting_tables}
 use Rattle.granule_addr.specs.declared.root.Root.{Root}
-use Rattle.granule_addr.proofs.Spaces.{served_is, half_is}
+use Rattle.granule_addr.proofs.Spaces.{half_is}
 use Rattle.realm_model.specs.declared.act.Act.{Act}
 use Rattle.realm_model.specs.declared.act.Act.TheVariants.{Realm, Rtt, Ripas as InitRipas}
 use Rattle.realm_model.specs.declared.act.Event.{Event}
@@ -45,15 +45,13 @@ use Rattle.realm_model.proofs.ZeroPages.{kept_reached}
 use Rattle.rmi_monitor.specs.Walked.{walk_of}
 use Rattle.realm_host.specs.Readings.{row_view, row_of, row_at}
 use Rattle.build_books.specs.View.{HostView, world_of}
+use Rattle.run_json.proofs.RowWalks.{in_space}
 use Rattle.run_json.specs.SameRows.{SayTheSame, ItemsSayTheSame}
 
 -- ---- a row that is there is where the walk to its level ends
 
-in_space : (width ipa : ℕ) → is_width width ≡ true → ipa < served_space width → is_in_space ipa width ≡ true
-in_space width ipa wide inside = lt-ltb ipa (2 ^ (width - 12)) (let same = served_is width wide in omega arith)
-
 module _ (world : World) (build : ℕ) (realm : RealmRow) (there : row_of world build ≡ Some realm) (wide : is_width realm.root.width ≡ true) where
-  row_there : (level ipa : ℕ) (row : Row) → IsPlace realm.root.width (level, ipa) → get realm.rows (level, ipa) ≡ Some row
+  pub row_there : (level ipa : ℕ) (row : Row) → IsPlace realm.root.width (level, ipa) → get realm.rows (level, ipa) ≡ Some row
       → row_at world build ipa level ≡ Some (record { level = level; first = ipa; entry = row })
   row_there level ipa row place found =
       let at : get realm.rows (level, first_covered level ipa) ≡ Some row = ap (λ n. get realm.rows (level, n)) place.first ∙ found in

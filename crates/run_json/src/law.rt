@@ -1,12 +1,16 @@
-//! Laws of documents and of worlds.
-ghost use Rattle.std.specs.Prelude.{◌≡◌, ℕ, List, [], ◌∷◌, ◌++◌, IsSome};
+//! Laws of documents, of worlds and of rows.
+ghost use Rattle.std.specs.Prelude.{◌≡◌, ℕ, List, [], ◌∷◌, ◌++◌, Some, IsSome};
 ghost use Rattle.realm_model.specs.declared.act.Event.{Event};
 ghost use Rattle.realm_model.specs.History.{replay};
+ghost use Rattle.realm_model.specs.Machine.{RealmRow};
 ghost use Rattle.build_books.specs.View.{HostView, world_of};
+ghost use Rattle.realm_host.specs.Readings.{row_of};
 ghost use Rattle.realm_plan.specs.Plan.{Plan};
 ghost use Rattle.run_json.specs.Document.{IsDocument, IsLed};
-ghost use Rattle.run_json.specs.Worlds.{IsWorldText};
+ghost use Rattle.run_json.specs.Rows.{IsRowsText};
 ghost use Rattle.run_json.specs.SameRows.{ItemsSayTheSame};
+ghost use Rattle.run_json.specs.ToldRows.{TellsRows};
+ghost use Rattle.run_json.specs.Worlds.{IsWorldText};
 
 /// The turns of a document are a run of the plan, such as is printed line by line.
 pub fn documents_are_of_runs()
@@ -18,7 +22,16 @@ pub fn worlds_have_one_text()
     ensures { (host : HostView) (old text other : List ℕ) → IsWorldText host old text → IsWorldText host old other → text ≡ other }
 {}
 
-/// Rows that a turn tells as one item say the same, behind the turn.
+/// The text of a realm's rows, in the world that a history leads to, tells each of its rows and no other.
+pub fn all_rows_are_told()
+    ensures { (host : HostView) (build : ℕ) (realm : RealmRow) (text : List ℕ)
+        → IsSome (replay host.limits host.history) → row_of (world_of host) build ≡ Some realm
+        → IsRowsText (world_of host) build text → TellsRows realm.rows text }
+{}
+
+/// The rows that are told as one item of the last event of a history say the same.
 pub fn rows_of_an_item_say_the_same()
-    ensures { (host : HostView) (before : List Event) (event : Event) → host.history ≡ before ++ event ∷ [] → IsSome (replay host.limits host.history) → ItemsSayTheSame (world_of host) event.build event.act }
+    ensures { (host : HostView) (before : List Event) (event : Event)
+        → host.history ≡ before ++ event ∷ [] → IsSome (replay host.limits host.history)
+        → ItemsSayTheSame (world_of host) event.build event.act }
 {}

@@ -24,7 +24,9 @@ mod words;
 mod world;
 
 pub use document::run_document;
-pub use law::{documents_are_of_runs, rows_of_an_item_say_the_same, worlds_have_one_text};
+pub use law::{
+    all_rows_are_told, documents_are_of_runs, rows_of_an_item_say_the_same, worlds_have_one_text,
+};
 pub use numbers::Comma;
 pub use page::page_of;
 pub use template::{HEAD, TAIL};
