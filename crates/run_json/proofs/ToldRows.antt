@@ -1,5 +1,5 @@
 -- The items of a realm's text tell its rows.
-use Rattle.std.proofs.Common.{◌≡◌, ℕ, zero, suc, ◌+◌, ◌-◌, ◌*◌, ◌/◌, ◌^◌, ◌<◌, ◌≤◌, Bool, true, false, List, [], ◌∷◌, ◌++◌, Option, Some, None, inl, inr, refl, sym, ap, ◌∙◌, subst, arith}
+use Rattle.std.proofs.Common.{◌≡◌, ℕ, zero, suc, ◌+◌, ◌-◌, ◌*◌, ◌/◌, ◌<◌, ◌≤◌, Bool, true, false, List, [], ◌∷◌, ◌++◌, Option, Some, None, inl, inr, refl, sym, ap, ◌∙◌, subst, arith}
 use Rattle.std.specs.Prelude.{◌==◌, slice_index_or, Contains, IsSome, is_some, unwrap_or, option_map, option_and_then, if◌then◌else◌}
 use Rattle.std.specs.FinMap.{get}
 use Rattle.std.specs.List.{flat_map, range_with_len}
@@ -21,6 +21,7 @@ use Rattle.realm_model.specs.World.{World, opening, realm_of}
 use Rattle.realm_model.proofs.Reachable.{reachable_worlds}
 use Rattle.realm_model.proofs.RealmOf.{IsAt, IsAt-realm_of}
 use Rattle.realm_model.proofs.RowKinds.{shape_of}
+use Rattle.realm_model.proofs.Rows.{covered_pos}
 use Rattle.realm_model.proofs.FullRows.{walk_ends}
 use Rattle.realm_model.proofs.Walks.{walk_end, walk_within}
 use Rattle.rmi_monitor.specs.Walked.{walk_of}
@@ -64,15 +65,7 @@ of_range f (suc n) level item least most own = subst (λ items. Contains items i
 
 -- ---- which row of a run covers an IPA granule
 
-covers_some : (level : ℕ) → 0 < covered_count level
-covers_some level = by (level == 1) (level == 2)
-  where
-    by : (one two : Bool) → 0 < (if one then 2 ^ 18 else (if two then 2 ^ 9 else 1))
-    by true two = omega arith
-    by false true = omega arith
-    by false false = omega arith
-
--- of `count` rows from the q-th on, each of `covered` IPA granules
+-- of `count` rows, each of `covered` IPA granules
 few_before : (covered ipa count : ℕ) → ipa < count * covered → ipa / covered < count
 few_before covered ipa count below = elim (cases_lt (ipa / covered) count) [
   | inl few ↦ few
@@ -209,7 +202,7 @@ module _ (world : World) (build : ℕ) (realm : RealmRow) (there : row_of world 
         let less : m < run.count * covered = omega arith in
         let few : k < run.count = few_before covered m run.count less in
         let place : first_covered level ipa ≡ first_behind run.row k =
-        ap (first_covered level) sum ∙ row_covers covered q m (covers_some level) ∙ ap (λ n. n + k * covered) (sym first)
+        ap (first_covered level) sum ∙ row_covers covered q m (covered_pos level) ∙ ap (λ n. n + k * covered) (sym first)
         in
         let there : row_covering realm.rows level ipa ≡ Some run.row.entry = ap (λ n. get realm.rows (level, n)) place ∙ run_read run from is whole k few in
         let plain = end_plain realm.root.width realm.rows sound full from (record { level = level; row = run.row.entry }) at.ended in
