@@ -1,5 +1,5 @@
 //! Closing: is each build's seat there once, and is its trail what the history has of the build?
-ghost use Rattle.std.specs.Prelude.{◌≡◌, ◌+◌, ◌<◌, ◌≤◌, ◌↔◌, ℕ, [], ◌∷◌, ◌++◌, length, filter, slice_index, true, IsTrue, IfSome, IfNone};
+ghost use Rattle.std.specs.Prelude.{◌≡◌, ◌+◌, ◌<◌, ◌≤◌, ◌↔◌, [], filter, slice_index, true, IsTrue, IfSome, IfNone};
 ghost use Rattle.std.specs.List.{All};
 ghost use Rattle.builders.specs.Close.{seats_of, Fits, IsMissing, AreSeatsWhole, Differs, FitsAll};
 ghost use Rattle.realm_model.specs.History.{events_of};

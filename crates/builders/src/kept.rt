@@ -1,9 +1,8 @@
 //! What lies behind the lock: the host, and a book for each build.
-ghost use Rattle.std.specs.Prelude.{◌≡◌, ◌+◌, ◌<◌, ℕ, List, [], ◌∷◌, ◌++◌, length, slice_index, slice_set, IfOk, IfErr, MatchResult};
+ghost use Rattle.std.specs.Prelude.{◌≡◌, ◌+◌, ◌<◌, List, [], ◌∷◌, ◌++◌, length, slice_set, IfOk, IfErr, MatchResult};
 ghost use Rattle.std.specs.Result.{OnOk};
 ghost use Rattle.realm_model.specs.declared.act.Event.{Event};
 ghost use Rattle.build_books.specs.Kept.{IsMarkOf};
-ghost use Rattle.build_books.specs.View.{HostView, open_of};
 ghost use Rattle.realm_host.specs.Answer.{IsAnswer, replied, undone};
 ghost use Rattle.realm_host.specs.Call.{Ask, Undo};
 ghost use Rattle.realm_host.specs.Marked.{IsMarked, way_back};

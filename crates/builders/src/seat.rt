@@ -1,5 +1,5 @@
 //! Seats: one build's pass, and the list of its accepted events.
-ghost use Rattle.std.specs.Prelude.{◌≡◌, ◌+◌, ◌<◌, ◌≤◌, [], ◌∷◌, ◌++◌, length, vec_capacity, replicate, IfOk};
+ghost use Rattle.std.specs.Prelude.{◌≡◌, ◌+◌, ◌<◌, [], ◌∷◌, ◌++◌, length, vec_capacity, replicate, IfOk};
 
 use crate::ledgers::{Ledgers, Pass};
 use granule_addr::BuildId;

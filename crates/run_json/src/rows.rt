@@ -2,7 +2,7 @@
 //!
 //! A walk to level 3 ends at a row that is not TABLE. The first walk is that of IPA granule 0, and each next one is that of the
 //! first behind the row before. `specs/Rows.antt` says which text is made of these rows.
-ghost use Rattle.std.specs.Prelude.{◌≡◌, ◌+◌, ◌↔◌, false, IsTrue, IfOk, OnOk, IfSome, IfNone, Some, List, [], ◌∷◌, ◌++◌, string_bytes};
+ghost use Rattle.std.specs.Prelude.{◌≡◌, ◌+◌, ◌↔◌, false, IsTrue, IfOk, OnOk, IfSome, IfNone, Some, [], ◌∷◌, ◌++◌, string_bytes};
 ghost use Rattle.granule_addr.specs.Ipa.{covered_count, first_covered};
 ghost use Rattle.realm_model.specs.Rows.{is_table_place};
 ghost use Rattle.build_books.specs.View.{world_of};

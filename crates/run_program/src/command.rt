@@ -1,5 +1,5 @@
 //! What a command did, and what was told of it.
-ghost use Rattle.std.specs.Prelude.{◌≡◌, ◌↔◌, length, true, IsTrue};
+ghost use Rattle.std.specs.Prelude.{◌≡◌, ◌↔◌, length, IsTrue};
 ghost use Rattle.std.specs.List.{flat_map};
 ghost use Rattle.build_commands.specs.Replies.{reply_of};
 ghost use Rattle.realm_model.specs.History.{pages_held};

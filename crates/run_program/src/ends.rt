@@ -1,5 +1,5 @@
 //! What workers leave.
-ghost use Rattle.std.specs.Prelude.{◌≡◌, map, IfOk};
+ghost use Rattle.std.specs.Prelude.{◌≡◌, IfOk};
 ghost use Rattle.std.specs.List.{AllZip};
 ghost use Rattle.run_program.specs.Workers.{worker_seats, IsReportOf};
 
