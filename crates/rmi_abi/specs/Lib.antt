@@ -1,0 +1,7 @@
+pub mod Answer
+pub mod Call
+pub mod Features
+pub mod Mpidr
+pub mod RealmParams
+pub mod Settings
+pub mod Word

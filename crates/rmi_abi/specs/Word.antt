@@ -1,0 +1,29 @@
+-- Result words. RMM 1.0, RmiCommandReturnCode: the status in bits 7:0, the index in bits 15:8.
+use Rattle.std.specs.Prelude.{ℕ, ◌+◌, ◌*◌, ◌/◌, ◌%◌, ◌==◌, ◌&&◌, Bool, true, false, nat_lt, Option, Some, None, if◌then◌else◌}
+use Rattle.rmi_abi.specs.declared.word.Word.{Word}
+use Rattle.rmi_abi.specs.declared.word.Word.TheVariants.{Success, ErrorInput, ErrorRealm, ErrorRec, ErrorRtt}
+
+-- the word as X0 has it
+abbrev pub number : Word → ℕ
+number Success = 0
+number ErrorInput = 1
+number (ErrorRealm index) = 2 + 256 * index
+number ErrorRec = 3
+number (ErrorRtt index) = 4 + 256 * index
+
+-- the word of a status and an index
+abbrev pub word_at : ℕ → ℕ → Option Word
+word_at status index =
+    if status == 2 then Some (ErrorRealm index) else
+    (if status == 4 then Some (ErrorRtt index) else
+    (if status == 0 && index == 0 then Some Success else
+    (if status == 1 && index == 0 then Some ErrorInput else
+    (if status == 3 && index == 0 then Some ErrorRec else None))))
+
+-- the word that X0 is read as
+abbrev pub word_of : ℕ → Option Word
+word_of x0 = if nat_lt x0 0x10000 then word_at (x0 % 256) (x0 / 256) else None
+
+abbrev pub is_success : Word → Bool
+is_success Success = true
+is_success _ = false

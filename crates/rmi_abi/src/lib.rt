@@ -1,0 +1,21 @@
+//! The Realm Management Interface of RMM 1.0 as values: registers, calls, result words, parameter pages and settings.
+//!
+//! Nothing here has a state. A call is decoded from the registers X0 to X6, and encoded into them.
+#![tactic(auto)]
+
+mod call;
+mod features;
+pub mod law;
+mod mpidr;
+mod realm_params;
+mod registers;
+mod settings;
+mod word;
+
+pub use call::{Call, decode_call, encode_call};
+pub use features::feature_register;
+pub use mpidr::{is_mpidr, rec_number};
+pub use realm_params::RealmParams;
+pub use registers::{Answer, Registers, answer_registers, unknown_registers};
+pub use settings::{Layout, Platform, Settings};
+pub use word::Word;

@@ -1,0 +1,17 @@
+//! Affinities of RECs.
+ghost use Rattle.std.specs.Prelude.{◌≡◌};
+ghost use Rattle.rmi_abi.specs.Mpidr as affinities;
+
+/// Whether a number has bits of affinities alone. RMM 1.0, RmiRecMpidr.
+pub fn is_mpidr(mpidr: u64) -> bool
+    ensures { result ≡ affinities.is_mpidr mpidr }
+{
+    mpidr < 0x1_0000_0000 && mpidr % 0x100 < 0x10
+}
+
+/// The number of the REC that an MPIDR names: Aff0 has four bits of it, Aff1, Aff2 and Aff3 eight each.
+pub fn rec_number(mpidr: u64) -> u64
+    ensures { result ≡ affinities.rec_number mpidr }
+{
+    mpidr % 16 + mpidr / 256 * 16
+}

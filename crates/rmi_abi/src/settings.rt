@@ -1,0 +1,152 @@
+//! Settings: what the standard leaves open, or a monitor is free to choose.
+ghost use Rattle.std.specs.Prelude.{◌≡◌, Some, None, if◌then◌else◌};
+ghost use Rattle.rmi_abi.specs.Settings as ranges;
+
+use std::marker::Model;
+
+/// The layout of feature register 0: that of RMM 1.0-rel0, or of the drafts up to 1.0-eac5.
+#[derive(Clone, Copy, Debug, PartialEq, Eq)]
+pub enum Layout {
+    Rel0,
+    Eac5,
+}
+
+/// The settings of a monitor. What the standard leaves open has the default that is the likeliest.
+#[derive(Clone, Copy, Debug, PartialEq, Eq)]
+pub struct Settings {
+    /// The address of the first granule.
+    pub base: u64,
+    /// The address of the first granule that cannot be delegated, and how many there are.
+    pub secure_base: u64,
+    pub secure_count: u16,
+    /// Auxiliary granules of a REC.
+    pub aux: u8,
+    pub vmid_bits: u8,
+    /// The widest address space of a realm, in bits.
+    pub s2sz: u8,
+    pub max_recs_order: u8,
+    /// The least level of a block.
+    pub block_level: u8,
+    /// NUM_BPS, NUM_WPS and GICV3_NUM_LRS of feature register 0.
+    pub bps: u8,
+    pub wps: u8,
+    pub lrs: u8,
+    pub layout: Layout,
+    /// RTT_INIT_RIPAS stops at an entry that is UNASSIGNED, DESTROYED.
+    pub stops_at_destroyed: bool,
+    /// A REC that is not runnable extends the measurement.
+    pub measures_all_recs: bool,
+    /// DATA_CREATE ignores flags above bit 0.
+    pub ignores_data_flags: bool,
+    /// DATA_CREATE requires that the RIPAS is RAM.
+    pub data_needs_ram: bool,
+    /// `top` of a live entry is the address at which the entry begins.
+    pub aligns_live_top: bool,
+    /// A PSCI exit shows the function and the target alone.
+    pub shows_target_alone: bool,
+    /// Bits 9:8 of a descriptor are the host's to choose, but for 0b01.
+    pub takes_shareability: bool,
+    /// Fields of RmiRealmParams above those of feature register 0 are refused.
+    pub checks_params: bool,
+    /// REC_ENTER checks gicv3_hcr and gicv3_lrs.
+    pub checks_gic: bool,
+}
+
+impl Settings {
+    /// The defaults, with the first granule at 0x8000_0000.
+    pub const DEFAULT: Settings = Settings {
+        base: 0x8000_0000,
+        secure_base: 0,
+        secure_count: 0,
+        aux: 2,
+        vmid_bits: 16,
+        s2sz: 48,
+        max_recs_order: 4,
+        block_level: 2,
+        bps: 0,
+        wps: 0,
+        lrs: 0,
+        layout: Layout::Rel0,
+        stops_at_destroyed: false,
+        measures_all_recs: false,
+        ignores_data_flags: false,
+        data_needs_ram: false,
+        aligns_live_top: false,
+        shows_target_alone: false,
+        takes_shareability: false,
+        checks_params: false,
+        checks_gic: false,
+    };
+
+    // Whether both addresses are those of granules below 2^47.
+    fn has_addresses(&self) -> bool
+        ensures { result ≡ ranges.has_addresses self.now }
+    {
+        self.base < 0x8000_0000_0000
+            && self.base % 4096 == 0
+            && self.secure_base < 0x8000_0000_0000
+            && self.secure_base % 4096 == 0
+    }
+
+    // Whether the sizes are ones that a monitor can have.
+    fn has_sizes(&self) -> bool
+        ensures { result ≡ ranges.has_sizes self.now }
+    {
+        self.aux <= 16
+            && (self.vmid_bits == 8 || self.vmid_bits == 16)
+            && 32 <= self.s2sz
+            && self.s2sz <= 48
+            && self.max_recs_order <= 15
+            && (self.block_level == 1 || self.block_level == 2)
+    }
+
+    // Whether the fields fit feature register 0 in its layout.
+    fn has_fields(&self) -> bool
+        ensures { result ≡ ranges.has_fields self.now }
+    {
+        let most = match self.layout {
+            Layout::Rel0 => 63,
+            Layout::Eac5 => 15,
+        };
+        self.bps <= most && self.wps <= most && self.lrs <= 15
+    }
+}
+
+/// Settings that are in range.
+#[derive(Clone, Copy, Debug, PartialEq, Eq)]
+pub struct Platform {
+    settings: Settings,
+}
+
+impl Model for Platform {
+    ghost use Rattle.rmi_abi.specs.declared.settings.Settings.{Settings};
+    ghost use Rattle.rmi_abi.specs.Settings.{IsPlatform};
+
+    ghost Value = { Settings };
+
+    ghost view = { λ p. p.settings };
+
+    ghost invariant = { λ p. IsPlatform p.settings };
+
+    ghost inverse = { λ s. record { settings = s } };
+}
+
+impl Platform {
+    /// The platform of settings; `None` comes for a setting out of its range.
+    pub fn new(settings: Settings) -> Option<Platform>
+        ensures { result ≡ (if ranges.is_platform settings then Some settings else None) }
+    {
+        if settings.has_addresses() && settings.has_sizes() && settings.has_fields() {
+            Some(Platform { settings })
+        } else {
+            None
+        }
+    }
+
+    pub fn settings(&self) -> &Settings
+        ensures value { result.now ≡ self.now }
+        ensures ranges { ranges.IsPlatform result.now }
+    {
+        &self.settings
+    }
+}

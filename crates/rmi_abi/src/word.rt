@@ -1,0 +1,52 @@
+//! Result words.
+ghost use Rattle.std.specs.Prelude.{◌≡◌};
+ghost use Rattle.rmi_abi.specs.Word as words;
+
+/// A result word: a status, and for two of them an index. RMM 1.0, RmiCommandReturnCode.
+#[derive(Clone, Copy, Debug, PartialEq, Eq)]
+pub enum Word {
+    Success,
+    ErrorInput,
+    ErrorRealm(u8),
+    ErrorRec,
+    ErrorRtt(u8),
+}
+
+impl Word {
+    /// The word as X0 has it: the status in bits 7:0, the index in bits 15:8.
+    pub fn number(self) -> u64
+        ensures { result ≡ words.number self }
+    {
+        match self {
+            Word::Success => 0,
+            Word::ErrorInput => 1,
+            Word::ErrorRealm(index) => 2 + 256 * index as u64,
+            Word::ErrorRec => 3,
+            Word::ErrorRtt(index) => 4 + 256 * index as u64,
+        }
+    }
+
+    /// The word that X0 is read as; `None` comes for a number that is no word.
+    pub fn from_number(number: u64) -> Option<Word>
+        ensures { result ≡ words.word_of number }
+    {
+        if number >= 0x1_0000 {
+            return None;
+        }
+        let index = (number / 256) as u8;
+        match number % 256 {
+            0 if index == 0 => Some(Word::Success),
+            1 if index == 0 => Some(Word::ErrorInput),
+            2 => Some(Word::ErrorRealm(index)),
+            3 if index == 0 => Some(Word::ErrorRec),
+            4 => Some(Word::ErrorRtt(index)),
+            _ => None,
+        }
+    }
+
+    pub fn is_success(self) -> bool
+        ensures { result ≡ words.is_success self }
+    {
+        matches!(self, Word::Success)
+    }
+}

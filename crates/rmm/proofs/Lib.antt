@@ -1,0 +1,9 @@
+pub mod Checks
+pub mod Delegated
+pub mod LiveTables
+pub mod NewRealms
+pub mod Pages
+pub mod StartCounts
+pub mod Starts
+pub mod Steps
+pub mod Widths

@@ -1,0 +1,173 @@
+//! RMI_DATA_CREATE_UNKNOWN and RMI_DATA_DESTROY.
+ghost use Rattle.std.specs.Prelude.{◌≡◌, ◌^◌, ◌<◌, [], is_some, IfOk, Some};
+ghost use Rattle.rmm_model.specs.Check.{outcome, first_failing, refusal_in, error_rtt_top as with_top};
+ghost use Rattle.rmm_model.specs.Machine.{granule_count};
+ghost use Rattle.rmm_model.specs.Walk.{memory_below, top as next_live};
+ghost use Rattle.rmm_model.specs.Command.Operand as operands;
+ghost use Rattle.rmm_model.specs.Command.DataCreateUnknown as creating;
+ghost use Rattle.rmm_model.specs.Command.DataDestroy as destroying;
+ghost use Rattle.rmm.specs.Found.{IsPageVacancy, IsMapped};
+
+use crate::granule::blank;
+use crate::operand::{Names, check_entry, check_page, delegated, error_rtt_top, realm_of};
+use crate::walking::{memory_below, read, top, walk, write};
+use granule_addr::Gran;
+use page_arena::PageStore;
+use rmi_abi::{Answer, Word};
+use rmm_granules::Granules;
+use rmm_model::{Condition, Entry, Granule, GranuleState, Refusal, Ripas, RttWalk};
+
+const DATA: Names = Names {
+    align: Condition::DataAlign,
+    bound: Condition::DataBound,
+    state: Condition::DataState,
+};
+
+// A place for a new page: the RD, the page's granule, and the entry.
+#[derive(Clone, Copy)]
+pub struct PageVacancy {
+    pub rd: Gran,
+    pub data: Gran,
+    pub found: RttWalk,
+    pub entry: Entry,
+}
+
+// A page that is mapped, and its entry.
+#[derive(Clone, Copy)]
+pub struct Mapped {
+    pub data: Gran,
+    pub found: RttWalk,
+    pub entry: Entry,
+}
+
+// ---- making
+
+// The place of the page that RMI_DATA_CREATE_UNKNOWN maps, if its operands pass.
+#[tactic(auto, unfolding(rmm_model::specs::Command::DataCreateUnknown::data_create_unknown))]
+fn find_vacancy<S: PageStore>(
+    granules: &Granules<S>,
+    rd: u64,
+    page: u64,
+    ipa: u64,
+) -> Result<PageVacancy, Refusal>
+    ensures refusal { refusal_in result
+        ≡ first_failing (creating.data_create_unknown rd page ipa granules.now).checks }
+    ensures vacancy { IfOk result (IsPageVacancy granules.now rd page ipa) }
+{
+    let data = delegated(granules, page, DATA)?;
+    let owner = realm_of(granules, rd)?;
+    check_page(&owner.realm, ipa)?;
+    let found = walk(granules, &owner.realm, ipa, 3);
+    let entry = read(granules, &found, ipa);
+    check_entry(&found, 3, entry.is_unassigned())?;
+    Ok(PageVacancy {
+        rd: owner.granule,
+        data,
+        found,
+        entry,
+    })
+}
+
+// RMI_DATA_CREATE_UNKNOWN
+#[tactic(auto, unfolding(rmm_model::specs::Command::DataCreateUnknown::data_create_unknown))]
+pub fn data_create_unknown<S: PageStore>(
+    granules: &mut Granules<S>,
+    rd: u64,
+    page: u64,
+    ipa: u64,
+) -> Answer
+    ensures answer { result
+        ≡ (outcome (creating.data_create_unknown rd page ipa granules.old) granules.old).0 }
+    ensures machine { granules.new
+        ≡ (outcome (creating.data_create_unknown rd page ipa granules.old) granules.old).1 }
+{
+    match find_vacancy(granules, rd, page, ipa) {
+        Ok(vacancy) => {
+            let kept = Granule {
+                state: GranuleState::Data,
+                owner: Some(vacancy.rd),
+            };
+            granules.set(vacancy.data, kept);
+            granules.fill(vacancy.data, 0);
+            let entry = Entry::Assigned(vacancy.entry.ripas(), page);
+            write(granules, &vacancy.found, ipa, entry);
+            Answer::only(Word::Success)
+        }
+        Err(refusal) => refusal.answer,
+    }
+}
+
+// ---- removing
+
+// The RIPAS that is left where memory of a RIPAS was.
+fn left_ripas(ripas: Ripas) -> Ripas
+    ensures { result ≡ destroying.left_ripas ripas }
+{
+    match ripas {
+        Ripas::Empty => Ripas::Empty,
+        _ => Ripas::Destroyed,
+    }
+}
+
+// Passes a walk that reached level 3, to an entry that leads to a page.
+fn check_mapped<S: PageStore>(
+    granules: &Granules<S>,
+    found: &RttWalk,
+    entry: Entry,
+    ipa: u64,
+) -> Result<Gran, Refusal>
+    requires inside { found.now.table < granule_count granules.now }
+    requires low { ipa < 2 ^ 48 }
+    ensures refusal { refusal_in result
+        ≡ first_failing (operands.entry_checks [] found.now 3 (is_some (memory_below granules.now entry))
+        (with_top (next_live granules.now found.now ipa))) }
+    ensures page { IfOk result (λ page. memory_below granules.now entry ≡ Some page) }
+    ensures below { IfOk result (λ page. page < granule_count granules.now) }
+{
+    let next = top(granules, found, ipa);
+    if found.level != 3 {
+        return Err(error_rtt_top(Condition::RttWalk, found.level, next));
+    }
+    match memory_below(granules, entry) {
+        Some(page) => Ok(page),
+        None => Err(error_rtt_top(Condition::RtteState, found.level, next)),
+    }
+}
+
+// The page that RMI_DATA_DESTROY removes, if its operands pass.
+#[tactic(auto, unfolding(rmm_model::specs::Command::DataDestroy::data_destroy))]
+fn find_mapped<S: PageStore>(granules: &Granules<S>, rd: u64, ipa: u64) -> Result<Mapped, Refusal>
+    ensures refusal { refusal_in result
+        ≡ first_failing (destroying.data_destroy rd ipa granules.now).checks }
+    ensures mapped { IfOk result (IsMapped granules.now rd ipa) }
+{
+    let owner = realm_of(granules, rd)?;
+    check_page(&owner.realm, ipa)?;
+    let found = walk(granules, &owner.realm, ipa, 3);
+    let entry = read(granules, &found, ipa);
+    let data = check_mapped(granules, &found, entry, ipa)?;
+    Ok(Mapped { data, found, entry })
+}
+
+// RMI_DATA_DESTROY
+#[tactic(auto, unfolding(rmm_model::specs::Command::DataDestroy::data_destroy))]
+pub fn data_destroy<S: PageStore>(granules: &mut Granules<S>, rd: u64, ipa: u64) -> Answer
+    ensures answer { result
+        ≡ (outcome (destroying.data_destroy rd ipa granules.old) granules.old).0 }
+    ensures machine { granules.new
+        ≡ (outcome (destroying.data_destroy rd ipa granules.old) granules.old).1 }
+{
+    match find_mapped(granules, rd, ipa) {
+        Ok(mapped) => {
+            let left = Entry::Unassigned(left_ripas(mapped.entry.ripas()));
+            write(granules, &mapped.found, ipa, left);
+            blank(granules, mapped.data, GranuleState::Delegated);
+            Answer {
+                x1: mapped.entry.descriptor(),
+                x2: top(granules, &mapped.found, ipa),
+                ..Answer::only(Word::Success)
+            }
+        }
+        Err(refusal) => refusal.answer,
+    }
+}

@@ -1,0 +1,78 @@
+//! RMI_GRANULE_DELEGATE and RMI_GRANULE_UNDELEGATE.
+ghost use Rattle.std.specs.Prelude.{◌≡◌, ◌<◌, ◌++◌, ◌∷◌, [], not, None, IfOk};
+ghost use Rattle.rmm_model.specs.Check.{outcome, first_failing, refusal_in};
+ghost use Rattle.rmm_model.specs.Granule.{realm_of};
+ghost use Rattle.rmm_model.specs.Machine.{granule_count, number_of, with_blank};
+ghost use Rattle.rmm_model.specs.Command.GranuleDelegate.{granule_delegate as delegating};
+ghost use Rattle.rmm_model.specs.Command.GranuleUndelegate.{granule_undelegate as undelegating};
+
+use crate::operand::{Names, delegated, named};
+use granule_addr::Gran;
+use page_arena::PageStore;
+use rmi_abi::{Answer, Word};
+use rmm_granules::Granules;
+use rmm_model::{Condition, Granule, GranuleState, Refusal, error_input};
+
+const GRANULE: Names = Names {
+    align: Condition::GranAlign,
+    bound: Condition::GranBound,
+    state: Condition::GranState,
+};
+
+// A granule becomes one of no realm, and its page is zero.
+pub fn blank<S: PageStore>(granules: &mut Granules<S>, granule: Gran, state: GranuleState)
+    requires inside { granule < granule_count granules.old }
+    requires plain { realm_of state ≡ None }
+    ensures { granules.new ≡ with_blank granules.old granule state }
+{
+    granules.set(granule, Granule { state, owner: None });
+    granules.fill(granule, 0);
+}
+
+// The granule that RMI_GRANULE_DELEGATE delegates, if it passes.
+#[tactic(auto, unfolding(rmm_model::specs::Command::GranuleDelegate::granule_delegate))]
+fn find_undelegated<S: PageStore>(granules: &Granules<S>, address: u64) -> Result<Gran, Refusal>
+    ensures refusal { refusal_in result
+        ≡ first_failing (delegating address granules.now).checks }
+    ensures number { IfOk result (λ granule. granule ≡ number_of granules.now address) }
+    ensures inside { IfOk result (λ granule. granule < granule_count granules.now) }
+{
+    let granule = named(granules, address, GRANULE)?;
+    if !granules.is_undelegated(granule) {
+        return Err(error_input(Condition::GranState));
+    }
+    if granules.is_secure(address) {
+        return Err(error_input(Condition::GranGpt));
+    }
+    Ok(granule)
+}
+
+// RMI_GRANULE_DELEGATE
+#[tactic(auto, unfolding(rmm_model::specs::Command::GranuleDelegate::granule_delegate))]
+pub fn granule_delegate<S: PageStore>(granules: &mut Granules<S>, address: u64) -> Answer
+    ensures answer { result ≡ (outcome (delegating address granules.old) granules.old).0 }
+    ensures machine { granules.new ≡ (outcome (delegating address granules.old) granules.old).1 }
+{
+    match find_undelegated(granules, address) {
+        Ok(granule) => {
+            blank(granules, granule, GranuleState::Delegated);
+            Answer::only(Word::Success)
+        }
+        Err(refusal) => refusal.answer,
+    }
+}
+
+// RMI_GRANULE_UNDELEGATE
+#[tactic(auto, unfolding(rmm_model::specs::Command::GranuleUndelegate::granule_undelegate))]
+pub fn granule_undelegate<S: PageStore>(granules: &mut Granules<S>, address: u64) -> Answer
+    ensures answer { result ≡ (outcome (undelegating address granules.old) granules.old).0 }
+    ensures machine { granules.new ≡ (outcome (undelegating address granules.old) granules.old).1 }
+{
+    match delegated(granules, address, GRANULE) {
+        Ok(granule) => {
+            blank(granules, granule, GranuleState::Undelegated);
+            Answer::only(Word::Success)
+        }
+        Err(refusal) => refusal.answer,
+    }
+}

@@ -1,0 +1,72 @@
+//! Loads and stores of the host.
+ghost use Rattle.std.specs.Prelude.{◌≡◌, ◌<◌, is_some, IfSome};
+ghost use Rattle.rmm_model.specs.Machine.{granule_count, number_of};
+ghost use Rattle.rmm_model.specs.Host as hosts;
+
+use granule_addr::Gran;
+use page_arena::{PageStore, word_in};
+use rmm_granules::Granules;
+
+// The granule of a page of the host that an address lies in.
+fn host_granule<S: PageStore>(granules: &Granules<S>, address: u64) -> Option<Gran>
+    ensures is { is_some result ≡ hosts.is_host_page granules.now address }
+    ensures number { IfSome result (λ granule. granule ≡ number_of granules.now address) }
+    ensures inside { IfSome result (λ granule. granule < granule_count granules.now) }
+{
+    if !granules.is_inside(address) {
+        return None;
+    }
+    let granule = granules.number_of(address);
+    if granules.is_undelegated(granule) && !granules.is_secure(address) {
+        Some(granule)
+    } else {
+        None
+    }
+}
+
+// Loads the eight bytes at an address; `None` comes where the host may not.
+pub fn load<S: PageStore>(granules: &Granules<S>, address: u64) -> Option<u64>
+    ensures { result ≡ hosts.loaded granules.now address }
+{
+    if address % 8 != 0 {
+        return None;
+    }
+    match host_granule(granules, address) {
+        Some(granule) => Some(word_in(granules.page(granule), (address % 4096 / 8) as usize)),
+        None => None,
+    }
+}
+
+// Stores eight bytes at an address; `false`, with nothing changed, comes where the host may not.
+pub fn store<S: PageStore>(granules: &mut Granules<S>, address: u64, word: u64) -> bool
+    ensures answer { result ≡ hosts.can_access granules.old address }
+    ensures machine { granules.new ≡ hosts.after_store granules.old address word }
+{
+    if address % 8 != 0 {
+        return false;
+    }
+    match host_granule(granules, address) {
+        Some(granule) => {
+            granules.set_word(granule, (address % 4096 / 8) as u16, word);
+            true
+        }
+        None => false,
+    }
+}
+
+// Fills the page at an address; `false`, with nothing changed, comes where the host may not.
+pub fn fill<S: PageStore>(granules: &mut Granules<S>, address: u64, value: u8) -> bool
+    ensures answer { result ≡ hosts.can_fill granules.old address }
+    ensures machine { granules.new ≡ hosts.after_fill granules.old address value }
+{
+    if address % 4096 != 0 {
+        return false;
+    }
+    match host_granule(granules, address) {
+        Some(granule) => {
+            granules.fill(granule, value);
+            true
+        }
+        None => false,
+    }
+}

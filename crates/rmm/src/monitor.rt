@@ -1,0 +1,133 @@
+//! The monitor, and its one call.
+ghost use Rattle.std.specs.Prelude.{◌≡◌};
+ghost use Rattle.rmm_model.specs.Call.{rmi, performed};
+ghost use Rattle.rmm_model.specs.Host.{can_access, can_fill, loaded, after_store, after_fill};
+
+use crate::data::{data_create_unknown, data_destroy};
+use crate::fold::rtt_fold;
+use crate::granule::{granule_delegate, granule_undelegate};
+use crate::host::{fill, load, store};
+use crate::information::{features, rec_aux_count, version};
+use crate::read_entry::rtt_read_entry;
+use crate::realm::realm_activate;
+use crate::realm_create::realm_create;
+use crate::realm_destroy::realm_destroy;
+use crate::rtt_create::rtt_create;
+use crate::rtt_destroy::rtt_destroy;
+use crate::unprotected::{rtt_map_unprotected, rtt_unmap_unprotected};
+use page_arena::PageStore;
+use rmi_abi::{Answer, Call, Registers, answer_registers, decode_call, unknown_registers};
+use rmm_granules::Granules;
+use std::marker::Model;
+
+/// A monitor of a platform over a store of pages. It is seen as its machine.
+#[derive(Drop)]
+pub struct Rmm<S: PageStore> {
+    granules: Granules<S>,
+}
+
+impl<S: PageStore> Model for Rmm<S> {
+    ghost use Rattle.rmm_model.specs.Machine.{Machine};
+    ghost use Rattle.rmm_model.specs.Codes.{machine_code};
+
+    ghost Value = { Machine };
+
+    ghost coded = { machine_code };
+
+    ghost view = { λ rmm. rmm.granules };
+}
+
+impl<S: PageStore> Rmm<S> {
+    /// A monitor of granules.
+    pub fn over(granules: Granules<S>) -> Rmm<S>
+        ensures { result ≡ granules }
+    {
+        Rmm { granules }
+    }
+
+    /// The granules of a monitor.
+    pub fn into_granules(self) -> Granules<S>
+        ensures { result ≡ self }
+    {
+        self.granules
+    }
+
+    /// Loads the eight bytes at an address; `None` comes where the host faults: it has UNDELEGATED granules alone.
+    pub fn load(&self, address: u64) -> Option<u64>
+        ensures { result ≡ loaded self.now address }
+    {
+        load(&self.granules, address)
+    }
+
+    /// Stores eight bytes at an address; `false`, with nothing changed, comes where the host faults.
+    pub fn store(&mut self, address: u64, word: u64) -> bool
+        ensures answer { result ≡ can_access self.old address }
+        ensures machine { self.new ≡ after_store self.old address word }
+    {
+        store(&mut self.granules, address, word)
+    }
+
+    /// Writes one value to each byte of the page at an address; `false`, with nothing changed, comes where the host
+    /// faults.
+    pub fn fill(&mut self, address: u64, value: u8) -> bool
+        ensures answer { result ≡ can_fill self.old address }
+        ensures machine { self.new ≡ after_fill self.old address value }
+    {
+        fill(&mut self.granules, address, value)
+    }
+
+    /// Does what a call by registers asks, and returns the registers after it.
+    #[tactic(auto, unfolding(rmm_model::specs::Call::rmi))]
+    pub fn smc(&mut self, regs: Registers) -> Registers
+        ensures { (result, self.new) ≡ rmi regs self.old }
+    {
+        match decode_call(regs) {
+            Some(call) => match perform(&mut self.granules, call) {
+                Some(answer) => answer_registers(regs, answer),
+                None => unknown_registers(regs),
+            },
+            None => unknown_registers(regs),
+        }
+    }
+}
+
+// The answer of a call; `None`, with nothing changed, comes for a command that is not here yet.
+#[tactic(auto, unfolding(rmm_model::specs::Call::performed))]
+fn perform<S: PageStore>(granules: &mut Granules<S>, call: Call) -> Option<Answer>
+    ensures answer { result ≡ (performed call granules.old).0 }
+    ensures machine { granules.new ≡ (performed call granules.old).1 }
+{
+    match call {
+        Call::Version { requested } => Some(version(granules, requested)),
+        Call::Features { index } => Some(features(granules, index)),
+        Call::GranuleDelegate { address } => Some(granule_delegate(granules, address)),
+        Call::GranuleUndelegate { address } => Some(granule_undelegate(granules, address)),
+        Call::RealmCreate { rd, params } => Some(realm_create(granules, rd, params)),
+        Call::RealmActivate { rd } => Some(realm_activate(granules, rd)),
+        Call::RecAuxCount { rd } => Some(rec_aux_count(granules, rd)),
+        Call::RttReadEntry { rd, ipa, level } => Some(rtt_read_entry(granules, rd, ipa, level)),
+        Call::RttCreate {
+            rd,
+            rtt,
+            ipa,
+            level,
+        } => Some(rtt_create(granules, rd, rtt, ipa, level)),
+        Call::RttDestroy { rd, ipa, level } => Some(rtt_destroy(granules, rd, ipa, level)),
+        Call::RealmDestroy { rd } => Some(realm_destroy(granules, rd)),
+        Call::RttFold { rd, ipa, level } => Some(rtt_fold(granules, rd, ipa, level)),
+        Call::RttMapUnprotected {
+            rd,
+            ipa,
+            level,
+            descriptor,
+        } => Some(rtt_map_unprotected(granules, rd, ipa, level, descriptor)),
+        Call::RttUnmapUnprotected { rd, ipa, level } => {
+            Some(rtt_unmap_unprotected(granules, rd, ipa, level))
+        }
+        Call::DataCreateUnknown { rd, data, ipa } => {
+            Some(data_create_unknown(granules, rd, data, ipa))
+        }
+        Call::DataDestroy { rd, ipa } => Some(data_destroy(granules, rd, ipa)),
+        _ => None,
+    }
+}

@@ -1,0 +1,251 @@
+//! Operands, and the checks that they have to pass.
+ghost use Rattle.std.specs.Prelude.{◌≡◌, ◌+◌, ◌^◌, ◌<◌, ◌≤◌, ◌++◌, ◌∷◌, [], not, IfOk, OnOk};
+ghost use Rattle.rmm_model.specs.Check.{check, first_failing, refusal_in, error_input, error_rtt, error_rtt_top as with_top};
+ghost use Rattle.rmm_model.specs.Machine.{granule_count, number_of};
+ghost use Rattle.rmm_model.specs.Realm as realms;
+ghost use Rattle.rmm_model.specs.Realm.{IsServed};
+ghost use Rattle.rmm_model.specs.Command.Operand as operands;
+
+use granule_addr::{Gran, MOST_PAGES};
+use page_arena::PageStore;
+use rmi_abi::{Answer, Settings, Word};
+use rmm_granules::Granules;
+use rmm_model::{Condition, Realm, Refusal, RttWalk, entry_size, error_input, error_rtt};
+
+// The names of an operand's conditions: of its alignment, its bound and its state.
+#[derive(Clone, Copy)]
+pub struct Names {
+    pub align: Condition,
+    pub bound: Condition,
+    pub state: Condition,
+}
+
+// An RD, and its realm.
+#[derive(Clone, Copy)]
+pub struct Rd {
+    pub granule: Gran,
+    pub realm: Realm,
+}
+
+pub const RD: Names = Names {
+    align: Condition::RdAlign,
+    bound: Condition::RdBound,
+    state: Condition::RdState,
+};
+
+// ---- granules
+
+// The granule that an address names.
+pub fn named<S: PageStore>(
+    granules: &Granules<S>,
+    address: u64,
+    names: Names,
+) -> Result<Gran, Refusal>
+    ensures refusal { refusal_in result
+        ≡ first_failing (operands.address_checks names.align names.bound granules.now address) }
+    ensures number { IfOk result (λ granule. granule ≡ number_of granules.now address) }
+    ensures inside { IfOk result (λ granule. granule < granule_count granules.now) }
+{
+    if address % 4096 != 0 {
+        return Err(error_input(names.align));
+    }
+    if !granules.is_inside(address) {
+        return Err(error_input(names.bound));
+    }
+    Ok(granules.number_of(address))
+}
+
+// The granule of a page of the host that an address names.
+pub fn host_page<S: PageStore>(
+    granules: &Granules<S>,
+    address: u64,
+    names: Names,
+) -> Result<Gran, Refusal>
+    ensures refusal { refusal_in result
+        ≡ first_failing (operands.host_checks names.align names.bound names.state granules.now address) }
+    ensures number { IfOk result (λ granule. granule ≡ number_of granules.now address) }
+    ensures inside { IfOk result (λ granule. granule < granule_count granules.now) }
+{
+    let granule = named(granules, address, names)?;
+    if granules.is_undelegated(granule) && !granules.is_secure(address) {
+        Ok(granule)
+    } else {
+        Err(error_input(names.state))
+    }
+}
+
+// The DELEGATED granule that an address names.
+pub fn delegated<S: PageStore>(
+    granules: &Granules<S>,
+    address: u64,
+    names: Names,
+) -> Result<Gran, Refusal>
+    ensures refusal { refusal_in result
+        ≡ first_failing (operands.delegated_checks names.align names.bound names.state granules.now address) }
+    ensures number { IfOk result (λ granule. granule ≡ number_of granules.now address) }
+    ensures inside { IfOk result (λ granule. granule < granule_count granules.now) }
+{
+    let granule = named(granules, address, names)?;
+    if granules.is_delegated(granule) {
+        Ok(granule)
+    } else {
+        Err(error_input(names.state))
+    }
+}
+
+// The RD that an address names, with its realm.
+pub fn realm_of<S: PageStore>(granules: &Granules<S>, address: u64) -> Result<Rd, Refusal>
+    ensures refusal { refusal_in result ≡ first_failing (operands.rd_checks granules.now address) }
+    ensures number { IfOk result (λ rd. rd.granule ≡ number_of granules.now address) }
+    ensures inside { IfOk result (λ rd. rd.granule < granule_count granules.now) }
+    ensures realm { IfOk result (λ rd. rd.realm ≡ operands.realm_at granules.now address) }
+    ensures served { IfOk result (λ rd. IsServed (granule_count granules.now) rd.realm) }
+{
+    let granule = named(granules, address, RD)?;
+    match granules.realm(granule) {
+        Some(realm) => Ok(Rd { granule, realm }),
+        None => Err(error_input(RD.state)),
+    }
+}
+
+// The granule that many after another.
+pub fn granule_after(first: Gran, k: u16) -> Gran
+    requires { first + k < 4096 }
+    ensures { result ≡ first + k }
+{
+    Gran::new(first.number() + k, MOST_PAGES).unwrap()
+}
+
+// Starting table k of a realm.
+pub fn start_table<S: PageStore>(granules: &Granules<S>, realm: &Realm, k: u8) -> Gran
+    requires served { IsServed (granule_count granules.now) realm.now }
+    requires below { k < realm.now.table_count }
+    ensures value { result ≡ realm.now.first_table + k }
+    ensures inside { result < granule_count granules.now }
+{
+    granule_after(realm.first_table, k as u16)
+}
+
+// ---- addresses of a realm
+
+// Whether an address is one of a realm.
+fn is_in_space(realm: &Realm, ipa: u64) -> bool
+    requires { realm.now.s2sz ≤ 48 }
+    ensures { result ≡ realms.is_in_space realm.now ipa }
+{
+    ipa < 1 << realm.s2sz
+}
+
+// Whether an address is in the lower half of the address space of a realm.
+pub fn is_protected(realm: &Realm, ipa: u64) -> bool
+    requires { realm.now.s2sz ≤ 48 }
+    ensures { result ≡ realms.is_protected realm.now ipa }
+{
+    ipa < 1 << realm.s2sz.saturating_sub(1)
+}
+
+// Passes a level that is at least `least`, and an address where an entry of the level that many above it begins.
+pub fn check_ipa(realm: &Realm, least: u8, level: u64, above: u8, ipa: u64) -> Result<u8, Refusal>
+    requires above { above ≤ least }
+    requires width { realm.now.s2sz ≤ 48 }
+    ensures refusal { refusal_in result
+        ≡ first_failing (operands.ipa_checks realm.now least level above ipa) }
+    ensures level { IfOk result (λ found. found ≡ level) }
+    ensures least { IfOk result (λ found. least ≤ found) }
+    ensures most { IfOk result (λ found. found ≤ 3) }
+    ensures in_space { OnOk result (ipa < 2 ^ realm.now.s2sz) }
+    ensures low { OnOk result (ipa < 2 ^ 48) }
+{
+    if level < least as u64 || level > 3 {
+        return Err(error_input(Condition::LevelBound));
+    }
+    let found = level as u8;
+    if ipa % entry_size(found - above) != 0 {
+        return Err(error_input(Condition::IpaAlign));
+    }
+    if !is_in_space(realm, ipa) {
+        return Err(error_input(Condition::IpaBound));
+    }
+    Ok(found)
+}
+
+// Passes an address of a realm's protected half where a page begins.
+pub fn check_page(realm: &Realm, ipa: u64) -> Result<(), Refusal>
+    requires { realm.now.s2sz ≤ 48 }
+    ensures refusal { refusal_in result ≡ first_failing (operands.page_checks realm.now ipa) }
+    ensures in_space { OnOk result (ipa < 2 ^ realm.now.s2sz) }
+    ensures low { OnOk result (ipa < 2 ^ 48) }
+{
+    if ipa % 4096 != 0 {
+        return Err(error_input(Condition::IpaAlign));
+    }
+    if !is_protected(realm, ipa) {
+        return Err(error_input(Condition::IpaBound));
+    }
+    Ok(())
+}
+
+// Whether an address is in the upper half of the address space of a realm.
+fn is_unprotected(realm: &Realm, ipa: u64) -> bool
+    requires { realm.now.s2sz ≤ 48 }
+    ensures { result ≡ realms.is_unprotected realm.now ipa }
+{
+    !is_protected(realm, ipa) && is_in_space(realm, ipa)
+}
+
+// Passes a level at which there are pages or blocks, and an address of a realm's unprotected half where an entry of the
+// level begins.
+pub fn check_unprotected(
+    settings: &Settings,
+    realm: &Realm,
+    level: u64,
+    ipa: u64,
+) -> Result<u8, Refusal>
+    requires { realm.now.s2sz ≤ 48 }
+    ensures refusal { refusal_in result
+        ≡ first_failing (operands.unprotected_checks settings.now realm.now level ipa) }
+    ensures level { IfOk result (λ found. found ≡ level) }
+    ensures in_space { OnOk result (ipa < 2 ^ realm.now.s2sz) }
+    ensures low { OnOk result (ipa < 2 ^ 48) }
+{
+    if level < settings.block_level as u64 || level < realm.start_level as u64 || level > 3 {
+        return Err(error_input(Condition::LevelBound));
+    }
+    let found = level as u8;
+    if ipa % entry_size(found) != 0 {
+        return Err(error_input(Condition::IpaAlign));
+    }
+    if !is_unprotected(realm, ipa) {
+        return Err(error_input(Condition::IpaBound));
+    }
+    Ok(found)
+}
+
+// ---- walks
+
+// RMI_ERROR_RTT by a condition, with the level of a table and the next live entry.
+pub fn error_rtt_top(condition: Condition, level: u8, top: u64) -> Refusal
+    ensures { result ≡ record { condition = condition; answer = with_top top level } }
+{
+    Refusal {
+        condition,
+        answer: Answer {
+            x2: top,
+            ..Answer::only(Word::ErrorRtt(level))
+        },
+    }
+}
+
+// Passes a walk that reached a level, to an entry that is as it has to be.
+pub fn check_entry(found: &RttWalk, level: u8, fits: bool) -> Result<(), Refusal>
+    ensures { refusal_in result
+        ≡ first_failing (operands.entry_checks [] found.now level fits error_rtt) }
+{
+    if found.level != level {
+        return Err(error_rtt(Condition::RttWalk, found.level));
+    }
+    if !fits {
+        return Err(error_rtt(Condition::RtteState, found.level));
+    }
+    Ok(())
+}

@@ -1,0 +1,70 @@
+//! RMI_REALM_ACTIVATE.
+ghost use Rattle.std.specs.Prelude.{◌≡◌, ◌<◌, IfOk};
+ghost use Rattle.rmm_model.specs.Check.{outcome, first_failing, refusal_in, error_realm};
+ghost use Rattle.rmm_model.specs.Machine.{granule_count, number_of};
+ghost use Rattle.rmm_model.specs.Realm.{is_new, IsServed};
+ghost use Rattle.rmm_model.specs.Command.Operand.{realm_at};
+ghost use Rattle.rmm_model.specs.Command.RealmActivate.{realm_activate as activating};
+
+use crate::operand::{Rd, realm_of};
+use page_arena::PageStore;
+use rmi_abi::{Answer, Word};
+use rmm_granules::Granules;
+use rmm_model::{Condition, Granule, GranuleState, Realm, RealmState, Refusal};
+
+// Whether a realm is NEW.
+pub fn is_new(realm: &Realm) -> bool
+    ensures { result ≡ is_new realm.now.state }
+{
+    matches!(realm.state, RealmState::New)
+}
+
+// RMI_ERROR_REALM by a condition.
+pub fn error_realm(condition: Condition) -> Refusal
+    ensures { result ≡ record { condition = condition; answer = error_realm } }
+{
+    Refusal {
+        condition,
+        answer: Answer::only(Word::ErrorRealm(0)),
+    }
+}
+
+// The NEW realm that RMI_REALM_ACTIVATE activates, if it passes.
+#[tactic(auto, unfolding(rmm_model::specs::Command::RealmActivate::realm_activate))]
+fn find_new<S: PageStore>(granules: &Granules<S>, rd: u64) -> Result<Rd, Refusal>
+    ensures refusal { refusal_in result ≡ first_failing (activating rd granules.now).checks }
+    ensures number { IfOk result (λ found. found.granule ≡ number_of granules.now rd) }
+    ensures inside { IfOk result (λ found. found.granule < granule_count granules.now) }
+    ensures realm { IfOk result (λ found. found.realm ≡ realm_at granules.now rd) }
+    ensures served { IfOk result (λ found. IsServed (granule_count granules.now) found.realm) }
+{
+    let found = realm_of(granules, rd)?;
+    if is_new(&found.realm) {
+        Ok(found)
+    } else {
+        Err(error_realm(Condition::RealmState))
+    }
+}
+
+// RMI_REALM_ACTIVATE
+#[tactic(auto, unfolding(rmm_model::specs::Command::RealmActivate::realm_activate))]
+pub fn realm_activate<S: PageStore>(granules: &mut Granules<S>, rd: u64) -> Answer
+    ensures answer { result ≡ (outcome (activating rd granules.old) granules.old).0 }
+    ensures machine { granules.new ≡ (outcome (activating rd granules.old) granules.old).1 }
+{
+    match find_new(granules, rd) {
+        Ok(found) => {
+            let realm = Realm {
+                state: RealmState::Active,
+                ..found.realm
+            };
+            let kept = Granule {
+                state: GranuleState::Rd(realm),
+                owner: None,
+            };
+            granules.set(found.granule, kept);
+            Answer::only(Word::Success)
+        }
+        Err(refusal) => refusal.answer,
+    }
+}

@@ -1,0 +1,302 @@
+//! RMI_REALM_CREATE.
+ghost use Rattle.std.specs.Prelude.{◌≡◌, ◌+◌, ◌<◌, ◌≤◌, true, IfOk, OnOk};
+ghost use Rattle.rmm_model.specs.declared.condition.Condition.TheVariants.{ParamsAlign, ParamsBound, ParamsPas};
+ghost use Rattle.rmm_model.specs.Check.{outcome, first_failing, refusal_in};
+ghost use Rattle.rmm_model.specs.Machine.{granule_count, number_of, with_page};
+ghost use Rattle.rmm_model.specs.Realm.{is_start, IsServed};
+ghost use Rattle.rmm_model.specs.Command.Operand.{host_checks};
+ghost use Rattle.rmm_model.specs.Command.RealmCreate as command;
+ghost use Rattle.rmm.specs.Found.{IsNewRealm};
+
+use crate::operand::{Names, RD, delegated, granule_after, host_page, is_protected, start_table};
+use granule_addr::Gran;
+use page_arena::PageStore;
+use rmi_abi::{Answer, RealmParams, Settings, Word};
+use rmm_granules::Granules;
+use rmm_model::{
+    Condition, Entry, Granule, GranuleState, HashAlgorithm, Realm, RealmState, Refusal, Ripas,
+    entry_size, error_input, start_count,
+};
+
+const PARAMS: Names = Names {
+    align: Condition::ParamsAlign,
+    bound: Condition::ParamsBound,
+    state: Condition::ParamsPas,
+};
+
+// A realm that can be made, and the granule that becomes its RD.
+#[derive(Clone, Copy)]
+pub struct NewRealm {
+    pub rd: Gran,
+    pub realm: Realm,
+}
+
+// ---- parameters
+
+// The parameters at an address, if their page is the host's.
+#[tactic(auto, unfolding(rmm_model::specs::Command::RealmCreate::params_at))]
+fn read_params<S: PageStore>(granules: &Granules<S>, params: u64) -> Result<RealmParams, Refusal>
+    ensures refusal { refusal_in result
+        ≡ first_failing (host_checks ParamsAlign ParamsBound ParamsPas granules.now params) }
+    ensures value { IfOk result (λ p. p ≡ command.params_at granules.now params) }
+{
+    let source = host_page(granules, params, PARAMS)?;
+    Ok(RealmParams::read(granules.page(source)))
+}
+
+// Whether breakpoints, watchpoints and vectors are at most those of feature register 0.
+fn fits_features(settings: &Settings, p: &RealmParams) -> bool
+    ensures { result ≡ command.fits_features settings.now p.now }
+{
+    p.num_bps <= settings.bps && p.num_wps <= settings.wps && p.sve_vl == 0
+}
+
+// Whether no flag is set, and the width is one that the monitor supports; the fields too, where they are checked.
+fn is_supported(settings: &Settings, p: &RealmParams) -> bool
+    ensures { result ≡ command.is_supported settings.now p.now }
+{
+    p.flags == 0
+        && 32 <= p.s2sz
+        && p.s2sz <= settings.s2sz
+        && (!settings.checks_params || fits_features(settings, p))
+}
+
+// Whether the starting level and the number of starting tables serve the width.
+#[tactic(auto, unfolding(rmm_model::specs::Realm::is_start))]
+fn is_start(s2sz: u8, level: u64, count: u32) -> bool
+    requires { s2sz ≤ 48 }
+    ensures { result ≡ is_start s2sz level count }
+{
+    if level > 3 {
+        return false;
+    }
+    entry_size(level as u8) < 1 << s2sz
+        && count <= 16
+        && count as u64 == start_count(s2sz, level as u8)
+}
+
+// Whether an address is that of a starting table.
+fn is_start_table(p: &RealmParams, rd: u64) -> bool
+    ensures { result ≡ command.is_start_table p.now rd }
+{
+    p.rtt_base <= rd
+        && rd - p.rtt_base < p.rtt_num_start as u64 * 4096
+        && (rd - p.rtt_base) % 4096 == 0
+}
+
+// Passes parameters of a realm that there can be, whose RD is none of its starting tables.
+#[tactic(auto, unfolding(rmm_model::specs::Command::RealmCreate::params_checks))]
+fn check_params(settings: &Settings, p: &RealmParams, rd: u64) -> Result<(), Refusal>
+    requires { settings.now.s2sz ≤ 48 }
+    ensures refusal { refusal_in result
+        ≡ first_failing (command.params_checks settings.now p.now rd) }
+    ensures width { OnOk result (p.now.s2sz ≤ 48) }
+    ensures start { OnOk result (is_start p.now.s2sz p.now.rtt_level_start p.now.rtt_num_start ≡ true) }
+{
+    if p.hash_algo > 1 {
+        return Err(error_input(Condition::ParamsValid));
+    }
+    if !is_supported(settings, p) {
+        return Err(error_input(Condition::ParamsSupp));
+    }
+    if !is_start(p.s2sz, p.rtt_level_start, p.rtt_num_start) {
+        return Err(error_input(Condition::RttNumLevel));
+    }
+    if p.rtt_base % (p.rtt_num_start as u64 * 4096) != 0 {
+        return Err(error_input(Condition::RttAlign));
+    }
+    if is_start_table(p, rd) {
+        return Err(error_input(Condition::Alias));
+    }
+    Ok(())
+}
+
+// ---- what the realm takes
+
+// Whether that many granules from an address on are granules of the machine.
+fn is_range_inside<S: PageStore>(granules: &Granules<S>, base: u64, count: u32) -> bool
+    ensures value { result ≡ command.is_range_inside granules.now base count }
+    ensures few { granule_count granules.now ≤ 4096 }
+    ensures fits { result ≡ true → number_of granules.now base + count ≤ granule_count granules.now }
+{
+    let most = granules.count() as u64;
+    granules.is_inside(base) && granules.number_of(base).number() as u64 + count as u64 <= most
+}
+
+// Whether that many granules from one on are all DELEGATED.
+fn are_delegated<S: PageStore>(granules: &Granules<S>, first: Gran, count: u16) -> bool
+    requires inside { first + count ≤ granule_count granules.now }
+    requires few { granule_count granules.now ≤ 4096 }
+    ensures { result ≡ command.are_delegated granules.now first count }
+{
+    for k in 0..count {
+        if !granules.is_delegated(granule_after(first, k)) {
+            return false;
+        }
+    }
+    true
+}
+
+// Whether each starting table is a DELEGATED granule of the machine.
+#[tactic(auto, unfolding(rmm_model::specs::Command::RealmCreate::can_start))]
+fn can_start<S: PageStore>(granules: &Granules<S>, p: &RealmParams) -> bool
+    ensures value { result ≡ command.can_start granules.now p.now }
+    ensures few { granule_count granules.now ≤ 4096 }
+{
+    if !is_range_inside(granules, p.rtt_base, p.rtt_num_start) {
+        return false;
+    }
+    let first = granules.number_of(p.rtt_base);
+    are_delegated(granules, first, p.rtt_num_start as u16)
+}
+
+// Whether the monitor has a VMID, and no realm does.
+#[tactic(auto, unfolding(rmm_model::specs::Command::RealmCreate::is_vmid_valid))]
+fn is_vmid_valid<S: PageStore>(granules: &Granules<S>, vmid: u16) -> bool
+    ensures { result ≡ command.is_vmid_valid granules.now vmid }
+{
+    (vmid as u64) < 1 << granules.settings().vmid_bits && !granules.is_vmid_used(vmid)
+}
+
+// Passes starting tables that can be used, and a VMID that is free.
+fn check_free<S: PageStore>(granules: &Granules<S>, p: &RealmParams) -> Result<(), Refusal>
+    ensures refusal { refusal_in result ≡ first_failing (command.free_checks granules.now p.now) }
+    ensures start { OnOk result (command.can_start granules.now p.now ≡ true) }
+    ensures few { granule_count granules.now ≤ 4096 }
+{
+    if !can_start(granules, p) {
+        return Err(error_input(Condition::RttState));
+    }
+    if !is_vmid_valid(granules, p.vmid) {
+        return Err(error_input(Condition::VmidValid));
+    }
+    Ok(())
+}
+
+// ---- the new realm
+
+// The hash algorithm of a code.
+fn hash_of(code: u8) -> HashAlgorithm
+    ensures { result ≡ command.hash_of code }
+{
+    match code {
+        1 => HashAlgorithm::Sha512,
+        _ => HashAlgorithm::Sha256,
+    }
+}
+
+// The realm that parameters ask for.
+#[tactic(auto, unfolding(rmm_model::specs::Command::RealmCreate::realm_for))]
+fn realm_for<S: PageStore>(granules: &Granules<S>, p: &RealmParams) -> Realm
+    requires width { p.now.s2sz ≤ 48 }
+    requires start { is_start p.now.s2sz p.now.rtt_level_start p.now.rtt_num_start ≡ true }
+    requires free { command.can_start granules.now p.now ≡ true }
+    requires few { granule_count granules.now ≤ 4096 }
+    ensures value { result ≡ command.realm_for granules.now p.now }
+    ensures served { IsServed (granule_count granules.now) result }
+{
+    Realm {
+        state: RealmState::New,
+        hash: hash_of(p.hash_algo),
+        s2sz: p.s2sz,
+        start_level: p.rtt_level_start as u8,
+        first_table: granules.number_of(p.rtt_base),
+        table_count: p.rtt_num_start as u8,
+        vmid: p.vmid,
+        next_rec: 0,
+        rec_count: 0,
+    }
+}
+
+// Entry n of the starting tables of a new realm.
+fn start_entry(realm: &Realm, n: u16) -> Entry
+    requires width { realm.now.s2sz ≤ 48 }
+    requires below { n < 8192 }
+    ensures { result ≡ command.start_entry realm.now n }
+{
+    if is_protected(realm, n as u64 * entry_size(realm.start_level)) {
+        Entry::Unassigned(Ripas::Empty)
+    } else {
+        Entry::UnassignedNs
+    }
+}
+
+// Writes starting table k of a realm.
+fn write_start_page<S: PageStore>(granules: &mut Granules<S>, table: Gran, realm: &Realm, k: u8)
+    requires inside { table < granule_count granules.old }
+    requires width { realm.now.s2sz ≤ 48 }
+    requires below { k < 16 }
+    ensures { granules.new ≡ with_page granules.old table (command.start_page realm.now k) }
+{
+    granules.fill(table, 0);
+    for index in 0..512 {
+        granules.set_word(
+            table,
+            index,
+            start_entry(realm, k as u16 * 512 + index).word(),
+        );
+    }
+}
+
+// Makes the starting tables of a realm.
+fn write_tables<S: PageStore>(granules: &mut Granules<S>, rd: Gran, realm: &Realm)
+    requires { IsServed (granule_count granules.old) realm.now }
+    ensures tables { granules.new
+        ≡ command.with_tables granules.old rd realm.now realm.now.table_count }
+    ensures count { granule_count granules.new ≡ granule_count granules.old }
+{
+    for k in 0..realm.table_count {
+        let table = start_table(granules, realm, k);
+        let kept = Granule {
+            state: GranuleState::Rtt,
+            owner: Some(rd),
+        };
+        granules.set(table, kept);
+        write_start_page(granules, table, realm, k);
+    }
+}
+
+// ---- the command
+
+// The realm that RMI_REALM_CREATE makes, if its operands pass.
+fn find_realm<S: PageStore>(
+    granules: &Granules<S>,
+    rd: u64,
+    params: u64,
+) -> Result<NewRealm, Refusal>
+    ensures refusal { refusal_in result
+        ≡ first_failing (command.realm_create rd params granules.now).checks }
+    ensures found { IfOk result (IsNewRealm granules.now rd params) }
+{
+    let p = read_params(granules, params)?;
+    check_params(granules.settings(), &p, rd)?;
+    let granule = delegated(granules, rd, RD)?;
+    check_free(granules, &p)?;
+    Ok(NewRealm {
+        rd: granule,
+        realm: realm_for(granules, &p),
+    })
+}
+
+// RMI_REALM_CREATE
+#[tactic(auto, unfolding(rmm_model::specs::Command::RealmCreate::realm_create))]
+pub fn realm_create<S: PageStore>(granules: &mut Granules<S>, rd: u64, params: u64) -> Answer
+    ensures answer { result
+        ≡ (outcome (command.realm_create rd params granules.old) granules.old).0 }
+    ensures machine { granules.new
+        ≡ (outcome (command.realm_create rd params granules.old) granules.old).1 }
+{
+    match find_realm(granules, rd, params) {
+        Ok(found) => {
+            write_tables(granules, found.rd, &found.realm);
+            let kept = Granule {
+                state: GranuleState::Rd(found.realm),
+                owner: None,
+            };
+            granules.set(found.rd, kept);
+            granules.set_vmid(found.realm.vmid, true);
+            Answer::only(Word::Success)
+        }
+        Err(refusal) => refusal.answer,
+    }
+}

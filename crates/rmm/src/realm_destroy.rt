@@ -1,0 +1,84 @@
+//! RMI_REALM_DESTROY.
+ghost use Rattle.std.specs.Prelude.{◌≡◌, ◌+◌, ◌<◌, ◌≤◌, IfOk};
+ghost use Rattle.rmm_model.specs.Check.{outcome, first_failing, refusal_in};
+ghost use Rattle.rmm_model.specs.Machine.{granule_count, number_of};
+ghost use Rattle.rmm_model.specs.Realm.{IsServed};
+ghost use Rattle.rmm_model.specs.Command.Operand.{realm_at};
+ghost use Rattle.rmm_model.specs.Command.RealmDestroy as command;
+
+use crate::granule::blank;
+use crate::operand::{Rd, realm_of, start_table};
+use crate::realm::error_realm;
+use granule_addr::Gran;
+use page_arena::PageStore;
+use rmi_abi::{Answer, Word};
+use rmm_granules::Granules;
+use rmm_model::{Condition, GranuleState, Realm, Refusal, has_live};
+
+// Whether a starting table of a realm has a live entry.
+fn has_live_table<S: PageStore>(granules: &Granules<S>, realm: &Realm) -> bool
+    requires { IsServed (granule_count granules.now) realm.now }
+    ensures { result ≡ command.has_live_table granules.now realm.now.first_table realm.now.table_count }
+{
+    for k in 0..realm.table_count {
+        if has_live(granules.page(start_table(granules, realm, k))) {
+            return true;
+        }
+    }
+    false
+}
+
+// Whether a realm has a REC, or a live entry in a starting table.
+#[tactic(auto, unfolding(rmm_model::specs::Command::RealmDestroy::is_realm_live))]
+fn is_realm_live<S: PageStore>(granules: &Granules<S>, realm: &Realm) -> bool
+    requires { IsServed (granule_count granules.now) realm.now }
+    ensures { result ≡ command.is_realm_live granules.now realm.now }
+{
+    realm.rec_count > 0 || has_live_table(granules, realm)
+}
+
+// The realm that RMI_REALM_DESTROY destroys, if it passes.
+#[tactic(auto, unfolding(rmm_model::specs::Command::RealmDestroy::realm_destroy))]
+fn find_unused<S: PageStore>(granules: &Granules<S>, rd: u64) -> Result<Rd, Refusal>
+    ensures refusal { refusal_in result ≡ first_failing (command.realm_destroy rd granules.now).checks }
+    ensures number { IfOk result (λ found. found.granule ≡ number_of granules.now rd) }
+    ensures inside { IfOk result (λ found. found.granule < granule_count granules.now) }
+    ensures realm { IfOk result (λ found. found.realm ≡ realm_at granules.now rd) }
+    ensures served { IfOk result (λ found. IsServed (granule_count granules.now) found.realm) }
+{
+    let found = realm_of(granules, rd)?;
+    if is_realm_live(granules, &found.realm) {
+        Err(error_realm(Condition::RealmLive))
+    } else {
+        Ok(found)
+    }
+}
+
+// The starting tables of a realm become DELEGATED.
+fn remove_tables<S: PageStore>(granules: &mut Granules<S>, realm: &Realm)
+    requires { IsServed (granule_count granules.old) realm.now }
+    ensures tables { granules.new ≡ command.without_tables granules.old realm.now realm.now.table_count }
+    ensures count { granule_count granules.new ≡ granule_count granules.old }
+{
+    for k in 0..realm.table_count {
+        let table = start_table(granules, realm, k);
+        blank(granules, table, GranuleState::Delegated);
+    }
+}
+
+// RMI_REALM_DESTROY
+#[tactic(auto, unfolding(rmm_model::specs::Command::RealmDestroy::realm_destroy))]
+pub fn realm_destroy<S: PageStore>(granules: &mut Granules<S>, rd: u64) -> Answer
+    ensures answer { result ≡ (outcome (command.realm_destroy rd granules.old) granules.old).0 }
+    ensures machine { granules.new ≡ (outcome (command.realm_destroy rd granules.old) granules.old).1 }
+{
+    match find_unused(granules, rd) {
+        Ok(found) => {
+            remove_tables(granules, &found.realm);
+            blank(granules, found.granule, GranuleState::Delegated);
+            granules.set_vmid(found.realm.vmid, false);
+            Answer::only(Word::Success)
+        }
+        Err(refusal) => refusal.answer,
+    }
+}

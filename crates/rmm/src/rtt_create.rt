@@ -1,0 +1,115 @@
+//! RMI_RTT_CREATE.
+ghost use Rattle.std.specs.Prelude.{◌≡◌, ◌^◌, ◌<◌, ◌≤◌, IfOk, None};
+ghost use Rattle.rmm_model.specs.Check.{outcome, first_failing, refusal_in};
+ghost use Rattle.rmm_model.specs.Entry.{descriptor_of, repeated_byte};
+ghost use Rattle.rmm_model.specs.Machine.{granule_count, with_page};
+ghost use Rattle.rmm_model.specs.Table.{children_page};
+ghost use Rattle.rmm_model.specs.Command.RttCreate.{rtt_create as creating};
+ghost use Rattle.rmm.specs.Found.{IsVacancy};
+
+use crate::operand::{Names, check_entry, check_ipa, delegated, realm_of};
+use crate::walking::{read, walk, write};
+use granule_addr::Gran;
+use page_arena::PageStore;
+use rmi_abi::{Answer, Word};
+use rmm_granules::Granules;
+use rmm_model::{Condition, Entry, Granule, GranuleState, Refusal, RttWalk};
+
+const RTT: Names = Names {
+    align: Condition::RttAlign,
+    bound: Condition::RttBound,
+    state: Condition::RttState,
+};
+
+// A place for a new table: the RD, the table, and the entry whose place it takes.
+#[derive(Clone, Copy)]
+pub struct Vacancy {
+    pub rd: Gran,
+    pub table: Gran,
+    pub level: u8,
+    pub found: RttWalk,
+    pub parent: Entry,
+}
+
+// Writes the children of a mapping to a table.
+fn write_mappings<S: PageStore>(granules: &mut Granules<S>, table: Gran, parent: Entry, level: u8)
+    requires inside { table < granule_count granules.old }
+    requires parent { descriptor_of parent < 2 ^ 48 }
+    requires mapping { repeated_byte parent ≡ None }
+    ensures { granules.new ≡ with_page granules.old table (children_page parent level) }
+{
+    granules.fill(table, 0);
+    for index in 0..512 {
+        granules.set_word(table, index, parent.child(level, index).word());
+    }
+}
+
+// Writes the children of an entry to a table. Those of one that is not mapped are one byte throughout.
+#[tactic(auto, unfolding(rmm_model::specs::Table::children_page))]
+fn write_children<S: PageStore>(granules: &mut Granules<S>, table: Gran, parent: Entry, level: u8)
+    requires inside { table < granule_count granules.old }
+    requires parent { descriptor_of parent < 2 ^ 48 }
+    ensures { granules.new ≡ with_page granules.old table (children_page parent level) }
+{
+    match parent.repeated_byte() {
+        Some(byte) => granules.fill(table, byte),
+        None => write_mappings(granules, table, parent, level),
+    }
+}
+
+// The place of the table that RMI_RTT_CREATE makes, if its operands pass.
+#[tactic(auto, unfolding(rmm_model::specs::Command::RttCreate::rtt_create))]
+fn find_vacancy<S: PageStore>(
+    granules: &Granules<S>,
+    rd: u64,
+    rtt: u64,
+    ipa: u64,
+    level: u64,
+) -> Result<Vacancy, Refusal>
+    ensures refusal { refusal_in result
+        ≡ first_failing (creating rd rtt ipa level granules.now).checks }
+    ensures vacancy { IfOk result (IsVacancy granules.now rd rtt ipa level) }
+{
+    let table = delegated(granules, rtt, RTT)?;
+    let owner = realm_of(granules, rd)?;
+    let level = check_ipa(&owner.realm, owner.realm.start_level + 1, level, 1, ipa)?;
+    let found = walk(granules, &owner.realm, ipa, level - 1);
+    let parent = read(granules, &found, ipa);
+    check_entry(&found, level - 1, !parent.is_table())?;
+    Ok(Vacancy {
+        rd: owner.granule,
+        table,
+        level,
+        found,
+        parent,
+    })
+}
+
+// RMI_RTT_CREATE
+#[tactic(auto, unfolding(rmm_model::specs::Command::RttCreate::rtt_create))]
+pub fn rtt_create<S: PageStore>(
+    granules: &mut Granules<S>,
+    rd: u64,
+    rtt: u64,
+    ipa: u64,
+    level: u64,
+) -> Answer
+    ensures answer { result
+        ≡ (outcome (creating rd rtt ipa level granules.old) granules.old).0 }
+    ensures machine { granules.new
+        ≡ (outcome (creating rd rtt ipa level granules.old) granules.old).1 }
+{
+    match find_vacancy(granules, rd, rtt, ipa, level) {
+        Ok(vacancy) => {
+            let kept = Granule {
+                state: GranuleState::Rtt,
+                owner: Some(vacancy.rd),
+            };
+            granules.set(vacancy.table, kept);
+            write_children(granules, vacancy.table, vacancy.parent, vacancy.level);
+            write(granules, &vacancy.found, ipa, Entry::Table(rtt));
+            Answer::only(Word::Success)
+        }
+        Err(refusal) => refusal.answer,
+    }
+}

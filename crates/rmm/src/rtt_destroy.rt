@@ -1,0 +1,110 @@
+//! RMI_RTT_DESTROY.
+ghost use Rattle.std.specs.Prelude.{◌≡◌, ◌-◌, ◌^◌, ◌<◌, ◌≤◌, ◌++◌, ◌∷◌, [], is_some, unwrap_or, IfOk, Some};
+ghost use Rattle.rmm_model.specs.Check.{outcome, first_failing, refusal_in};
+ghost use Rattle.rmm_model.specs.Machine.{granule_count};
+ghost use Rattle.rmm_model.specs.Walk.{table_below, top as next_live};
+ghost use Rattle.rmm_model.specs.Command.RttDestroy.{rtt_destroy as destroying, unused_checks};
+ghost use Rattle.rmm.specs.Found.{IsUnused};
+
+use crate::granule::blank;
+use crate::operand::{check_ipa, error_rtt_top, is_protected, realm_of};
+use crate::walking::{read, table_below, top, walk, write};
+use granule_addr::Gran;
+use page_arena::PageStore;
+use rmi_abi::{Answer, Word};
+use rmm_granules::Granules;
+use rmm_model::{Condition, Entry, GranuleState, Realm, Refusal, Ripas, RttWalk, has_live};
+
+// A table without live entries, and the entry that leads to it.
+#[derive(Clone, Copy)]
+pub struct Unused {
+    pub realm: Realm,
+    pub table: Gran,
+    pub found: RttWalk,
+    pub parent: Entry,
+}
+
+// Passes a walk that reaches the level above a table, to an entry that leads to a table without live entries.
+fn check_unused<S: PageStore>(
+    granules: &Granules<S>,
+    found: &RttWalk,
+    parent: Entry,
+    ipa: u64,
+    level: u8,
+) -> Result<Gran, Refusal>
+    requires inside { found.now.table < granule_count granules.now }
+    requires low { ipa < 2 ^ 48 }
+    requires level { 1 ≤ level }
+    ensures refusal { refusal_in result
+        ≡ first_failing (unused_checks granules.now found.now parent ipa level) }
+    ensures table { IfOk result (λ table. table_below granules.now parent ≡ Some table) }
+    ensures below { IfOk result (λ table. table < granule_count granules.now) }
+{
+    let next = top(granules, found, ipa);
+    if found.level != level - 1 {
+        return Err(error_rtt_top(Condition::RttWalk, found.level, next));
+    }
+    match table_below(granules, parent) {
+        None => Err(error_rtt_top(Condition::RtteState, found.level, next)),
+        Some(table) => if has_live(granules.page(table)) {
+            Err(error_rtt_top(Condition::RttLive, level, next))
+        } else {
+            Ok(table)
+        },
+    }
+}
+
+// The table that RMI_RTT_DESTROY destroys, if its operands pass.
+#[tactic(auto, unfolding(rmm_model::specs::Command::RttDestroy::rtt_destroy))]
+fn find_unused<S: PageStore>(
+    granules: &Granules<S>,
+    rd: u64,
+    ipa: u64,
+    level: u64,
+) -> Result<Unused, Refusal>
+    ensures refusal { refusal_in result
+        ≡ first_failing (destroying rd ipa level granules.now).checks }
+    ensures unused { IfOk result (IsUnused granules.now rd ipa level) }
+{
+    let owner = realm_of(granules, rd)?;
+    let level = check_ipa(&owner.realm, owner.realm.start_level + 1, level, 1, ipa)?;
+    let found = walk(granules, &owner.realm, ipa, level - 1);
+    let parent = read(granules, &found, ipa);
+    let table = check_unused(granules, &found, parent, ipa, level)?;
+    Ok(Unused {
+        realm: owner.realm,
+        table,
+        found,
+        parent,
+    })
+}
+
+// RMI_RTT_DESTROY
+#[tactic(auto, unfolding(rmm_model::specs::Command::RttDestroy::rtt_destroy))]
+pub fn rtt_destroy<S: PageStore>(
+    granules: &mut Granules<S>,
+    rd: u64,
+    ipa: u64,
+    level: u64,
+) -> Answer
+    ensures answer { result ≡ (outcome (destroying rd ipa level granules.old) granules.old).0 }
+    ensures machine { granules.new ≡ (outcome (destroying rd ipa level granules.old) granules.old).1 }
+{
+    match find_unused(granules, rd, ipa, level) {
+        Ok(unused) => {
+            let left = if is_protected(&unused.realm, ipa) {
+                Entry::Unassigned(Ripas::Destroyed)
+            } else {
+                Entry::UnassignedNs
+            };
+            write(granules, &unused.found, ipa, left);
+            blank(granules, unused.table, GranuleState::Delegated);
+            Answer {
+                x1: unused.parent.descriptor(),
+                x2: top(granules, &unused.found, ipa),
+                ..Answer::only(Word::Success)
+            }
+        }
+        Err(refusal) => refusal.answer,
+    }
+}

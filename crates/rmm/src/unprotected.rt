@@ -1,0 +1,178 @@
+//! RMI_RTT_MAP_UNPROTECTED and RMI_RTT_UNMAP_UNPROTECTED.
+ghost use Rattle.std.specs.Prelude.{◌≡◌, ◌^◌, ◌<◌, ◌≤◌, ◌++◌, ◌∷◌, [], not, IfOk};
+ghost use Rattle.rmm_model.specs.Check.{outcome, first_failing, refusal_in};
+ghost use Rattle.rmm_model.specs.Machine.{granule_count};
+ghost use Rattle.rmm_model.specs.Walk.{entry_at, walk as walked, top as next_live};
+ghost use Rattle.rmm_model.specs.Command.Operand as operands;
+ghost use Rattle.rmm_model.specs.Command.RttMapUnprotected as mapping;
+ghost use Rattle.rmm_model.specs.Command.RttUnmapUnprotected as unmapping;
+ghost use Rattle.rmm.specs.Found.{IsUnprotected};
+
+use crate::operand::{check_entry, check_unprotected, realm_of};
+use crate::walking::{read, top, walk, write};
+use page_arena::PageStore;
+use rmi_abi::{Answer, Settings, Word};
+use rmm_granules::Granules;
+use rmm_model::{Condition, Entry, Refusal, RttWalk, entry_size, error_input};
+
+// ---- descriptors
+
+// Whether bits 9:8 of a descriptor are a shareability that the host may choose.
+fn is_shareability(settings: &Settings, desc: u64) -> bool
+    ensures { result ≡ mapping.is_shareability settings.now desc }
+{
+    let sh = desc / 0x100 % 4;
+    sh == 0 || (settings.takes_shareability && sh != 1)
+}
+
+// Whether the bits of a descriptor but those of its address are ones that the host may choose.
+fn has_attributes(settings: &Settings, desc: u64) -> bool
+    ensures { result ≡ mapping.has_attributes settings.now desc }
+{
+    desc < 0x1_0000_0000_0000
+        && desc % 4 == 0
+        && desc / 4 % 8 != 4
+        && desc / 0x20 % 2 == 0
+        && is_shareability(settings, desc)
+        && desc / 0x400 % 4 == 0
+}
+
+// Whether a number is a descriptor of a level.
+#[tactic(auto, unfolding(rmm_model::specs::Command::RttMapUnprotected::is_descriptor))]
+fn is_descriptor(settings: &Settings, level: u8, desc: u64) -> bool
+    ensures { result ≡ mapping.is_descriptor settings.now level desc }
+{
+    has_attributes(settings, desc) && desc / 4096 * 4096 % entry_size(level) == 0
+}
+
+// ---- mapping
+
+// The end of the walk to the entry that RMI_RTT_MAP_UNPROTECTED writes, if its operands pass.
+#[tactic(auto, unfolding(rmm_model::specs::Command::RttMapUnprotected::rtt_map_unprotected))]
+fn find_vacancy<S: PageStore>(
+    granules: &Granules<S>,
+    rd: u64,
+    ipa: u64,
+    level: u64,
+    desc: u64,
+) -> Result<RttWalk, Refusal>
+    ensures refusal { refusal_in result
+        ≡ first_failing (mapping.rtt_map_unprotected rd ipa level desc granules.now).checks }
+    ensures found { IfOk result (λ found. found
+        ≡ walked granules.now (operands.realm_at granules.now rd) ipa level) }
+    ensures inside { IfOk result (λ found. found.table < granule_count granules.now) }
+{
+    let owner = realm_of(granules, rd)?;
+    let level = check_unprotected(granules.settings(), &owner.realm, level, ipa)?;
+    if !is_descriptor(granules.settings(), level, desc) {
+        return Err(error_input(Condition::DescBound));
+    }
+    let found = walk(granules, &owner.realm, ipa, level);
+    let entry = read(granules, &found, ipa);
+    check_entry(&found, level, entry.is_unassigned_ns())?;
+    Ok(found)
+}
+
+// RMI_RTT_MAP_UNPROTECTED
+#[tactic(auto, unfolding(rmm_model::specs::Command::RttMapUnprotected::rtt_map_unprotected))]
+pub fn rtt_map_unprotected<S: PageStore>(
+    granules: &mut Granules<S>,
+    rd: u64,
+    ipa: u64,
+    level: u64,
+    desc: u64,
+) -> Answer
+    ensures answer { result
+        ≡ (outcome (mapping.rtt_map_unprotected rd ipa level desc granules.old) granules.old).0 }
+    ensures machine { granules.new
+        ≡ (outcome (mapping.rtt_map_unprotected rd ipa level desc granules.old) granules.old).1 }
+{
+    match find_vacancy(granules, rd, ipa, level, desc) {
+        Ok(found) => {
+            write(granules, &found, ipa, Entry::AssignedNs(desc));
+            Answer::only(Word::Success)
+        }
+        Err(refusal) => refusal.answer,
+    }
+}
+
+// ---- unmapping
+
+// RMI_ERROR_RTT by a condition, with the level of a table and the next live entry in X1.
+fn error_rtt_next(condition: Condition, level: u8, top: u64) -> Refusal
+    ensures { result ≡ record { condition = condition; answer = unmapping.error_rtt_next top level } }
+{
+    Refusal {
+        condition,
+        answer: Answer {
+            x1: top,
+            ..Answer::only(Word::ErrorRtt(level))
+        },
+    }
+}
+
+// Passes a walk that reached a level, to an ASSIGNED_NS entry.
+fn check_mapped<S: PageStore>(
+    granules: &Granules<S>,
+    found: &RttWalk,
+    ipa: u64,
+    level: u8,
+) -> Result<(), Refusal>
+    requires inside { found.now.table < granule_count granules.now }
+    requires low { ipa < 2 ^ 48 }
+    ensures { refusal_in result
+        ≡ first_failing (unmapping.mapped_checks granules.now found.now ipa level) }
+{
+    let next = top(granules, found, ipa);
+    if found.level != level {
+        return Err(error_rtt_next(Condition::RttWalk, found.level, next));
+    }
+    if !read(granules, found, ipa).is_assigned_ns() {
+        return Err(error_rtt_next(Condition::RtteState, found.level, next));
+    }
+    Ok(())
+}
+
+// The end of the walk to the entry that RMI_RTT_UNMAP_UNPROTECTED removes, if its operands pass.
+#[tactic(auto, unfolding(rmm_model::specs::Command::RttUnmapUnprotected::rtt_unmap_unprotected))]
+fn find_mapped<S: PageStore>(
+    granules: &Granules<S>,
+    rd: u64,
+    ipa: u64,
+    level: u64,
+) -> Result<RttWalk, Refusal>
+    ensures refusal { refusal_in result
+        ≡ first_failing (unmapping.rtt_unmap_unprotected rd ipa level granules.now).checks }
+    ensures found { IfOk result (IsUnprotected granules.now rd ipa level) }
+{
+    let owner = realm_of(granules, rd)?;
+    let level = check_unprotected(granules.settings(), &owner.realm, level, ipa)?;
+    let found = walk(granules, &owner.realm, ipa, level);
+    check_mapped(granules, &found, ipa, level)?;
+    Ok(found)
+}
+
+// RMI_RTT_UNMAP_UNPROTECTED
+#[tactic(auto, unfolding(rmm_model::specs::Command::RttUnmapUnprotected::rtt_unmap_unprotected))]
+pub fn rtt_unmap_unprotected<S: PageStore>(
+    granules: &mut Granules<S>,
+    rd: u64,
+    ipa: u64,
+    level: u64,
+) -> Answer
+    ensures answer { result
+        ≡ (outcome (unmapping.rtt_unmap_unprotected rd ipa level granules.old) granules.old).0 }
+    ensures machine { granules.new
+        ≡ (outcome (unmapping.rtt_unmap_unprotected rd ipa level granules.old) granules.old).1 }
+{
+    match find_mapped(granules, rd, ipa, level) {
+        Ok(found) => {
+            write(granules, &found, ipa, Entry::UnassignedNs);
+            Answer {
+                x1: top(granules, &found, ipa),
+                ..Answer::only(Word::Success)
+            }
+        }
+        Err(refusal) => refusal.answer,
+    }
+}

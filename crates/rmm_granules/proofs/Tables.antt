@@ -1,0 +1,39 @@
+-- Starting tables of realms, as granules change.
+use Rattle.std.proofs.Common.{◌≡◌, ◌≢◌, ℕ, ◌<◌, ◌≤◌, List, length, set, get_or, replicate, IfSome, sym, ◌∙◌, subst, ⊎_elim, arith}
+use Rattle.std.proofs.lemmas.Bool.{cases_eq, cases_lt}
+use Rattle.std.proofs.lemmas.List.{length-set, length-replicate, get_or-replicate, get_or_past, get_or-set_same, get_or-set_other}
+use Rattle.rmm_model.specs.declared.granule.Granule.{Granule}
+use Rattle.rmm_model.specs.declared.granule.GranuleState.TheVariants.{Undelegated}
+use Rattle.rmm_model.specs.Granule.{realm_of, of_no_realm}
+use Rattle.rmm_model.specs.Machine.{HasTables}
+use Rattle.rmm_model.specs.Realm.{IsServed}
+
+abbrev Served : ℕ → Granule → Type 0
+Served count granule = IfSome (realm_of granule.state) (IsServed count)
+
+-- starting tables stay in the machine where a granule gets a realm that is served, or none
+pub HasTables-set : (granules : List Granule) (g : ℕ) (kept : Granule) → g < length granules → HasTables granules → IfSome (realm_of kept.state) (IsServed (length granules)) → HasTables (set granules g kept)
+HasTables-set granules g kept inside roots served = record {
+  each = λ h.
+      subst (λ (n : ℕ). Served n (get_or (set granules g kept) h (of_no_realm Undelegated))) (sym (length-set granules g kept))
+      (⊎_elim
+      (λ (same : h ≡ g). subst (λ (k : ℕ). Served (length granules) (get_or (set granules g kept) k (of_no_realm Undelegated))) (sym same)
+      (subst (Served (length granules)) (sym (get_or-set_same granules g kept (of_no_realm Undelegated) inside)) served))
+      (λ (other : h ≢ g). subst (Served (length granules)) (sym (get_or-set_other granules g h kept (of_no_realm Undelegated) other)) (roots.each h))
+      (cases_eq h g));
+}
+
+-- each granule of a machine without realms reads as UNDELEGATED
+undelegated : (count g : ℕ) → get_or (replicate count (of_no_realm Undelegated)) g (of_no_realm Undelegated) ≡ of_no_realm Undelegated
+undelegated count g =
+    ⊎_elim
+    (λ (inside : g < count). get_or-replicate count g (of_no_realm Undelegated) (of_no_realm Undelegated) inside)
+    (λ (past : count ≤ g). get_or_past (replicate count (of_no_realm Undelegated)) g (of_no_realm Undelegated)
+    (let len = length-replicate count (of_no_realm Undelegated) in omega arith))
+    (cases_lt g count)
+
+-- there are no realms at the start
+pub HasTables-replicate : (count : ℕ) → HasTables (replicate count (of_no_realm Undelegated))
+HasTables-replicate count = record {
+  each = λ g. subst (λ (granule : Granule). Served (length (replicate count (of_no_realm Undelegated))) granule) (sym (undelegated count g)) tt;
+}

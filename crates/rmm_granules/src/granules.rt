@@ -1,0 +1,239 @@
+//! Granules, their pages and their attributes.
+ghost use Rattle.std.specs.Prelude.{◌≡◌, ◌≢◌, ◌+◌, ◌%◌, ◌^◌, ◌<◌, ◌≤◌, ◌*◌, false, length, replicate, IfOk, IfSome, IsTrue};
+ghost use Rattle.granule_addr.specs.Page.{page_of};
+ghost use Rattle.rmi_abi.specs.Settings.{IsPlatform};
+ghost use Rattle.rmm_model.specs.declared.granule.GranuleState.TheVariants.{Undelegated};
+ghost use Rattle.rmm_model.specs.Granule.{of_no_realm, realm_of, is_undelegated, is_delegated};
+ghost use Rattle.rmm_model.specs.Machine as machine;
+ghost use Rattle.rmm_model.specs.Machine.{granule_count, granule_at, page_in};
+ghost use Rattle.rmm_model.specs.Realm.{IsServed};
+ghost use Rattle.rmm_granules.specs.Inside.{platform_machine};
+
+use crate::taking::take_all;
+use granule_addr::{Gran, MOST_PAGES};
+use page_arena::PageStore;
+use rmi_abi::{Platform, Settings};
+use rmm_model::{Granule, Realm};
+use std::alloc::{AllocError, Global};
+use std::marker::Model;
+
+// The number of VMIDs of 16 bits.
+const VMIDS: u32 = 0x1_0000;
+
+/// The granules of a platform: a page of a store each with its attributes, and the set of VMIDs that realms have.
+#[derive(Drop)]
+pub struct Granules<S: PageStore> {
+    platform: Platform,
+    granules: Vec<Granule>,
+    vmids: Vec<bool>,
+    store: S,
+}
+
+impl<S: PageStore> Model for Granules<S> {
+    ghost use Rattle.rmm_model.specs.Machine.{Machine};
+    ghost use Rattle.rmm_model.specs.Codes.{machine_code};
+    ghost use Rattle.rmm_granules.specs.Inside.{machine_of, IsWhole};
+
+    ghost Value = { Machine };
+
+    ghost coded = { machine_code };
+
+    ghost view = { λ m. machine_of m.platform m.granules.items m.vmids.items (S.page_bytes m.store) };
+
+    ghost invariant = { λ m. IsWhole m.platform m.granules.items m.vmids.items (S.page_bytes m.store) (S.free_flags m.store) };
+}
+
+// The attributes of UNDELEGATED granules.
+fn undelegated(alloc: Global, count: u16) -> Result<Vec<Granule>, AllocError>
+    ensures { IfOk result (λ v. v.items ≡ replicate count (of_no_realm Undelegated)) }
+{
+    vec![in alloc; Granule::UNDELEGATED; count as usize]
+}
+
+// A set of that many VMIDs that has none.
+fn no_vmids(alloc: Global, count: u32) -> Result<Vec<bool>, AllocError>
+    ensures { IfOk result (λ v. v.items ≡ replicate count false) }
+{
+    vec![in alloc; false; count as usize]
+}
+
+// The attributes of UNDELEGATED granules, and the set of VMIDs that has none.
+fn rows(alloc: Global, count: u16, vmids: u32) -> Result<(Vec<Granule>, Vec<bool>), AllocError>
+    ensures granules { IfOk result (λ r. r.0.items ≡ replicate count (of_no_realm Undelegated)) }
+    ensures set { IfOk result (λ r. r.1.items ≡ replicate vmids false) }
+{
+    let granules = undelegated(alloc, count)?;
+    let set = no_vmids(alloc, vmids)?;
+    Ok((granules, set))
+}
+
+impl<S: PageStore> Granules<S> {
+    /// The granules of a platform, all UNDELEGATED, over the pages of a store. There are as many as the store has pages.
+    pub fn open(
+        alloc: Global,
+        platform: Platform,
+        mut store: S,
+    ) -> Result<Granules<S>, (AllocError, S)>
+        ensures { IfOk result (λ m. m ≡ platform_machine platform (S.page_bytes store)) }
+    {
+        match rows(alloc, store.pages(), VMIDS) {
+            Ok((granules, vmids)) => {
+                take_all(&mut store);
+                Ok(Granules {
+                    platform,
+                    granules,
+                    vmids,
+                    store,
+                })
+            }
+            Err(error) => Err((error, store)),
+        }
+    }
+
+    /// The settings of the platform.
+    pub fn settings(&self) -> &Settings
+        ensures value { result.now ≡ self.now.settings }
+        ensures ranges { IsPlatform result.now }
+    {
+        self.platform.settings()
+    }
+
+    /// The settings of the platform, as a platform.
+    pub fn platform(&self) -> &Platform
+        ensures { result.now ≡ self.now.settings }
+    {
+        &self.platform
+    }
+
+    /// The number of granules.
+    pub fn count(&self) -> u16
+        ensures value { result ≡ granule_count self.now }
+        ensures few { result ≤ 4096 }
+    {
+        self.granules.len() as u16
+    }
+
+    // ---- addresses
+
+    /// Whether an address lies in a granule of the machine.
+    #[tactic(auto, unfolding(rmm_model::specs::Machine::is_inside))]
+    pub fn is_inside(&self, address: u64) -> bool
+        ensures { result ≡ machine.is_inside self.now address }
+    {
+        let base = self.platform.settings().base;
+        address >= base && (address - base) / 4096 < self.granules.len() as u64
+    }
+
+    /// The granule that an address lies in.
+    #[tactic(auto, unfolding(rmm_model::specs::Machine::is_inside, rmm_model::specs::Machine::number_of))]
+    pub fn number_of(&self, address: u64) -> Gran
+        requires { IsTrue (machine.is_inside self.now address) }
+        ensures value { result ≡ machine.number_of self.now address }
+        ensures inside { result < granule_count self.now }
+    {
+        let number = (address - self.platform.settings().base) / 4096;
+        Gran::new(number as u16, MOST_PAGES).unwrap()
+    }
+
+    /// Whether an address lies in memory of the secure world.
+    #[tactic(auto, unfolding(rmm_model::specs::Machine::is_secure))]
+    pub fn is_secure(&self, address: u64) -> bool
+        ensures { result ≡ machine.is_secure self.now address }
+    {
+        let s = self.platform.settings();
+        address >= s.secure_base && (address - s.secure_base) / 4096 < s.secure_count as u64
+    }
+
+    // ---- attributes
+
+    pub fn is_undelegated(&self, granule: Gran) -> bool
+        requires { granule < granule_count self.now }
+        ensures { result ≡ is_undelegated (granule_at self.now granule).state }
+    {
+        self.granules[granule.number() as usize]
+            .state
+            .is_undelegated()
+    }
+
+    pub fn is_delegated(&self, granule: Gran) -> bool
+        requires { granule < granule_count self.now }
+        ensures { result ≡ is_delegated (granule_at self.now granule).state }
+    {
+        self.granules[granule.number() as usize]
+            .state
+            .is_delegated()
+    }
+
+    /// The realm of an RD. Its starting tables lie in the machine.
+    pub fn realm(&self, granule: Gran) -> Option<Realm>
+        requires { granule < granule_count self.now }
+        ensures value { result ≡ realm_of (granule_at self.now granule).state }
+        ensures served { IfSome result (IsServed (granule_count self.now)) }
+    {
+        self.granules[granule.number() as usize].state.realm()
+    }
+
+    /// Sets the attributes of a granule.
+    pub fn set(&mut self, granule: Gran, kept: Granule)
+        requires inside { granule < granule_count self.old }
+        requires served { IfSome (realm_of kept.state) (IsServed (granule_count self.old)) }
+        ensures { self.new ≡ machine.with_granule self.old granule kept }
+    {
+        self.granules[granule.number() as usize] = kept;
+    }
+
+    // ---- pages
+
+    /// The 4,096 bytes of a granule.
+    pub fn page(&self, granule: Gran) -> &[u8]
+        requires { granule < granule_count self.now }
+        ensures value { result.now ≡ page_in self.now granule }
+        ensures whole { length result.now ≡ 4096 }
+    {
+        self.store.bytes(granule)
+    }
+
+    /// Writes word `index` of a granule's page.
+    pub fn set_word(&mut self, granule: Gran, index: u16, word: u64)
+        requires inside { granule < granule_count self.old }
+        requires index { index < 512 }
+        ensures { self.new ≡ machine.with_word self.old granule index word }
+    {
+        self.store.set_word(granule, index, word);
+    }
+
+    /// Writes one value to each byte of a granule's page.
+    pub fn fill(&mut self, granule: Gran, value: u8)
+        requires { granule < granule_count self.old }
+        ensures page { granule < length self.old.pages }
+        ensures filled { self.new ≡ machine.with_page self.old granule (page_of value) }
+    {
+        self.store.fill(granule, value);
+    }
+
+    /// Copies the page of a granule to another one.
+    pub fn copy(&mut self, target: Gran, source: Gran)
+        requires target { target < granule_count self.old }
+        requires source { source < granule_count self.old }
+        requires different { target ≢ source }
+        ensures { self.new ≡ machine.with_page self.old target (page_in self.old source) }
+    {
+        self.store.copy(target, source);
+    }
+
+    // ---- VMIDs
+
+    /// Whether a realm has that VMID.
+    pub fn is_vmid_used(&self, vmid: u16) -> bool
+        ensures { result ≡ machine.is_vmid_used self.now vmid }
+    {
+        self.vmids[usize::from(vmid)]
+    }
+
+    /// Marks a VMID as one that a realm has, or that none has.
+    pub fn set_vmid(&mut self, vmid: u16, used: bool)
+        ensures { self.new ≡ machine.with_vmid self.old vmid used }
+    {
+        self.vmids[vmid as usize] = used;
+    }
+}

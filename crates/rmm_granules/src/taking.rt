@@ -1,0 +1,18 @@
+//! Pages taken from a store.
+ghost use Rattle.std.specs.Prelude.{◌≡◌, ℕ, ◌<◌, false, length};
+ghost use Rattle.page_arena.specs.Page.{is_free};
+
+use granule_addr::{Gran, MOST_PAGES, Order};
+use page_arena::PageStore;
+
+// Takes each page that is free.
+pub(crate) fn take_all<S: PageStore>(store: &mut S)
+    ensures taken { (page : ℕ) → page < length (S.page_bytes store.new) → is_free (S.free_flags store.new) page ≡ false }
+    ensures bytes { S.page_bytes store.new ≡ S.page_bytes store.old }
+{
+    let order = Order::new(0).unwrap();
+    for page in 0..store.pages() {
+        let first = Gran::new(page, MOST_PAGES).unwrap();
+        store.take_at(order, first);
+    }
+}

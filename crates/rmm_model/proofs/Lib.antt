@@ -1,0 +1,2 @@
+pub mod LiveEntries
+pub mod Parts

@@ -1,0 +1,17 @@
+pub mod DataCreateUnknown
+pub mod DataDestroy
+pub mod Features
+pub mod GranuleDelegate
+pub mod GranuleUndelegate
+pub mod Operand
+pub mod RealmActivate
+pub mod RealmCreate
+pub mod RealmDestroy
+pub mod RecAuxCount
+pub mod RttCreate
+pub mod RttDestroy
+pub mod RttFold
+pub mod RttMapUnprotected
+pub mod RttReadEntry
+pub mod RttUnmapUnprotected
+pub mod Version

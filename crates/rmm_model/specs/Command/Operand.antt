@@ -1,0 +1,79 @@
+-- Checks of operands that commands share. RMM 1.0, failure conditions of RMI commands.
+use Rattle.std.specs.Prelude.{ℕ, ◌-◌, ◌%◌, ◌==◌, ◌&&◌, ◌||◌, Bool, not, nat_le, List, [], ◌∷◌, ◌++◌, is_none, unwrap_or}
+use Rattle.rmi_abi.specs.declared.registers.Answer.{Answer}
+use Rattle.rmi_abi.specs.declared.settings.Settings.{Settings}
+use Rattle.rmm_model.specs.declared.condition.Condition.{Condition}
+use Rattle.rmm_model.specs.declared.condition.Condition.TheVariants.{RdAlign, RdBound, RdState, LevelBound, IpaAlign, IpaBound, RttWalk, RtteState}
+use Rattle.rmm_model.specs.declared.realm.Realm.{Realm}
+use Rattle.rmm_model.specs.declared.realm.RttWalk.{RttWalk as Walked}
+use Rattle.rmm_model.specs.Check.{Check, check, error_input}
+use Rattle.rmm_model.specs.Granule.{is_undelegated, is_delegated, realm_of}
+use Rattle.rmm_model.specs.Level.{entry_size}
+use Rattle.rmm_model.specs.Machine.{Machine, is_aligned, is_inside, is_secure, state_at}
+use Rattle.rmm_model.specs.Realm.{no_realm, is_in_space, is_protected, is_unprotected}
+
+-- ---- granules
+
+-- an address is that of a granule of the machine
+abbrev pub address_checks : Condition → Condition → Machine → ℕ → List Check
+address_checks align bound m address = check align [] (not (is_aligned address)) error_input ∷ check bound (align ∷ []) (not (is_inside m address)) error_input ∷ []
+
+-- an address is that of a DELEGATED granule
+abbrev pub delegated_checks : Condition → Condition → Condition → Machine → ℕ → List Check
+delegated_checks align bound state m address =
+    address_checks align bound m address ++ check state (bound ∷ []) (not (is_delegated (state_at m address))) error_input ∷ []
+
+-- the granule at an address is the host's, and not of the secure world
+abbrev pub is_host_s : Machine → ℕ → Bool
+is_host_s m address = is_undelegated (state_at m address) && not (is_secure m address)
+
+-- an address is that of a page of the host
+abbrev pub host_checks : Condition → Condition → Condition → Machine → ℕ → List Check
+host_checks align bound pas m address =
+    address_checks align bound m address ++ check pas (bound ∷ []) (not (is_host_s m address)) error_input ∷ []
+
+-- ---- realms
+
+-- an address is that of an RD
+abbrev pub rd_checks : Machine → ℕ → List Check
+rd_checks m rd = address_checks RdAlign RdBound m rd ++ check RdState (RdBound ∷ []) (is_none (realm_of (state_at m rd))) error_input ∷ []
+
+-- the realm of the RD at an address
+abbrev pub realm_at : Machine → ℕ → Realm
+realm_at m rd = unwrap_or (realm_of (state_at m rd)) no_realm
+
+-- ---- addresses of a realm
+
+abbrev pub is_level : ℕ → ℕ → Bool
+is_level least level = nat_le least level && nat_le level 3
+
+abbrev pub is_multiple : ℕ → ℕ → Bool
+is_multiple ipa size = ipa % size == 0
+
+-- a level that is at least that one, and an address of the realm where an entry of the level that many above begins
+abbrev pub ipa_checks : Realm → ℕ → ℕ → ℕ → ℕ → List Check
+ipa_checks realm least level above ipa =
+    check LevelBound (RdState ∷ []) (not (is_level least level)) error_input
+    ∷ check IpaAlign (LevelBound ∷ []) (not (is_multiple ipa (entry_size (level - above)))) error_input
+    ∷ check IpaBound (RdState ∷ []) (not (is_in_space realm ipa)) error_input ∷ []
+
+-- an address of the realm's protected half where a page begins
+abbrev pub page_checks : Realm → ℕ → List Check
+page_checks realm ipa =
+    check IpaAlign [] (not (is_multiple ipa 4096)) error_input
+    ∷ check IpaBound (RdState ∷ []) (not (is_protected realm ipa)) error_input ∷ []
+
+-- a level at which there are pages or blocks, and an address of the realm's unprotected half where an entry of the level begins
+abbrev pub unprotected_checks : Settings → Realm → ℕ → ℕ → List Check
+unprotected_checks s realm level ipa =
+    check LevelBound (RdState ∷ []) (not (nat_le s.block_level level && is_level realm.start_level level)) error_input
+    ∷ check IpaAlign (LevelBound ∷ []) (not (is_multiple ipa (entry_size level))) error_input
+    ∷ check IpaBound (RdState ∷ []) (not (is_unprotected realm ipa)) error_input ∷ []
+
+-- ---- walks
+
+-- a walk reaches a level, to an entry that is as it has to be; where it does not, the answer has the level at which it ended
+abbrev pub entry_checks : List Condition → Walked → ℕ → Bool → (ℕ → Answer) → List Check
+entry_checks more found level is answer =
+    check RttWalk (RdState ∷ IpaAlign ∷ IpaBound ∷ more) (not (found.level == level)) (answer found.level)
+    ∷ check RtteState (RttWalk ∷ []) (not is) (answer found.level) ∷ []

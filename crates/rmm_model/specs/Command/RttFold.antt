@@ -1,0 +1,48 @@
+-- RMI_RTT_FOLD.
+use Rattle.std.specs.Prelude.{ℕ, ◌+◌, ◌-◌, ◌*◌, ◌/◌, ◌&&◌, ◌||◌, Bool, not, nat_le, List, [], ◌∷◌, ◌++◌, is_some, unwrap_or}
+use Rattle.rmi_abi.specs.declared.settings.Settings.{Settings}
+use Rattle.rmm_model.specs.declared.condition.Condition.TheVariants.{RtteState, RttHomo, RttBlock}
+use Rattle.rmm_model.specs.declared.entry.Entry.{Entry}
+use Rattle.rmm_model.specs.declared.granule.GranuleState.TheVariants.{Delegated}
+use Rattle.rmm_model.specs.declared.realm.RttWalk.{RttWalk as Walked}
+use Rattle.rmm_model.specs.Check.{Command, Check, check, success, error_rtt}
+use Rattle.rmm_model.specs.Entry.{descriptor_of, is_table, is_mapping}
+use Rattle.rmm_model.specs.Level.{entry_size}
+use Rattle.rmm_model.specs.Machine.{Machine, page_in, with_blank}
+use Rattle.rmm_model.specs.Table.{entry_in_page, has_parts}
+use Rattle.rmm_model.specs.Walk.{entry_at, with_entry, table_below, walk}
+use Rattle.rmm_model.specs.Command.Operand.{rd_checks, realm_at, is_multiple, ipa_checks, entry_checks}
+
+-- an entry can be one a level higher: the memory of a mapping is aligned to that level
+abbrev pub is_aligned_above : Entry → ℕ → Bool
+is_aligned_above entry level = not (is_mapping entry) || is_multiple (descriptor_of entry / 4096 * 4096) (entry_size (level - 1))
+
+-- A table of a level says the same as one entry above it: its first one, which leads to no table.
+unfoldable pub is_homogeneous : List ℕ → ℕ → Bool
+is_homogeneous page level =
+    let first = entry_in_page page 0 in
+    not (is_table first) && is_aligned_above first level && has_parts page first level 512 0
+
+-- a table of a level would become a block of a level at which there is none
+abbrev pub is_block_too_high : Settings → List ℕ → ℕ → Bool
+is_block_too_high s page level = is_mapping (entry_in_page page 0) && nat_le level s.block_level
+
+-- a walk that reaches the level above, to an entry that leads to a table which says the same as one entry
+abbrev pub fold_checks : Machine → Walked → Entry → ℕ → List Check
+fold_checks m found parent level =
+    entry_checks [] found (level - 1) (is_some (table_below m parent)) error_rtt
+    ++ check RttHomo (RtteState ∷ []) (not (is_homogeneous (page_in m (unwrap_or (table_below m parent) 0)) level)) (error_rtt level)
+    ∷ check RttBlock (RttHomo ∷ []) (is_block_too_high m.settings (page_in m (unwrap_or (table_below m parent) 0)) level) (error_rtt (level - 1)) ∷ []
+
+-- A table that says the same as one entry above it is gone, and that entry takes its place. RMM 1.0, RMI_RTT_FOLD.
+unfoldable pub rtt_fold : ℕ → ℕ → ℕ → Machine → Command
+rtt_fold rd ipa level m =
+    let realm = realm_at m rd in
+    let found = walk m realm ipa (level - 1) in
+    let parent = entry_at m found ipa in
+    let table = unwrap_or (table_below m parent) 0 in
+    record {
+      checks = rd_checks m rd ++ ipa_checks realm (realm.start_level + 1) level 1 ipa ++ fold_checks m found parent level;
+      answer = record success { x1 = descriptor_of parent };
+      machine = with_blank (with_entry m found ipa (entry_in_page (page_in m table) 0)) table Delegated;
+    }

@@ -1,0 +1,117 @@
+-- Entries of translation tables, and their words. RMM 1.0, RTT entry; the bits of a word are this monitor's own.
+use Rattle.std.specs.Prelude.{ℕ, ◌+◌, ◌*◌, ◌/◌, ◌%◌, ◌^◌, ◌==◌, Bool, true, false, Option, Some, None, if◌then◌else◌}
+use Rattle.rmm_model.specs.Level.{entry_size}
+use Rattle.rmm_model.specs.declared.entry.Entry.{Entry}
+use Rattle.rmm_model.specs.declared.entry.Entry.TheVariants.{Unassigned, Assigned, Table, UnassignedNs, AssignedNs}
+use Rattle.rmm_model.specs.declared.entry.Ripas.{Ripas}
+use Rattle.rmm_model.specs.declared.entry.Ripas.TheVariants.{Empty, Ram, Destroyed}
+
+-- RmiRipas
+abbrev pub ripas_code : Ripas → ℕ
+ripas_code Empty = 0
+ripas_code Ram = 1
+ripas_code Destroyed = 2
+
+-- the address or descriptor of a live entry, and 0 of any other
+abbrev pub descriptor_of : Entry → ℕ
+descriptor_of (Assigned ripas address) = address
+descriptor_of (Table address) = address
+descriptor_of (AssignedNs descriptor) = descriptor
+descriptor_of (Unassigned ripas) = 0
+descriptor_of UnassignedNs = 0
+
+-- ---- words
+
+-- a word whose eight bytes are one
+abbrev pub repeated : ℕ → ℕ
+repeated byte = byte * 0x0101010101010101
+
+-- The word of an entry: bits 63:56 have its kind and RIPAS; a live one has its descriptor in bits 47:0.
+unfoldable pub entry_word : Entry → ℕ
+entry_word (Unassigned ripas) = repeated (ripas_code ripas)
+entry_word UnassignedNs = repeated 3
+entry_word (Table address) = 4 * 2 ^ 56 + address % 2 ^ 48
+entry_word (AssignedNs descriptor) = 5 * 2 ^ 56 + descriptor % 2 ^ 48
+entry_word (Assigned ripas address) = (6 + ripas_code ripas) * 2 ^ 56 + address % 2 ^ 48
+
+-- the entry of a kind, with a descriptor where it has one
+abbrev pub entry_at_kind : ℕ → ℕ → Entry
+entry_at_kind kind descriptor =
+    if kind == 1 then Unassigned Ram else
+    (if kind == 2 then Unassigned Destroyed else
+    (if kind == 3 then UnassignedNs else
+    (if kind == 4 then Table descriptor else
+    (if kind == 5 then AssignedNs descriptor else
+    (if kind == 6 then Assigned Empty descriptor else
+    (if kind == 7 then Assigned Ram descriptor else
+    (if kind == 8 then Assigned Destroyed descriptor else Unassigned Empty)))))))
+
+-- The entry that a word is read as, whatever the word.
+unfoldable pub entry_of : ℕ → Entry
+entry_of word = entry_at_kind (word / 2 ^ 56) (word % 2 ^ 48)
+
+-- ---- kinds
+
+-- the entry leads to a page, a block or a table
+abbrev pub is_live : Entry → Bool
+is_live (Unassigned ripas) = false
+is_live UnassignedNs = false
+is_live _ = true
+
+abbrev pub is_unassigned : Entry → Bool
+is_unassigned (Unassigned ripas) = true
+is_unassigned _ = false
+
+abbrev pub is_unassigned_ns : Entry → Bool
+is_unassigned_ns UnassignedNs = true
+is_unassigned_ns _ = false
+
+abbrev pub is_assigned_ns : Entry → Bool
+is_assigned_ns (AssignedNs descriptor) = true
+is_assigned_ns _ = false
+
+abbrev pub is_table : Entry → Bool
+is_table (Table address) = true
+is_table _ = false
+
+-- the entry leads to a page or a block
+abbrev pub is_mapping : Entry → Bool
+is_mapping (Assigned ripas address) = true
+is_mapping (AssignedNs descriptor) = true
+is_mapping _ = false
+
+-- ---- outputs of RMI_RTT_READ_ENTRY
+
+-- RmiRttEntryState
+abbrev pub state_code : Entry → ℕ
+state_code (Unassigned ripas) = 0
+state_code UnassignedNs = 0
+state_code (Assigned ripas address) = 1
+state_code (AssignedNs descriptor) = 1
+state_code (Table address) = 2
+
+-- RmiRipas of a protected page or block, and 0 of any other entry
+abbrev pub shown_ripas : Entry → ℕ
+shown_ripas (Unassigned ripas) = ripas_code ripas
+shown_ripas (Assigned ripas address) = ripas_code ripas
+shown_ripas _ = 0
+
+-- ---- children
+
+-- Entry k of a table of a level that says the same as an entry above it: the memory of a mapping rises.
+abbrev pub child_entry : Entry → ℕ → ℕ → Entry
+child_entry (Assigned ripas address) level k = Assigned ripas (address + k * entry_size level)
+child_entry (AssignedNs descriptor) level k = AssignedNs (descriptor + k * entry_size level)
+child_entry entry level k = entry
+
+-- the byte that a page of children of an entry has throughout; one of a mapping has none
+abbrev pub repeated_byte : Entry → Option ℕ
+repeated_byte (Unassigned ripas) = Some (ripas_code ripas)
+repeated_byte UnassignedNs = Some 3
+repeated_byte _ = None
+
+-- the RIPAS of an UNASSIGNED or ASSIGNED entry
+abbrev pub ripas_in : Entry → Ripas
+ripas_in (Unassigned ripas) = ripas
+ripas_in (Assigned ripas address) = ripas
+ripas_in _ = Empty

@@ -1,0 +1,13 @@
+pub mod Allowed
+pub mod Call
+pub mod Check
+pub mod Codes
+pub mod Command
+pub mod Entry
+pub mod Granule
+pub mod Host
+pub mod Level
+pub mod Machine
+pub mod Realm
+pub mod Table
+pub mod Walk

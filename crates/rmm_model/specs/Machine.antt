@@ -1,0 +1,78 @@
+-- A machine: its granules and their pages, by number, and the addresses that name them.
+use Rattle.std.specs.Prelude.{ℕ, ◌+◌, ◌-◌, ◌*◌, ◌/◌, ◌%◌, ◌==◌, ◌&&◌, Bool, false, not, nat_le, nat_lt, List, length, slice_index_or, slice_set, IfSome}
+use Rattle.granule_addr.specs.Page.{page_of, zero_page}
+use Rattle.page_arena.specs.Page.{page_at}
+use Rattle.page_arena.specs.Word.{word_of_page, page_with_word}
+use Rattle.rmi_abi.specs.declared.settings.Settings.{Settings}
+use Rattle.rmm_model.specs.declared.granule.Granule.{Granule}
+use Rattle.rmm_model.specs.declared.granule.GranuleState.{GranuleState}
+use Rattle.rmm_model.specs.declared.granule.GranuleState.TheVariants.{Undelegated}
+use Rattle.rmm_model.specs.Granule.{of_no_realm, realm_of}
+use Rattle.rmm_model.specs.Realm.{IsServed}
+
+-- A machine, with a flag for each VMID that a realm has.
+pub record Machine : Type 0 where
+  pub settings : Settings
+  pub granules : List Granule
+  pub vmids : List Bool
+  pub pages : List (List ℕ)
+
+-- ---- granules by number
+
+abbrev pub granule_count : Machine → ℕ
+granule_count m = length m.granules
+
+-- a granule outside the machine counts as UNDELEGATED
+abbrev pub granule_at : Machine → ℕ → Granule
+granule_at m granule = slice_index_or m.granules granule (of_no_realm Undelegated)
+
+-- the page of a granule
+abbrev pub page_in : Machine → ℕ → List ℕ
+page_in m granule = page_at m.pages granule
+
+abbrev pub with_granule : Machine → ℕ → Granule → Machine
+with_granule m granule kept = record m { granules = slice_set m.granules granule kept }
+
+abbrev pub with_page : Machine → ℕ → List ℕ → Machine
+with_page m granule page = record m { pages = slice_set m.pages granule page }
+
+abbrev pub with_word : Machine → ℕ → ℕ → ℕ → Machine
+with_word m granule i word = with_page m granule (page_with_word (page_in m granule) i word)
+
+-- a granule becomes one of no realm with a zero page
+abbrev pub with_blank : Machine → ℕ → GranuleState → Machine
+with_blank m granule state = with_page (with_granule m granule (of_no_realm state)) granule zero_page
+
+-- ---- granules by address
+
+abbrev pub is_aligned : ℕ → Bool
+is_aligned address = address % 4096 == 0
+
+-- the address lies in a granule of the machine
+unfoldable pub is_inside : Machine → ℕ → Bool
+is_inside m address = nat_le m.settings.base address && nat_lt ((address - m.settings.base) / 4096) (length m.granules)
+
+-- the number of the granule that an address lies in
+unfoldable pub number_of : Machine → ℕ → ℕ
+number_of m address = (address - m.settings.base) / 4096
+
+-- the state of the granule that an address lies in
+abbrev pub state_at : Machine → ℕ → GranuleState
+state_at m address = (granule_at m (number_of m address)).state
+
+-- the memory at an address is the host's or the monitor's, and not of the secure world
+unfoldable pub is_secure : Machine → ℕ → Bool
+is_secure m address = nat_le m.settings.secure_base address && nat_lt ((address - m.settings.secure_base) / 4096) m.settings.secure_count
+
+-- ---- realms
+
+-- each RD has a realm whose starting tables lie in the machine
+pub record HasTables (granules : List Granule) : Type 0 where
+  pub each : (granule : ℕ) → IfSome (realm_of (slice_index_or granules granule (of_no_realm Undelegated)).state) (IsServed (length granules))
+
+-- some realm has that VMID
+abbrev pub is_vmid_used : Machine → ℕ → Bool
+is_vmid_used m vmid = slice_index_or m.vmids vmid false
+
+abbrev pub with_vmid : Machine → ℕ → Bool → Machine
+with_vmid m vmid used = record m { vmids = slice_set m.vmids vmid used }

@@ -1,0 +1,45 @@
+-- Tables: pages of 512 entries.
+use Rattle.std.specs.Prelude.{ℕ, zero, suc, ◌+◌, ◌-◌, ◌*◌, ◌/◌, ◌==◌, ◌&&◌, Bool, true, cond, not, List, Option, Some, None, if◌then◌else◌}
+use Rattle.granule_addr.specs.Page.{page_of, zero_page}
+use Rattle.page_arena.specs.Word.{word_of_page, page_with_word}
+use Rattle.rmm_model.specs.declared.entry.Entry.{Entry}
+use Rattle.rmm_model.specs.Entry.{entry_of, entry_word, is_live, child_entry, repeated_byte}
+
+-- entry i of a table's page
+unfoldable pub entry_in_page : List ℕ → ℕ → Entry
+entry_in_page page i = entry_of (word_of_page page i)
+
+-- ---- live entries
+
+-- the first live entry from one on, among that many; the index after them where none is live
+unfoldable pub first_live : List ℕ → ℕ → ℕ → ℕ
+first_live page zero i = i
+first_live page (suc count) i = cond (is_live (entry_in_page page i)) i (first_live page count (i + 1))
+
+-- the first live entry of a table from one on, or 512
+abbrev pub first_live_from : List ℕ → ℕ → ℕ
+first_live_from page i = first_live page (512 - i) i
+
+-- some entry of a table is live
+unfoldable pub has_live : List ℕ → Bool
+has_live page = not (first_live_from page 0 == 512)
+
+-- ---- children
+
+-- that many entries, from one on, are the children of an entry above the table
+unfoldable pub has_parts : List ℕ → Entry → ℕ → ℕ → ℕ → Bool
+has_parts page whole level zero i = true
+has_parts page whole level (suc count) i = word_of_page page i == entry_word (child_entry whole level i) && has_parts page whole level count (i + 1)
+
+-- a page with the first words that a function gives
+unfoldable pub with_words : ℕ → (ℕ → ℕ) → List ℕ → List ℕ
+with_words zero f page = page
+with_words (suc count) f page = page_with_word (with_words count f page) count (f count)
+
+abbrev pub children_page_at : Option ℕ → Entry → ℕ → List ℕ
+children_page_at (Some byte) whole level = page_of byte
+children_page_at None whole level = with_words 512 (λ k. entry_word (child_entry whole level k)) zero_page
+
+-- The page of a table of a level whose entries are the children of an entry above it.
+unfoldable pub children_page : Entry → ℕ → List ℕ
+children_page whole level = children_page_at (repeated_byte whole) whole level

@@ -1,0 +1,62 @@
+-- Walks down the tables of a realm, and the next live entry after one. RMM 1.0, RttWalk and RttSkipNonLiveEntries.
+use Rattle.std.specs.Prelude.{ℕ, zero, suc, ◌+◌, ◌-◌, ◌*◌, ◌/◌, ◌==◌, Bool, cond, Option, Some, None, if◌then◌else◌}
+use Rattle.std.specs.Option.{option_map_or}
+use Rattle.rmm_model.specs.declared.entry.Entry.{Entry}
+use Rattle.rmm_model.specs.declared.entry.Entry.TheVariants.{Assigned, Table}
+use Rattle.rmm_model.specs.declared.realm.Realm.{Realm}
+use Rattle.rmm_model.specs.declared.realm.RttWalk.{RttWalk}
+use Rattle.rmm_model.specs.Entry.{entry_word}
+use Rattle.rmm_model.specs.Level.{entry_size, entry_index, start_offset}
+use Rattle.rmm_model.specs.Machine.{Machine, page_in, is_inside, number_of, with_word}
+use Rattle.rmm_model.specs.Table.{entry_in_page, first_live_from}
+
+-- the entry of a table that covers an address
+unfoldable pub entry_at : Machine → RttWalk → ℕ → Entry
+entry_at m found ipa = entry_in_page (page_in m found.table) (entry_index found.level ipa)
+
+-- the machine with another entry there
+abbrev pub with_entry : Machine → RttWalk → ℕ → Entry → Machine
+with_entry m found ipa entry = with_word m found.table (entry_index found.level ipa) (entry_word entry)
+
+-- the granule that an address names, where that is one of the machine
+unfoldable pub granule_named : Machine → ℕ → Option ℕ
+granule_named m address = cond (is_inside m address) (Some (number_of m address)) None
+
+-- the table that an entry leads to
+abbrev pub table_below : Machine → Entry → Option ℕ
+table_below m (Table address) = granule_named m address
+table_below m _ = None
+
+-- the page that an ASSIGNED entry leads to
+abbrev pub memory_below : Machine → Entry → Option ℕ
+memory_below m (Assigned ripas address) = granule_named m address
+memory_below m _ = None
+
+-- ---- walks
+
+-- The walk goes on by at most that many levels, and ends at the first entry that leads to no table of the machine.
+unfoldable pub walk_from : Machine → ℕ → ℕ → RttWalk → RttWalk
+walk_from m ipa zero found = found
+walk_from m ipa (suc levels) found =
+    option_map_or (λ table. walk_from m ipa levels (record { table = table; level = found.level + 1 })) (table_below m (entry_at m found ipa)) found
+
+-- the starting table that serves an address
+unfoldable pub start_of : Realm → ℕ → RttWalk
+start_of realm ipa = record { table = realm.first_table + start_offset realm.start_level ipa; level = realm.start_level }
+
+-- The end of the walk of an address towards a level.
+unfoldable pub walk : Machine → Realm → ℕ → ℕ → RttWalk
+walk m realm ipa level = walk_from m ipa (level - realm.start_level) (start_of realm ipa)
+
+-- ---- tops
+
+-- the address that a first live entry begins at; of the address's own entry the address as it was given, or aligned down
+unfoldable pub top_at : Bool → ℕ → ℕ → ℕ → ℕ → ℕ
+top_at aligns level ipa i live =
+    if live == i then cond aligns (ipa / entry_size level * entry_size level) ipa else (ipa / entry_size level + (live - i)) * entry_size level
+
+-- The next live entry's address from an address on, in the table where its walk ends; the end of the table where none is live.
+unfoldable pub top : Machine → RttWalk → ℕ → ℕ
+top m found ipa =
+    let i = entry_index found.level ipa in
+    top_at m.settings.aligns_live_top found.level ipa i (first_live_from (page_in m found.table) i)

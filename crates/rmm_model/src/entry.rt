@@ -1,0 +1,203 @@
+//! Entries of translation tables, and their words.
+ghost use Rattle.std.specs.Prelude.{◌≡◌, ◌<◌, ◌≤◌, ◌^◌};
+ghost use Rattle.rmm_model.specs.Entry as entries;
+
+use crate::entry_size;
+
+/// The RIPAS of an address. RMM 1.0, RmmRipas.
+#[derive(Clone, Copy, Debug, PartialEq, Eq)]
+pub enum Ripas {
+    Empty,
+    Ram,
+    Destroyed,
+}
+
+/// An entry of a translation table. RMM 1.0, RTT entry.
+///
+/// An ASSIGNED entry has the address of a page or block, a TABLE that of a table, an ASSIGNED_NS the descriptor that
+/// the host gave.
+#[derive(Clone, Copy, Debug, PartialEq, Eq)]
+pub enum Entry {
+    Unassigned(Ripas),
+    Assigned(Ripas, u64),
+    Table(u64),
+    UnassignedNs,
+    AssignedNs(u64),
+}
+
+// A word whose bytes are all 1.
+const REPEATED: u64 = 0x0101_0101_0101_0101;
+
+const KIND: u64 = 0x100_0000_0000_0000;
+
+const ADDRESSES: u64 = 0x1_0000_0000_0000;
+
+/// The entry that a word is read as, whatever the word.
+#[tactic(auto, unfolding(crate::specs::Entry::entry_of))]
+pub fn entry_from_word(word: u64) -> Entry
+    ensures value { result ≡ entries.entry_of word }
+    ensures fits { entries.descriptor_of result < 2 ^ 48 }
+{
+    let descriptor = word % ADDRESSES;
+    match word / KIND {
+        1 => Entry::Unassigned(Ripas::Ram),
+        2 => Entry::Unassigned(Ripas::Destroyed),
+        3 => Entry::UnassignedNs,
+        4 => Entry::Table(descriptor),
+        5 => Entry::AssignedNs(descriptor),
+        6 => Entry::Assigned(Ripas::Empty, descriptor),
+        7 => Entry::Assigned(Ripas::Ram, descriptor),
+        8 => Entry::Assigned(Ripas::Destroyed, descriptor),
+        _ => Entry::Unassigned(Ripas::Empty),
+    }
+}
+
+impl Ripas {
+    /// RmiRipas
+    pub fn code(self) -> u8
+        ensures value { result ≡ entries.ripas_code self }
+        ensures below { result ≤ 2 }
+    {
+        match self {
+            Ripas::Empty => 0,
+            Ripas::Ram => 1,
+            Ripas::Destroyed => 2,
+        }
+    }
+}
+
+impl Entry {
+    /// The word of the entry: bits 63:56 have its kind and RIPAS. A live one has its descriptor in bits 47:0; the bytes
+    /// of any other are all the same, so that a page of such entries is written as one byte.
+    #[tactic(auto, unfolding(crate::specs::Entry::entry_word))]
+    pub fn word(self) -> u64
+        ensures { result ≡ entries.entry_word self }
+    {
+        match self {
+            Entry::Unassigned(ripas) => ripas.code() as u64 * REPEATED,
+            Entry::UnassignedNs => 3 * REPEATED,
+            Entry::Table(address) => 4 * KIND + address % ADDRESSES,
+            Entry::AssignedNs(descriptor) => 5 * KIND + descriptor % ADDRESSES,
+            Entry::Assigned(ripas, address) => (6 + ripas.code() as u64) * KIND
+                + address % ADDRESSES,
+        }
+    }
+
+    /// Whether the entry leads to a page, a block or a table.
+    pub fn is_live(self) -> bool
+        ensures { result ≡ entries.is_live self }
+    {
+        match self {
+            Entry::Unassigned(_) => false,
+            Entry::UnassignedNs => false,
+            _ => true,
+        }
+    }
+
+    pub fn is_unassigned(self) -> bool
+        ensures { result ≡ entries.is_unassigned self }
+    {
+        matches!(self, Entry::Unassigned(_))
+    }
+
+    pub fn is_unassigned_ns(self) -> bool
+        ensures { result ≡ entries.is_unassigned_ns self }
+    {
+        matches!(self, Entry::UnassignedNs)
+    }
+
+    pub fn is_assigned_ns(self) -> bool
+        ensures { result ≡ entries.is_assigned_ns self }
+    {
+        matches!(self, Entry::AssignedNs(_))
+    }
+
+    pub fn is_table(self) -> bool
+        ensures { result ≡ entries.is_table self }
+    {
+        matches!(self, Entry::Table(_))
+    }
+
+    /// Whether the entry is a mapping: it leads to a page or a block.
+    pub fn is_mapping(self) -> bool
+        ensures { result ≡ entries.is_mapping self }
+    {
+        match self {
+            Entry::Assigned(_, _) => true,
+            Entry::AssignedNs(_) => true,
+            _ => false,
+        }
+    }
+
+    /// The address or descriptor of a live entry, and 0 of any other.
+    pub fn descriptor(self) -> u64
+        ensures { result ≡ entries.descriptor_of self }
+    {
+        match self {
+            Entry::Assigned(_, address) => address,
+            Entry::Table(address) => address,
+            Entry::AssignedNs(descriptor) => descriptor,
+            _ => 0,
+        }
+    }
+
+    /// The RIPAS of an UNASSIGNED or ASSIGNED entry, and EMPTY of any other.
+    pub fn ripas(self) -> Ripas
+        ensures { result ≡ entries.ripas_in self }
+    {
+        match self {
+            Entry::Unassigned(ripas) => ripas,
+            Entry::Assigned(ripas, _) => ripas,
+            _ => Ripas::Empty,
+        }
+    }
+
+    /// RmiRttEntryState
+    pub fn state_code(self) -> u64
+        ensures { result ≡ entries.state_code self }
+    {
+        match self {
+            Entry::Unassigned(_) => 0,
+            Entry::UnassignedNs => 0,
+            Entry::Assigned(_, _) => 1,
+            Entry::AssignedNs(_) => 1,
+            Entry::Table(_) => 2,
+        }
+    }
+
+    /// RmiRipas of a protected page or block, and 0 of any other entry.
+    pub fn ripas_code(self) -> u64
+        ensures { result ≡ entries.shown_ripas self }
+    {
+        match self {
+            Entry::Unassigned(ripas) => ripas.code() as u64,
+            Entry::Assigned(ripas, _) => ripas.code() as u64,
+            _ => 0,
+        }
+    }
+
+    /// Entry `index` of a table of a level that says the same as this entry above it.
+    pub fn child(self, level: u8, index: u16) -> Entry
+        requires descriptor { entries.descriptor_of self < 2 ^ 48 }
+        requires index { index < 512 }
+        ensures { result ≡ entries.child_entry self level index }
+    {
+        let offset = index as u64 * entry_size(level);
+        match self {
+            Entry::Assigned(ripas, address) => Entry::Assigned(ripas, address + offset),
+            Entry::AssignedNs(descriptor) => Entry::AssignedNs(descriptor + offset),
+            _ => self,
+        }
+    }
+
+    /// The byte that a page of children of this entry has throughout; a mapping has none.
+    pub fn repeated_byte(self) -> Option<u8>
+        ensures { result ≡ entries.repeated_byte self }
+    {
+        match self {
+            Entry::Unassigned(ripas) => Some(ripas.code()),
+            Entry::UnassignedNs => Some(3),
+            _ => None,
+        }
+    }
+}

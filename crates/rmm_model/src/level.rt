@@ -1,0 +1,35 @@
+//! Levels of translation tables, and the entry of a level that covers an address.
+ghost use Rattle.std.specs.Prelude.{◌≡◌, ◌<◌, ◌≤◌, ◌/◌, ◌^◌};
+ghost use Rattle.rmm_model.specs.Level as levels;
+
+/// The bytes that an entry of a level covers: 4 KiB, 2 MiB, 1 GiB or 512 GiB. RMM 1.0, RTT level.
+#[tactic(auto, unfolding(crate::specs::Level::entry_size))]
+pub fn entry_size(level: u8) -> u64
+    ensures value { result ≡ levels.entry_size level }
+    ensures at_least { 4096 ≤ result }
+    ensures at_most { result ≤ 2 ^ 39 }
+{
+    match level {
+        3 => 4096,
+        2 => 0x20_0000,
+        1 => 0x4000_0000,
+        _ => 0x80_0000_0000,
+    }
+}
+
+/// The index of the entry that covers an address, among the 512 of a table.
+#[tactic(auto, unfolding(crate::specs::Level::entry_index))]
+pub fn entry_index(level: u8, ipa: u64) -> u16
+    ensures value { result ≡ levels.entry_index level ipa }
+    ensures below { result < 512 }
+{
+    (ipa / entry_size(level) % 512) as u16
+}
+
+/// The index of the starting table that covers an address.
+#[tactic(auto, unfolding(crate::specs::Level::start_offset))]
+pub fn start_offset(level: u8, ipa: u64) -> u64
+    ensures { result ≡ levels.start_offset level ipa }
+{
+    ipa / entry_size(level) / 512
+}

@@ -1,0 +1,21 @@
+//! The Realm Management Monitor of RMM 1.0 as definitions, and the types that they speak of.
+//!
+//! A machine is a list of granules and a list of pages; a translation table is its page of 512 words. In `specs/Command`
+//! each command is a list of checks and an effect, and `specs/Call` has what a call by registers does.
+#![tactic(auto)]
+
+mod answer;
+mod condition;
+mod entry;
+mod granule;
+mod level;
+mod realm;
+mod table;
+
+pub use answer::{Refusal, error_input, error_rtt};
+pub use condition::Condition;
+pub use entry::{Entry, Ripas, entry_from_word};
+pub use granule::{Granule, GranuleState};
+pub use level::{entry_index, entry_size, start_offset};
+pub use realm::{HashAlgorithm, Realm, RealmState, RttWalk, start_count};
+pub use table::{first_live, has_live, has_parts};

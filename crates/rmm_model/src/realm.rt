@@ -1,0 +1,55 @@
+//! Realms.
+ghost use Rattle.std.specs.Prelude.{◌≡◌, ◌≤◌};
+ghost use Rattle.rmm_model.specs.Realm as realms;
+
+use crate::entry_size;
+use granule_addr::Gran;
+
+/// The state of a realm. RMM 1.0, RmmRealmState.
+#[derive(Clone, Copy, Debug, PartialEq, Eq)]
+pub enum RealmState {
+    New,
+    Active,
+    SystemOff,
+}
+
+/// The hash of a realm's measurements. RMM 1.0, RmiHashAlgorithm.
+#[derive(Clone, Copy, Debug, PartialEq, Eq)]
+pub enum HashAlgorithm {
+    Sha256,
+    Sha512,
+}
+
+/// The attributes of a realm. RMM 1.0, Realm attributes.
+///
+/// The starting tables are `table_count` adjacent granules. `next_rec` counts the RECs that the realm was given,
+/// `rec_count` those that it has.
+#[derive(Clone, Copy, Debug, PartialEq, Eq)]
+pub struct Realm {
+    pub state: RealmState,
+    pub hash: HashAlgorithm,
+    pub s2sz: u8,
+    pub start_level: u8,
+    pub first_table: Gran,
+    pub table_count: u8,
+    pub vmid: u16,
+    pub next_rec: u32,
+    pub rec_count: u16,
+}
+
+/// The end of a walk: a table and its level. RMM 1.0, RttWalkResult.
+#[derive(Clone, Copy, Debug, PartialEq, Eq)]
+pub struct RttWalk {
+    pub table: Gran,
+    pub level: u8,
+}
+
+/// The number of starting tables of a level that an address space of that width takes.
+#[tactic(auto, unfolding(crate::specs::Realm::start_count))]
+pub fn start_count(s2sz: u8, level: u8) -> u64
+    requires { s2sz ≤ 48 }
+    ensures { result ≡ realms.start_count s2sz level }
+{
+    let served = 512 * entry_size(level);
+    ((1 << s2sz) + (served - 1)) / served
+}

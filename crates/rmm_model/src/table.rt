@@ -1,0 +1,47 @@
+//! Tables: pages of 512 entries.
+ghost use Rattle.std.specs.Prelude.{◌≡◌, ◌^◌, ◌<◌, ◌≤◌, length};
+ghost use Rattle.rmm_model.specs.Table as tables;
+ghost use Rattle.rmm_model.specs.Entry.{descriptor_of};
+
+use crate::{Entry, entry_from_word};
+use page_arena::word_in;
+
+/// The first live entry of a table from one on, or 512.
+#[tactic(auto, unfolding(crate::specs::Table::entry_in_page))]
+pub fn first_live(page: &[u8], from: u16) -> u16
+    requires page { length page.now ≡ 4096 }
+    requires from { from ≤ 512 }
+    ensures value { result ≡ tables.first_live_from page.now from }
+    ensures behind { from ≤ result }
+    ensures within { result ≤ 512 }
+{
+    for index in from..512 {
+        if entry_from_word(word_in(page, index as usize)).is_live() {
+            return index;
+        }
+    }
+    512
+}
+
+/// Whether an entry of a table is live.
+#[tactic(auto, unfolding(crate::specs::Table::has_live))]
+pub fn has_live(page: &[u8]) -> bool
+    requires { length page.now ≡ 4096 }
+    ensures { result ≡ tables.has_live page.now }
+{
+    first_live(page, 0) != 512
+}
+
+/// Whether the entries of a table of a level are the children of an entry above it.
+pub fn has_parts(page: &[u8], whole: Entry, level: u8) -> bool
+    requires page { length page.now ≡ 4096 }
+    requires whole { descriptor_of whole < 2 ^ 48 }
+    ensures { result ≡ tables.has_parts page.now whole level 512 0 }
+{
+    for index in 0..512 {
+        if word_in(page, index as usize) != whole.child(level, index).word() {
+            return false;
+        }
+    }
+    true
+}
