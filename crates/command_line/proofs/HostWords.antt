@@ -1,17 +1,17 @@
 -- What clap's definition says of `realmhost`, whatever the words.
-use Rattle.std.proofs.Common.{◌≡◌, List, [], ◌∷◌, refl, codes, inl, inr}
+use Rattle.std.proofs.Common.{◌≡◌, List, [], ◌∷◌, refl, codes, inl}
 use Rattle.std.specs.Prelude.{Some, option_map}
-use Rattle.clap.specs.Simple.{built}
+use Rattle.clap.specs.Simple.{built, filled, help_rule}
 use Rattle.clap.specs.Words.{Row, Text, fault_of, subcommand_of}
 use Rattle.command_line.specs.Options.{Each, IsPassed, built_erase}
 use Rattle.command_line.specs.Realmhost.{IsHostSubcommand, realmhost}
 use Rattle.command_line.specs.declared.realmhost.Line.TheVariants.{Run}
-use Rattle.command_line.proofs.Passed.{AllAreOrAsk}
-use Rattle.command_line.proofs.Subcommands.{IsKnown, by_name, last_is_asked, name_in, values_passed}
+use Rattle.command_line.proofs.Passed.{AllAreOrAsk, AreOrAsk, others}
+use Rattle.command_line.proofs.Subcommands.{IsKnown, by_name, last_is_asked, name_in, named_by, values_passed}
 
 pub realmhost_is : IsKnown realmhost (codes "replay" ∷ codes "run" ∷ [])
 unfolding realmhost
-realmhost_is = record { is_free = refl; required = refl; named = refl }
+realmhost_is = record { is_free = refl; required = refl; named = named_by realmhost _ refl }
 
 -- words that have no fault, and do not ask for a replay, ask for a run
 pub run_is_asked : (words : List Text) → fault_of realmhost words ≡ [] → ¬ (name_in (subcommand_of realmhost words) ≡ Some (codes "replay"))
@@ -21,7 +21,9 @@ run_is_asked words e other =
 
 options_fit : AllAreOrAsk built_erase (built realmhost).subs
 unfolding realmhost
-options_fit = ((inl refl, (inr (inl (refl, refl)), tt)), ((inr (inl (refl, refl)), tt), tt))
+options_fit =
+    let help : AreOrAsk built_erase (filled help_rule ∷ []) = others built_erase (filled help_rule ∷ []) refl in
+    ((inl refl, help), (help, tt))
 
 pub erase_of_host : (words : List Text) → fault_of realmhost words ≡ [] → (rows : List Row) → option_map (λ p. p.1) (subcommand_of realmhost words) ≡ Some rows
     → Each (IsPassed built_erase) rows

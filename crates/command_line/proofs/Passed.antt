@@ -1,10 +1,11 @@
 -- Words that have no fault: each value that a row holds has passed the parser of its argument. Of subcommands whose other arguments
--- are set by a value too, or ask for help or for the version.
+-- have values of their own, or ask for help or for the version.
 use Rattle.std.proofs.Common.{◌≡◌, ℕ, zero, suc, List, [], ◌∷◌, ◌++◌, Bool, true, false, cond, refl, sym, subst, ◌∙◌, ◌⊎◌, inl, inr, length, drop, arith}
-use Rattle.std.specs.Prelude.{◌||◌, ◌&&◌, find, fold, Option, Some, None, option_map, is_some, encode_utf8, slice_get}
+use Rattle.std.specs.Prelude.{◌||◌, ◌&&◌, not, find, fold, Option, Some, None, option_map, is_some, encode_utf8, slice_get}
 use Rattle.std.specs.Option.{option_map_or}
 use Rattle.std.specs.Str.{bytes_eq, chars}
-use Rattle.std.proofs.lemmas.Bool.{cases_Bool, ne_eqb, true≢false, false≢true}
+use Rattle.std.specs.List.{list_all}
+use Rattle.std.proofs.lemmas.Bool.{and_parts, cases_Bool, ne_eqb, true≢false, false≢true}
 use Rattle.std.proofs.lemmas.Option.{same_Some}
 use Rattle.std.proofs.lemmas.Slice.Eq.{bytes_eq-Decides}
 use Rattle.clap.specs.Facts.{parser_of_value, unwrap_or_range}
@@ -42,17 +43,51 @@ each_append : (P : Row → Type 0) (xs ys : List Row) → Each P xs → Each P y
 each_append P [] ys h k = k
 each_append P (r ∷ rs) ys h k = (h.0, each_append P rs ys h.1 k)
 
--- another rule that is set by a value
-abbrev pub IsOtherSet : Rule → Rule → Type 0
-IsOtherSet a x = (bytes_eq x.id a.id ≡ false) × (action_of x ≡ action.Set) × (x.defaults ≡ [])
+-- an action that gives its argument values
+abbrev pub gives_values : ArgAction → Bool
+gives_values action.Set = true
+gives_values action.SetTrue = true
+gives_values action.SetFalse = true
+gives_values action.Append = true
+gives_values _ = false
 
--- the rule, or one that asks for help or for the version, or another that is set by a value
+-- another rule, with values of its own
+abbrev pub IsOtherSet : Rule → Rule → Type 0
+IsOtherSet a x = (bytes_eq x.id a.id ≡ false) × (gives_values (action_of x) ≡ true)
+
+-- the rule, or one that asks for help or for the version, or another with values of its own
 abbrev pub IsOrAsks : Rule → Rule → Type 0
 IsOrAsks a x = (x ≡ a) ⊎ (((is_request (action_of x) ≡ true) × (x.defaults ≡ [])) ⊎ IsOtherSet a x)
 
 abbrev pub AreOrAsk : Rule → List Rule → Type 0
 AreOrAsk a [] = Unit {0}
 AreOrAsk a (x ∷ xs) = IsOrAsks a x × AreOrAsk a xs
+
+-- the same of a rule with another id, as a test
+abbrev pub is_apart : Text → Rule → Bool
+is_apart id x = is_request (action_of x) && is_empty x.defaults || not (bytes_eq x.id id) && gives_values (action_of x)
+
+pub no_more : {X : Type 0} (xs : List X) → is_empty xs ≡ true → xs ≡ []
+no_more [] e = refl
+no_more (x ∷ xs) e = absurd (true≢false (sym e ∙ ne_eqb (length (x ∷ xs)) 0 (λ none. omega (arith, none))))
+
+pub other : (a x : Rule) → is_apart a.id x ≡ true → IsOrAsks a x
+other a x e = elim (or_parts _ _ e) [
+  | inl asks ↦ let p = and_parts _ _ asks in inr (inl (p.0, no_more x.defaults p.1))
+  | inr sets ↦ let p = and_parts _ _ sets in inr (inr (not_true _ p.0, p.1))
+]
+  where
+    not_true : (b : Bool) → not b ≡ true → b ≡ false
+    not_true true h = absurd (true≢false (sym h))
+    not_true false h = refl
+
+    or_parts : (b c : Bool) → (b || c) ≡ true → (b ≡ true) ⊎ (c ≡ true)
+    or_parts true c h = inl refl
+    or_parts false c h = inr h
+
+pub others : (a : Rule) (xs : List Rule) → list_all (is_apart a.id) xs ≡ true → AreOrAsk a xs
+others a [] e = tt
+others a (x ∷ xs) e = let p = and_parts _ _ e in (other a x p.0, others a xs p.1)
 
 found_is : (a : Rule) (p : Rule → Bool) (xs : List Rule) (x : Rule) → AreOrAsk a xs → find p xs ≡ Some x → IsOrAsks a x
 found_is a p [] x h e = absurd (cc)
@@ -118,12 +153,23 @@ asked_same action.HelpShort a values rows e = refl
 asked_same action.HelpLong a values rows e = refl
 asked_same action.Version a values rows e = refl
 
+own_used : (a x : Rule) (how : ArgAction) (values : List Text) (rows : List Row) → bytes_eq x.id a.id ≡ false → gives_values how ≡ true
+    → Each (IsPassed a) rows → Each (IsPassed a) (used_as how x.id (reading_by x) values rows)
+own_used a x action.Set values rows apart e h = others_added a x.id (reading_by x) _ values (without x.id rows) apart (row_left_out (IsPassed a) x.id rows h)
+own_used a x action.SetTrue values rows apart e h = others_added a x.id (reading_by x) _ values (without x.id rows) apart (row_left_out (IsPassed a) x.id rows h)
+own_used a x action.SetFalse values rows apart e h = others_added a x.id (reading_by x) _ values (without x.id rows) apart (row_left_out (IsPassed a) x.id rows h)
+own_used a x action.Append values rows apart e h = others_added a x.id (reading_by x) _ values rows apart h
+own_used a x action.Count values rows apart e h = absurd (true≢false (sym e))
+own_used a x action.Help values rows apart e h = absurd (true≢false (sym e))
+own_used a x action.HelpShort values rows apart e h = absurd (true≢false (sym e))
+own_used a x action.HelpLong values rows apart e h = absurd (true≢false (sym e))
+own_used a x action.Version values rows apart e h = absurd (true≢false (sym e))
+
 use_passed : (a x : Rule) (again : Bool) (values : List Text) (rows : List Row) → action_of a ≡ action.Set → IsOrAsks a x → use_fault again x values rows ≡ []
     → Each (IsPassed a) rows → Each (IsPassed a) (used x values rows)
 use_passed a x again values rows set (inl is) e h = rw is (set_passed a again values rows set (rw is at e) h)
 use_passed a x again values rows set (inr (inl asks)) e h = rw (asked_same (action_of x) x (values_or_missing x values) rows asks.0) h
-use_passed a x again values rows set (inr (inr other)) e h =
-    rw other.1 (others_added a x.id (reading_by x) _ (values_or_missing x values) (without x.id rows) other.0 (row_left_out (IsPassed a) x.id rows h))
+use_passed a x again values rows set (inr (inr own)) e h = own_used a x (action_of x) (values_or_missing x values) rows own.0 own.1 h
 
 -- ---- the walk over the words
 
@@ -321,10 +367,21 @@ module _ (a : Rule) (set : action_of a ≡ action.Set) (s : Shape) (fits : AreOr
       go true = p
       go false = rw none p
 
+  own_default : (x : Rule) (rows : List Row) → bytes_eq x.id a.id ≡ false → Passed rows → Passed (with_default rows x)
+  own_default x rows apart p = go (has_row x.id rows)
+    where
+      added : (defaults : List Text) → Passed (default_rows x.id (reading_by x) defaults rows)
+      added [] = p
+      added (v ∷ vs) = others_added a x.id (reading_by x) _ (v ∷ vs) rows apart p
+
+      go : (has : Bool) → Passed (cond has rows (default_rows x.id (reading_by x) x.defaults rows))
+      go true = p
+      go false = added x.defaults
+
   default_passed : (x : Rule) (rows : List Row) → IsOrAsks a x → default_fault rows x ≡ [] → Passed rows → Passed (with_default rows x)
   default_passed x rows (inl is) e p = rw is (own_default_passed rows (rw is at e) p)
   default_passed x rows (inr (inl asks)) e p = no_default x rows asks.1 p
-  default_passed x rows (inr (inr other)) e p = no_default x rows other.2 p
+  default_passed x rows (inr (inr own)) e p = own_default x rows own.0 p
 
   defaults_passed : (rules : List Rule) (rows : List Row) → AreOrAsk a rules → defaults_fault rows rules ≡ [] → Passed rows → Passed (fold with_default rows rules)
   unfolding defaults_fault

@@ -2,13 +2,13 @@
 use Rattle.std.proofs.Common.{◌≡◌, List, [], ◌∷◌, refl, codes}
 use Rattle.std.specs.Prelude.{Option, Some}
 use Rattle.clap.specs.Words.{Row, Text, fault_of, subcommand_of}
-use Rattle.command_line.proofs.Subcommands.{IsKnown, by_name, last_is_asked, name_in}
+use Rattle.command_line.proofs.Subcommands.{IsKnown, by_name, last_is_asked, name_in, named_beside_help}
 use Rattle.command_line.specs.Rmitrace.{rmitrace, IsTraceSubcommand}
 use Rattle.command_line.specs.declared.rmitrace.Asked.TheVariants.{Answer, Check}
 
 pub rmitrace_is : IsKnown rmitrace (codes "answer" ∷ codes "check" ∷ [])
 unfolding rmitrace
-rmitrace_is = record { is_free = refl; required = refl; named = refl }
+rmitrace_is = record { is_free = refl; required = refl; named = named_beside_help rmitrace (codes "answer" ∷ codes "check" ∷ []) refl refl refl }
 
 pub answer_is_asked : (sub : Option (Text × List Row)) → name_in sub ≡ Some (codes "answer") → IsTraceSubcommand sub Answer
 answer_is_asked = by_name (λ sub. IsTraceSubcommand sub Answer) (codes "answer") (λ r is. is)

@@ -1,4 +1,6 @@
 pub mod Stop
+pub mod Ended
+pub mod Painted
 pub mod Options
 pub mod Realmhost
 pub mod Rmitrace

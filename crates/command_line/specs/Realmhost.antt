@@ -1,19 +1,22 @@
 -- The command line of `realmhost`: what its reader is told of the program, and what the words ask for.
-use Rattle.std.specs.Prelude.{◌≡◌, List, codes, Option, Some, None}
-use Rattle.clap.specs.Words.{App, Row, Text, new_app, one_of, with_subcommand}
-use Rattle.command_line.specs.Options.{IsErase, erasing_subcommand, program_named}
+use Rattle.std.specs.Prelude.{◌≡◌, List, codes, true, Option, Some, None}
+use Rattle.clap.specs.Words.{App, Row, Text, new_app, one_of, with_rule, with_subcommand}
+use Rattle.command_line.specs.Options.{IsErase, erase_option, program_named}
 use Rattle.command_line.specs.declared.realmhost.Line.{Line}
 use Rattle.command_line.specs.declared.realmhost.Line.TheVariants.{Replay, Run}
 
 abbrev pub replay_subcommand : App
-replay_subcommand = erasing_subcommand (codes "replay")
+replay_subcommand = with_rule (new_app (codes "replay")) erase_option
 
 -- without options
 abbrev pub run_subcommand : App
 run_subcommand = new_app (codes "run")
 
+-- it has no subcommand `help`
 abbrev pub realmhost_alone : App
-realmhost_alone = program_named (codes "realmhost")
+realmhost_alone =
+    let a = program_named (codes "realmhost") in
+    record a { top = record a.top { disable_help_subcommand = true } }
 
 unfoldable pub realmhost : App
 realmhost = with_subcommand (with_subcommand realmhost_alone replay_subcommand.top) run_subcommand.top

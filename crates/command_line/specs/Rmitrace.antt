@@ -1,7 +1,7 @@
 -- The command line of `rmitrace`: what its reader is told of the program, and what the words ask for.
 use Rattle.std.specs.Prelude.{◌≡◌, List, codes, Option, Some, None}
-use Rattle.clap.specs.Words.{App, Row, Text, new_app, with_subcommand}
-use Rattle.command_line.specs.Options.{program_named}
+use Rattle.clap.specs.Words.{App, Row, Text, with_subcommand}
+use Rattle.command_line.specs.Options.{program_named, reading_subcommand}
 use Rattle.command_line.specs.declared.rmitrace.Asked.{Asked}
 use Rattle.command_line.specs.declared.rmitrace.Asked.TheVariants.{Answer, Check}
 
@@ -9,7 +9,7 @@ abbrev pub rmitrace_alone : App
 rmitrace_alone = program_named (codes "rmitrace")
 
 unfoldable pub rmitrace : App
-rmitrace = with_subcommand (with_subcommand rmitrace_alone (new_app (codes "answer")).top) (new_app (codes "check")).top
+rmitrace = with_subcommand (with_subcommand rmitrace_alone (reading_subcommand (codes "answer")).top) (reading_subcommand (codes "check")).top
 
 -- what the words ask for, by what `clap` says of their subcommand
 abbrev pub IsTraceSubcommand : Option (Text × List Row) → Asked → Type 0

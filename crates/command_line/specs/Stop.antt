@@ -6,12 +6,13 @@ use Rattle.clap.specs.declared.error.Error.{Error}
 use Rattle.clap.specs.declared.error.kind.ErrorKind.{ErrorKind}
 use Rattle.clap.specs.declared.error.kind.ErrorKind.TheVariants.{OutOfMemory}
 use Rattle.command_line.specs.declared.stop.Stop.{Stop}
-use Rattle.command_line.specs.declared.stop.Stop.TheVariants.{Usage, NotUtf8, Run}
+use Rattle.command_line.specs.declared.stop.Stop.TheVariants.{Usage, NotUtf8, Unopened, Run}
 
--- a command line that is not taken has status 2
+-- a command line that is not taken has status 2, and a file that cannot be opened has the status of a device that fails
 abbrev pub status_of_stop : {F : Type 0} → (F → ℕ) → Stop F → ℕ
 status_of_stop status_of (Usage error) = 2
 status_of_stop status_of NotUtf8 = 2
+status_of_stop status_of (Unopened line) = 5
 status_of_stop status_of (Run fault) = status_of fault
 
 -- a command line that is not taken is a matter of usage, unless memory was wanting

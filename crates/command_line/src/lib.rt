@@ -5,12 +5,20 @@
 //! taken. What `clap`'s definition says of a program with subcommands, whatever the words, stands in `proofs`.
 #![tactic(auto)]
 
+mod ended;
+mod invocation;
 mod options;
+mod paint;
 mod process;
 pub mod realmhost;
 pub mod realmview;
 pub mod rmitrace;
 mod stop;
+mod terminal;
 
+pub use ended::Ended;
+pub use invocation::Invocation;
+pub use paint::{Colour, Painting, painted};
 pub use process::arguments;
 pub use stop::{Reason, Stop};
+pub use terminal::{Input, Output};

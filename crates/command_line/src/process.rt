@@ -31,11 +31,7 @@ impl<F: Reason> Stop<F> {
         ensures { exit_status result ≡ status_of_stop F.status_of self.now }
     {
         // Where this write fails too, the status is what remains.
-        let _told = match self {
-            Stop::Usage(error) => eprint!(rt; "{error}"),
-            Stop::NotUtf8 => eprintln!(rt; "an argument is not UTF-8"),
-            Stop::Run(fault) => eprintln!(rt; "{fault}"),
-        };
+        let _told = eprint!(rt; "{self}");
         ExitCode::from(self.status())
     }
 }

@@ -42,6 +42,7 @@ fn command<'a>(alloc: Global) -> Result<Command<'a>, AllocError>
     let replay = replay(alloc)?;
     let run = subcommand(alloc, "run", RUN);
     program(alloc, "realmhost", ABOUT)
+        .disable_help_subcommand(true)
         .subcommand(replay)?
         .subcommand(run)
 }

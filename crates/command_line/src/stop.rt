@@ -5,6 +5,7 @@ ghost use Rattle.command_line.specs.declared.stop.Stop.TheVariants.{Run};
 
 use clap::Error;
 use clap::error::ErrorKind;
+use std::fmt;
 use std::fmt::Display;
 
 /// Why a program has not done what the command line asks for. Its text is a line for standard error.
@@ -31,6 +32,8 @@ pub enum Stop<F> {
     Usage(Error),
     /// An argument is not UTF-8.
     NotUtf8,
+    /// The file of the command line cannot be opened, as this line says.
+    Unopened(String),
     /// What the command line asks for is not done.
     Run(F),
 }
@@ -42,7 +45,20 @@ impl<F: Reason> Stop<F> {
     {
         match self {
             Stop::Usage(_) | Stop::NotUtf8 => 2,
+            Stop::Unopened(_) => 5,
             Stop::Run(fault) => fault.status(),
+        }
+    }
+}
+
+/// The text for standard error.
+impl<F: Reason> Display for Stop<F> {
+    fn fmt<W: fmt::Write>(&self, f: &mut fmt::Formatter<W>) -> fmt::Result {
+        match self {
+            Stop::Usage(error) => write!(f, "{error}"),
+            Stop::NotUtf8 => write!(f, "an argument is not UTF-8\n"),
+            Stop::Unopened(line) => write!(f, "{line}\n"),
+            Stop::Run(fault) => write!(f, "{fault}\n"),
         }
     }
 }

@@ -5,7 +5,7 @@ ghost use Rattle.std.specs.Io.KnownBytes.{Appends, Keeps, ReadConsumes, WriteApp
 ghost use Rattle.told_device.specs.Whole.{AppendsFront};
 
 use std::alloc::Global;
-use std::io::{Read, Write};
+use std::io::{ErrorKind, Read, Write};
 use std::marker::Model;
 
 /// A call of the device failed.
@@ -17,25 +17,30 @@ pub struct DeviceFailed;
 pub struct Told<D> {
     device: D,
     failed: bool,
+    is_closed: bool,
     reads: u64,
 }
 
 impl<D> Model for Told<D> {
+    ghost use Rattle.std.specs.Prelude.{◌≡◌, true};
     ghost use Rattle.told_device.specs.Told.{ToldView};
 
     ghost Value = { ToldView D };
 
-    ghost view = { λ t. record { device = t.device; failed = t.failed; reads = t.reads } };
+    ghost view = { λ t. record { device = t.device; failed = t.failed; is_closed = t.is_closed; reads = t.reads } };
+
+    ghost invariant = { λ t. t.is_closed ≡ true → t.failed ≡ true };
 }
 
 impl<D> Told<D> {
     /// A device whose calls have not failed.
     pub fn new(device: D) -> Told<D>
-        ensures { result ≡ record { device = device; failed = false; reads = 0 } }
+        ensures { result ≡ record { device = device; failed = false; is_closed = false; reads = 0 } }
     {
         Told {
             device,
             failed: false,
+            is_closed: false,
             reads: 0,
         }
     }
@@ -47,11 +52,28 @@ impl<D> Told<D> {
         self.failed
     }
 
+    /// Whether a write failed because nobody reads what is written: a pipe whose other end is closed.
+    pub fn is_closed(&self) -> bool
+        ensures value { result ≡ self.now.is_closed }
+        ensures failed { result ≡ true → self.now.failed ≡ true }
+    {
+        self.is_closed
+    }
+
     /// The device, to look at.
     pub fn device(&self) -> &D
         ensures { result.now ≡ self.now.device }
     {
         &self.device
+    }
+
+    // Notes a failure, and whether it is that of a closed pipe.
+    fn fail(&mut self, is_closed: bool) -> DeviceFailed
+        ensures { self.new ≡ record self.old { failed = true; is_closed = is_closed } }
+    {
+        self.failed = true;
+        self.is_closed = is_closed;
+        DeviceFailed
     }
 
     /// How often the device was asked to read, up to the greatest `u64`.
@@ -75,10 +97,7 @@ impl<R: Read> Told<R> {
         self.reads = self.reads.saturating_add(1);
         match self.device.read(buf) {
             Ok(n) => Ok(n),
-            Err(_) => {
-                self.failed = true;
-                Err(DeviceFailed)
-            }
+            Err(_) => Err(self.fail(false)),
         }
     }
 }
@@ -96,10 +115,8 @@ impl<W: Write> Told<W> {
     {
         match self.device.write(buf) {
             Ok(n) if n > 0 || buf.is_empty() => Ok(n),
-            _ => {
-                self.failed = true;
-                Err(DeviceFailed)
-            }
+            Ok(_) => Err(self.fail(false)),
+            Err(error) => Err(self.fail(error.kind() == ErrorKind::BrokenPipe)),
         }
     }
 
@@ -112,10 +129,7 @@ impl<W: Write> Told<W> {
     {
         match self.device.flush() {
             Ok(()) => Ok(()),
-            Err(_) => {
-                self.failed = true;
-                Err(DeviceFailed)
-            }
+            Err(error) => Err(self.fail(error.kind() == ErrorKind::BrokenPipe)),
         }
     }
 

@@ -4,5 +4,5 @@ use Rattle.command_line.proofs.options.program.Goals as goal
 
 pub returns : goal.returns
 returns c =
-    rw (c.disable_help_subcommand.ensures, c.subcommand_required.ensures, c.about-named.ensures, c.version.ensures)
-    (ap (λ (a : App). record a { top = record a.top { has_version = true; subcommand_required = true; disable_help_subcommand = true } }) c.new.ensures.app)
+    rw (c.subcommand_required.ensures, c.about-named.ensures, c.version.ensures)
+    (ap (λ (a : App). record a { top = record a.top { has_version = true; subcommand_required = true } }) c.new.ensures.app)

@@ -1,8 +1,9 @@
-use Rattle.std.proofs.Common.{◌∙◌, List, ap, sym, subst, map, string_bytes}
+use Rattle.std.proofs.Common.{◌∙◌, List, ap, sym, subst, map, string_bytes, inl, inr}
 use Rattle.std.specs.Prelude.{Option}
 use Rattle.std.proofs.lemmas.Result.{err_from_is_err_and}
 use Rattle.clap.specs.Words.{App, HasKind, Row, Text, fault_of, is_simple_and_free, subcommand_of}
-use Rattle.command_line.specs.Realmview.{IsViewSubcommand}
+use Rattle.command_line.specs.Options.{file_in}
+use Rattle.command_line.specs.Realmview.{IsViewSubcommand, DrawsTooMany}
 use Rattle.command_line.proofs.ViewWords.{realmview_is}
 use Rattle.command_line.proofs.realmview.Asked.of.Goals as goal
 
@@ -13,7 +14,7 @@ pub returns-in_err-matches-clause-kinds : goal.returns-in_err-matches-clause-kin
 returns-in_err-matches-clause-kinds c =
     let words = map string_bytes c.args.words.now in
     let p = err_from_is_err_and c.from_residual-in_err-matches.result c.from_residual-in_err-matches.ensures.1 in
-    rw (p.1, p.2) (subst (λ (a : App). HasKind (fault_of a words) c.in_err-matches.field-0.0) c.in_ok-command.ensures c.in_err-matches.ensures.kinds)
+    rw (p.1, p.2) (inl (subst (λ (a : App). HasKind (fault_of a words) c.in_err-matches.field-0.0) c.in_ok-command.ensures c.in_err-matches.ensures.kinds))
 
 pub asked_by-requires : goal.asked_by-requires
 asked_by-requires c =
@@ -25,11 +26,26 @@ asked_by-requires c =
       found = sym (c.in_ok-matches.ensures.ok ∙ ap (λ (a : App). subcommand_of a words) program);
     }
 
-pub returns-clause-kinds : goal.returns-clause-kinds
-returns-clause-kinds c = sym (ap (λ (a : App). fault_of a (map string_bytes c.args.words.now)) c.in_ok-command.ensures) ∙ c.in_ok-matches.ensures.kinds
+pub returns-in-Ok-clause-faultless : goal.returns-in-Ok-clause-faultless
+returns-in-Ok-clause-faultless c = sym (ap (λ (a : App). fault_of a (map string_bytes c.args.words.now)) c.in_ok-command.ensures) ∙ c.in_ok-matches.ensures.kinds
 
-pub returns-clause-ok : goal.returns-clause-ok
-returns-clause-ok c =
+pub returns-in-Ok-clause-ok : goal.returns-in-Ok-clause-ok
+returns-in-Ok-clause-ok c =
     let words = map string_bytes c.args.words.now in
-    subst (λ (sub : Option (Text × List Row)). IsViewSubcommand sub c.asked_by.result)
-    (c.in_ok-matches.ensures.ok ∙ ap (λ (a : App). subcommand_of a words) c.in_ok-command.ensures) c.asked_by.ensures
+    subst (λ (sub : Option (Text × List Row)). IsViewSubcommand sub c.in-Ok.asked)
+    (c.in_ok-matches.ensures.ok ∙ ap (λ (a : App). subcommand_of a words) c.in_ok-command.ensures) c.in-Ok.ensures.ok
+
+pub returns-in-Ok-clause-file : goal.returns-in-Ok-clause-file
+returns-in-Ok-clause-file c =
+    let words = map string_bytes c.args.words.now in
+    c.given_file.ensures ∙ ap file_in (c.in_ok-matches.ensures.ok ∙ ap (λ (a : App). subcommand_of a words) c.in_ok-command.ensures)
+
+pub returns-clause-kinds : goal.returns-clause-kinds
+returns-clause-kinds c =
+    let words = map string_bytes c.args.words.now in
+    inr (record {
+      above = c.in-Err.above;
+      too_many = subst (λ (sub : Option (Text × List Row)). DrawsTooMany sub c.in-Err.above)
+          (c.in_ok-matches.ensures.ok ∙ ap (λ (a : App). subcommand_of a words) c.in_ok-command.ensures) c.in-Err.ensures.err;
+      kind = c.in_ok-too_many-in-Err.ensures;
+    })

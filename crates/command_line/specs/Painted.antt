@@ -1,0 +1,46 @@
+-- A text as a terminal is given it, with colours.
+use Rattle.std.specs.Prelude.{◌≡◌, ℕ, List, [], ◌∷◌, ◌++◌, codes, Option, Some, None}
+use Rattle.command_line.specs.declared.paint.Colour.{Colour}
+use Rattle.command_line.specs.declared.paint.Colour.TheVariants.{Error, Red, Green, Yellow, Cyan}
+
+-- the sequence of a number that stands between ESC [ and m
+abbrev pub escape : List ℕ → List ℕ
+escape number = 27 ∷ 91 ∷ number ++ codes "m"
+
+abbrev pub code_of : Colour → List ℕ
+code_of Error = escape (codes "1;31")
+code_of Red = escape (codes "31")
+code_of Green = escape (codes "32")
+code_of Yellow = escape (codes "33")
+code_of Cyan = escape (codes "36")
+
+abbrev pub reset : List ℕ
+reset = escape (codes "0")
+
+-- a piece of a text, bare or in a colour
+abbrev pub Piece : Type 0
+Piece = Option Colour × List ℕ
+
+abbrev pub shown_by : Option Colour → List ℕ → List ℕ
+shown_by None bytes = bytes
+shown_by (Some colour) bytes = code_of colour ++ bytes ++ reset
+
+-- the text that pieces are cut from
+abbrev pub bytes_of_pieces : List Piece → List ℕ
+bytes_of_pieces [] = []
+bytes_of_pieces (piece ∷ more) = piece.1 ++ bytes_of_pieces more
+
+-- the pieces in their colours
+abbrev pub painted_pieces : List Piece → List ℕ
+painted_pieces [] = []
+painted_pieces (piece ∷ more) = shown_by piece.0 piece.1 ++ painted_pieces more
+
+-- the text is added in pieces, some of them in colours
+pub record AddsPainted (old text new : List ℕ) : Type 0 where
+  pub pieces : List Piece
+  pub whole : bytes_of_pieces pieces ≡ text
+  pub added : new ≡ old ++ painted_pieces pieces
+
+-- nothing but colours is added to the text
+abbrev pub IsPainted : List ℕ → List ℕ → Type 0
+IsPainted text out = AddsPainted [] text out

@@ -1,0 +1,62 @@
+//! The end of a program that has not stopped.
+ghost use Rattle.std.specs.Prelude.{◌≡◌, false, true, Err, IfErr, IfOk};
+ghost use Rattle.clap.specs.Values.{kind_of};
+ghost use Rattle.command_line.specs.Ended.{end_of_run, is_request, IsShown, IsUnshown};
+ghost use Rattle.command_line.specs.Stop.{stop_of_error};
+
+use crate::stop::{Reason, Stop};
+use clap::Error;
+use std::alloc::Global;
+use std::io::Write;
+use told_device::{DeviceFailed, Told};
+
+/// The end of a program that has not stopped.
+#[derive(Clone, Copy)]
+pub enum Ended<V> {
+    /// The program has done what it was asked for, with this verdict.
+    Done(V),
+    /// The program has printed its help or its version.
+    Shown,
+    /// Nobody reads the output any more, and nothing is left to say.
+    Closed,
+}
+
+impl<V> Ended<V> {
+    /// The end of a run. A run that failed for a closed output is no fault.
+    pub fn of_run<F>(outcome: Result<V, F>, is_closed: bool) -> Result<Ended<V>, Stop<F>>
+    where
+        V: Drop,
+        F: Drop,
+        ensures { result ≡ end_of_run outcome is_closed }
+    {
+        match outcome {
+            Ok(verdict) => Ok(Ended::Done(verdict)),
+            Err(_) if is_closed => Ok(Ended::Closed),
+            Err(fault) => Err(Stop::Run(fault)),
+        }
+    }
+
+    /// Prints the help or the version, where the words ask for that. Any other error is why the program stops.
+    pub fn shown<F: Reason + From<DeviceFailed>, W: Write>(
+        alloc: Global,
+        error: Error,
+        output: &mut Told<W>,
+    ) -> Result<Ended<V>, Stop<F>>
+        requires { output.old.failed ≡ false }
+        ensures refused { is_request (kind_of error) ≡ false → result ≡ Err (stop_of_error F.memory error) }
+        ensures ended { IfOk result (IsShown output.new.failed output.new.is_closed) }
+        ensures stopped { is_request (kind_of error) ≡ true → IfErr result (IsUnshown F.memory output.new.failed output.new.is_closed) }
+    {
+        if error.use_stderr() {
+            return Err(error.into());
+        }
+        let Ok(text) = format!(in alloc; "{error}") else {
+            return Err(Stop::Run(F::of_memory()));
+        };
+        match output.write_whole(text.as_bytes()) {
+            Ok(()) => Ok(Ended::Shown),
+            Err(_) if output.is_closed() => Ok(Ended::Closed),
+            Err(failed) => Err(Stop::Run(failed.into())),
+        }
+    }
+}

@@ -1,0 +1,176 @@
+//! Colours of a text's lines, for a terminal.
+ghost use Rattle.std.specs.Prelude.{◌≡◌, ◌≤◌, ◌+◌, ◌++◌, length, OnOk, IfOk, IfSome};
+ghost use Rattle.command_line.specs.Painted.{code_of, shown_by, AddsPainted, IsPainted};
+
+use std::alloc::{AllocError, Global};
+
+/// The lines that are painted.
+#[derive(Clone, Copy)]
+pub enum Painting {
+    /// Messages: `error:`, `warning:` and `help:`, the carets below a word, and the lines of refused turns.
+    Messages,
+    /// The difference of a trace: its line as it stands, and as it has to be.
+    Difference,
+}
+
+/// A colour of a terminal.
+#[derive(Clone, Copy)]
+pub enum Colour {
+    /// Red and bold.
+    Error,
+    /// Red.
+    Red,
+    /// Green.
+    Green,
+    /// Yellow.
+    Yellow,
+    /// Cyan.
+    Cyan,
+}
+
+impl Colour {
+    // The escape sequence that begins the colour.
+    fn code(self) -> &'static [u8]
+        ensures { result.now ≡ code_of self }
+    {
+        match self {
+            Colour::Error => b"\x1b[1;31m",
+            Colour::Red => b"\x1b[31m",
+            Colour::Green => b"\x1b[32m",
+            Colour::Yellow => b"\x1b[33m",
+            Colour::Cyan => b"\x1b[36m",
+        }
+    }
+}
+
+// A part of a line that is painted.
+#[derive(Clone, Copy)]
+struct Label {
+    start: usize,
+    len: usize,
+    colour: Colour,
+}
+
+// Whether a label may stand after this: after spaces, or after a place as `plan:4:28: `.
+fn may_begin_label(before: &[u8]) -> bool {
+    match before {
+        [.., digit, b':', b' '] => digit.is_ascii_digit(),
+        _ => before.iter().all(|byte| *byte == b' '),
+    }
+}
+
+// The label that a text begins with: its length and its colour.
+fn label_of(text: &[u8]) -> Option<(usize, Colour)>
+    ensures { IfSome result (λ it. it.0 ≤ length text.now) }
+{
+    if text.starts_with(b"error:") {
+        return Some((6, Colour::Error));
+    }
+    if text.starts_with(b"warning:") {
+        return Some((8, Colour::Yellow));
+    }
+    if text.starts_with(b"help:") {
+        return Some((5, Colour::Cyan));
+    }
+    None
+}
+
+// The label of a line.
+fn label_in(line: &[u8]) -> Option<Label>
+    ensures { IfSome result (λ it. (it.start ≤ length line.now) × (it.start + it.len ≤ length line.now)) }
+{
+    for start in 0..line.len() {
+        if may_begin_label(&line[..start])
+            && let Some((len, colour)) = label_of(&line[start..])
+        {
+            return Some(Label { start, len, colour });
+        }
+    }
+    None
+}
+
+// Whether a line is that of a turn that is refused.
+fn is_refused_turn(line: &[u8]) -> bool {
+    let begins = line.first().is_some_and(|byte| byte.is_ascii_digit());
+    begins && line.windows(6).any(|part| part == b" = no ".as_slice())
+}
+
+// Whether a line marks a word of the line above it.
+fn is_of_carets(line: &[u8]) -> bool {
+    line.iter().all(|byte| matches!(*byte, b' ' | b'^')) && line.iter().any(|byte| *byte == b'^')
+}
+
+// The colour of a whole line. Lines are counted from 0.
+fn colour_of_line(painting: Painting, number: usize, line: &[u8]) -> Option<Colour> {
+    match (painting, number) {
+        (Painting::Messages, _) if is_refused_turn(line) || is_of_carets(line) => Some(Colour::Red),
+        (Painting::Difference, 1) => Some(Colour::Red),
+        (Painting::Difference, 2) => Some(Colour::Green),
+        _ => None,
+    }
+}
+
+// Appends a piece of a text.
+fn push(out: &mut Vec<u8>, colour: Option<Colour>, piece: &[u8]) -> Result<(), AllocError>
+    ensures { OnOk result (out.new.items ≡ out.old.items ++ shown_by colour piece.now) }
+{
+    let Some(colour) = colour else {
+        return out.extend_from_slice(piece);
+    };
+    out.extend_from_slice(colour.code())?;
+    out.extend_from_slice(piece)?;
+    out.extend_from_slice(b"\x1b[0m")
+}
+
+// Appends a line without its line feed.
+fn push_line(
+    out: &mut Vec<u8>,
+    painting: Painting,
+    number: usize,
+    line: &[u8],
+) -> Result<(), AllocError>
+    ensures { OnOk result (AddsPainted out.old.items line.now out.new.items) }
+{
+    let whole = colour_of_line(painting, number, line);
+    let label = match whole {
+        None => label_in(line),
+        Some(_) => None,
+    };
+    let Some(label) = label else {
+        return push(out, whole, line);
+    };
+    let (before, more) = line.split_at(label.start);
+    let (word, after) = more.split_at(label.len);
+    push(out, None, before)?;
+    push(out, Some(label.colour), word)?;
+    push(out, None, after)
+}
+
+// How many bytes the first line has, its line feed left out.
+fn line_len(text: &[u8]) -> usize
+    ensures { result ≤ length text.now }
+{
+    text.iter()
+        .position(|byte| *byte == b'\n')
+        .unwrap_or(text.len())
+}
+
+/// The text as a terminal is given it: some pieces of it are between escape sequences.
+pub fn painted(alloc: Global, text: &[u8], painting: Painting) -> Result<Vec<u8>, AllocError>
+    ensures { IfOk result (λ out. IsPainted text.now out.items) }
+{
+    let mut out = Vec::new(alloc);
+    let mut rest = text;
+    'lines: for number in 0..text.len() {
+        if rest.is_empty() {
+            return Ok(out);
+        }
+        let (line, more) = rest.split_at(line_len(rest));
+        push_line(&mut out, painting, number, line)?;
+        let (feed, after) = more.split_at(more.len().min(1));
+        push(&mut out, None, feed)?;
+        rest = after;
+    }
+    push(&mut out, None, rest)?;
+    Ok(out)
+}

@@ -1,0 +1,155 @@
+//! The streams of a program that people use at a terminal.
+ghost use Rattle.std.specs.Prelude.{◌≡◌, ◌⊎◌, IfErr};
+ghost use Rattle.std.specs.Process.{exit_status};
+ghost use Rattle.command_line.specs.Stop.{status_of_stop};
+ghost use Rattle.command_line.specs.declared.stop.Stop.TheVariants.{Run};
+
+use crate::paint::{Painting, painted};
+use crate::stop::{Reason, Stop};
+use std::alloc::Global;
+use std::env::VarError;
+use std::fs::File;
+use std::io::{IsTerminal, Read, Stdin, Stdout, Write};
+use std::process::ExitCode;
+use std::{env, io};
+
+/// The input of a program: standard input, or the file of its command line.
+#[derive(Drop)]
+pub enum Input {
+    /// Standard input.
+    Standard(Stdin),
+    /// A file.
+    File(File),
+}
+
+// The number of the error that a folder gives where a file is read.
+const EISDIR: i32 = 21;
+
+// The line of a file that cannot be opened.
+fn unopened<F: Reason>(alloc: Global, program: &str, name: &str, error: &io::Error) -> Stop<F>
+    ensures { (status_of_stop F.status_of result ≡ 5) ⊎ (result ≡ Run F.memory) }
+{
+    let Ok(why) = format!(in alloc; "{error}") else {
+        return Stop::Run(F::of_memory());
+    };
+    let why = why.split(" (os error").next().unwrap_or("");
+    match format!(in alloc; "{program}: {name}: {why}") {
+        Ok(line) => Stop::Unopened(line),
+        Err(_) => Stop::Run(F::of_memory()),
+    }
+}
+
+// A file to read.
+fn opened(rt: &HostRuntime, name: &str) -> io::Result<File> {
+    let file = File::open(rt, name)?;
+    if file.metadata()?.is_dir() {
+        return Err(io::Error::from_raw_os_error(EISDIR));
+    }
+    Ok(file)
+}
+
+impl Input {
+    /// Opens the file of the command line, or standard input if there is none.
+    ///
+    /// If standard input is a terminal, a line on standard error says what the program awaits.
+    pub fn open<F: Reason>(
+        rt: &HostRuntime,
+        program: &str,
+        file: Option<&str>,
+        awaited: &str,
+    ) -> Result<Input, Stop<F>>
+        ensures { IfErr result (λ stop. (status_of_stop F.status_of stop ≡ 5) ⊎ (stop ≡ Run F.memory)) }
+    {
+        let Some(name) = file else {
+            let stdin = rt.stdin();
+            if stdin.is_terminal() {
+                let _lost = eprintln!(rt;
+                    "{program}: reading {awaited} from the terminal; end it with Ctrl-D"
+                );
+            }
+            return Ok(Input::Standard(stdin));
+        };
+        match opened(rt, name) {
+            Ok(file) => Ok(Input::File(file)),
+            Err(error) => Err(unopened(rt.alloc(), program, name, &error)),
+        }
+    }
+}
+
+impl Read for Input {
+    fn read(&mut self, buf: &mut [u8]) -> io::Result<usize> {
+        match self {
+            Input::Standard(stdin) => stdin.read(buf),
+            Input::File(file) => file.read(buf),
+        }
+    }
+}
+
+// Whether the environment allows colours: `NO_COLOR` is not set, or empty.
+fn allows_colours(rt: &HostRuntime) -> bool {
+    match env::var(rt, "NO_COLOR") {
+        Ok(value) => value.is_empty(),
+        Err(VarError::NotPresent) => true,
+        Err(_) => false,
+    }
+}
+
+/// Standard output. On a terminal it is painted, if the program wants that.
+#[derive(Drop)]
+pub enum Output {
+    /// Text as it is.
+    Plain(Stdout),
+    /// Text whose lines are painted.
+    Painted(Stdout, Global, Painting),
+}
+
+impl Output {
+    /// Standard output, painted if it is a terminal and colours are allowed.
+    pub fn open(rt: &HostRuntime, painting: Option<Painting>) -> Output {
+        match painting {
+            Some(painting) if rt.stdout().is_terminal() && allows_colours(rt) => {
+                Output::Painted(rt.stdout(), rt.alloc(), painting)
+            }
+            _ => Output::Plain(rt.stdout()),
+        }
+    }
+}
+
+impl Write for Output {
+    fn write(&mut self, buf: &[u8]) -> io::Result<usize> {
+        match self {
+            Output::Plain(stdout) => stdout.write(buf),
+            Output::Painted(stdout, alloc, painting) => {
+                let Ok(text) = painted(*alloc, buf, *painting) else {
+                    return stdout.write(buf);
+                };
+                stdout.write_all(text.as_slice())?;
+                Ok(buf.len())
+            }
+        }
+    }
+
+    fn flush(&mut self) -> io::Result<()> {
+        match self {
+            Output::Plain(stdout) => stdout.flush(),
+            Output::Painted(stdout, ..) => stdout.flush(),
+        }
+    }
+}
+
+impl<F: Reason> Stop<F> {
+    /// Tells standard error why the program stops, in colour on a terminal, and gives its exit status.
+    pub fn end_in_colour(&self, rt: &HostRuntime) -> ExitCode
+        ensures { exit_status result ≡ status_of_stop F.status_of self.now }
+    {
+        if rt.stderr().is_terminal()
+            && allows_colours(rt)
+            && let Ok(text) = format!(in rt.alloc(); "{self}")
+            && let Ok(text) = painted(rt.alloc(), text.as_bytes(), Painting::Messages)
+        {
+            let _lost = rt.stderr().write_all(text.as_slice());
+            return ExitCode::from(self.status());
+        }
+        self.end(rt)
+    }
+}
