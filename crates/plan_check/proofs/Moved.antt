@@ -1,4 +1,4 @@
--- What holds of findings that are put in order, and of one more.
+-- Findings that are put in order, and one more of them.
 use Rattle.std.proofs.Common.{List, [], ◌∷◌, ◌++◌, ◌≡◌, ◌≤◌, ℕ, length, ap, sym, ◌∙◌, subst}
 use Rattle.std.specs.Prelude.{All, Any, Ok, Err, Some, None, Result}
 use Rattle.std.specs.List.Sorted.{IsPermutation, IsNonDecreasingBy}
@@ -7,9 +7,10 @@ use Rattle.std.proofs.lemmas.List.Elements.{All-push}
 use Rattle.std.proofs.lemmas.List.Quantifiers.{Any-push}
 use Rattle.std.proofs.lemmas.List.Sorted.{All-permutation, Contains-permutation}
 use Rattle.realm_plan.specs.declared.fault.PlanFault.{PlanFault}
-use Rattle.plan_check.specs.Findings.{IsError, AreErrors, AreWarnings, AreInside, AreOf, IsJudged, size_of, size_in}
+use Rattle.plan_check.specs.Findings.{IsError, IsErrorOf, AreErrors, AreWarnings, IsStretchIn, AreInside, AreOf, IsJudged, size_of, size_in}
 use Rattle.plan_check.specs.declared.judging.Judged.{Judged}
 use Rattle.plan_check.specs.declared.finding.Finding.{Finding}
+use Rattle.plan_check.specs.declared.finding.Severity.{Severity}
 use Rattle.plan_check.specs.declared.finding.Severity.TheVariants.{Error, Warning}
 
 any_moved : (P : Finding → Type 0) (xs ys : List Finding) → IsPermutation xs ys → Any P xs → Any P ys
@@ -20,22 +21,30 @@ any_moved P xs ys moved any =
 pub errors_moved : (fault : PlanFault) (xs ys : List Finding) → IsPermutation xs ys → AreErrors fault xs → AreErrors fault ys
 errors_moved fault xs ys moved are = record {
   errors = All-permutation (λ (f : Finding). IsError f.severity) xs ys moved are.errors;
-  told = any_moved (λ (f : Finding). f.severity ≡ Error fault) xs ys moved are.told;
+  told = any_moved (λ (f : Finding). IsErrorOf fault f.severity) xs ys moved are.told;
 }
 
+is_error : (fault : PlanFault) (severity : Severity) → IsErrorOf fault severity → IsError severity
+is_error fault (Error first also) is = tt
+is_error fault Warning is = absurd is
+
 -- errors, and one of this fault
-pub errors_pushed : (fault : PlanFault) (xs ys : List Finding) (f : Finding) → ys ≡ xs ++ f ∷ [] → All (λ x. IsError x.severity) xs → f.severity ≡ Error fault → AreErrors fault ys
+pub errors_pushed : (fault : PlanFault) (xs ys : List Finding) (f : Finding) → ys ≡ xs ++ f ∷ [] → All (λ x. IsError x.severity) xs → IsErrorOf fault f.severity → AreErrors fault ys
 errors_pushed fault xs ys f pushed errors is =
-    let all = All-push (λ (x : Finding). IsError x.severity) xs f errors (subst IsError (sym is) tt) in
-    let one = Any-push (λ (x : Finding). x.severity ≡ Error fault) xs f is in
+    let all = All-push (λ (x : Finding). IsError x.severity) xs f errors (is_error fault f.severity is) in
+    let one = Any-push (λ (x : Finding). IsErrorOf fault x.severity) xs f is in
     subst (λ (zs : List Finding). AreErrors fault zs) (sym pushed) (record { errors = all; told = one })
 
--- ---- what is told of bytes
+-- one more inside of a text
+pub inside_pushed : (end : ℕ) (xs ys : List Finding) (f : Finding) → ys ≡ xs ++ f ∷ [] → AreInside end xs → IsStretchIn end f → AreInside end ys
+inside_pushed end xs ys f pushed are is = subst (λ (zs : List Finding). AreInside end zs) (sym pushed) (All-push (IsStretchIn end) xs f are is)
+
+-- ---- the findings on bytes
 
 module _ (bytes : List ℕ) (xs : List Finding) (judged : Judged) (inside : AreInside (length bytes) xs)
-    (moved : IsPermutation xs judged.findings.items) (sorted : IsNonDecreasingBy (λ f. f.at) judged.findings.items) where
+    (moved : IsPermutation xs judged.findings.items) (sorted : IsNonDecreasingBy (λ f. f.span.start) judged.findings.items) where
   still_inside : AreInside (length bytes) judged.findings.items
-  still_inside = All-permutation (λ (f : Finding). f.at ≤ length bytes) xs judged.findings.items moved inside
+  still_inside = All-permutation (IsStretchIn (length bytes)) xs judged.findings.items moved inside
 
   pub judged_plan : (plan : Plan) → plan_of bytes ≡ Ok plan → AreWarnings xs → judged.size ≡ Some (size_of plan) → IsJudged bytes judged
   judged_plan plan is warnings size =

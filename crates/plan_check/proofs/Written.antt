@@ -1,10 +1,10 @@
 -- One finding is written, and one more.
-use Rattle.std.proofs.Common.{◌≡◌, ◌++◌, ℕ, ◌+◌, ◌<◌, List, ◌∷◌, [], length, take, get_or, ap, sym, ◌∙◌, string_bytes}
+use Rattle.std.proofs.Common.{◌≡◌, ◌++◌, ℕ, ◌+◌, ◌-◌, ◌<◌, List, ◌∷◌, [], length, take, get_or, ap, sym, ◌∙◌, string_bytes}
 use Rattle.std.specs.List.{flat_map}
 use Rattle.std.proofs.lemmas.List.{append_assoc, flat_map_more, take_more}
 use Rattle.plan_check.specs.Places.{front_of, back_of, line_of, column_of}
 use Rattle.plan_check.specs.Cursors.{IsCursor}
-use Rattle.plan_check.specs.Texts.{head_text, excerpt, finding_text}
+use Rattle.plan_check.specs.Texts.{head_text, excerpt, note_text, finding_text}
 use Rattle.plan_check.specs.declared.cursor.Cursor.{Cursor}
 use Rattle.plan_check.specs.declared.finding.Finding.{Finding}
 
@@ -17,23 +17,35 @@ written_more f old mid new xs i x inside here before written =
     ∙ ap (λ y. old ++ flat_map f (take i xs ++ y ∷ [])) (sym here)
     ∙ ap (λ ys. old ++ flat_map f ys) (sym (take_more xs i x inside))
 
--- what is told of a place is told of the finding that stands there
-text_at : (bytes : List ℕ) (f : Finding) (at : ℕ) → at ≡ f.at
-    → head_text (line_of bytes at) (column_of bytes at) f.severity (string_bytes f.words) ++ excerpt (front_of bytes at) (back_of bytes at) ≡ finding_text bytes f
+-- the text of a finding, by a place that is its own
+text_at : (source bytes : List ℕ) (f : Finding) (at : ℕ) → at ≡ f.span.start
+    → head_text source (line_of bytes at) (column_of bytes at) f.severity (string_bytes f.words)
+    ++ (excerpt (front_of bytes at) (back_of bytes at) (f.span.end - f.span.start) ++ flat_map note_text f.notes.items) ≡ finding_text source bytes f
 unfolding finding_text
-text_at bytes f at same =
-    ap (λ n. head_text (line_of bytes n) (column_of bytes n) f.severity (string_bytes f.words) ++ excerpt (front_of bytes n) (back_of bytes n)) same
+text_at source bytes f at same =
+    ap (λ n. head_text source (line_of bytes n) (column_of bytes n) f.severity (string_bytes f.words)
+    ++ (excerpt (front_of bytes n) (back_of bytes n) (f.span.end - f.span.start) ++ flat_map note_text f.notes.items)) same
 
-pub finding_is : (bytes : List ℕ) (f : Finding) (place : Cursor) → IsCursor bytes place → place.at ≡ f.at → (old mid new front back : List ℕ)
-    → front ≡ front_of bytes place.at → back ≡ back_of bytes place.at
-    → mid ≡ old ++ head_text place.line place.column f.severity (string_bytes f.words) → new ≡ mid ++ excerpt front back
-    → new ≡ old ++ finding_text bytes f
-finding_is bytes f place is same old mid new front back before behind head last =
-    last
-    ∙ ap (λ xs. mid ++ excerpt xs back) before
-    ∙ ap (λ xs. mid ++ excerpt (front_of bytes place.at) xs) behind
-    ∙ ap (λ xs. xs ++ excerpt (front_of bytes place.at) (back_of bytes place.at)) head
-    ∙ ap (λ n. (old ++ head_text n place.column f.severity (string_bytes f.words)) ++ excerpt (front_of bytes place.at) (back_of bytes place.at)) is.line
-    ∙ ap (λ n. (old ++ head_text (line_of bytes place.at) n f.severity (string_bytes f.words)) ++ excerpt (front_of bytes place.at) (back_of bytes place.at)) is.column
-    ∙ append_assoc old (head_text (line_of bytes place.at) (column_of bytes place.at) f.severity (string_bytes f.words)) (excerpt (front_of bytes place.at) (back_of bytes place.at))
-    ∙ ap (λ xs. old ++ xs) (text_at bytes f place.at same)
+module _ (source bytes : List ℕ) (f : Finding) (place : Cursor) (is : IsCursor bytes place) (same : place.at ≡ f.span.start) where
+  -- the place and its words, as they are written
+  head_is : head_text source place.line place.column f.severity (string_bytes f.words)
+      ≡ head_text source (line_of bytes place.at) (column_of bytes place.at) f.severity (string_bytes f.words)
+  head_is =
+      ap (λ n. head_text source n place.column f.severity (string_bytes f.words)) is.line
+      ∙ ap (λ n. head_text source (line_of bytes place.at) n f.severity (string_bytes f.words)) is.column
+
+  pub finding_is : (old head marked new front back : List ℕ) → front ≡ front_of bytes place.at → back ≡ back_of bytes place.at
+      → head ≡ old ++ head_text source place.line place.column f.severity (string_bytes f.words)
+      → marked ≡ head ++ excerpt front back (f.span.end - f.span.start) → new ≡ marked ++ flat_map note_text f.notes.items
+      → new ≡ old ++ finding_text source bytes f
+  finding_is old head marked new front back before after heads marks last =
+      let len = f.span.end - f.span.start in
+      let notes = flat_map note_text f.notes.items in
+      let h = head_text source (line_of bytes place.at) (column_of bytes place.at) f.severity (string_bytes f.words) in
+      let e = excerpt (front_of bytes place.at) (back_of bytes place.at) len in
+      last
+      ∙ ap (λ xs. xs ++ notes) (marks ∙ ap (λ xs. head ++ excerpt xs back len) before ∙ ap (λ xs. head ++ excerpt (front_of bytes place.at) xs len) after)
+      ∙ ap (λ xs. (xs ++ e) ++ notes) (heads ∙ ap (λ xs. old ++ xs) head_is)
+      ∙ append_assoc (old ++ h) e notes
+      ∙ append_assoc old h (e ++ notes)
+      ∙ ap (λ xs. old ++ xs) (text_at source bytes f place.at same)

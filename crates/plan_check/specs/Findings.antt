@@ -1,5 +1,5 @@
--- What is told of bytes.
-use Rattle.std.specs.Prelude.{◌≡◌, ℕ, ◌≤◌, List, length, sum_by, All, Any, Option, Some, None, Result, Ok, Err}
+-- The findings on bytes.
+use Rattle.std.specs.Prelude.{◌≡◌, ◌⊎◌, ℕ, ◌≤◌, List, length, sum_by, All, Any, Option, Some, None, Result, Ok, Err}
 use Rattle.std.specs.List.Sorted.{IsNonDecreasingBy}
 use Rattle.realm_plan.specs.Plan.{Plan, plan_of}
 use Rattle.realm_plan.specs.declared.fault.PlanFault.{PlanFault}
@@ -10,13 +10,18 @@ use Rattle.plan_check.specs.declared.judging.Judged.{Judged}
 use Rattle.plan_check.specs.declared.judging.Size.{Size}
 
 abbrev pub IsError : Severity → Type 0
-IsError (Error fault) = Unit {0}
+IsError (Error fault also) = Unit {0}
 IsError Warning = ⊥
 
--- Errors alone, and this fault is one of them.
+-- an error of this fault: its own, or the one that follows from the same mistake
+abbrev pub IsErrorOf : PlanFault → Severity → Type 0
+IsErrorOf fault (Error first also) = (first ≡ fault) ⊎ (also ≡ Some fault)
+IsErrorOf fault Warning = ⊥
+
+-- Errors alone, and one of them is of this fault.
 pub record AreErrors (fault : PlanFault) (findings : List Finding) : Type 0 where
   pub errors : All (λ f. IsError f.severity) findings
-  pub told : Any (λ f. f.severity ≡ Error fault) findings
+  pub told : Any (λ f. IsErrorOf fault f.severity) findings
 
 abbrev pub AreWarnings : List Finding → Type 0
 AreWarnings findings = All (λ f. f.severity ≡ Warning) findings
@@ -26,14 +31,18 @@ abbrev pub AreOf : Result Plan PlanFault → List Finding → Type 0
 AreOf (Ok plan) findings = AreWarnings findings
 AreOf (Err fault) findings = AreErrors fault findings
 
--- each at a place of a text of `end` bytes
+-- on a stretch of a text of `end` bytes
+pub record IsStretchIn (end : ℕ) (f : Finding) : Type 0 where
+  pub ordered : f.span.start ≤ f.span.end
+  pub within : f.span.end ≤ end
+
 abbrev pub AreInside : ℕ → List Finding → Type 0
-AreInside end findings = All (λ f. f.at ≤ end) findings
+AreInside end findings = All (IsStretchIn end) findings
 
 pub record AreFindings (bytes : List ℕ) (findings : List Finding) : Type 0 where
   pub of_bytes : AreOf (plan_of bytes) findings
   pub inside : AreInside (length bytes) findings
-  pub in_order : IsNonDecreasingBy (λ f. f.at) findings
+  pub in_order : IsNonDecreasingBy (λ f. f.span.start) findings
 
 -- how many builds, steps of all builds and turns a plan has
 abbrev pub size_of : Plan → Size

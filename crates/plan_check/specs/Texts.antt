@@ -1,6 +1,8 @@
--- What is written of findings.
-use Rattle.std.specs.Prelude.{◌≡◌, ℕ, ◌-◌, List, [], ◌∷◌, ◌++◌, codes, length, take, drop, count_by, replicate, nat_le, is_ok, if◌then◌else◌, string_bytes, Option, Some, None}
+-- The text of findings.
+use Rattle.std.specs.Prelude.{◌≡◌, ℕ, ◌-◌, ◌==◌, max, List, [], ◌∷◌, ◌++◌, codes, length, take, drop, count_by, replicate, nat_le, is_ok, if◌then◌else◌, string_bytes, Option, Some, None}
 use Rattle.std.specs.List.{flat_map}
+use Rattle.std.specs.declared.string.String.{String}
+use Rattle.std.specs.declared.alloc.Global.{Global}
 use Rattle.std.specs.Fmt.{decimal}
 use Rattle.realm_plan.specs.Plan.{plan_of}
 use Rattle.plan_check.specs.Findings.{AreFindings, size_in}
@@ -20,34 +22,52 @@ shown_front front = if nat_le (length front) 80 then front else codes ".." ++ dr
 abbrev pub shown_back : List ℕ → List ℕ
 shown_back back = if nat_le (length back) 80 then back else take 78 back ++ codes ".."
 
--- the line round a place, and a caret under the character there
-unfoldable pub excerpt : List ℕ → List ℕ → List ℕ
-excerpt front back =
-    plain_text (shown_front front ++ shown_back back) ++ (10 ∷ (replicate (count_by begins_char (shown_front front)) 32 ++ codes "^\n"))
+-- how many characters a text has
+abbrev pub char_count : List ℕ → ℕ
+char_count text = count_by begins_char text
+
+-- carets after `before` spaces, one at least
+abbrev pub carets : ℕ → ℕ → List ℕ
+carets before count = replicate before 32 ++ (replicate (max count 1) 94 ++ 10 ∷ [])
+
+-- the line around a place, and carets under its first `len` bytes from there on
+unfoldable pub excerpt : List ℕ → List ℕ → ℕ → List ℕ
+excerpt front back len =
+    let before = plain_text (shown_front front) in
+    (before ++ (plain_text (shown_back back) ++ 10 ∷ [])) ++ carets (char_count before) (char_count (plain_text (take len (shown_back back))))
 
 abbrev pub severity_word : Severity → List ℕ
-severity_word (Error fault) = codes "error"
+severity_word (Error fault also) = codes "error"
 severity_word Warning = codes "warning"
 
--- a line and a column, and what is told there
-unfoldable pub head_text : ℕ → ℕ → Severity → List ℕ → List ℕ
-head_text line column severity words =
-    codes "plan:" ++ (decimal line ++ (58 ∷ (decimal column ++ (codes ": " ++ (severity_word severity ++ (codes ": " ++ (plain_text words ++ 10 ∷ [])))))))
+-- a place and its words
+unfoldable pub head_text : List ℕ → ℕ → ℕ → Severity → List ℕ → List ℕ
+head_text source line column severity words =
+    source ++ (58 ∷ (decimal line ++ (58 ∷ (decimal column ++ (codes ": " ++ (severity_word severity ++ (codes ": " ++ (plain_text words ++ 10 ∷ []))))))))
 
--- what is told of a place, and the line round it
-unfoldable pub finding_text : List ℕ → Finding → List ℕ
-finding_text text f =
-    head_text (line_of text f.at) (column_of text f.at) f.severity (string_bytes f.words) ++ excerpt (front_of text f.at) (back_of text f.at)
+abbrev pub note_text : String Global → List ℕ
+note_text note = plain_text (string_bytes note) ++ 10 ∷ []
 
--- how much a plan has
-abbrev pub size_text : Option Size → List ℕ
-size_text None = []
-size_text (Some size) =
-    codes "plan: " ++ (decimal size.builds ++ (codes " builds, " ++ (decimal size.steps ++ (codes " steps, " ++ (decimal size.turns ++ codes " turns\n")))))
+-- a finding on a text that comes from this source: its place, its words, its line and its notes
+unfoldable pub finding_text : List ℕ → List ℕ → Finding → List ℕ
+finding_text source text f =
+    head_text source (line_of text f.span.start) (column_of text f.span.start) f.severity (string_bytes f.words)
+    ++ (excerpt (front_of text f.span.start) (back_of text f.span.start) (f.span.end - f.span.start) ++ flat_map note_text f.notes.items)
 
--- Findings of the bytes, and how much the plan has, if they are one.
-pub record IsReport (bytes : List ℕ) (report : Report) : Type 0 where
+-- the ending of a noun of which there are so many
+abbrev pub plural : ℕ → List ℕ
+plural count = if count == 1 then [] else codes "s"
+
+-- the size of a plan
+abbrev pub size_text : List ℕ → Option Size → List ℕ
+size_text source None = []
+size_text source (Some size) =
+    source ++ (codes ": " ++ (decimal size.builds ++ (codes " build" ++ (plural size.builds ++ (codes ", " ++ (decimal size.steps ++ (codes " step" ++ (plural size.steps
+    ++ (codes ", " ++ (decimal size.turns ++ (codes " turn" ++ (plural size.turns ++ 10 ∷ []))))))))))))
+
+-- The findings on bytes that come from a source, and the size of the plan, if they are one.
+pub record IsReport (source bytes : List ℕ) (report : Report) : Type 0 where
   pub findings : List Finding
   pub are_findings : AreFindings bytes findings
-  pub text : string_bytes report.text ≡ flat_map (finding_text bytes) findings ++ size_text (size_in (plan_of bytes))
+  pub text : string_bytes report.text ≡ flat_map (finding_text (plain_text source) bytes) findings ++ size_text (plain_text source) (size_in (plan_of bytes))
   pub is_plan : report.is_plan ≡ is_ok (plan_of bytes)

@@ -1,149 +1,188 @@
-//! What is wrong with the builds of a plan and their steps.
+//! What is wrong with the builds of a plan.
 use crate::filled::Piece;
-use crate::places::Places;
-use crate::reason::{Reason, why_no_step};
-use crate::wrong::{Wrong, tell, tell_kind, tell_too_many, tell_words};
+use crate::finding::{Findings, Severity, Span};
+use crate::keys::{Meant, means_steps, of_kind};
+use crate::outline::{Build, Entry, Outline};
+use crate::step_text::{StepText, of_step};
+use crate::value::{Content, Value};
 use plan_steps::step_from_text;
 use realm_plan::{MOST_BUILDS, MOST_STEPS, PlanFault};
-use std::alloc::{AllocError, Global};
-use toml::value::Array;
-use toml::{Table, Value};
+use std::alloc::AllocError;
 
-/// Tells what is wrong with the builds.
+/// How many builds a plan has, if it says.
+pub fn count_of_builds(outline: &Outline) -> Option<usize> {
+    match outline.entry("build") {
+        Some(entry) if !entry.value.is_array() => None,
+        None if outline.builds.is_empty() => None,
+        _ => Some(outline.builds.len()),
+    }
+}
+
+/// Finds what is wrong with the builds.
 pub fn builds(
-    alloc: Global,
     text: &str,
-    table: &Table,
-    places: &Places,
-    found: &mut Vec<Wrong>,
+    outline: &Outline,
+    meant: Meant,
+    found: &mut Findings,
 ) -> Result<(), AllocError> {
-    let Some(value) = table.get("build") else {
-        let words = "there is no build: a plan has 1 to 8, each a table [[build]]";
-        return tell_words(alloc, found, PlanFault::Key, 0, words, &[]);
-    };
-    let Some(items) = value.as_array() else {
-        let wanted = "`build` is an array of tables, each under [[build]]";
-        return tell_kind(alloc, found, places.value_at("build"), wanted, value);
-    };
-    each_build(alloc, text, items, places, found)?;
-    count_of_builds(alloc, items.len(), places, found)
-}
-
-fn each_build(
-    alloc: Global,
-    text: &str,
-    items: &Array,
-    places: &Places,
-    found: &mut Vec<Wrong>,
-) -> Result<(), AllocError> {
-    for (place, item) in items.iter().enumerate() {
-        build(alloc, text, item, place, places, found)?;
+    match outline.entry("build") {
+        Some(entry) if !entry.value.is_array() => return no_builds(text, entry, found),
+        Some(entry) if outline.builds.is_empty() => return no_build(outline, entry, found),
+        None if outline.builds.is_empty() => return missing_build(outline, meant, found),
+        _ => {}
     }
-    Ok(())
-}
-
-// How many builds there are.
-fn count_of_builds(
-    alloc: Global,
-    count: usize,
-    places: &Places,
-    found: &mut Vec<Wrong>,
-) -> Result<(), AllocError> {
-    if count == 0 {
-        let words = "a plan has 1 to 8 builds, and here is none";
-        let at = places.value_at("build");
-        return tell_words(alloc, found, PlanFault::Limit, at, words, &[]);
+    for (number, build) in outline.builds.iter().enumerate() {
+        of_build(text, outline, number, build, found)?;
     }
-    let words = "a plan has 1 to {} builds, and here are {}";
-    let at = places.build_at(MOST_BUILDS);
-    tell_too_many(alloc, found, at, words, MOST_BUILDS, count)
+    let count = outline.builds.len();
+    if count <= MOST_BUILDS {
+        return Ok(());
+    }
+    let pieces = [Piece::Count(MOST_BUILDS), Piece::Count(count)];
+    let words = "expected at most {} builds, found {}";
+    found.error(
+        PlanFault::Limit,
+        outline.build_span(MOST_BUILDS),
+        words,
+        &pieces,
+    )
 }
 
-// A build, which is to be a table with the one key `steps`.
-fn build(
-    alloc: Global,
+// A value of `build` that is no array of tables.
+fn no_builds(text: &str, entry: &Entry, found: &mut Findings) -> Result<(), AllocError> {
+    let span = entry.value.span;
+    match text.get(span.start..span.end) {
+        Some(header) if matches!(entry.value.content, Content::Headed) => {
+            let words = "expected `[[build]]`, found {}";
+            found.error(PlanFault::Key, span, words, &[Piece::Quoted(header)])?;
+        }
+        _ => of_kind(&entry.value, "an array of tables", found)?,
+    }
+    found.help("each build begins with a line `[[build]]`", &[])
+}
+
+// An array of builds that is empty. Each turn names no build then.
+fn no_build(outline: &Outline, entry: &Entry, found: &mut Findings) -> Result<(), AllocError> {
+    let also = if outline.turns.is_empty() {
+        None
+    } else {
+        Some(PlanFault::Order { place: 0 })
+    };
+    let words = "`build` is empty; a plan has 1 to 8 builds";
+    let severity = Severity::Error(PlanFault::Limit, also);
+    found.add(severity, entry.value.span, words, &[])
+}
+
+fn missing_build(outline: &Outline, meant: Meant, found: &mut Findings) -> Result<(), AllocError> {
+    if meant.build {
+        return Ok(());
+    }
+    let start = outline.start();
+    let span = Span { start, end: start };
+    found.error(PlanFault::Key, span, "missing key `build`", &[])?;
+    found.help("add a line `[[build]]`, and below it `steps = [..]`", &[])
+}
+
+// A build, which is a table with the one key `steps`.
+fn of_build(
     text: &str,
+    outline: &Outline,
+    number: usize,
+    build: &Build,
+    found: &mut Findings,
+) -> Result<(), AllocError> {
+    if !matches!(build.value.content, Content::Table | Content::Tables) {
+        return of_kind(&build.value, "a table", found);
+    }
+    match build.steps {
+        Some(place) => match outline.entries.get(place) {
+            Some(entry) => steps(text, outline, number, &entry.value, found),
+            None => Ok(()),
+        },
+        None => missing_steps(outline, number, found),
+    }
+}
+
+fn missing_steps(outline: &Outline, number: usize, found: &mut Findings) -> Result<(), AllocError> {
+    if means_steps(outline, number, found)? {
+        return Ok(());
+    }
+    let pieces = [Piece::Count(number)];
+    let words = "missing key `steps` in build {}";
+    found.error(PlanFault::Key, outline.build_span(number), words, &pieces)?;
+    found.help("a build that does nothing has `steps = []`", &[])
+}
+
+// The steps of a build, which are an array of strings.
+fn steps(
+    text: &str,
+    outline: &Outline,
+    build: usize,
     value: &Value,
-    place: usize,
-    places: &Places,
-    found: &mut Vec<Wrong>,
+    found: &mut Findings,
 ) -> Result<(), AllocError> {
-    let Some(table) = value.as_table() else {
-        let wanted = "a build is a table with the key `steps`";
-        return tell_kind(alloc, found, places.build_at(place), wanted, value);
+    if !value.is_array() {
+        return no_steps(value, found);
+    }
+    let count = match outline.builds.get(build) {
+        Some(its) => its.count,
+        None => 0,
     };
-    match table.get("steps") {
-        Some(value) => steps(alloc, text, value, place, places, found),
-        None => {
-            let at = places.build_at(place);
-            let words = "the `steps` of build {} are missing";
-            let pieces = [Piece::Count(place)];
-            tell_words(alloc, found, PlanFault::Key, at, words, &pieces)
+    for step in 0..count {
+        if let Some(value) = outline.step(build, step) {
+            one_step(text, value, PlanFault::Step { build, step }, found)?;
         }
     }
+    if count <= MOST_STEPS {
+        return Ok(());
+    }
+    let pieces = [Piece::Count(MOST_STEPS), Piece::Count(count)];
+    let words = "expected at most {} steps, found {}";
+    found.error(
+        PlanFault::Limit,
+        outline.step_span(build, MOST_STEPS),
+        words,
+        &pieces,
+    )
 }
 
-// The steps of a build, which are to be an array.
-fn steps(
-    alloc: Global,
+fn no_steps(value: &Value, found: &mut Findings) -> Result<(), AllocError> {
+    of_kind(value, "an array", found)?;
+    match value.as_text() {
+        Some(step) if step_from_text(step).is_some() => found.help(
+            "write `[\"{}\"]`",
+            &[Piece::Words(step)],
+        ),
+        _ => Ok(()),
+    }
+}
+
+// A step, which is a string.
+fn one_step(
     text: &str,
     value: &Value,
-    build: usize,
-    places: &Places,
-    found: &mut Vec<Wrong>,
-) -> Result<(), AllocError> {
-    let Some(items) = value.as_array() else {
-        let wanted = "`steps` is an array of texts";
-        return tell_kind(alloc, found, places.steps_at(build), wanted, value);
-    };
-    each_step(alloc, text, items, build, places, found)?;
-    let words = "a build has at most {} steps, and here are {}";
-    let at = places.step_at(build, MOST_STEPS);
-    tell_too_many(alloc, found, at, words, MOST_STEPS, items.len())
-}
-
-fn each_step(
-    alloc: Global,
-    text: &str,
-    items: &Array,
-    build: usize,
-    places: &Places,
-    found: &mut Vec<Wrong>,
-) -> Result<(), AllocError> {
-    for (step, item) in items.iter().enumerate() {
-        let fault = PlanFault::Step { build, step };
-        one_step(alloc, text, item, fault, places.step_at(build, step), found)?;
-    }
-    Ok(())
-}
-
-// A step, which is to be a text.
-fn one_step(
-    alloc: Global,
-    text: &str,
-    item: &Value,
     fault: PlanFault,
-    at: usize,
-    found: &mut Vec<Wrong>,
+    found: &mut Findings,
 ) -> Result<(), AllocError> {
-    match item.as_str() {
+    match value.as_text() {
         Some(written) if step_from_text(written).is_some() => Ok(()),
-        Some(written) => match why_no_step(alloc, written) {
-            Ok(Reason { at: inside, words }) => {
-                let at = place_inside(text, at, written, inside);
-                tell(found, fault, at, Ok(words))
-            }
-            Err(error) => Err(error),
-        },
-        None => tell_kind(alloc, found, at, "a step is a text in quotes", item),
+        Some(written) => {
+            let step = StepText {
+                written,
+                fault,
+                whole: value.span,
+                inside: is_inside(text, value.span, written),
+            };
+            of_step(&step, found)
+        }
+        None => of_kind(value, "a string", found),
     }
 }
 
-// The place inside of a string, if the string's text stands behind the quote as it is; else the place of the string.
-fn place_inside(text: &str, at: usize, written: &str, inside: usize) -> usize {
-    let from = at.saturating_add(1);
-    match text.as_bytes().get(from..) {
-        Some(behind) if behind.starts_with(written.as_bytes()) => from.saturating_add(inside),
-        _ => at,
+// Whether the text of a string follows its quote as it is, with no escape.
+fn is_inside(text: &str, span: Span, written: &str) -> bool {
+    match text.as_bytes().get(span.start.saturating_add(1)..) {
+        Some(after) => after.starts_with(written.as_bytes()),
+        None => false,
     }
 }

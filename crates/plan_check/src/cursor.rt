@@ -40,7 +40,7 @@ pub fn first_place(text: &[u8]) -> Cursor
     }
 }
 
-// The place behind the byte at a place.
+// The place after the byte at a place.
 fn next_place(text: &[u8], from: Cursor) -> Cursor
     requires inside { from.at < length text.now }
     requires cursor { IsCursor text.now from }
@@ -65,7 +65,7 @@ fn next_place(text: &[u8], from: Cursor) -> Cursor
     }
 }
 
-// The place, if at most `at` bytes stand before it, and else the beginning.
+// The place, if at most `at` bytes come before it, and else the beginning.
 fn place_before(text: &[u8], place: Cursor, at: usize) -> Cursor
     requires { IsCursor text.now place }
     ensures before { result.at ≤ at }
@@ -78,8 +78,8 @@ fn place_before(text: &[u8], place: Cursor, at: usize) -> Cursor
     }
 }
 
-/// The place behind the first `at` bytes. The text is gone through from the place `from` on, or from the beginning
-/// where `from` lies behind that.
+/// The place after the first `at` bytes. The text is gone through from the place `from` on, or from the beginning if
+/// `from` comes later.
 pub fn place_at(text: &[u8], from: Cursor, at: usize) -> Cursor
     requires inside { at ≤ length text.now }
     requires cursor { IsCursor text.now from }

@@ -1,87 +1,82 @@
-//! All that is wrong with bytes that are no plan, as far as it is found.
-use crate::builds::builds;
+//! All that is found wrong with bytes that are no plan.
+use crate::builds::{builds, count_of_builds};
 use crate::filled::Piece;
-use crate::keys::{numbers, unknown_keys};
+use crate::finding::{Findings, Span};
+use crate::keys::{Meant, numbers, unknown_keys};
 use crate::order::order;
-use crate::places::Places;
-use crate::walk::places_of;
-use crate::wrong::{Wrong, tell, tell_words};
+use crate::outline::Outline;
+use crate::syntax::syntax;
+use crate::walk::outline_of;
 use realm_plan::{MOST_BYTES, PlanFault};
-use std::alloc::{AllocError, Global};
+use std::alloc::AllocError;
 use std::str::from_utf8;
-use toml::Table;
 
-/// All that is found wrong with the bytes, kind by kind.
-pub fn wrongs_in(alloc: Global, bytes: &[u8]) -> Result<Vec<Wrong>, AllocError> {
-    let mut found = Vec::new(alloc);
-    match in_bytes(alloc, bytes, &mut found) {
-        Ok(()) => Ok(found),
-        Err(error) => Err(error),
-    }
-}
+/// The beginning of a text.
+const BEGINNING: Span = Span { start: 0, end: 0 };
 
-fn in_bytes(alloc: Global, bytes: &[u8], found: &mut Vec<Wrong>) -> Result<(), AllocError> {
+/// Finds what is wrong with bytes that have this fault.
+pub fn errors_in(bytes: &[u8], fault: PlanFault, found: &mut Findings) -> Result<(), AllocError> {
     if bytes.len() > MOST_BYTES {
-        let words = "a plan has at most {} bytes, and here are more";
-        let pieces = [Piece::Count(MOST_BYTES)];
-        return tell_words(alloc, found, PlanFault::Limit, 0, words, &pieces);
+        let words = "a plan has at most {} bytes, and this is longer";
+        return found.error(
+            PlanFault::Limit,
+            BEGINNING,
+            words,
+            &[Piece::Count(MOST_BYTES)],
+        );
     }
-    match toml::table_from_slice(alloc, bytes) {
-        Ok(table) => in_document(alloc, bytes, &table, found),
-        Err(error) => of_syntax(alloc, &error, found),
-    }
-}
-
-// The fault that the reader of documents tells.
-fn of_syntax(
-    alloc: Global,
-    error: &toml::de::Error,
-    found: &mut Vec<Wrong>,
-) -> Result<(), AllocError> {
-    match error.span() {
-        Some(span) => {
-            let words = String::from_str(alloc, error.message());
-            tell(found, PlanFault::Syntax, span.start, words)
-        }
-        None => Err(AllocError),
+    match (fault, from_utf8(bytes)) {
+        (PlanFault::Syntax, _) => no_toml(bytes, found),
+        (_, Ok(text)) => in_text(text, found),
+        _ => Ok(()),
     }
 }
 
-fn in_document(
-    alloc: Global,
-    bytes: &[u8],
-    table: &Table,
-    found: &mut Vec<Wrong>,
-) -> Result<(), AllocError> {
-    match from_utf8(bytes) {
-        Ok(text) => in_table(alloc, text, table, found),
-        Err(_) => Ok(()),
+fn no_toml(bytes: &[u8], found: &mut Findings) -> Result<(), AllocError> {
+    match toml::table_from_slice(found.alloc, bytes) {
+        Ok(_) => Ok(()),
+        Err(error) => syntax(bytes, &error, found),
     }
 }
 
-// What is wrong with the document that the text is.
-fn in_table(
-    alloc: Global,
-    text: &str,
-    table: &Table,
-    found: &mut Vec<Wrong>,
-) -> Result<(), AllocError> {
-    match places_of(alloc, text) {
-        Ok(places) => in_parts(alloc, text, table, &places, found),
-        Err(error) => Err(error),
+fn in_text(text: &str, found: &mut Findings) -> Result<(), AllocError> {
+    let outline = outline_of(found.alloc, text)?;
+    if outline.is_empty() {
+        return empty_plan(found);
     }
+    let meant = unknown_keys(&outline, found)?;
+    in_parts(text, &outline, meant, found)
 }
 
-// The same, once it is known where the document's parts stand.
 fn in_parts(
-    alloc: Global,
     text: &str,
-    table: &Table,
-    places: &Places,
-    found: &mut Vec<Wrong>,
+    outline: &Outline,
+    meant: Meant,
+    found: &mut Findings,
 ) -> Result<(), AllocError> {
-    unknown_keys(alloc, places, found)?;
-    numbers(alloc, table, places, found)?;
-    order(alloc, table, places, found)?;
-    builds(alloc, text, table, places, found)
+    numbers(outline, meant, found)?;
+    // (builds under another key are not counted)
+    let count = if meant.build {
+        None
+    } else {
+        count_of_builds(outline)
+    };
+    order(outline, count.filter(|it| *it > 0), found)?;
+    builds(text, outline, meant, found)
+}
+
+// A text without any key.
+fn empty_plan(found: &mut Findings) -> Result<(), AllocError> {
+    let words = "the plan is empty; it needs `pages` and `[[build]]`";
+    found.error(PlanFault::Key, BEGINNING, words, &[])?;
+    found.help("a small plan is", &[])?;
+    for line in [
+        "pages = 8",
+        "order = [0]",
+        "[[build]]",
+        "steps = [\"take 0\"]",
+    ] {
+        found.note("    ", line, &[])?;
+    }
+    Ok(())
 }

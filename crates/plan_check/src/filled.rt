@@ -1,25 +1,31 @@
-//! Words with gaps in which names and numbers stand.
+//! Words with gaps for names and numbers.
 use std::alloc::{AllocError, Global};
 
-/// What stands in a gap.
+/// The most characters of a text that is quoted.
+const LONGEST: usize = 40;
+
+/// The content of a gap.
 #[derive(Clone, Copy)]
 pub enum Piece<'a> {
     Words(&'a str),
+    /// A text in backquotes. Of a long one the beginning is shown.
+    Quoted(&'a str),
     Count(usize),
     Number(u64),
     Whole(i64),
+    /// The ending of a noun of which there are so many.
+    Plural(usize),
 }
 
 /// The words with a piece in the place of each `{}`, in their order.
 pub fn filled(alloc: Global, words: &str, pieces: &[Piece<'_>]) -> Result<String, AllocError> {
     let mut text = String::new(alloc);
-    match push_filled(&mut text, words, pieces) {
-        Ok(()) => Ok(text),
-        Err(error) => Err(error),
-    }
+    push_filled(&mut text, words, pieces)?;
+    Ok(text)
 }
 
-fn push_filled(text: &mut String, words: &str, pieces: &[Piece<'_>]) -> Result<(), AllocError> {
+/// Appends the words with a piece in the place of each `{}`, in their order.
+pub fn push_filled(text: &mut String, words: &str, pieces: &[Piece<'_>]) -> Result<(), AllocError> {
     let mut rest = words;
     for piece in pieces {
         rest = push_next(text, rest, *piece)?;
@@ -27,7 +33,7 @@ fn push_filled(text: &mut String, words: &str, pieces: &[Piece<'_>]) -> Result<(
     text.push_str(rest)
 }
 
-// Appends the words up to the first gap, and a piece in it: the words behind it.
+// Appends the words up to the first gap, and a piece in it. Returns the words after the gap.
 fn push_next<'a>(
     text: &mut String,
     words: &'a str,
@@ -37,17 +43,30 @@ fn push_next<'a>(
         return Ok(words);
     };
     text.push_str(front)?;
-    match push_piece(text, piece) {
-        Ok(()) => Ok(rest),
-        Err(error) => Err(error),
-    }
+    push_piece(text, piece)?;
+    Ok(rest)
 }
 
 fn push_piece(text: &mut String, piece: Piece<'_>) -> Result<(), AllocError> {
     match piece {
         Piece::Words(words) => text.push_str(words),
+        Piece::Quoted(words) => push_quoted(text, words),
         Piece::Count(count) => write!(text, "{count}"),
         Piece::Number(number) => write!(text, "{number}"),
         Piece::Whole(whole) => write!(text, "{whole}"),
+        Piece::Plural(1) => Ok(()),
+        Piece::Plural(_) => text.push('s'),
     }
+}
+
+fn push_quoted(text: &mut String, words: &str) -> Result<(), AllocError> {
+    text.push('`')?;
+    for (count, char) in words.chars().enumerate() {
+        if count == LONGEST {
+            text.push_str("..")?;
+            break;
+        }
+        text.push(char)?;
+    }
+    text.push('`')
 }

@@ -1,6 +1,6 @@
-//! How the steps of a plan are written, for what is said of a text that is no step.
+//! The forms of steps, for findings on a text that is no step.
 
-/// What a number of a step is.
+/// The kind of a number of a step.
 #[derive(Clone, Copy)]
 pub enum Kind {
     Order,
@@ -15,7 +15,7 @@ pub enum Kind {
 }
 
 impl Kind {
-    /// What such a number is called.
+    /// Such a number in words.
     pub fn name(self) -> &'static str {
         match self {
             Kind::Order => "the order of a block",
@@ -24,7 +24,7 @@ impl Kind {
             Kind::Offset => "an offset in a page",
             Kind::Ipa => "an IPA granule",
             Kind::Level => "the level of a table",
-            Kind::Width => "a width of IPAs",
+            Kind::Width => "an IPA width",
             Kind::Count => "a count of pages",
             Kind::Rec => "the number of a REC",
         }
@@ -41,15 +41,15 @@ impl Kind {
     }
 }
 
-/// How a step is written.
+/// The form of a step.
 #[derive(Clone, Copy)]
 pub struct Form {
     pub word: &'static str,
-    /// The step with letters in place of its numbers.
-    pub usage: &'static str,
-    /// What its numbers are. Further numbers, where there may be any, are pages.
+    /// How many arguments it takes, and which.
+    pub takes: &'static str,
+    /// The kinds of its arguments. Further ones, where there may be any, are pages.
     pub kinds: &'static [Kind],
-    /// The most numbers that it may have.
+    /// The most arguments that it takes.
     pub most: usize,
 }
 
@@ -59,118 +59,70 @@ pub const WORDS: [&str; 18] = [
     "rec", "enter", "exit", "poke", "undo", "abort", "mark", "back",
 ];
 
-const FORMS: [Form; 18] = [
-    Form {
-        word: "take",
-        usage: "take K",
-        kinds: &[Kind::Order],
-        most: 1,
-    },
-    Form {
-        word: "fill",
-        usage: "fill P V",
-        kinds: &[Kind::Page, Kind::Value],
-        most: 2,
-    },
-    Form {
-        word: "peek",
-        usage: "peek P O",
-        kinds: &[Kind::Page, Kind::Offset],
-        most: 2,
-    },
-    Form {
-        word: "delegate",
-        usage: "delegate P",
-        kinds: &[Kind::Page],
-        most: 1,
-    },
-    Form {
-        word: "realm",
-        usage: "realm P Q or realm P Q W",
-        kinds: &[Kind::Page, Kind::Page, Kind::Width],
-        most: 3,
-    },
-    Form {
-        word: "activate",
-        usage: "activate",
-        kinds: &[],
-        most: 0,
-    },
-    Form {
-        word: "rtt",
-        usage: "rtt P I L",
-        kinds: &[Kind::Page, Kind::Ipa, Kind::Level],
-        most: 3,
-    },
-    Form {
-        word: "ripas",
-        usage: "ripas I N",
-        kinds: &[Kind::Ipa, Kind::Count],
-        most: 2,
-    },
-    Form {
-        word: "data",
-        usage: "data P I S",
-        kinds: &[Kind::Page, Kind::Ipa, Kind::Page],
-        most: 3,
-    },
-    Form {
-        word: "unknown",
-        usage: "unknown P I",
-        kinds: &[Kind::Page, Kind::Ipa],
-        most: 2,
-    },
-    Form {
-        word: "rec",
-        usage: "rec P A ..",
-        kinds: &[Kind::Page],
-        most: 17,
-    },
-    Form {
-        word: "enter",
-        usage: "enter R",
-        kinds: &[Kind::Rec],
-        most: 1,
-    },
-    Form {
-        word: "exit",
-        usage: "exit R",
-        kinds: &[Kind::Rec],
-        most: 1,
-    },
-    Form {
-        word: "poke",
-        usage: "poke R I O V",
-        kinds: &[Kind::Rec, Kind::Ipa, Kind::Offset, Kind::Value],
-        most: 4,
-    },
-    Form {
-        word: "undo",
-        usage: "undo",
-        kinds: &[],
-        most: 0,
-    },
-    Form {
-        word: "abort",
-        usage: "abort",
-        kinds: &[],
-        most: 0,
-    },
-    Form {
-        word: "mark",
-        usage: "mark",
-        kinds: &[],
-        most: 0,
-    },
-    Form {
-        word: "back",
-        usage: "back",
-        kinds: &[],
-        most: 0,
-    },
+/// The steps of commands that have other names in the RMI, in traces and in histories.
+const OTHER_NAMES: [(&str, &str); 22] = [
+    ("granule_delegate", "delegate"),
+    ("granule_undelegate", "undo"),
+    ("undelegate", "undo"),
+    ("untake", "undo"),
+    ("realm_create", "realm"),
+    ("realm_activate", "activate"),
+    ("realm_destroy", "undo"),
+    ("rtt_create", "rtt"),
+    ("rtt_destroy", "undo"),
+    ("rtt_init_ripas", "ripas"),
+    ("init_ripas", "ripas"),
+    ("data_create", "data"),
+    ("data_create_unknown", "unknown"),
+    ("data_destroy", "undo"),
+    ("rec_create", "rec"),
+    ("rec_enter", "enter"),
+    ("rec_exit", "exit"),
+    ("rec_destroy", "undo"),
+    ("destroy", "undo"),
+    ("host_fill", "fill"),
+    ("host_peek", "peek"),
+    ("guest_write", "poke"),
 ];
 
-/// How the step of a word is written, if there is such a step.
+/// The step that does what this name stands for in the RMI, in a trace or in a history.
+pub fn step_of_command(name: &str) -> Option<&'static str> {
+    for (other, step) in OTHER_NAMES.iter() {
+        if name.eq_ignore_ascii_case(other) {
+            return Some(*step);
+        }
+    }
+    None
+}
+
+macro_rules! form {
+    ($word:literal, $takes:literal, [$($kind:ident)*], $most:literal) => {
+        Form { word: $word, takes: $takes, kinds: &[$(Kind::$kind),*], most: $most }
+    };
+}
+
+const FORMS: [Form; 18] = [
+    form!("take", "1 argument (ORDER)", [Order], 1),
+    form!("fill", "2 arguments (PAGE VALUE)", [Page Value], 2),
+    form!("peek", "2 arguments (PAGE OFFSET)", [Page Offset], 2),
+    form!("delegate", "1 argument (PAGE)", [Page], 1),
+    form!("realm", "2 or 3 arguments (RD ROOT [WIDTH])", [Page Page Width], 3),
+    form!("activate", "no argument", [], 0),
+    form!("rtt", "3 arguments (PAGE IPA LEVEL)", [Page Ipa Level], 3),
+    form!("ripas", "2 arguments (IPA COUNT)", [Ipa Count], 2),
+    form!("data", "3 arguments (PAGE IPA SOURCE)", [Page Ipa Page], 3),
+    form!("unknown", "2 arguments (PAGE IPA)", [Page Ipa], 2),
+    form!("rec", "1 to 17 arguments (PAGE AUX ..)", [Page], 17),
+    form!("enter", "1 argument (REC)", [Rec], 1),
+    form!("exit", "1 argument (REC)", [Rec], 1),
+    form!("poke", "4 arguments (REC IPA OFFSET VALUE)", [Rec Ipa Offset Value], 4),
+    form!("undo", "no argument", [], 0),
+    form!("abort", "no argument", [], 0),
+    form!("mark", "no argument", [], 0),
+    form!("back", "no argument", [], 0),
+];
+
+/// The form of the step with this word, if there is one.
 pub fn form_of(word: &str) -> Option<Form> {
     for form in &FORMS {
         if form.word == word {

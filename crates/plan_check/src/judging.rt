@@ -1,19 +1,17 @@
-//! What is told of bytes: the errors of those that are no plan, or the likely slips of a plan.
-ghost use Rattle.std.specs.Prelude.{◌≡◌, ◌≤◌, true, map, sum_by, All, Any, IfOk, length, vec_len};
+//! The findings on bytes: the errors of those that are no plan, or the likely slips of a plan.
+ghost use Rattle.std.specs.Prelude.{◌≡◌, ◌≤◌, ℕ, true, map, sum_by, All, Any, IfOk, length, vec_len};
 ghost use Rattle.std.specs.List.Sorted.{IsPermutation, IsNonDecreasingBy};
 ghost use Rattle.realm_plan.specs.PlanView.{plan_view};
-ghost use Rattle.plan_check.specs.Findings.{IsError, AreErrors, AreWarnings, AreInside, IsJudged, size_of};
-ghost use Rattle.plan_check.specs.declared.finding.Severity.TheVariants.{Error};
+ghost use Rattle.plan_check.specs.Findings.{IsError, IsErrorOf, AreErrors, AreWarnings, IsStretchIn, AreInside, IsJudged, size_of};
 
-use crate::document::wrongs_in;
-use crate::finding::{Finding, Severity};
-use crate::slips::{Slip, slips_in};
-use crate::wrong::Wrong;
+use crate::document::errors_in;
+use crate::finding::{Finding, Findings, Severity, Span};
+use crate::lints::slips_in;
 use plan_steps::PlanStep;
 use realm_plan::{Plan, PlanError, PlanFault};
 use std::alloc::{AllocError, Global};
 
-/// How much a plan has.
+/// The size of a plan.
 #[derive(Clone, Copy)]
 pub struct Size {
     pub builds: usize,
@@ -21,7 +19,7 @@ pub struct Size {
     pub turns: usize,
 }
 
-/// What is told of bytes.
+/// The findings on bytes.
 #[derive(Drop)]
 pub struct Judged {
     /// In the order of their places.
@@ -52,7 +50,7 @@ fn size_of(plan: &Plan) -> Size
     }
 }
 
-// A fault in general words, for bytes of which nothing else is told.
+// A fault in general words, for bytes on which nothing else is found.
 fn general_words(fault: PlanFault) -> &'static str {
     match fault {
         PlanFault::Syntax => "this is no TOML",
@@ -63,32 +61,55 @@ fn general_words(fault: PlanFault) -> &'static str {
     }
 }
 
-// The mistakes as errors, each at a place of the text, which ends there.
-fn all_errors(alloc: Global, wrongs: Vec<Wrong>, end: usize) -> Result<Vec<Finding>, AllocError>
+// The part of a stretch that is inside a text of `end` bytes.
+fn clipped(span: Span, end: usize) -> Span
+    ensures ordered { result.start ≤ result.end }
+    ensures inside { result.end ≤ end }
+{
+    let end = span.end.min(end);
+    Span {
+        start: span.start.min(end),
+        end,
+    }
+}
+
+// The errors among the findings, each on a stretch of the text, which ends there.
+fn all_errors(alloc: Global, found: Vec<Finding>, end: usize) -> Result<Vec<Finding>, AllocError>
     ensures errors { IfOk result (λ v. All (λ f. IsError f.severity) v.items) }
     ensures inside { IfOk result (λ v. AreInside end v.items) }
 {
-    let mut found = Vec::new(alloc);
-    for wrong in wrongs {
-        let Wrong { fault, at, words } = wrong;
-        found.push(Finding {
-            severity: Severity::Error(fault),
-            at: at.min(end),
+    let mut errors = Vec::new(alloc);
+    for finding in found {
+        let Finding {
+            severity,
+            span,
             words,
-        })?;
+            notes,
+        } = finding;
+        if let Severity::Error(fault, also) = severity {
+            errors.push(Finding {
+                severity: Severity::Error(fault, also),
+                span: clipped(span, end),
+                words,
+                notes,
+            })?;
+        }
     }
-    Ok(found)
+    Ok(errors)
 }
 
 fn is_error_of(severity: Severity, fault: PlanFault) -> bool
-    ensures { (result ≡ true) → (severity ≡ Error fault) }
+    ensures { (result ≡ true) → IsErrorOf fault severity }
 {
-    severity == Severity::Error(fault)
+    match severity {
+        Severity::Error(first, also) => first == fault || also == Some(fault),
+        Severity::Warning => false,
+    }
 }
 
-// Whether the fault is told.
+// Whether one of the findings is an error of this fault.
 fn tells(findings: &[Finding], fault: PlanFault) -> bool
-    ensures { (result ≡ true) → Any (λ f. f.severity ≡ Error fault) findings.now }
+    ensures { (result ≡ true) → Any (λ f. IsErrorOf fault f.severity) findings.now }
 {
     for finding in findings {
         if is_error_of(finding.severity, fault) {
@@ -98,53 +119,77 @@ fn tells(findings: &[Finding], fault: PlanFault) -> bool
     false
 }
 
-// The errors of bytes with this fault. The fault is told in general words if it is not among those that were found.
+// A fault in general words.
+fn general_finding(alloc: Global, fault: PlanFault) -> Result<Finding, AllocError>
+    ensures severity { IfOk result (λ f. IsErrorOf fault f.severity) }
+    ensures inside { IfOk result (λ f. (end : ℕ) → IsStretchIn end f) }
+{
+    let words = String::from_str(alloc, general_words(fault))?;
+    Ok(Finding {
+        severity: Severity::Error(fault, None),
+        span: Span { start: 0, end: 0 },
+        words,
+        notes: Vec::new(alloc),
+    })
+}
+
+// The errors of bytes with this fault. It is reported in general words if no other error reports it.
 fn errors_of(alloc: Global, bytes: &[u8], fault: PlanFault) -> Result<Vec<Finding>, AllocError>
     ensures errors { IfOk result (λ v. AreErrors fault v.items) }
     ensures inside { IfOk result (λ v. AreInside (length bytes.now) v.items) }
 {
-    let wrongs = wrongs_in(alloc, bytes)?;
-    let mut found = all_errors(alloc, wrongs, bytes.len())?;
-    if tells(&found, fault) {
-        return Ok(found);
+    let mut found = Findings::new(alloc);
+    errors_in(bytes, fault, &mut found)?;
+    let mut errors = all_errors(alloc, found.list, bytes.len())?;
+    if tells(&errors, fault) {
+        return Ok(errors);
     }
-    let words = String::from_str(alloc, general_words(fault))?;
-    found.push(Finding {
-        severity: Severity::Error(fault),
-        at: 0,
-        words,
-    })?;
-    Ok(found)
+    errors.push(general_finding(alloc, fault)?)?;
+    Ok(errors)
 }
 
-// The likely slips as warnings, each at a place of the text.
+// The findings as warnings, each on a stretch of the text, which ends there.
+fn all_warnings(alloc: Global, found: Vec<Finding>, end: usize) -> Result<Vec<Finding>, AllocError>
+    ensures warnings { IfOk result (λ v. AreWarnings v.items) }
+    ensures inside { IfOk result (λ v. AreInside end v.items) }
+{
+    let mut warnings = Vec::new(alloc);
+    for finding in found {
+        let Finding {
+            severity: _,
+            span,
+            words,
+            notes,
+        } = finding;
+        warnings.push(Finding {
+            severity: Severity::Warning,
+            span: clipped(span, end),
+            words,
+            notes,
+        })?;
+    }
+    Ok(warnings)
+}
+
+// The likely slips of a plan.
 fn warnings_of(alloc: Global, bytes: &[u8], plan: &Plan) -> Result<Vec<Finding>, AllocError>
     ensures warnings { IfOk result (λ v. AreWarnings v.items) }
     ensures inside { IfOk result (λ v. AreInside (length bytes.now) v.items) }
 {
-    let slips = slips_in(alloc, bytes, plan)?;
-    let end = bytes.len();
-    let mut found = Vec::new(alloc);
-    for slip in slips {
-        let Slip { at, words } = slip;
-        found.push(Finding {
-            severity: Severity::Warning,
-            at: at.min(end),
-            words,
-        })?;
-    }
-    Ok(found)
+    let mut found = Findings::new(alloc);
+    slips_in(bytes, plan, &mut found)?;
+    all_warnings(alloc, found.list, bytes.len())
 }
 
 fn in_order(mut found: Vec<Finding>) -> Result<Vec<Finding>, AllocError>
     ensures moved { IfOk result (λ v. IsPermutation found.items v.items) }
-    ensures sorted { IfOk result (λ v. IsNonDecreasingBy (λ f. f.at) v.items) }
+    ensures sorted { IfOk result (λ v. IsNonDecreasingBy (λ f. f.span.start) v.items) }
 {
-    found.sort_by_key(|f| f.at)?;
+    found.sort_by_key(|f| f.span.start)?;
     Ok(found)
 }
 
-/// What is to be told of the bytes. The one error is that allocation failed.
+/// The findings on the bytes. The one error is that allocation failed.
 pub fn judge(alloc: Global, bytes: &[u8]) -> Result<Judged, AllocError>
     ensures { IfOk result (IsJudged bytes.now) }
 {

@@ -1,178 +1,244 @@
-//! Keys that a plan has not got, and numbers outside their limits.
-use crate::filled::{Piece, filled};
-use crate::nearest::{nearest, said_with};
-use crate::places::{KeyPlace, Places};
-use crate::wrong::{Wrong, kind_of, tell, tell_words};
+//! Unknown and missing keys, and the numbers of a plan.
+use crate::filled::Piece;
+use crate::finding::{Findings, Span};
+use crate::nearest::nearest;
+use crate::outline::{Entry, Outline, PLAN_KEYS};
+use crate::value::Value;
 use realm_plan::PlanFault;
-use std::alloc::{AllocError, Global};
-use toml::Table;
+use std::alloc::AllocError;
 
-const PLAN_KEYS: &[&str] = &["pages", "vmids", "aux", "history", "order", "build"];
-
-const BUILD_KEYS: &[&str] = &["steps"];
-
-/// The most bytes of a key that is quoted.
-const LONGEST: usize = 40;
-
-/// A whole number of a plan and its limits.
-struct Limits {
-    name: &'static str,
-    low: i64,
-    high: i64,
+/// Whether an unknown key stands for one that is missing.
+#[derive(Clone, Copy)]
+pub struct Meant {
+    pub pages: bool,
+    pub build: bool,
 }
 
-const WHOLES: [Limits; 4] = [
-    Limits {
-        name: "pages",
-        low: 1,
-        high: 4096,
-    },
-    Limits {
-        name: "vmids",
-        low: 1,
-        high: 255,
-    },
-    Limits {
-        name: "aux",
-        low: 0,
-        high: 16,
-    },
-    Limits {
-        name: "history",
-        low: 16,
-        high: 16384,
-    },
-];
-
-/// Tells the keys that neither a plan nor a build has. A key that stands several times in a row is told once.
-pub fn unknown_keys(
-    alloc: Global,
-    places: &Places,
-    found: &mut Vec<Wrong>,
-) -> Result<(), AllocError> {
-    for (place, key) in places.keys.iter().enumerate() {
-        if !is_known(key) && !is_as_before(&places.keys, place, key) {
-            let words = of_unknown(alloc, key);
-            tell(found, PlanFault::Key, key.at, words)?;
+/// Finds the keys that neither a plan nor a build has. One that is there several times in a row is found once.
+pub fn unknown_keys(outline: &Outline, found: &mut Findings) -> Result<Meant, AllocError> {
+    let mut meant = Meant {
+        pages: outline.has_deeper_pages,
+        build: false,
+    };
+    for (place, entry) in outline.entries.iter().enumerate() {
+        if !is_known(entry) && !is_as_before(outline, place, entry) {
+            match unknown_key(outline, entry, found)? {
+                Some("pages") => meant.pages = true,
+                Some("build") => meant.build = true,
+                _ => {}
+            }
         }
     }
-    Ok(())
+    Ok(meant)
+}
+
+fn is_known(entry: &Entry) -> bool {
+    match entry.build {
+        Some(_) => entry.name.as_str() == "steps",
+        None => PLAN_KEYS.iter().any(|it| *it == entry.name.as_str()),
+    }
 }
 
 // Whether the key before the one at a place is the same, as in `[machine.cpu]` below `[machine]`.
-fn is_as_before(keys: &[KeyPlace], place: usize, key: &KeyPlace) -> bool {
-    let Some(before) = place.checked_sub(1) else {
-        return false;
-    };
-    match keys.get(before) {
-        Some(it) => it.build == key.build && it.name.as_str() == key.name.as_str(),
+fn is_as_before(outline: &Outline, place: usize, entry: &Entry) -> bool {
+    match place.checked_sub(1) {
+        Some(before) => match outline.entries.get(before) {
+            Some(it) => it.build == entry.build && it.name.as_str() == entry.name.as_str(),
+            None => false,
+        },
         None => false,
     }
 }
 
-// The keys that may stand where the key does.
-fn names_beside(key: &KeyPlace) -> &'static [&'static str] {
-    match key.build {
-        Some(_) => BUILD_KEYS,
-        None => PLAN_KEYS,
+// An unknown key. Returns the missing one that it stands for.
+fn unknown_key(
+    outline: &Outline,
+    entry: &Entry,
+    found: &mut Findings,
+) -> Result<Option<&'static str>, AllocError> {
+    let name = entry.name.as_str();
+    match (entry.build, PLAN_KEYS.iter().find(|it| **it == name)) {
+        (Some(_), Some(key)) if *key != "build" => key_of_plan(outline, entry, key, found),
+        (Some(build), _) => key_of_build(outline, entry, build, found),
+        (None, _) if name == "steps" => stray_steps(outline, entry, found),
+        (None, _) => other_key(outline, entry, found),
     }
 }
 
-fn is_known(key: &KeyPlace) -> bool {
-    for name in names_beside(key) {
-        if *name == key.name.as_str() {
-            return true;
+// A key of the plan below a build.
+fn key_of_plan(
+    outline: &Outline,
+    entry: &Entry,
+    key: &'static str,
+    found: &mut Findings,
+) -> Result<Option<&'static str>, AllocError> {
+    let words = "{} is a key of the plan, not of a build";
+    found.error(PlanFault::Key, entry.key, words, &[Piece::Quoted(key)])?;
+    if outline.has(key) {
+        return Ok(None);
+    }
+    found.help("write it above the first `[[build]]`", &[])?;
+    Ok(Some(key))
+}
+
+// Steps below no build.
+fn stray_steps(
+    outline: &Outline,
+    entry: &Entry,
+    found: &mut Findings,
+) -> Result<Option<&'static str>, AllocError> {
+    let words = "`steps` is a key of a build, not of the plan";
+    found.error(PlanFault::Key, entry.key, words, &[])?;
+    if !outline.has("build") && entry.value.is_array() {
+        found.help("write `[[build]]` on a line above it", &[])?;
+    }
+    Ok(Some("build"))
+}
+
+fn key_of_build(
+    outline: &Outline,
+    entry: &Entry,
+    build: usize,
+    found: &mut Findings,
+) -> Result<Option<&'static str>, AllocError> {
+    if lacks_steps(outline, build) && is_near_steps(entry, found)? {
+        did_you_mean(entry, "steps", found)?;
+    } else {
+        no_such_key(entry, "the only key of a build is `steps`", found)?;
+    }
+    Ok(None)
+}
+
+fn lacks_steps(outline: &Outline, build: usize) -> bool {
+    match outline.builds.get(build) {
+        Some(build) => build.steps.is_none(),
+        None => false,
+    }
+}
+
+fn is_near_steps(entry: &Entry, found: &Findings) -> Result<bool, AllocError> {
+    let near = nearest(found.alloc, &["steps"], entry.name.as_str())?;
+    Ok(near.is_some())
+}
+
+/// Whether an unknown key of a build without steps stands for `steps`.
+pub fn means_steps(outline: &Outline, build: usize, found: &Findings) -> Result<bool, AllocError> {
+    let end = match outline.builds.get(build.saturating_add(1)) {
+        Some(next) => next.first_key,
+        None => outline.entries.len(),
+    };
+    let Some(its) = outline.builds.get(build) else {
+        return Ok(false);
+    };
+    for place in its.first_key..end {
+        if let Some(entry) = outline.entries.get(place) {
+            if entry.build == Some(build) && is_near_steps(entry, found)? {
+                return Ok(true);
+            }
         }
     }
-    false
+    Ok(false)
 }
 
-fn of_unknown(alloc: Global, key: &KeyPlace) -> Result<String, AllocError> {
-    let name = key.name.as_str();
-    match nearest(alloc, names_beside(key), name) {
-        Ok(Some(near)) => said_with(alloc, name, is_none_near(key), near),
-        Ok(None) => of_far(alloc, key.build.is_some(), name),
-        Err(error) => Err(error),
-    }
-}
-
-fn is_none_near(key: &KeyPlace) -> &'static str {
-    match key.build {
-        Some(_) => "is no key of a build; the nearest is",
-        None => "is no key of a plan; the nearest is",
-    }
-}
-
-// What is said of a key that no known key is near to.
-fn of_far(alloc: Global, is_of_build: bool, name: &str) -> Result<String, AllocError> {
-    let all = if is_of_build {
-        "a build: its one key is steps"
-    } else {
-        "a plan: its keys are pages, vmids, aux, history, order and build"
-    };
-    if name.len() > LONGEST {
-        filled(alloc, "this is no key of {}", &[Piece::Words(all)])
-    } else {
-        let pieces = [Piece::Words(name), Piece::Words(all)];
-        filled(alloc, "`{}` is no key of {}", &pieces)
-    }
-}
-
-/// Tells what is wrong with the whole numbers of a plan.
-pub fn numbers(
-    alloc: Global,
-    table: &Table,
-    places: &Places,
-    found: &mut Vec<Wrong>,
-) -> Result<(), AllocError> {
-    for limits in &WHOLES {
-        number(alloc, table, limits, places, found)?;
-    }
-    if table.get("pages").is_some() {
-        return Ok(());
-    }
-    tell_words(alloc, found, PlanFault::Key, 0, "`pages` is missing", &[])
-}
-
-// One of the whole numbers, where the plan has it.
-fn number(
-    alloc: Global,
-    table: &Table,
-    limits: &Limits,
-    places: &Places,
-    found: &mut Vec<Wrong>,
-) -> Result<(), AllocError> {
-    let name = limits.name;
-    let Some(value) = table.get(name) else {
-        return Ok(());
-    };
-    let at = places.value_at(name);
-    match value.as_integer() {
-        Some(whole) => in_limits(alloc, limits, whole, at, found),
+// A key of the plan that stands for a missing one, or for none.
+fn other_key(
+    outline: &Outline,
+    entry: &Entry,
+    found: &mut Findings,
+) -> Result<Option<&'static str>, AllocError> {
+    let missing: Vec<&'static str> = PLAN_KEYS
+        .iter()
+        .copied()
+        .filter(|it| !outline.has(it))
+        .collect(found.alloc)?;
+    match nearest(found.alloc, &missing, entry.name.as_str())? {
+        Some(near) => {
+            did_you_mean(entry, near, found)?;
+            Ok(Some(near))
+        }
         None => {
-            let words = "`{}` is a whole number, and this is {}";
-            let pieces = [Piece::Words(name), Piece::Words(kind_of(value))];
-            tell_words(alloc, found, PlanFault::Key, at, words, &pieces)
+            let all =
+                "the keys of a plan are `pages`, `vmids`, `aux`, `history`, `order` and `build`";
+            no_such_key(entry, all, found)?;
+            Ok(None)
         }
     }
 }
 
-fn in_limits(
-    alloc: Global,
-    limits: &Limits,
-    whole: i64,
-    at: usize,
-    found: &mut Vec<Wrong>,
-) -> Result<(), AllocError> {
-    if limits.low <= whole && whole <= limits.high {
+fn did_you_mean(entry: &Entry, near: &str, found: &mut Findings) -> Result<(), AllocError> {
+    let pieces = [Piece::Quoted(entry.name.as_str()), Piece::Quoted(near)];
+    let words = "unknown key {}; did you mean {}?";
+    found.error(PlanFault::Key, entry.key, words, &pieces)
+}
+
+fn no_such_key(entry: &Entry, all: &str, found: &mut Findings) -> Result<(), AllocError> {
+    let pieces = [Piece::Quoted(entry.name.as_str())];
+    found.error(PlanFault::Key, entry.key, "unknown key {}", &pieces)?;
+    found.help(all, &[])
+}
+
+/// The numbers of a plan, each with its least and its greatest value.
+const NUMBERS: [(&str, i64, i64); 4] = [
+    ("pages", 1, 4096),
+    ("vmids", 1, 255),
+    ("aux", 0, 16),
+    ("history", 16, 16384),
+];
+
+/// Finds what is wrong with the numbers of a plan.
+pub fn numbers(outline: &Outline, meant: Meant, found: &mut Findings) -> Result<(), AllocError> {
+    for (name, low, high) in &NUMBERS {
+        if let Some(entry) = outline.entry(name) {
+            number(name, *low, *high, &entry.value, found)?;
+        }
+    }
+    if outline.has("pages") || meant.pages {
         return Ok(());
     }
-    let words = "`{}` is {} to {}, and this is {}";
+    let start = outline.start();
+    let span = Span { start, end: start };
+    found.error(PlanFault::Key, span, "missing key `pages`", &[])?;
+    found.help(
+        "add `pages = N`, with N from 1 to 4096, above all tables",
+        &[],
+    )
+}
+
+fn number(
+    name: &str,
+    low: i64,
+    high: i64,
+    value: &Value,
+    found: &mut Findings,
+) -> Result<(), AllocError> {
+    let Some(whole) = value.as_whole() else {
+        return no_integer(value, found);
+    };
+    if low <= whole && whole <= high {
+        return Ok(());
+    }
     let pieces = [
-        Piece::Words(limits.name),
-        Piece::Whole(limits.low),
-        Piece::Whole(limits.high),
+        Piece::Quoted(name),
+        Piece::Whole(low),
+        Piece::Whole(high),
         Piece::Whole(whole),
     ];
-    tell_words(alloc, found, PlanFault::Limit, at, words, &pieces)
+    let words = "{} must be from {} to {}, found {}";
+    found.error(PlanFault::Limit, value.span, words, &pieces)
+}
+
+/// A value in the place of an integer.
+pub fn no_integer(value: &Value, found: &mut Findings) -> Result<(), AllocError> {
+    of_kind(value, "an integer", found)?;
+    match value.as_text() {
+        Some(text) if text.parse::<i64>().is_ok() => found.help("remove the quotes", &[]),
+        _ => Ok(()),
+    }
+}
+
+/// A value of another kind than the expected one.
+pub fn of_kind(value: &Value, expected: &str, found: &mut Findings) -> Result<(), AllocError> {
+    let pieces = [Piece::Words(expected), Piece::Words(value.content.kind())];
+    let words = "expected {}, found {}";
+    found.error(PlanFault::Key, value.span, words, &pieces)
 }

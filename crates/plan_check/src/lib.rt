@@ -1,8 +1,8 @@
-//! What is wrong with a plan, in words.
+//! Findings on a plan: its errors, or its likely slips, each in words and with its place.
 //!
 //! Values to values: nothing here reads a device or knows a host. Whether bytes are a plan is for `realm_plan` to say, and its
-//! fault is always among those that are told. Everything else here finds words and places: a walk over the text says where
-//! keys, steps and turns stand, and each module tells one kind of mistake.
+//! fault is always among the errors. Everything else here finds words and places. A walk over the text finds keys, steps and
+//! turns with their places; each module has one kind of mistake.
 #![tactic(auto)]
 
 mod builds;
@@ -12,20 +12,20 @@ mod excerpt;
 mod filled;
 mod finding;
 mod forms;
-mod gaps;
 mod judging;
 mod keys;
 mod law;
+mod lints;
 mod nearest;
-mod number;
+mod needs;
 mod order;
-mod places;
+mod outline;
 mod plain;
-mod reason;
 mod report;
-mod slips;
+mod step_text;
+mod syntax;
+mod value;
 mod walk;
-mod wrong;
 
 pub use law::places_lie_inside;
 pub use report::Report;

@@ -1,16 +1,15 @@
 //! The name that was probably meant.
-use crate::filled::{Piece, filled};
 use std::alloc::{AllocError, Global};
 use strsim::osa_distance;
 
 /// The most bytes of a word that is looked up.
 const LONGEST: usize = 32;
 
-/// The name that is the nearest to the word, if one is near: up to a third of the longer of the two may differ. Of
-/// several, the first.
+/// The name that is the nearest to the word, if one is near: the same but for capital letters, or with up to a third of the
+/// longer of the two changed. Of several, the first.
 pub fn nearest(
     alloc: Global,
-    names: &'static [&'static str],
+    names: &[&'static str],
     word: &str,
 ) -> Result<Option<&'static str>, AllocError> {
     if word.len() > LONGEST {
@@ -19,7 +18,7 @@ pub fn nearest(
     let mut found = None;
     let mut least = usize::MAX;
     for name in names {
-        let edits = osa_distance(alloc, word, name)?;
+        let edits = distance(alloc, word, name)?;
         if edits < least && is_near(edits, name, word) {
             found = Some(*name);
             least = edits;
@@ -28,12 +27,13 @@ pub fn nearest(
     Ok(found)
 }
 
-fn is_near(edits: usize, name: &str, word: &str) -> bool {
-    edits.saturating_mul(3) <= name.len().max(word.len())
+fn distance(alloc: Global, word: &str, name: &str) -> Result<usize, AllocError> {
+    if word.eq_ignore_ascii_case(name) {
+        return Ok(0);
+    }
+    osa_distance(alloc, word, name)
 }
 
-/// A word, what is said of it, and the name that was meant.
-pub fn said_with(alloc: Global, word: &str, said: &str, name: &str) -> Result<String, AllocError> {
-    let pieces = [Piece::Words(word), Piece::Words(said), Piece::Words(name)];
-    filled(alloc, "`{}` {} `{}`", &pieces)
+fn is_near(edits: usize, name: &str, word: &str) -> bool {
+    edits.saturating_mul(3) <= name.len().max(word.len())
 }

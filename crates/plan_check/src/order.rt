@@ -1,71 +1,81 @@
 //! What is wrong with the turns of a plan.
-use crate::filled::{Piece, filled};
-use crate::places::Places;
-use crate::wrong::{Wrong, tell, tell_kind, tell_too_many};
+use crate::filled::Piece;
+use crate::finding::Findings;
+use crate::keys::{no_integer, of_kind};
+use crate::outline::Outline;
 use realm_plan::{MOST_TURNS, PlanFault};
-use std::alloc::{AllocError, Global};
-use toml::value::Array;
-use toml::{Table, Value};
+use std::alloc::AllocError;
+use std::collections::BTreeMap;
 
-/// Tells what is wrong with `order`.
+/// A number of turns that name no build.
+#[derive(Clone, Copy)]
+struct Stray {
+    /// The first turn that has it.
+    place: usize,
+    count: usize,
+}
+
+/// Finds what is wrong with `order`, in a plan of that many builds, if it says how many.
 pub fn order(
-    alloc: Global,
-    table: &Table,
-    places: &Places,
-    found: &mut Vec<Wrong>,
+    outline: &Outline,
+    builds: Option<usize>,
+    found: &mut Findings,
 ) -> Result<(), AllocError> {
-    let Some(value) = table.get("order") else {
+    let Some(entry) = outline.entry("order") else {
         return Ok(());
     };
-    let Some(entries) = value.as_array() else {
-        let wanted = "`order` is an array of numbers of builds";
-        return tell_kind(alloc, found, places.value_at("order"), wanted, value);
+    if !entry.value.is_array() {
+        return no_order(outline, found);
+    }
+    for turn in &outline.turns {
+        if turn.as_whole().is_none() {
+            no_integer(turn, found)?;
+        }
+    }
+    if let Some(count) = builds {
+        strays(outline, count, found)?;
+    }
+    let count = outline.turns.len();
+    if count <= MOST_TURNS {
+        return Ok(());
+    }
+    let pieces = [Piece::Count(MOST_TURNS), Piece::Count(count)];
+    let words = "expected at most {} turns, found {}";
+    let span = outline.turn_span(MOST_TURNS);
+    found.error(PlanFault::Limit, span, words, &pieces)
+}
+
+fn no_order(outline: &Outline, found: &mut Findings) -> Result<(), AllocError> {
+    let Some(entry) = outline.entry("order") else {
+        return Ok(());
     };
-    each_turn(alloc, entries, builds_in(table), places, found)?;
-    let words = "a plan has at most {} turns, and here are {}";
-    let at = places.entry_at(MOST_TURNS);
-    tell_too_many(alloc, found, at, words, MOST_TURNS, entries.len())
+    of_kind(&entry.value, "an array", found)?;
+    match entry.value.as_whole() {
+        Some(whole) => found.help("write `[{}]`", &[Piece::Whole(whole)]),
+        None => Ok(()),
+    }
 }
 
-// How many builds the plan has, if it says.
-fn builds_in(table: &Table) -> Option<usize> {
-    Some(table.get("build")?.as_array()?.len())
-}
-
-fn each_turn(
-    alloc: Global,
-    entries: &Array,
-    builds: Option<usize>,
-    places: &Places,
-    found: &mut Vec<Wrong>,
-) -> Result<(), AllocError> {
-    for (place, entry) in entries.iter().enumerate() {
-        turn(alloc, entry, place, builds, places, found)?;
+// The turns that name no build, each number once.
+fn strays(outline: &Outline, builds: usize, found: &mut Findings) -> Result<(), AllocError> {
+    let mut numbers = BTreeMap::new(found.alloc);
+    for (place, turn) in outline.turns.iter().enumerate() {
+        match turn.as_whole() {
+            Some(number) if !is_build(number, builds) => {
+                let stray = numbers.entry(number)?.or_insert(Stray { place, count: 0 });
+                stray.count = stray.count.saturating_add(1);
+            }
+            _ => {}
+        }
+    }
+    let counts_from_1 = builds > 0 && numbers.len() == 1 && counts_from_1(outline, builds);
+    for (number, stray) in numbers.iter() {
+        of_stray(outline, *number, *stray, builds, found)?;
+        if counts_from_1 {
+            found.help("subtract 1 from each turn", &[])?;
+        }
     }
     Ok(())
-}
-
-// An entry, which is to be the number of one of the builds.
-fn turn(
-    alloc: Global,
-    entry: &Value,
-    place: usize,
-    builds: Option<usize>,
-    places: &Places,
-    found: &mut Vec<Wrong>,
-) -> Result<(), AllocError> {
-    let at = places.entry_at(place);
-    let Some(number) = entry.as_integer() else {
-        let wanted = "an entry of `order` is a whole number";
-        return tell_kind(alloc, found, at, wanted, entry);
-    };
-    match builds {
-        Some(count) if !is_build(number, count) => {
-            let words = of_no_build(alloc, number, count);
-            tell(found, PlanFault::Order { place }, at, words)
-        }
-        _ => Ok(()),
-    }
 }
 
 // Whether the number is that of one of `count` builds.
@@ -76,12 +86,41 @@ fn is_build(number: i64, count: usize) -> bool {
     }
 }
 
-fn of_no_build(alloc: Global, number: i64, count: usize) -> Result<String, AllocError> {
-    let words = match count {
-        0 => "there is no build {}: the plan has none",
-        1 => "there is no build {}: builds count from 0, and 0 is the only one",
-        _ => "there is no build {}: builds count from 0, and the last is {}",
-    };
-    let pieces = [Piece::Whole(number), Piece::Count(count.saturating_sub(1))];
-    filled(alloc, words, &pieces)
+// Whether each turn is a number from 1 to that of the builds.
+fn counts_from_1(outline: &Outline, builds: usize) -> bool {
+    for turn in &outline.turns {
+        match turn.as_whole() {
+            Some(number) if number > 0 && is_build(number.saturating_sub(1), builds) => {}
+            _ => return false,
+        }
+    }
+    true
+}
+
+// The turns that have one number, which is that of no build.
+fn of_stray(
+    outline: &Outline,
+    number: i64,
+    stray: Stray,
+    builds: usize,
+    found: &mut Findings,
+) -> Result<(), AllocError> {
+    let fault = PlanFault::Order { place: stray.place };
+    let pieces = [
+        Piece::Whole(number),
+        Piece::Words(if builds == 1 { "is" } else { "are" }),
+        Piece::Count(builds),
+    ];
+    let words = "build {} does not exist; builds are numbered from 0 and there {} {}";
+    found.error(fault, outline.turn_span(stray.place), words, &pieces)?;
+    let more = stray.count.saturating_sub(1);
+    if more == 0 {
+        return Ok(());
+    }
+    let pieces = [
+        Piece::Count(more),
+        Piece::Plural(more),
+        Piece::Words(if more == 1 { "names" } else { "name" }),
+    ];
+    found.note("note: ", "{} more turn{} {} it", &pieces)
 }

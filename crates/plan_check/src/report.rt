@@ -1,10 +1,10 @@
-//! What is written of bytes: each finding with its line, and how much the plan has.
+//! The text of the findings on bytes: each with its line, and the size of the plan.
 ghost use Rattle.std.specs.Prelude.{◌≡◌, ◌≤◌, ◌++◌, OnOk, IfOk, length, take, drop, string_bytes};
 ghost use Rattle.std.specs.List.{flat_map, position_or_len};
 ghost use Rattle.plan_check.specs.Places.{is_feed, front_of, back_of};
 ghost use Rattle.plan_check.specs.Cursors.{IsCursor};
 ghost use Rattle.plan_check.specs.Findings.{AreInside};
-ghost use Rattle.plan_check.specs.Texts.{severity_word, head_text, finding_text, size_text};
+ghost use Rattle.plan_check.specs.Texts.{severity_word, head_text, note_text, finding_text, plural, size_text};
 
 use crate::cursor::{Cursor, first_place, place_at};
 use crate::excerpt::push_excerpt;
@@ -13,10 +13,10 @@ use crate::judging::{Size, judge};
 use crate::plain::plain_text;
 use std::alloc::{AllocError, Global};
 
-/// How many bytes of the text behind a place are looked at.
+/// The most bytes of the text after a place that are looked at.
 const AHEAD: usize = 81;
 
-/// What is written of bytes.
+/// The findings on bytes as text.
 #[derive(Drop)]
 pub struct Report {
     pub text: String,
@@ -28,12 +28,12 @@ fn severity_word(severity: Severity) -> &'static str
     ensures { result.now ≡ severity_word severity }
 {
     match severity {
-        Severity::Error(_) => "error",
+        Severity::Error(..) => "error",
         Severity::Warning => "warning",
     }
 }
 
-// How many bytes stand before the first line feed.
+// The bytes before the first line feed.
 fn line_len(bytes: &[u8]) -> usize
     ensures len { result ≡ position_or_len is_feed bytes.now }
     ensures within { result ≤ length bytes.now }
@@ -41,7 +41,7 @@ fn line_len(bytes: &[u8]) -> usize
     bytes.iter().take_while(|b| **b != b'\n').count()
 }
 
-// What stands behind a place, as far as it is looked at.
+// The text after a place, as far as it is looked at.
 fn ahead_of(bytes: &[u8], at: usize) -> &[u8]
     requires { at ≤ length bytes.now }
     ensures { result.now ≡ take 81 (drop at bytes.now) }
@@ -54,7 +54,7 @@ fn ahead_of(bytes: &[u8], at: usize) -> &[u8]
     ahead
 }
 
-// What stands behind a place on its line, as far as it is looked at.
+// The rest of the line after a place, as far as it is looked at.
 fn back_of(bytes: &[u8], at: usize) -> &[u8]
     requires { at ≤ length bytes.now }
     ensures { result.now ≡ back_of bytes.now at }
@@ -63,7 +63,7 @@ fn back_of(bytes: &[u8], at: usize) -> &[u8]
     &ahead[..line_len(ahead)]
 }
 
-// What stands before a place on its line.
+// The line before a place.
 fn front_of<'a>(bytes: &'a [u8], place: &Cursor) -> &'a [u8]
     requires { IsCursor bytes.now place.now }
     ensures { result.now ≡ front_of bytes.now place.now.at }
@@ -71,84 +71,117 @@ fn front_of<'a>(bytes: &'a [u8], place: &Cursor) -> &'a [u8]
     &bytes[place.start..place.at]
 }
 
-// Appends what is told of a line and a column.
+// Appends a place and its words.
 #[tactic(auto, unfolding(crate::specs::Texts::head_text))]
 fn push_head(
     alloc: Global,
     text: &mut String,
+    source: &str,
     place: &Cursor,
     finding: &Finding,
 ) -> Result<(), AllocError>
     ensures { OnOk result (string_bytes text.new
-        ≡ string_bytes text.old ++ head_text place.now.line place.now.column finding.now.severity (string_bytes finding.now.words)) }
+        ≡ string_bytes text.old ++ head_text source.now place.now.line place.now.column finding.now.severity (string_bytes finding.now.words)) }
 {
     let (line, column) = (place.line, place.column);
     let word = severity_word(finding.severity);
     let words = plain_text(alloc, finding.words.as_bytes())?;
-    writeln!(text, "plan:{line}:{column}: {word}: {words}")
+    writeln!(text, "{source}:{line}:{column}: {word}: {words}")
 }
 
-// Appends a finding at its place, and the line.
-fn push_finding(
-    alloc: Global,
-    text: &mut String,
-    bytes: &[u8],
-    place: &Cursor,
-    finding: &Finding,
-) -> Result<(), AllocError>
-    requires place { place.now.at ≡ finding.now.at }
-    requires cursor { IsCursor bytes.now place.now }
-    ensures { OnOk result (string_bytes text.new ≡ string_bytes text.old ++ finding_text bytes.now finding.now) }
+// Appends a note on a line of its own.
+fn push_note(alloc: Global, text: &mut String, note: &String) -> Result<(), AllocError>
+    ensures { OnOk result (string_bytes text.new ≡ string_bytes text.old ++ note_text note.now) }
 {
-    push_head(alloc, text, place, finding)?;
-    push_excerpt(
-        alloc,
-        text,
-        front_of(bytes, place),
-        back_of(bytes, place.at),
-    )
+    let shown = plain_text(alloc, note.as_bytes())?;
+    writeln!(text, "{shown}")
 }
 
-// Appends all findings. Where they stand in the order of their places, the bytes are gone through once.
-fn push_findings(
-    alloc: Global,
-    text: &mut String,
-    bytes: &[u8],
-    findings: &[Finding],
-) -> Result<(), AllocError>
-    requires { AreInside (length bytes.now) findings.now }
-    ensures { OnOk result (string_bytes text.new ≡ string_bytes text.old ++ flat_map (finding_text bytes.now) findings.now) }
+// Appends the notes of a finding.
+fn push_notes(alloc: Global, text: &mut String, notes: &[String]) -> Result<(), AllocError>
+    ensures { OnOk result (string_bytes text.new ≡ string_bytes text.old ++ flat_map note_text notes.now) }
 {
-    let mut place = first_place(bytes);
-    for finding in findings {
-        place = place_at(bytes, place, finding.at);
-        push_finding(alloc, text, bytes, &place, finding)?;
+    for note in notes {
+        push_note(alloc, text, note)?;
     }
     Ok(())
 }
 
-// Appends how much a plan has.
-fn push_size(text: &mut String, size: Option<Size>) -> Result<(), AllocError>
-    ensures { OnOk result (string_bytes text.new ≡ string_bytes text.old ++ size_text size) }
+// Appends a finding at its place, its line and its notes.
+fn push_finding(
+    alloc: Global,
+    text: &mut String,
+    source: &str,
+    bytes: &[u8],
+    place: &Cursor,
+    finding: &Finding,
+) -> Result<(), AllocError>
+    requires place { place.now.at ≡ finding.now.span.start }
+    requires cursor { IsCursor bytes.now place.now }
+    requires span { finding.now.span.start ≤ finding.now.span.end }
+    ensures { OnOk result (string_bytes text.new ≡ string_bytes text.old ++ finding_text source.now bytes.now finding.now) }
+{
+    let len = finding.span.end - finding.span.start;
+    let (front, back) = (front_of(bytes, place), back_of(bytes, place.at));
+    push_head(alloc, text, source, place, finding)?;
+    push_excerpt(alloc, text, front, back, len)?;
+    push_notes(alloc, text, &finding.notes)
+}
+
+// Appends all findings. In the order of their places, the bytes are gone through once.
+fn push_findings(
+    alloc: Global,
+    text: &mut String,
+    source: &str,
+    bytes: &[u8],
+    findings: &[Finding],
+) -> Result<(), AllocError>
+    requires { AreInside (length bytes.now) findings.now }
+    ensures { OnOk result (string_bytes text.new ≡ string_bytes text.old ++ flat_map (finding_text source.now bytes.now) findings.now) }
+{
+    let mut place = first_place(bytes);
+    for finding in findings {
+        place = place_at(bytes, place, finding.span.start);
+        push_finding(alloc, text, source, bytes, &place, finding)?;
+    }
+    Ok(())
+}
+
+// The ending of a noun of which there are so many.
+fn plural(count: usize) -> &'static str
+    ensures { result.now ≡ plural count }
+{
+    if count == 1 { "" } else { "s" }
+}
+
+// Appends the size of a plan.
+fn push_size(text: &mut String, source: &str, size: Option<Size>) -> Result<(), AllocError>
+    ensures { OnOk result (string_bytes text.new ≡ string_bytes text.old ++ size_text source.now size) }
 {
     let Some(size) = size else {
         return Ok(());
     };
     let (builds, steps, turns) = (size.builds, size.steps, size.turns);
-    writeln!(text, "plan: {builds} builds, {steps} steps, {turns} turns")
+    let endings = (plural(builds), plural(steps), plural(turns));
+    let (first, second, third) = endings;
+    writeln!(
+        text,
+        "{source}: {builds} build{first}, {steps} step{second}, {turns} turn{third}"
+    )
 }
 
 impl Report {
     ghost use Rattle.plan_check.specs.Texts.{IsReport};
 
-    /// What is written of the bytes, made whole in memory. The one error is that allocation failed.
-    pub fn on(alloc: Global, bytes: &[u8]) -> Result<Report, AllocError>
-        ensures { IfOk result (IsReport bytes.now) }
+    /// The report on bytes that come from this source, made whole in memory. The one error is that allocation failed.
+    pub fn on(alloc: Global, source: &str, bytes: &[u8]) -> Result<Report, AllocError>
+        ensures { IfOk result (IsReport source.now bytes.now) }
     {
         let judged = judge(alloc, bytes)?;
+        let source = plain_text(alloc, source.as_bytes())?;
         let mut text = String::new(alloc);
-        push_findings(alloc, &mut text, bytes, &judged.findings)?;
-        push_size(&mut text, judged.size)?;
+        push_findings(alloc, &mut text, &source, bytes, &judged.findings)?;
+        push_size(&mut text, &source, judged.size)?;
         let is_plan = judged.size.is_some();
         Ok(Report { text, is_plan })
     }

@@ -1,10 +1,12 @@
-//! A walk over the text of a plan, which says where its parts stand.
+//! A walk over the text of a plan, which finds its parts.
 //!
-//! The text is one that the reader of TOML has taken, so the walk asks only what comes next. Where it meets something
-//! that it does not expect it ends, and the parts behind that place are not found.
+//! The text is one that the reader of TOML has taken, so the walk asks only what comes next. At anything that it does not
+//! expect it ends, and the parts after that place are not found.
 ghost use Rattle.std.specs.Prelude.{◌<◌};
 
-use crate::places::Places;
+use crate::finding::Span;
+use crate::outline::{Outline, headed};
+use crate::value::{Content, Value};
 use std::alloc::{AllocError, AllocFailed, Global};
 use toml_parser::text::{first, skip, skip_blank, skip_ws};
 use toml_parser::{Key, ParseError, dotted_key, quoted, starts_string, unquoted};
@@ -39,7 +41,7 @@ impl From<ParseError> for Lost {
     }
 }
 
-/// What a key below a header belongs to.
+/// The owner of the keys below a header.
 #[derive(Clone, Copy)]
 enum Section {
     Plan,
@@ -47,17 +49,17 @@ enum Section {
     Neither,
 }
 
-/// Where the parts of a plan stand.
-pub fn places_of(alloc: Global, text: &str) -> Result<Places, AllocError> {
-    let mut places = Places::new(alloc);
+/// The parts of a plan's text.
+pub fn outline_of(alloc: Global, text: &str) -> Result<Outline, AllocError> {
+    let mut outline = Outline::new(alloc);
     let whole = text.len();
-    match walk(Source { alloc, whole }, text, &mut places) {
-        Ok(()) | Err(Lost::Unread) => Ok(places),
+    match walk(Source { alloc, whole }, text, &mut outline) {
+        Ok(()) | Err(Lost::Unread) => Ok(outline),
         Err(Lost::Memory) => Err(AllocError),
     }
 }
 
-/// The text that is walked over: how long it is, and where memory comes from for what is read of it.
+/// The text that is walked over: its length, and where memory comes from for what is read of it.
 #[derive(Clone, Copy)]
 struct Source {
     alloc: Global,
@@ -65,9 +67,17 @@ struct Source {
 }
 
 impl Source {
-    // How many bytes of the text stand before the rest of it.
+    // The bytes of the text before the rest of it.
     fn before(self, rest: &str) -> usize {
         self.whole.saturating_sub(rest.len())
+    }
+
+    // The text from one rest of it to another.
+    fn span(self, from: &str, to: &str) -> Span {
+        Span {
+            start: self.before(from),
+            end: self.before(to),
+        }
     }
 }
 
@@ -75,281 +85,262 @@ fn without_mark(text: &str) -> &str {
     text.strip_prefix('\u{feff}').unwrap_or(text)
 }
 
-fn walk(source: Source, text: &str, places: &mut Places) -> Result<(), Lost> {
+fn walk(source: Source, text: &str, outline: &mut Outline) -> Result<(), Lost> {
     let mut section = Section::Plan;
     let mut rest = skip_blank(without_mark(text), true);
     for _ in 0..source.whole {
         if rest.is_empty() {
             return Ok(());
         }
-        let (below, after) = line(source, rest, section, places)?;
+        let (below, after) = line(source, rest, section, outline)?;
         section = below;
         rest = skip_blank(after, true);
     }
     Ok(())
 }
 
-// Reads a header, or a key with its value. Returns what the keys below belong to, and the text behind it.
+// Reads a header, or a key with its value. Returns the owner of the keys below, and the text after it.
 fn line<'a>(
     source: Source,
     s: &'a str,
     section: Section,
-    places: &mut Places,
+    outline: &mut Outline,
 ) -> Result<(Section, &'a str), Lost> {
     if first(s) == b'[' {
-        return header(source, s, places);
+        return header(source, s, outline);
     }
-    match statement(source, s, section, places) {
-        Ok(after) => Ok((section, after)),
-        Err(lost) => Err(lost),
-    }
+    Ok((section, statement(source, s, section, outline)?))
 }
 
-// Reads a line `[KEY]` or `[[KEY]]`. Returns what the keys below it belong to, and the text behind it.
-fn header<'a>(source: Source, s: &'a str, places: &mut Places) -> Result<(Section, &'a str), Lost> {
-    let is_array = s.starts_with("[[");
-    match header_key(source.alloc, s, is_array) {
-        Ok((key, end)) => behind_header(&key, end, is_array, source.before(s), places),
-        Err(lost) => Err(lost),
-    }
-}
-
-// What the keys below a header belong to, and the text behind it, where its key ends.
-fn behind_header<'a>(
-    key: &Key,
-    end: &'a str,
-    is_array: bool,
-    at: usize,
-    places: &mut Places,
+// Reads a line `[KEY]` or `[[KEY]]`. Returns the owner of the keys below it, and the text after it.
+fn header<'a>(
+    source: Source,
+    s: &'a str,
+    outline: &mut Outline,
 ) -> Result<(Section, &'a str), Lost> {
-    let below = below(key, is_array);
-    if add_header(key, below, at, places).is_err() {
-        return Err(Lost::Memory);
-    }
-    match behind_brackets(end, is_array) {
-        Ok(after) => Ok((below, after)),
-        Err(lost) => Err(lost),
-    }
+    let is_array = s.starts_with("[[");
+    let (key, end) = dotted_key(source.alloc, skip_ws(after_brackets(s, is_array)?))?;
+    let after = after_brackets(end, is_array)?;
+    let span = source.span(s, after);
+    Ok((add_header(&key, headed(span, is_array), outline)?, after))
 }
 
-// The key of a header, and the text behind it.
-fn header_key(alloc: Global, s: &str, is_array: bool) -> Result<(Key, &str), Lost> {
-    match behind_brackets(s, is_array) {
-        Ok(name) => key_at(alloc, skip_ws(name)),
-        Err(lost) => Err(lost),
-    }
-}
-
-fn key_at(alloc: Global, s: &str) -> Result<(Key, &str), Lost> {
-    match dotted_key(alloc, s) {
-        Ok(read) => Ok(read),
-        Err(error) => Err(Lost::from(error)),
-    }
-}
-
-// The text behind the one or the two brackets that begin or end a header.
-fn behind_brackets(s: &str, is_array: bool) -> Result<&str, Lost> {
-    match after_byte(s) {
-        Ok(after) if is_array => after_byte(after),
-        read => read,
-    }
-}
-
-// What the keys below a header belong to.
-fn below(key: &Key, is_array: bool) -> Section {
-    if is_array && name_of(key) == "build" {
-        Section::Build
+// The text after the one or the two brackets that begin or end a header.
+fn after_brackets(s: &str, is_array: bool) -> Result<&str, Lost> {
+    let after = after_byte(s)?;
+    if is_array {
+        after_byte(after)
     } else {
-        Section::Neither
+        Ok(after)
     }
 }
 
-// Adds the part of a plan that a header is.
-fn add_header(key: &Key, below: Section, at: usize, places: &mut Places) -> Result<(), AllocError> {
-    if matches!(below, Section::Build) {
-        places.add_build(at)?;
+// Adds the part of a plan that a header is. Returns the owner of the keys below it.
+fn add_header(key: &Key, value: Value, outline: &mut Outline) -> Result<Section, AllocError> {
+    let span = value.span;
+    match (first_part(key), second_part(key)) {
+        ("build", None) if matches!(value.content, Content::Tables) => {
+            outline.add_build(value)?;
+            Ok(Section::Build)
+        }
+        ("build", Some(name)) if !outline.builds.is_empty() => {
+            outline.add(true, name, span, value)?;
+            Ok(Section::Neither)
+        }
+        (name, None) => {
+            outline.add(false, name, span, value)?;
+            Ok(Section::Neither)
+        }
+        (name, Some(_)) => {
+            outline.add(false, name, span, headed(span, false))?;
+            Ok(Section::Neither)
+        }
     }
-    let name = first_part(key);
-    if name.as_str() == "build" && !key.path.is_empty() {
-        let build = Some(places.last_build());
-        return places.add_key(build, second_part(key), at, at);
-    }
-    places.add_key(None, name, at, at)
 }
 
-fn first_part(key: &Key) -> &String {
+fn first_part(key: &Key) -> &str {
     match key.path.first() {
-        Some(part) => part,
-        None => &key.last,
+        Some(part) => part.as_str(),
+        None => key.last.as_str(),
     }
 }
 
-fn second_part(key: &Key) -> &String {
-    match key.path.get(1) {
-        Some(part) => part,
-        None => &key.last,
+fn second_part(key: &Key) -> Option<&str> {
+    match (key.path.get(1), key.path.is_empty()) {
+        (_, true) => None,
+        (Some(part), _) => Some(part.as_str()),
+        (None, _) => Some(key.last.as_str()),
     }
 }
 
-// Reads a line `KEY = VALUE`. Returns the text behind it.
+/// A line `KEY = VALUE`.
+#[derive(Drop)]
+struct Pair<'a> {
+    key: Key,
+    span: Span,
+    /// The text from the value on, and the text after it.
+    at_value: &'a str,
+    after: &'a str,
+    value: Value,
+}
+
+impl Pair<'_> {
+    // The name of a key. A key with dots has none: it is deeper than any part of a plan.
+    fn name(&self) -> &str {
+        if self.key.path.is_empty() {
+            self.key.last.as_str()
+        } else {
+            ""
+        }
+    }
+
+    // Adds the key and its value to the outline.
+    fn add_to(self, is_of_build: bool, outline: &mut Outline) -> Result<(), AllocError> {
+        let Pair {
+            key,
+            span,
+            value,
+            ..
+        } = self;
+        if key.path.is_empty() {
+            return outline.add(is_of_build, key.last.as_str(), span, value);
+        }
+        outline.has_deeper_pages |= key.last.as_str() == "pages";
+        let content = Content::Table;
+        outline.add(is_of_build, first_part(&key), span, Value { span, content })
+    }
+}
+
+fn read_pair(source: Source, s: &str) -> Result<Pair<'_>, Lost> {
+    let (key, equals) = dotted_key(source.alloc, s)?;
+    let span = key_span(source, s, equals);
+    let at_value = skip_ws(after_byte(equals)?);
+    let (value, after) = read_value(source, at_value)?;
+    Ok(Pair {
+        key,
+        span,
+        at_value,
+        after,
+        value,
+    })
+}
+
+// Reads a line `KEY = VALUE`. Returns the text after it.
 fn statement<'a>(
     source: Source,
     s: &'a str,
     section: Section,
-    places: &mut Places,
-) -> Result<&'a str, Lost> {
-    match pair_at(source.alloc, s) {
-        Ok((key, value)) => add_statement(source, section, &key, source.before(s), value, places),
-        Err(lost) => Err(lost),
-    }
-}
-
-// Adds a key with the parts that its value has, if it is one of the plan or of the last build. Returns the text behind
-// the value.
-fn add_statement<'a>(
-    source: Source,
-    section: Section,
-    key: &Key,
-    at: usize,
-    value: &'a str,
-    places: &mut Places,
+    outline: &mut Outline,
 ) -> Result<&'a str, Lost> {
     match section {
-        Section::Plan => add_to_plan(source, key, at, value, places),
-        Section::Build => add_to_build(source, key, at, value, places),
-        Section::Neither => after_value(source.alloc, value),
+        Section::Plan => pair_of_plan(source, s, outline),
+        Section::Build => pair_of_build(source, s, outline),
+        Section::Neither => {
+            let pair = read_pair(source, s)?;
+            outline.has_deeper_pages |= pair.name() == "pages";
+            Ok(pair.after)
+        }
     }
 }
 
-// A key before its value, which comes next.
-fn pair_at(alloc: Global, s: &str) -> Result<(Key, &str), Lost> {
-    let (key, equals) = key_at(alloc, s)?;
-    match after_byte(equals) {
-        Ok(value) => Ok((key, skip_ws(value))),
-        Err(lost) => Err(lost),
-    }
-}
-
-// Adds a key of the plan with the parts that its value has. Returns the text behind the value.
-fn add_to_plan<'a>(
-    source: Source,
-    key: &Key,
-    at: usize,
-    value: &'a str,
-    places: &mut Places,
-) -> Result<&'a str, Lost> {
-    match name_of(key) {
-        "order" => add_items(source, value, &mut places.entries)?,
-        "build" => builds_in(source, value, places)?,
+// Adds a key of the plan, with the turns or the builds that it has. Returns the text after it.
+fn pair_of_plan<'a>(source: Source, s: &'a str, outline: &mut Outline) -> Result<&'a str, Lost> {
+    let pair = read_pair(source, s)?;
+    let (at_value, after) = (pair.at_value, pair.after);
+    match pair.name() {
+        "order" => items(source, at_value, &mut outline.turns)?,
+        "build" => builds(source, at_value, outline)?,
         _ => {}
     }
-    places.add_key(None, first_part(key), at, source.before(value))?;
-    after_value(source.alloc, value)
+    pair.add_to(false, outline)?;
+    Ok(after)
 }
 
-// Adds a key of the last build with the parts that its value has. Returns the text behind the value.
-fn add_to_build<'a>(
-    source: Source,
-    key: &Key,
-    at: usize,
-    value: &'a str,
-    places: &mut Places,
-) -> Result<&'a str, Lost> {
-    let value_at = source.before(value);
-    if name_of(key) == "steps" {
-        let first = places.steps.len();
-        add_items(source, value, &mut places.steps)?;
-        places.keep_steps(value_at, first);
+// Adds a key of the last build, with the steps that it has. Returns the text after it.
+fn pair_of_build<'a>(source: Source, s: &'a str, outline: &mut Outline) -> Result<&'a str, Lost> {
+    let pair = read_pair(source, s)?;
+    let (at_value, after) = (pair.at_value, pair.after);
+    if pair.name() == "steps" {
+        let first = outline.steps.len();
+        items(source, at_value, &mut outline.steps)?;
+        outline.keep_steps(first);
     }
-    let build = Some(places.last_build());
-    places.add_key(build, first_part(key), at, value_at)?;
-    after_value(source.alloc, value)
+    pair.add_to(true, outline)?;
+    Ok(after)
 }
 
-// The name of a key. A key with dots has none: what it names lies deeper than any part of a plan.
-fn name_of(key: &Key) -> &str {
-    if key.path.is_empty() {
-        key.last.as_str()
-    } else {
-        ""
+// The place of a key, without the blanks after it.
+fn key_span(source: Source, from: &str, to: &str) -> Span {
+    let span = source.span(from, to);
+    let written = from.as_bytes();
+    let mut end = span.end;
+    for _ in 0..from.len() {
+        let last = end.saturating_sub(span.start).saturating_sub(1);
+        match written.get(last) {
+            Some(b' ' | b'\t') => end = end.saturating_sub(1),
+            _ => break,
+        }
+    }
+    Span {
+        start: span.start,
+        end,
     }
 }
 
-// The builds of an array of inline tables.
-fn builds_in(source: Source, s: &str, places: &mut Places) -> Result<(), Lost> {
-    let Some(mut rest) = behind_mark(s, b'[') else {
+// The builds of an array.
+fn builds(source: Source, s: &str, outline: &mut Outline) -> Result<(), Lost> {
+    let Some(mut rest) = after_mark(s, b'[') else {
         return Ok(());
     };
     for _ in 0..s.len() {
         if first(rest) == b']' {
             return Ok(());
         }
-        rest = build_in(source, rest, places)?;
+        let (value, after) = read_value(source, rest)?;
+        outline.add_build(value)?;
+        keys(source, rest, outline)?;
+        rest = after_comma(skip_blank(after, true));
     }
     Err(Lost::Unread)
 }
 
-// Reads a build of such an array. Returns the text behind it.
-fn build_in<'a>(source: Source, s: &'a str, places: &mut Places) -> Result<&'a str, Lost> {
-    places.add_build(source.before(s))?;
-    match keys_in(source, s, places) {
-        Ok(()) => behind_item(source.alloc, s),
-        Err(lost) => Err(lost),
-    }
-}
-
-// The keys of a build that is an inline table.
-fn keys_in(source: Source, s: &str, places: &mut Places) -> Result<(), Lost> {
-    let Some(mut rest) = behind_mark(s, b'{') else {
+// The keys of the last build, if it is an inline table.
+fn keys(source: Source, s: &str, outline: &mut Outline) -> Result<(), Lost> {
+    let Some(mut rest) = after_mark(s, b'{') else {
         return Ok(());
     };
     for _ in 0..s.len() {
         if first(rest) == b'}' {
             return Ok(());
         }
-        let after = pair_of_build(source, rest, places)?;
-        rest = behind_comma(skip_blank(after, true));
+        let after = pair_of_build(source, rest, outline)?;
+        rest = after_comma(skip_blank(after, true));
     }
     Err(Lost::Unread)
 }
 
-// Reads a key of the last build and its value. Returns the text behind them.
-fn pair_of_build<'a>(source: Source, s: &'a str, places: &mut Places) -> Result<&'a str, Lost> {
-    match pair_at(source.alloc, s) {
-        Ok((key, value)) => add_to_build(source, &key, source.before(s), value, places),
-        Err(lost) => Err(lost),
-    }
-}
-
-// Adds where the items of an array stand. A value that is no array has none.
-fn add_items(source: Source, s: &str, found: &mut Vec<usize>) -> Result<(), Lost> {
-    let Some(mut rest) = behind_mark(s, b'[') else {
+// Adds the items of an array. A value that is no array has none.
+fn items(source: Source, s: &str, found: &mut Vec<Value>) -> Result<(), Lost> {
+    let Some(mut rest) = after_mark(s, b'[') else {
         return Ok(());
     };
     for _ in 0..s.len() {
         if first(rest) == b']' {
             return Ok(());
         }
-        found.push(source.before(rest))?;
-        rest = behind_item(source.alloc, rest)?;
+        let (value, after) = read_value(source, rest)?;
+        found.push(value)?;
+        rest = after_comma(skip_blank(after, true));
     }
     Err(Lost::Unread)
 }
 
-// The text at the next item of an array, or at its end.
-fn behind_item(alloc: Global, s: &str) -> Result<&str, Lost> {
-    match after_value(alloc, s) {
-        Ok(after) => Ok(behind_comma(skip_blank(after, true))),
-        Err(lost) => Err(lost),
-    }
+fn after_comma(s: &str) -> &str {
+    after_mark(s, b',').unwrap_or(s)
 }
 
-fn behind_comma(s: &str) -> &str {
-    behind_mark(s, b',').unwrap_or(s)
-}
-
-// The text behind the byte `mark` and the blanks that follow it, if the text begins with that byte.
-fn behind_mark(s: &str, mark: u8) -> Option<&str>
+// The text after the byte `mark` and the blanks that follow it, if the text begins with that byte.
+fn after_mark(s: &str, mark: u8) -> Option<&str>
     requires there { 0 < mark }
     requires ascii { mark < 128 }
 {
@@ -360,42 +351,49 @@ fn behind_mark(s: &str, mark: u8) -> Option<&str>
     }
 }
 
-// The text behind a value.
-fn after_value(alloc: Global, s: &str) -> Result<&str, Lost> {
+// A value, and the text after it.
+fn read_value(source: Source, s: &str) -> Result<(Value, &str), Lost> {
+    let (content, after) = read_content(source, s)?;
+    let span = source.span(s, after);
+    Ok((Value { span, content }, after))
+}
+
+fn read_content(source: Source, s: &str) -> Result<(Content, &str), Lost> {
+    if starts_string(s) {
+        let (text, after) = quoted(source.alloc, s)?;
+        return Ok((Content::Text(text), after));
+    }
+    match first(s) {
+        b'[' => Ok((Content::Array, after_nested(source.alloc, s)?)),
+        b'{' => Ok((Content::Table, after_nested(source.alloc, s)?)),
+        _ => {
+            let (scalar, after) = unquoted(source.alloc, s)?;
+            Ok((Content::of(scalar), after))
+        }
+    }
+}
+
+// The text after an array or an inline table.
+fn after_nested(alloc: Global, s: &str) -> Result<&str, Lost> {
     let mut rest = s;
     let mut depth: usize = 0;
     for _ in 0..s.len() {
-        let after = after_part(alloc, rest, depth)?;
-        depth = depth_after(depth, first(rest));
+        let byte = first(rest);
+        rest = if starts_string(rest) {
+            quoted(alloc, rest)?.1
+        } else {
+            after_byte(rest)?
+        };
+        depth = depth_after(depth, byte);
         if depth == 0 {
-            return Ok(after);
+            return Ok(rest);
         }
-        rest = skip_blank(after, true);
+        rest = skip_blank(rest, true);
     }
     Err(Lost::Unread)
 }
 
-// The text behind a string, a scalar that is a whole value, or a byte, where `depth` arrays and tables are open.
-fn after_part(alloc: Global, s: &str, depth: usize) -> Result<&str, Lost> {
-    let next = first(s);
-    if starts_string(s) {
-        behind(quoted(alloc, s))
-    } else if depth == 0 && next != b'[' && next != b'{' {
-        behind(unquoted(alloc, s))
-    } else {
-        after_byte(s)
-    }
-}
-
-// The text behind what was read.
-fn behind<T: Drop>(read: Result<(T, &str), ParseError>) -> Result<&str, Lost> {
-    match read {
-        Ok((_, after)) => Ok(after),
-        Err(error) => Err(Lost::from(error)),
-    }
-}
-
-// How many arrays and tables are open behind a byte.
+// How many arrays and tables are open after a byte.
 fn depth_after(depth: usize, byte: u8) -> usize {
     match byte {
         b'[' | b'{' => depth.saturating_add(1),
@@ -404,7 +402,7 @@ fn depth_after(depth: usize, byte: u8) -> usize {
     }
 }
 
-// The text behind its first byte, where that is a character.
+// The text after its first byte, where that is a character.
 fn after_byte(s: &str) -> Result<&str, Lost> {
     let byte = first(s);
     if byte == 0 || byte >= 128 {

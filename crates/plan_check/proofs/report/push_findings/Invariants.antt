@@ -7,5 +7,5 @@ use Rattle.plan_check.proofs.report.push_findings.Given as goal
 abbrev pub invariant-loop-finding : goal.invariant-loop-finding
 invariant-loop-finding l = record {
   place : IsCursor l.bytes l.place;
-  text : string_bytes l.text ≡ string_bytes l.fn.text ++ flat_map (finding_text l.bytes) (take l.finding-index l.findings);
+  text : string_bytes l.text ≡ string_bytes l.fn.text ++ flat_map (finding_text l.source l.bytes) (take l.finding-index l.findings);
 }
