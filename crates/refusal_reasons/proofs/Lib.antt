@@ -1,4 +1,4 @@
 pub mod Lists
 pub mod Needs
 pub mod Runs
-mod Told
+mod FirstFailing

@@ -4,23 +4,23 @@ use Rattle.build_books.specs.View.{HostView}
 use Rattle.build_commands.specs.declared.cmd.Cmd.{Cmd}
 use Rattle.build_commands.specs.declared.needs.Needs.{Needs}
 use Rattle.build_commands.specs.Needs.{needs_of}
-use Rattle.refusal_reasons.specs.OfBuild.{build_looks, order_looks, page_there, realm_looks, journal_looks, room_look, vmid_looks, needs_looks}
-use Rattle.refusal_reasons.specs.declared.look.Look.{Look}
+use Rattle.refusal_reasons.specs.OfBuild.{checks_of_build, checks_of_order, page_there, checks_of_realm, checks_of_journal, room_check, checks_of_vmid, needs_checks}
+use Rattle.refusal_reasons.specs.declared.check.Check.{Check}
 use Rattle.refusal_reasons.proofs.Lists.{before}
 
 pub needs_added :
-    (host : HostView) (build : ℕ) (cmd : Cmd) (needs : Needs) (pages : List ℕ) (old l1 l2 l3 l4 l5 l6 new : List Look)
+    (host : HostView) (build : ℕ) (cmd : Cmd) (needs : Needs) (pages : List ℕ) (old l1 l2 l3 l4 l5 l6 new : List Check)
     → needs ≡ needs_of cmd
-    → l1 ≡ old ++ build_looks host build
-    → l2 ≡ l1 ++ order_looks cmd
+    → l1 ≡ old ++ checks_of_build host build
+    → l2 ≡ l1 ++ checks_of_order cmd
     → l3 ≡ l2 ++ map (page_there host build) pages
-    → l4 ≡ l3 ++ realm_looks host build needs.realm
-    → l5 ≡ l4 ++ journal_looks host build needs.paired
-    → l6 ≡ l5 ++ room_look host build needs.room ∷ []
-    → new ≡ l6 ++ vmid_looks host needs.vmid
-    → new ≡ old ++ needs_looks host build cmd pages
-unfolding needs_looks
+    → l4 ≡ l3 ++ checks_of_realm host build needs.realm
+    → l5 ≡ l4 ++ checks_of_journal host build needs.paired
+    → l6 ≡ l5 ++ room_check host build needs.room ∷ []
+    → new ≡ l6 ++ checks_of_vmid host needs.vmid
+    → new ≡ old ++ needs_checks host build cmd pages
+unfolding needs_checks
 needs_added host build cmd needs pages old l1 l2 l3 l4 l5 l6 new is a1 a2 a3 a4 a5 a6 a7 =
     before old _ _ l1 new a1 (before l1 _ _ l2 new a2 (before l2 _ _ l3 new a3 (before l3 _ _ l4 new a4 (before l4 _ _ l5 new a5 (before l5 _ _ l6 new a6 a7)))))
-    ∙ ap (λ (n : Needs). old ++ (build_looks host build ++ (order_looks cmd ++ (map (page_there host build) pages
-    ++ (realm_looks host build n.realm ++ (journal_looks host build n.paired ++ (room_look host build n.room ∷ vmid_looks host n.vmid))))))) is
+    ∙ ap (λ (n : Needs). old ++ (checks_of_build host build ++ (checks_of_order cmd ++ (map (page_there host build) pages
+    ++ (checks_of_realm host build n.realm ++ (checks_of_journal host build n.paired ++ (room_check host build n.room ∷ checks_of_vmid host n.vmid))))))) is

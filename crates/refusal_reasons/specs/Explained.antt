@@ -1,8 +1,9 @@
 -- The runs of a plan, with the checks of each turn that is refused.
-use Rattle.std.specs.Prelude.{◌≡◌, ℕ, List, [], ◌∷◌, ◌++◌, Option, Some, None}
-use Rattle.std.specs.List.{flat_map}
+use Rattle.std.specs.Prelude.{◌≡◌, ℕ, List, [], ◌∷◌, cond, map, string_bytes, Option, Some, None, option_map}
 use Rattle.build_books.specs.View.{HostView}
+use Rattle.build_commands.specs.declared.cmd.Step.{Step}
 use Rattle.plan_steps.specs.Asked.{asked}
+use Rattle.plan_steps.specs.Lines.{idle_line}
 use Rattle.plan_steps.specs.declared.step.PlanStep.{PlanStep}
 use Rattle.realm_plan.specs.Plan.{Plan}
 use Rattle.plan_runs.specs.Place.{moved_on}
@@ -12,46 +13,73 @@ use Rattle.plan_runs.specs.Turn.{IsStepTurn}
 use Rattle.plan_runs.specs.declared.answer.TurnAnswer.{TurnAnswer}
 use Rattle.plan_runs.specs.declared.answer.TurnAnswer.TheVariants.{Refused}
 use Rattle.plan_runs.specs.declared.place.Place.{Place}
-use Rattle.refusal_reasons.specs.Lines.{look_lines}
-use Rattle.refusal_reasons.specs.Steps.{step_looks}
-use Rattle.refusal_reasons.specs.declared.look.Look.{Look}
+use Rattle.refusal_reasons.specs.Steps.{step_checks}
+use Rattle.refusal_reasons.specs.declared.check.Check.{Check}
+use Rattle.refusal_reasons.specs.declared.explained.ExplainedTurn.{ExplainedTurn}
+use Rattle.refusal_reasons.specs.declared.explained.Explanation.{Explanation}
 
--- below the line of a turn: the lines of its checks, where it is refused
-abbrev pub below_text : TurnAnswer → List Look → List ℕ
-below_text (Refused refusal) looks = look_lines looks
-below_text _ looks = []
+-- ---- what is reported of a turn
 
-abbrev pub reasons_text : HostView → ℕ → Place → PlanStep → TurnAnswer → List ℕ
-reasons_text host build place step answer = below_text answer (step_looks host build place (asked step))
+-- The line of a turn, as a replay prints it. Of a turn that is refused also the step that the build asked for, and its
+-- checks up to the first that fails.
+pub record TurnReport : Type 0 where
+  pub line : List ℕ
+  pub reason : Option (Step × List Check)
 
--- the turn of a build's step, told with its reasons
-pub record IsExplainedStep (host : HostView) (build : ℕ) (place : Place) (step : PlanStep) (new : HostView) (after : Place) (old text : List ℕ) : Type 0 where
-  pub answer : TurnAnswer
-  pub left : Place
-  pub is_turn : IsStepTurn host build place (asked step) answer new left
-  pub moved : after ≡ moved_on left
-  pub appended : text ≡ old ++ (turn_line build step answer ++ reasons_text host build place step answer)
+abbrev pub report_of_reason : Explanation → Step × List Check
+report_of_reason reason = (reason.step, reason.checks.items)
 
--- below the line of a turn from this position
-abbrev pub reasons_of : Position → ℕ → Option (PlanStep × TurnAnswer) → List ℕ
-reasons_of at build None = []
-reasons_of at build (Some told) = reasons_text at.host build (place_of at.places build) told.0 told.1
+-- the report that an explained turn is; its wordings are no part of it
+abbrev pub report_of : ExplainedTurn → TurnReport
+report_of turn = record { line = string_bytes turn.line; reason = option_map report_of_reason turn.reason }
+
+-- ---- what there is to report
+
+-- the checks up to the first that fails
+abbrev pub up_to_failing : List Check → List Check
+up_to_failing [] = []
+up_to_failing (check ∷ checks) = check ∷ cond check.fails [] (up_to_failing checks)
+
+-- the step and its checks, if it is refused
+abbrev pub reason_for : TurnAnswer → Step → List Check → Option (Step × List Check)
+reason_for (Refused refusal) step checks = Some (step, up_to_failing checks)
+reason_for _ step checks = None
+
+abbrev pub reason_of_step : HostView → ℕ → Place → PlanStep → TurnAnswer → Option (Step × List Check)
+reason_of_step host build place step answer = reason_for answer (asked step) (step_checks host build place (asked step))
+
+abbrev pub reason_of : Position → ℕ → Option (PlanStep × TurnAnswer) → Option (Step × List Check)
+reason_of at build None = None
+reason_of at build (Some done) = reason_of_step at.host build (place_of at.places build) done.0 done.1
 
 -- a turn of a run, from its position
 pub record Explained : Type 0 where
   pub at : Position
   pub turn : Turn
 
--- the line of the turn, as a replay has it, and its reasons
-abbrev pub explained_text : Explained → List ℕ
-explained_text e = turn_text e.turn ++ reasons_of e.at e.turn.build e.turn.told
+abbrev pub report_at : Explained → TurnReport
+report_at e = record { line = turn_text e.turn; reason = reason_of e.at e.turn.build e.turn.told }
 
--- The turn of a build leads here, and its line and its reasons were appended.
-pub record IsExplainedTurn (plan : Plan) (from : Position) (build : ℕ) (to : Position) (old new : List ℕ) : Type 0 where
+-- the report of a turn of a build that has no step left
+abbrev pub idle_report : ℕ → TurnReport
+idle_report build = record { line = idle_line build; reason = None }
+
+-- ---- turns and runs
+
+-- the turn of a build's step, and its report
+pub record IsExplainedStep (host : HostView) (build : ℕ) (place : Place) (step : PlanStep) (new : HostView) (after : Place) (report : TurnReport) : Type 0 where
+  pub answer : TurnAnswer
+  pub left : Place
+  pub is_turn : IsStepTurn host build place (asked step) answer new left
+  pub moved : after ≡ moved_on left
+  pub reported : report ≡ record { line = turn_line build step answer; reason = reason_of_step host build place step answer }
+
+-- The turn of a build leads here, and this is its report.
+pub record IsExplainedTurn (plan : Plan) (from : Position) (build : ℕ) (to : Position) (report : TurnReport) : Type 0 where
   pub turn : Turn
   pub of_build : turn.build ≡ build
   pub is_turn : IsTurn plan from turn to
-  pub appended : new ≡ old ++ explained_text (record { at = from; turn = turn })
+  pub reported : report ≡ report_at (record { at = from; turn = turn })
 
 -- The turns of these builds, one after the other, each from the position that those before it lead to.
 abbrev pub AreExplained : Plan → List ℕ → Position → List Explained → Position → Type 0
@@ -60,10 +88,10 @@ AreExplained plan (build ∷ order) from (e ∷ rest) to =
     (e.at ≡ from) × (e.turn.build ≡ build) × (between : Position) × IsTurn plan from e.turn between × AreExplained plan order between rest to
 AreExplained plan _ from _ to = ⊥
 
--- Some run of the plan's turns leads here, and the line of each with its reasons was appended.
-pub record IsExplainedRun (plan : Plan) (from to : HostView) (old new : List ℕ) : Type 0 where
+-- Some run of the plan's turns leads here, and these are the reports of its turns.
+pub record IsExplainedRun (plan : Plan) (from to : HostView) (reports : List TurnReport) : Type 0 where
   pub turns : List Explained
   pub end : Position
   pub is_run : AreExplained plan plan.order (start from) turns end
   pub host : end.host ≡ to
-  pub appended : new ≡ old ++ flat_map explained_text turns
+  pub reported : reports ≡ map report_at turns

@@ -1,12 +1,12 @@
--- Whether a block is free, with what is looked at.
+-- Whether a block is free, with what is read.
 use Rattle.std.specs.Prelude.{ℕ, ◌%◌, ◌^◌, ◌==◌, nat_lt, ◌&&◌, Bool, not, length, is_none, slice_index_or, None}
 use Rattle.std.specs.List.{list_all, list_any, range_with_len}
 use Rattle.build_commands.specs.declared.refusal.Refusal.TheVariants.{NoBlock}
 use Rattle.realm_model.specs.World.{free_set}
 use Rattle.build_books.specs.View.{HostView, world_of}
-use Rattle.refusal_reasons.specs.declared.room_fact.RoomFact.TheVariants as room_fact
-use Rattle.refusal_reasons.specs.declared.look.Fact.TheVariants as fact
-use Rattle.refusal_reasons.specs.declared.look.Look.{Look}
+use Rattle.refusal_reasons.specs.declared.host_facts.RoomFact.TheVariants as room_fact
+use Rattle.refusal_reasons.specs.declared.check.Fact.TheVariants as fact
+use Rattle.refusal_reasons.specs.declared.check.Check.{Check}
 
 -- the granule is one of the machine, and nobody leases it
 abbrev pub is_unleased : HostView → ℕ → Bool
@@ -23,8 +23,8 @@ is_free_at host order first = first % 2 ^ order == 0 && are_unleased host first 
 abbrev pub has_block : HostView → ℕ → Bool
 has_block host order = list_any (is_free_at host order) (range_with_len 0 host.limits.pages)
 
-abbrev pub block_look : HostView → ℕ → Look
-block_look host order = record {
+abbrev pub block_check : HostView → ℕ → Check
+block_check host order = record {
   fact = fact.Room (room_fact.Block order (length (free_set (world_of host))));
   fails = not (has_block host order);
   refusal = NoBlock order;

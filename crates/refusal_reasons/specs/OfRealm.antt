@@ -1,4 +1,4 @@
--- Checks of a realm that is to be made, and of the state of one that is there, with what they look at.
+-- Checks of a realm that is to be made, and of the state of one that is there, with what they read.
 -- RMM 1.0, RMI_REALM_CREATE, Realm attributes.
 use Rattle.std.specs.Prelude.{ℕ, ◌+◌, ◌%◌, ◌==◌, ◌&&◌, List, [], ◌∷◌, ◌++◌, length, map, Bool, true, false, not, Option, Some, option_map}
 use Rattle.granule_addr.specs.Ipa.{is_width}
@@ -8,11 +8,11 @@ use Rattle.realm_model.specs.declared.states.RealmState.TheVariants.{New, Active
 use Rattle.build_commands.specs.declared.refusal.Refusal.TheVariants.{Rmi}
 use Rattle.build_books.specs.View.{HostView, world_of}
 use Rattle.realm_host.specs.Readings.{realm_at}
-use Rattle.refusal_reasons.specs.Looks.{rmi_look}
-use Rattle.refusal_reasons.specs.OfInput.{input_look, page_delegated}
-use Rattle.refusal_reasons.specs.declared.realm_fact.RealmFact.TheVariants as realm_fact
-use Rattle.refusal_reasons.specs.declared.look.Fact.TheVariants as fact
-use Rattle.refusal_reasons.specs.declared.look.Look.{Look}
+use Rattle.refusal_reasons.specs.RmiChecks.{rmi_check}
+use Rattle.refusal_reasons.specs.OfInput.{input_check, page_delegated}
+use Rattle.refusal_reasons.specs.declared.rmi_facts.RealmFact.TheVariants as realm_fact
+use Rattle.refusal_reasons.specs.declared.check.Fact.TheVariants as fact
+use Rattle.refusal_reasons.specs.declared.check.Check.{Check}
 
 -- ---- the state
 
@@ -28,17 +28,17 @@ is_active_state (Some Active) = true
 is_active_state _ = false
 
 -- a check of the state that was found, against the one that is wanted
-abbrev pub state_look : Option RealmState → RealmState → Bool → Look
-state_look found wanted fails = rmi_look (fact.Realm (realm_fact.State wanted found)) fails error_realm
+abbrev pub state_check : Option RealmState → RealmState → Bool → Check
+state_check found wanted fails = rmi_check (fact.Realm (realm_fact.State wanted found)) fails error_realm
 
-abbrev pub realm_new : HostView → ℕ → Look
+abbrev pub realm_new : HostView → ℕ → Check
 realm_new host build = record {
   fact = fact.Realm (realm_fact.State New (state_of_realm host build));
   fails = not (is_new_state (state_of_realm host build));
   refusal = Rmi error_realm;
 }
 
-abbrev pub realm_active : HostView → ℕ → Look
+abbrev pub realm_active : HostView → ℕ → Check
 realm_active host build = record {
   fact = fact.Realm (realm_fact.State Active (state_of_realm host build));
   fails = not (is_active_state (state_of_realm host build));
@@ -62,20 +62,20 @@ abbrev pub begins_right : List ℕ → Bool
 begins_right [] = true
 begins_right (first ∷ rest) = first % length (first ∷ rest) == 0
 
-abbrev pub width_look : ℕ → Look
-width_look width = input_look (fact.Realm (realm_fact.Width width)) (not (is_width width))
+abbrev pub width_check : ℕ → Check
+width_check width = input_check (fact.Realm (realm_fact.Width width)) (not (is_width width))
 
-abbrev pub apart_look : ℕ → List ℕ → Look
-apart_look rd tables = input_look (fact.Realm realm_fact.Apart) (is_in rd tables)
+abbrev pub apart_check : ℕ → List ℕ → Check
+apart_check rd tables = input_check (fact.Realm realm_fact.Apart) (is_in rd tables)
 
 -- the checks of the starting tables, but for their states
-abbrev pub start_looks : ℕ → List ℕ → List Look
-start_looks rd tables =
-    input_look (fact.Realm realm_fact.Adjacent) (not (are_adjacent tables))
-    ∷ input_look (fact.Realm (realm_fact.Multiple (length tables))) (not (begins_right tables))
-    ∷ apart_look rd tables ∷ []
+abbrev pub start_checks : ℕ → List ℕ → List Check
+start_checks rd tables =
+    input_check (fact.Realm realm_fact.Adjacent) (not (are_adjacent tables))
+    ∷ input_check (fact.Realm (realm_fact.Multiple (length tables))) (not (begins_right tables))
+    ∷ apart_check rd tables ∷ []
 
 -- All checks of RMI_REALM_CREATE have one answer, so the order of these is this profile's own.
-unfoldable pub realm_create_looks : HostView → ℕ → ℕ → List ℕ → List ℕ → List Look
-realm_create_looks host build width pages [] = []
-realm_create_looks host build width pages (rd ∷ tables) = width_look width ∷ (start_looks rd tables ++ map (page_delegated host build) pages)
+unfoldable pub realm_create_checks : HostView → ℕ → ℕ → List ℕ → List ℕ → List Check
+realm_create_checks host build width pages [] = []
+realm_create_checks host build width pages (rd ∷ tables) = width_check width ∷ (start_checks rd tables ++ map (page_delegated host build) pages)

@@ -11,16 +11,16 @@ use Rattle.build_books.specs.declared.mark.Mark.{Mark}
 use Rattle.realm_host.specs.Refusals as refusals
 use Rattle.realm_host.specs.Marked.{way_back}
 use Rattle.plan_runs.specs.declared.place.Place.{Place}
-use Rattle.refusal_reasons.specs.OfBuild.{build_there, build_looks}
-use Rattle.refusal_reasons.specs.Commands.{command_looks}
-use Rattle.refusal_reasons.specs.declared.undo_fact.UndoFact.TheVariants as undo
-use Rattle.refusal_reasons.specs.declared.look.Fact.TheVariants as fact
-use Rattle.refusal_reasons.specs.declared.look.Look.{Look}
+use Rattle.refusal_reasons.specs.OfBuild.{build_there, checks_of_build}
+use Rattle.refusal_reasons.specs.Commands.{command_checks}
+use Rattle.refusal_reasons.specs.declared.host_facts.UndoFact.TheVariants as undo
+use Rattle.refusal_reasons.specs.declared.check.Fact.TheVariants as fact
+use Rattle.refusal_reasons.specs.declared.check.Check.{Check}
 
 -- ---- an undo
 
-abbrev pub undo_looks : HostView → ℕ → List Look
-undo_looks host build =
+abbrev pub undo_checks : HostView → ℕ → List Check
+undo_checks host build =
     build_there host build
     ∷ record { fact = fact.Undo (undo.Open (length (open_of host build))); fails = nat_lt (length (open_of host build)) 1; refusal = NothingToUndo }
     ∷ record { fact = fact.Undo undo.NewestRests; fails = refusals.is_newest_running host build; refusal = RecRunning } ∷ []
@@ -31,9 +31,9 @@ undo_looks host build =
 abbrev pub running_of : HostView → ℕ → ℕ
 running_of host build = if nat_lt build host.limits.builds then running_count (realm_of build (world_of host)) else 0
 
-abbrev pub begin_looks : HostView → ℕ → List Look
-begin_looks host build =
-    build_looks host build
+abbrev pub begin_checks : HostView → ℕ → List Check
+begin_checks host build =
+    checks_of_build host build
     ++ record { fact = fact.Undo (undo.AllRest (running_of host build)); fails = nat_lt 0 (running_of host build); refusal = RecRunning } ∷ []
 
 -- ---- a way back to a mark
@@ -46,22 +46,22 @@ abbrev pub is_refused_by_running : Result ℕ Refusal → Bool
 is_refused_by_running (Err RecRunning) = true
 is_refused_by_running _ = false
 
-abbrev pub mark_looks : Bool → List Look
-mark_looks fails = record { fact = fact.Undo undo.Mark; fails = fails; refusal = NothingToUndo } ∷ []
+abbrev pub mark_checks : Bool → List Check
+mark_checks fails = record { fact = fact.Undo undo.Mark; fails = fails; refusal = NothingToUndo } ∷ []
 
-abbrev pub back_looks : HostView → ℕ → Option Mark → List Look
-back_looks host build None = mark_looks true
-back_looks host build (Some mark) =
-    build_looks host build
-    ++ (mark_looks (is_nothing (way_back host build mark))
+abbrev pub back_checks : HostView → ℕ → Option Mark → List Check
+back_checks host build None = mark_checks true
+back_checks host build (Some mark) =
+    checks_of_build host build
+    ++ (mark_checks (is_nothing (way_back host build mark))
     ++ record { fact = fact.Undo undo.AboveRests; fails = is_refused_by_running (way_back host build mark); refusal = RecRunning } ∷ [])
 
 -- ---- the turn of a step
 
 -- The first turn of an abort or of a way back has checks of its own; each later turn is an undo.
-unfoldable pub step_looks : HostView → ℕ → Place → Step → List Look
-step_looks host build place (Ask cmd) = command_looks host build cmd
-step_looks host build place Undo = undo_looks host build
-step_looks host build place KeepMark = build_looks host build
-step_looks host build place Abort = if place.left == 0 then begin_looks host build else undo_looks host build
-step_looks host build place Back = if place.left == 0 then back_looks host build place.mark else undo_looks host build
+unfoldable pub step_checks : HostView → ℕ → Place → Step → List Check
+step_checks host build place (Ask cmd) = command_checks host build cmd
+step_checks host build place Undo = undo_checks host build
+step_checks host build place KeepMark = checks_of_build host build
+step_checks host build place Abort = if place.left == 0 then begin_checks host build else undo_checks host build
+step_checks host build place Back = if place.left == 0 then back_checks host build place.mark else undo_checks host build

@@ -1,13 +1,13 @@
 //! The runs of a plan, with the checks of each turn that is refused.
-ghost use Rattle.std.specs.Prelude.{◌≡◌, ◌<◌, ◌++◌, OnOk, string_bytes, vec_len};
-ghost use Rattle.plan_runs.specs.Turn.{IsStepTurn};
+ghost use Rattle.std.specs.Prelude.{◌≡◌, ◌<◌, IfOk, map, option_map, vec_len};
 ghost use Rattle.plan_steps.specs.Asked.{asked};
 ghost use Rattle.realm_plan.specs.PlanView.{plan_view};
-ghost use Rattle.refusal_reasons.specs.Explained.{below_text, IsExplainedStep, IsExplainedTurn, IsExplainedRun};
+ghost use Rattle.refusal_reasons.specs.Explained.{up_to_failing, reason_for, report_of, idle_report, report_of_reason, IsExplainedStep, IsExplainedTurn, IsExplainedRun};
 
-use crate::lines::push_looks;
-use crate::look::Look;
-use crate::of_step::step_looks;
+use crate::check::{Check, add};
+use crate::explained::{ExplainedTurn, Explanation};
+use crate::of_step::step_checks;
+use crate::words::words_of;
 use granule_addr::BuildId;
 use page_arena::PageStore;
 use plan_runs::{Place, TurnAnswer, plan_turn, push_turn, step_after};
@@ -24,13 +24,43 @@ pub(crate) fn id_of(place: usize) -> BuildId
     BuildId::new(place as u8).unwrap()
 }
 
-// Appends the lines of checks below the line of a turn, where it is refused.
-fn push_below(text: &mut String, answer: &TurnAnswer, looks: &[Look]) -> Result<(), AllocError>
-    ensures { OnOk result (string_bytes text.new ≡ string_bytes text.old ++ below_text answer.now looks.now) }
+// The checks up to the first that fails.
+fn up_to_failing(alloc: Global, checks: &[Check]) -> Result<Vec<Check>, AllocError>
+    ensures { IfOk result (λ front. front.items ≡ up_to_failing checks.now) }
+{
+    let mut front = Vec::new(alloc);
+    for check in checks {
+        add(&mut front, *check)?;
+        if check.fails {
+            return Ok(front);
+        }
+    }
+    Ok(front)
+}
+
+// Why a step is refused, if it is. A refusal changes nothing, so that its words may be found on the host after it.
+fn reason_for<S: PageStore>(
+    alloc: Global,
+    host: &Host<S>,
+    build: BuildId,
+    step: &PlanStep,
+    answer: &TurnAnswer,
+    checks: &[Check],
+) -> Result<Option<Explanation>, AllocError>
+    ensures { IfOk result (λ reason. option_map report_of_reason reason ≡ reason_for answer.now (asked step.now) checks.now) }
 {
     match answer {
-        TurnAnswer::Refused(_) => push_looks(text, looks),
-        _ => Ok(()),
+        TurnAnswer::Refused(_) => {
+            let checks = up_to_failing(alloc, checks)?;
+            let (error, help) = words_of(alloc, host, build, &step.asked(), &checks)?;
+            Ok(Some(Explanation {
+                step: step.asked(),
+                checks,
+                error,
+                help,
+            }))
+        }
+        _ => Ok(None),
     }
 }
 
@@ -41,16 +71,26 @@ fn explain_step<S: PageStore>(
     build: BuildId,
     place: &mut Place,
     step: &PlanStep,
-    text: &mut String,
-) -> Result<(), AllocError>
+) -> Result<ExplainedTurn, AllocError>
     requires { place.old.done < 1024 }
-    ensures { OnOk result (IsExplainedStep host.old build place.old step.now host.new place.new (string_bytes text.old) (string_bytes text.new)) }
+    ensures { IfOk result (λ turn. IsExplainedStep host.old build place.old step.now host.new place.new (report_of turn)) }
 {
-    let looks = step_looks(alloc, host, build, place, &step.asked())?;
+    let checks = step_checks(alloc, host, build, place, &step.asked())?;
     let answer = plan_turn(host, build, place, step);
     place.move_on();
-    push_turn(text, build, step, answer)?;
-    push_below(text, &answer, &looks)
+    let mut line = String::new(alloc);
+    push_turn(&mut line, build, step, answer)?;
+    let reason = reason_for(alloc, host, build, step, &answer, &checks)?;
+    Ok(ExplainedTurn { line, reason })
+}
+
+// A turn of a build that has no step left.
+fn idle_turn(alloc: Global, build: BuildId) -> Result<ExplainedTurn, AllocError>
+    ensures { IfOk result (λ turn. report_of turn ≡ idle_report build) }
+{
+    let mut line = String::new(alloc);
+    push_idle(&mut line, build)?;
+    Ok(ExplainedTurn { line, reason: None })
 }
 
 // One turn of a build: its next step, if one is left.
@@ -60,42 +100,35 @@ fn explain_turn<S: PageStore>(
     plan: &Plan,
     build: usize,
     places: &mut [Place; 8],
-    text: &mut String,
-) -> Result<(), AllocError>
+) -> Result<ExplainedTurn, AllocError>
     requires { build < vec_len plan.now.builds }
-    ensures { OnOk result (IsExplainedTurn (plan_view plan.now) (record { host = host.old; places = places.old }) build
-        (record { host = host.new; places = places.new }) (string_bytes text.old) (string_bytes text.new)) }
+    ensures { IfOk result (λ turn. IsExplainedTurn (plan_view plan.now) (record { host = host.old; places = places.old }) build
+        (record { host = host.new; places = places.new }) (report_of turn)) }
 {
     let id = id_of(build);
     let mut place = places[build];
     let Some(step) = step_after(plan, build, place.done) else {
-        return push_idle(text, id);
+        return idle_turn(alloc, id);
     };
-    explain_step(alloc, host, id, &mut place, step, text)?;
+    let turn = explain_step(alloc, host, id, &mut place, step)?;
     places[build] = place;
-    Ok(())
+    Ok(turn)
 }
 
-/// Does the turns of a plan, and appends their lines. Below the line of each turn that is refused, appends the lines of
-/// its checks, up to the first that fails. At an `Err` allocation failed.
+/// Runs a plan, and returns its turns: the line of each, and the checks of each that is refused, up to the first that
+/// fails. At an `Err` allocation failed.
 pub fn explain_turns<S: PageStore>(
     alloc: Global,
     host: &mut Host<S>,
     plan: &Plan,
-    text: &mut String,
-) -> Result<(), AllocError>
-    ensures { OnOk result (IsExplainedRun (plan_view plan.now) host.old host.new (string_bytes text.old) (string_bytes text.new)) }
+) -> Result<Vec<ExplainedTurn>, AllocError>
+    ensures { IfOk result (λ turns. IsExplainedRun (plan_view plan.now) host.old host.new (map report_of turns.items)) }
 {
+    let mut turns = Vec::new(alloc);
     let mut places = [Place::first(); 8];
     for build in &plan.order {
-        explain_turn(
-            alloc,
-            host,
-            plan,
-            build.number() as usize,
-            &mut places,
-            text,
-        )?;
+        let turn = explain_turn(alloc, host, plan, build.number() as usize, &mut places)?;
+        turns.push(turn)?;
     }
-    Ok(())
+    Ok(turns)
 }

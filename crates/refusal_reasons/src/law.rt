@@ -3,19 +3,19 @@ ghost use Rattle.std.specs.Prelude.{ℕ, Option};
 ghost use Rattle.build_commands.specs.declared.cmd.Cmd.{Cmd};
 ghost use Rattle.build_books.specs.View.{HostView};
 ghost use Rattle.build_books.specs.declared.mark.Mark.{Mark};
-ghost use Rattle.refusal_reasons.specs.Told.{UndoIsTold, MarkIsTold, BeginIsTold, BackIsTold, NeedsAreTold};
+ghost use Rattle.refusal_reasons.specs.FirstFailing.{ChecksDecideUndo, ChecksDecideMark, ChecksDecideBegin, ChecksDecideBack, ChecksDecideNeeds};
 
 /// For an undo, a mark, an abort that begins and a way back: the first check that fails is the refusal that the host
 /// gives, and no check fails exactly where the host gives none.
-pub fn own_steps_are_told()
-    ensures undo { (host : HostView) (build : ℕ) → UndoIsTold host build }
-    ensures mark { (host : HostView) (build : ℕ) → MarkIsTold host build }
-    ensures begin { (host : HostView) (build : ℕ) → BeginIsTold host build }
-    ensures back { (host : HostView) (build : ℕ) (mark : Option Mark) → BackIsTold host build mark }
+pub fn own_steps_decide()
+    ensures undo { (host : HostView) (build : ℕ) → ChecksDecideUndo host build }
+    ensures mark { (host : HostView) (build : ℕ) → ChecksDecideMark host build }
+    ensures begin { (host : HostView) (build : ℕ) → ChecksDecideBegin host build }
+    ensures back { (host : HostView) (build : ℕ) (mark : Option Mark) → ChecksDecideBack host build mark }
 {}
 
 /// For a command: the first check by its needs that fails is the refusal that the host gives before it asks the store
 /// or the monitor: 1 to 6, 9, 10 and 12. No check fails exactly where the host gives none of these.
-pub fn needs_are_told()
-    ensures { (host : HostView) (build : ℕ) (cmd : Cmd) → NeedsAreTold host build cmd }
+pub fn needs_decide()
+    ensures { (host : HostView) (build : ℕ) (cmd : Cmd) → ChecksDecideNeeds host build cmd }
 {}

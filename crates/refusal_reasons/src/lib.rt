@@ -1,17 +1,21 @@
-//! Why a step is refused: its checks in their order, each with the numbers that it looks at.
+//! The evaluated checks of a step that is refused, and words for the one that fails.
 //!
-//! A `Look` is one check of a step's turn: what it asks, whether it fails on the host as it is, and the refusal that it
-//! gives then. `step_looks` makes the checks of a step, from what can be read of the host. Their lines end with the
-//! first check that fails; `law` says for which refusals this is the one that the host gives. `explain_turns` runs a
-//! plan as `plan_runs` does, and tells the checks below each turn that is refused.
+//! A `Check` of a step's turn has the fact that it requires, whether it fails on the host as it is, and the refusal that
+//! it gives then. `step_checks` makes the checks of a step in their order. `law` says for which refusals the first that
+//! fails is the one that the host gives. `explain_turns` runs a plan as `plan_runs` does, and keeps the checks of each
+//! turn that is refused, up to the first that fails. These are proved; the words (`error`, `help`, `passed`) are tested.
 #![tactic(auto)]
 
-mod build_fact;
+mod check;
+mod error;
+mod event;
+mod explained;
 mod explaining;
-mod input_fact;
+mod help;
+mod help_pages;
+mod help_realm;
+mod host_facts;
 pub mod law;
-mod lines;
-mod look;
 mod names;
 mod of_block;
 mod of_build;
@@ -22,24 +26,19 @@ mod of_rec;
 mod of_step;
 mod of_walk;
 mod operands;
-mod realm_fact;
-mod rec_fact;
-mod room_fact;
-mod sentence;
-mod undo_fact;
+mod passed;
+mod readings;
+mod rmi_facts;
+mod roles;
 mod unfinished;
-mod walk_fact;
 mod words;
 
-pub use build_fact::BuildFact;
+pub use check::{Check, Fact};
+pub use event::event_words;
+pub use explained::{ExplainedTurn, Explanation};
 pub use explaining::explain_turns;
-pub use input_fact::InputFact;
-pub use lines::push_looks;
-pub use look::{Fact, Look};
-pub use of_step::step_looks;
-pub use realm_fact::RealmFact;
-pub use rec_fact::RecFact;
-pub use room_fact::RoomFact;
-pub use undo_fact::UndoFact;
-pub use unfinished::push_unfinished;
-pub use walk_fact::WalkFact;
+pub use host_facts::{BuildFact, RoomFact, UndoFact};
+pub use of_step::step_checks;
+pub use rmi_facts::{InputFact, RealmFact, RecFact, WalkFact};
+pub use unfinished::{UnfinishedAbort, unfinished_aborts, unfinished_lines};
+pub use words::reason_lines;

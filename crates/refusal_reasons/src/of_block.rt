@@ -1,9 +1,9 @@
 //! Whether a block is free: refusal 11.
 ghost use Rattle.std.specs.Prelude.{◌≡◌, ◌+◌, ◌<◌, ◌≤◌};
-ghost use Rattle.refusal_reasons.specs.OfBlock.{is_unleased, are_unleased, is_free_at, has_block, block_look};
+ghost use Rattle.refusal_reasons.specs.OfBlock.{is_unleased, are_unleased, is_free_at, has_block, block_check};
 
-use crate::look::{Fact, Look};
-use crate::room_fact::RoomFact;
+use crate::check::{Check, Fact};
+use crate::host_facts::RoomFact;
 use granule_addr::{Gran, Order};
 use page_arena::PageStore;
 use realm_host::{Host, Refusal};
@@ -42,8 +42,8 @@ fn is_free_at<S: PageStore>(host: &Host<S>, order: Order, first: u16) -> bool
     first % count == 0 && are_unleased(host, first, count)
 }
 
-// Whether an aligned block of an order is free.
-fn has_block<S: PageStore>(host: &Host<S>, order: Order) -> bool
+/// Whether an aligned block of an order is free.
+pub(crate) fn has_block<S: PageStore>(host: &Host<S>, order: Order) -> bool
     ensures { result ≡ has_block host.now order }
 {
     let _history = host.history();
@@ -56,11 +56,11 @@ fn has_block<S: PageStore>(host: &Host<S>, order: Order) -> bool
 }
 
 /// Refusal 11: an aligned block of the order is free.
-pub(crate) fn block_look<S: PageStore>(host: &Host<S>, order: Order) -> Look
-    ensures { result ≡ block_look host.now order }
+pub(crate) fn block_check<S: PageStore>(host: &Host<S>, order: Order) -> Check
+    ensures { result ≡ block_check host.now order }
 {
     let free = host.free_count();
-    Look {
+    Check {
         fact: Fact::Room(RoomFact::Block(order.number(), free)),
         fails: !has_block(host, order),
         refusal: Refusal::NoBlock(order),

@@ -1,11 +1,10 @@
 //! The checks that the host makes of a build: refusals 1 to 10 and 12, as far as they apply to a command.
 ghost use Rattle.std.specs.Prelude.{◌≡◌, ◌++◌, [], OnOk, map};
 ghost use Rattle.std.specs.List.{cons_option};
-ghost use Rattle.refusal_reasons.specs.OfBuild.{build_there, not_aborting, build_looks, order_looks, page_there, realm_looks, journal_looks, room_left, room_look, vmid_looks, needs_looks};
+ghost use Rattle.refusal_reasons.specs.OfBuild.{build_there, not_aborting, checks_of_build, checks_of_order, page_there, checks_of_realm, checks_of_journal, room_left, room_check, checks_of_vmid, needs_checks};
 
-use crate::build_fact::BuildFact;
-use crate::look::{Fact, Look, add, add_some};
-use crate::room_fact::RoomFact;
+use crate::check::{Check, Fact, add, add_some};
+use crate::host_facts::{BuildFact, RoomFact};
 use build_commands::{Desk, Needs, Wants};
 use granule_addr::BuildId;
 use page_arena::PageStore;
@@ -14,11 +13,11 @@ use realm_model::JOURNAL_ROOM;
 use std::alloc::AllocError;
 
 /// Refusal 1: there is such a build.
-pub(crate) fn build_there<S: PageStore>(host: &Host<S>, build: BuildId) -> Look
+pub(crate) fn build_there<S: PageStore>(host: &Host<S>, build: BuildId) -> Check
     ensures { result ≡ build_there host.now build }
 {
     let builds = host.build_count();
-    Look {
+    Check {
         fact: Fact::Build(BuildFact::There(builds)),
         fails: build.number() >= builds,
         refusal: Refusal::NoBuild,
@@ -26,10 +25,10 @@ pub(crate) fn build_there<S: PageStore>(host: &Host<S>, build: BuildId) -> Look
 }
 
 /// Refusal 2: the build is not in abort.
-pub(crate) fn not_aborting<S: PageStore>(host: &Host<S>, build: BuildId) -> Look
+pub(crate) fn not_aborting<S: PageStore>(host: &Host<S>, build: BuildId) -> Check
     ensures { result ≡ not_aborting host.now build }
 {
-    Look {
+    Check {
         fact: Fact::Build(BuildFact::NotAborting),
         fails: host.is_aborting(build),
         refusal: Refusal::Aborting,
@@ -37,18 +36,18 @@ pub(crate) fn not_aborting<S: PageStore>(host: &Host<S>, build: BuildId) -> Look
 }
 
 /// Refusals 1 and 2: the build is there, and it is not in abort.
-pub(crate) fn build_looks<S: PageStore>(host: &Host<S>, build: BuildId) -> [Look; 2]
-    ensures { result ≡ build_looks host.now build }
+pub(crate) fn checks_of_build<S: PageStore>(host: &Host<S>, build: BuildId) -> [Check; 2]
+    ensures { result ≡ checks_of_build host.now build }
 {
     [build_there(host, build), not_aborting(host, build)]
 }
 
 // Refusal 3: a block is not too large.
-fn order_look(cmd: &Cmd) -> Option<Look>
-    ensures { cons_option result [] ≡ order_looks cmd.now }
+fn order_check(cmd: &Cmd) -> Option<Check>
+    ensures { cons_option result [] ≡ checks_of_order cmd.now }
 {
     match cmd {
-        Cmd::Take { order } => Some(Look {
+        Cmd::Take { order } => Some(Check {
             fact: Fact::Build(BuildFact::Order(*order)),
             fails: *order > 9,
             refusal: Refusal::BadOrder,
@@ -58,11 +57,11 @@ fn order_look(cmd: &Cmd) -> Option<Look>
 }
 
 // Refusal 4: the build has the page.
-fn page_there<S: PageStore>(host: &Host<S>, build: BuildId, page: u16) -> Look
+fn page_there<S: PageStore>(host: &Host<S>, build: BuildId, page: u16) -> Check
     ensures { result ≡ page_there host.now build page }
 {
     let granule = host.page_granule(build, page);
-    Look {
+    Check {
         fact: Fact::Build(BuildFact::Page(page, granule, host.page_count(build))),
         fails: granule.is_none(),
         refusal: Refusal::NotLeased(page),
@@ -74,29 +73,29 @@ fn add_pages<S: PageStore>(
     host: &Host<S>,
     build: BuildId,
     pages: &[u16],
-    looks: &mut Vec<Look>,
+    checks: &mut Vec<Check>,
 ) -> Result<(), AllocError>
-    ensures { OnOk result (looks.new.items ≡ looks.old.items ++ map (page_there host.now build) pages.now) }
+    ensures { OnOk result (checks.new.items ≡ checks.old.items ++ map (page_there host.now build) pages.now) }
 {
     for &page in pages {
-        add(looks, page_there(host, build, page))?;
+        add(checks, page_there(host, build, page))?;
     }
     Ok(())
 }
 
 // Refusals 5 and 6: the build has a realm, or none.
-fn realm_look<S: PageStore>(host: &Host<S>, build: BuildId, wants: Wants) -> Option<Look>
-    ensures { cons_option result [] ≡ realm_looks host.now build wants }
+fn realm_check<S: PageStore>(host: &Host<S>, build: BuildId, wants: Wants) -> Option<Check>
+    ensures { cons_option result [] ≡ checks_of_realm host.now build wants }
 {
     let rd = host.rd(build);
     match wants {
         Wants::Either => None,
-        Wants::NoRealm => Some(Look {
+        Wants::NoRealm => Some(Check {
             fact: Fact::Build(BuildFact::NoRealm(rd)),
             fails: rd.is_some(),
             refusal: Refusal::RealmThere,
         }),
-        Wants::Realm => Some(Look {
+        Wants::Realm => Some(Check {
             fact: Fact::Build(BuildFact::Realm(rd)),
             fails: !rd.is_some(),
             refusal: Refusal::NoRealm,
@@ -105,14 +104,14 @@ fn realm_look<S: PageStore>(host: &Host<S>, build: BuildId, wants: Wants) -> Opt
 }
 
 // Refusal 9: one more act may be open.
-fn journal_look<S: PageStore>(host: &Host<S>, build: BuildId, paired: bool) -> Option<Look>
-    ensures { cons_option result [] ≡ journal_looks host.now build paired }
+fn journal_check<S: PageStore>(host: &Host<S>, build: BuildId, paired: bool) -> Option<Check>
+    ensures { cons_option result [] ≡ checks_of_journal host.now build paired }
 {
     if !paired {
         return None;
     }
     let open = host.open_acts(build).len();
-    Some(Look {
+    Some(Check {
         fact: Fact::Room(RoomFact::Journal(open)),
         fails: open >= JOURNAL_ROOM as usize,
         refusal: Refusal::JournalFull,
@@ -131,11 +130,11 @@ fn room_left<S: PageStore>(host: &Host<S>, build: BuildId) -> u16
 }
 
 // Refusal 10: the build has `needed` entries of its room left.
-fn room_look<S: PageStore>(host: &Host<S>, build: BuildId, needed: u16) -> Look
-    ensures { result ≡ room_look host.now build needed }
+fn room_check<S: PageStore>(host: &Host<S>, build: BuildId, needed: u16) -> Check
+    ensures { result ≡ room_check host.now build needed }
 {
     let left = room_left(host, build);
-    Look {
+    Check {
         fact: Fact::Room(RoomFact::History(left, needed)),
         fails: left < needed,
         refusal: Refusal::HistoryFull,
@@ -143,14 +142,14 @@ fn room_look<S: PageStore>(host: &Host<S>, build: BuildId, needed: u16) -> Look
 }
 
 // Refusal 12: a VMID is free.
-fn vmid_look<S: PageStore>(host: &Host<S>, wanted: bool) -> Option<Look>
-    ensures { cons_option result [] ≡ vmid_looks host.now wanted }
+fn vmid_check<S: PageStore>(host: &Host<S>, wanted: bool) -> Option<Check>
+    ensures { cons_option result [] ≡ checks_of_vmid host.now wanted }
 {
     if !wanted {
         return None;
     }
     let lowest = host.books().lowest_vmid();
-    Some(Look {
+    Some(Check {
         fact: Fact::Room(RoomFact::Vmid(lowest)),
         fails: !lowest.is_some(),
         refusal: Refusal::NoVmid,
@@ -163,16 +162,16 @@ pub(crate) fn add_needs<S: PageStore>(
     build: BuildId,
     cmd: &Cmd,
     pages: &[u16],
-    looks: &mut Vec<Look>,
+    checks: &mut Vec<Check>,
 ) -> Result<(), AllocError>
-    ensures { OnOk result (looks.new.items ≡ looks.old.items ++ needs_looks host.now build cmd.now pages.now) }
+    ensures { OnOk result (checks.new.items ≡ checks.old.items ++ needs_checks host.now build cmd.now pages.now) }
 {
     let needs = cmd.needs();
-    looks.extend_from_slice(&build_looks(host, build))?;
-    add_some(looks, order_look(cmd))?;
-    add_pages(host, build, pages, looks)?;
-    add_some(looks, realm_look(host, build, needs.realm))?;
-    add_some(looks, journal_look(host, build, needs.paired))?;
-    add(looks, room_look(host, build, needs.room))?;
-    add_some(looks, vmid_look(host, needs.vmid))
+    checks.extend_from_slice(&checks_of_build(host, build))?;
+    add_some(checks, order_check(cmd))?;
+    add_pages(host, build, pages, checks)?;
+    add_some(checks, realm_check(host, build, needs.realm))?;
+    add_some(checks, journal_check(host, build, needs.paired))?;
+    add(checks, room_check(host, build, needs.room))?;
+    add_some(checks, vmid_check(host, needs.vmid))
 }

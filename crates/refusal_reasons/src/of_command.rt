@@ -1,10 +1,10 @@
 //! The checks of the commands, each in its order. RMM 1.0, RMI commands.
 ghost use Rattle.std.specs.Prelude.{◌≡◌, ◌++◌, ◌≤◌, OnOk, length};
-ghost use Rattle.refusal_reasons.specs.Commands.{above_of, take_looks, rtt_create_looks, init_ripas_looks, data_create_looks, unknown_looks};
-ghost use Rattle.refusal_reasons.specs.Commands.{guest_write_looks, enter_looks, tables_looks, monitor_looks, command_looks};
+ghost use Rattle.refusal_reasons.specs.Commands.{above_of, take_checks, rtt_create_checks, init_ripas_checks, data_create_checks, unknown_checks};
+ghost use Rattle.refusal_reasons.specs.Commands.{guest_write_checks, enter_checks, tables_checks, monitor_checks, command_checks};
 
-use crate::look::{Look, add};
-use crate::of_block::block_look;
+use crate::check::{Check, add};
+use crate::of_block::block_check;
 use crate::of_build::add_needs;
 use crate::of_input::{
     one_table, page_delegated, page_undelegated, protected, run_count, table_level, table_start,
@@ -14,7 +14,7 @@ use crate::of_rec::{add_rec_create, rec_is_running, rec_ready, rec_there};
 use crate::of_walk::{
     entries_free, entry_assigned, entry_leads, entry_no_table, entry_unassigned, walk_ends,
 };
-use crate::operands::{granules_of, pages_told};
+use crate::operands::{granules_of, pages_named};
 use granule_addr::{BuildId, Gran, Level, Order, RecNo};
 use page_arena::PageStore;
 use realm_host::{Cmd, Host};
@@ -24,19 +24,19 @@ use std::alloc::AllocError;
 fn add_take<S: PageStore>(
     host: &Host<S>,
     order: u8,
-    looks: &mut Vec<Look>,
+    checks: &mut Vec<Check>,
 ) -> Result<(), AllocError>
-    ensures { OnOk result (looks.new.items ≡ looks.old.items ++ take_looks host.now order) }
+    ensures { OnOk result (checks.new.items ≡ checks.old.items ++ take_checks host.now order) }
 {
     match Order::new(order) {
-        Some(order) => add(looks, block_look(host, order)),
+        Some(order) => add(checks, block_check(host, order)),
         None => Ok(()),
     }
 }
 
 // A REC that runs writes. This profile's own.
-fn guest_write<S: PageStore>(host: &Host<S>, build: BuildId, rec: RecNo, ipa: u32) -> [Look; 5]
-    ensures { result ≡ guest_write_looks host.now build rec ipa }
+fn guest_write<S: PageStore>(host: &Host<S>, build: BuildId, rec: RecNo, ipa: u32) -> [Check; 5]
+    ensures { result ≡ guest_write_checks host.now build rec ipa }
 {
     [
         rec_there(host, build, rec),
@@ -48,8 +48,8 @@ fn guest_write<S: PageStore>(host: &Host<S>, build: BuildId, rec: RecNo, ipa: u3
 }
 
 // RMI_REC_ENTER.
-fn enter<S: PageStore>(host: &Host<S>, build: BuildId, number: RecNo) -> [Look; 3]
-    ensures { result ≡ enter_looks host.now build number }
+fn enter<S: PageStore>(host: &Host<S>, build: BuildId, number: RecNo) -> [Check; 3]
+    ensures { result ≡ enter_checks host.now build number }
 {
     [
         rec_there(host, build, number),
@@ -76,8 +76,8 @@ fn rtt_create<S: PageStore>(
     page: u16,
     ipa: u32,
     level: u8,
-) -> [Look; 6]
-    ensures { result ≡ rtt_create_looks host.now build page ipa level }
+) -> [Check; 6]
+    ensures { result ≡ rtt_create_checks host.now build page ipa level }
 {
     let above = above_of(level);
     [
@@ -91,8 +91,8 @@ fn rtt_create<S: PageStore>(
 }
 
 // RMI_RTT_INIT_RIPAS.
-fn init_ripas<S: PageStore>(host: &Host<S>, build: BuildId, ipa: u32, count: u16) -> [Look; 6]
-    ensures { result ≡ init_ripas_looks host.now build ipa count }
+fn init_ripas<S: PageStore>(host: &Host<S>, build: BuildId, ipa: u32, count: u16) -> [Check; 6]
+    ensures { result ≡ init_ripas_checks host.now build ipa count }
 {
     [
         run_count(count),
@@ -111,8 +111,8 @@ fn data_create<S: PageStore>(
     page: u16,
     ipa: u32,
     source: u16,
-) -> [Look; 6]
-    ensures { result ≡ data_create_looks host.now build page ipa source }
+) -> [Check; 6]
+    ensures { result ≡ data_create_checks host.now build page ipa source }
 {
     [
         page_delegated(host, build, page),
@@ -125,8 +125,8 @@ fn data_create<S: PageStore>(
 }
 
 // RMI_DATA_CREATE_UNKNOWN.
-fn unknown<S: PageStore>(host: &Host<S>, build: BuildId, page: u16, ipa: u32) -> [Look; 4]
-    ensures { result ≡ unknown_looks host.now build page ipa }
+fn unknown<S: PageStore>(host: &Host<S>, build: BuildId, page: u16, ipa: u32) -> [Check; 4]
+    ensures { result ≡ unknown_checks host.now build page ipa }
 {
     [
         page_delegated(host, build, page),
@@ -141,29 +141,29 @@ fn add_there<S: PageStore>(
     host: &Host<S>,
     build: BuildId,
     cmd: &Cmd,
-    looks: &mut Vec<Look>,
+    checks: &mut Vec<Check>,
 ) -> Result<(), AllocError>
-    ensures { OnOk result (looks.new.items ≡ looks.old.items ++ tables_looks host.now build cmd.now) }
+    ensures { OnOk result (checks.new.items ≡ checks.old.items ++ tables_checks host.now build cmd.now) }
 {
     match cmd {
         Cmd::Rtt { page, ipa, level } => {
-            looks.extend_from_slice(&rtt_create(host, build, *page, *ipa, *level))
+            checks.extend_from_slice(&rtt_create(host, build, *page, *ipa, *level))
         }
         Cmd::Ripas { ipa, count } => {
-            looks.extend_from_slice(&init_ripas(host, build, *ipa, *count))
+            checks.extend_from_slice(&init_ripas(host, build, *ipa, *count))
         }
         Cmd::Data { page, ipa, source } => {
-            looks.extend_from_slice(&data_create(host, build, *page, *ipa, *source))
+            checks.extend_from_slice(&data_create(host, build, *page, *ipa, *source))
         }
-        Cmd::Unknown { page, ipa } => looks.extend_from_slice(&unknown(host, build, *page, *ipa)),
-        Cmd::Activate => add(looks, realm_new(host, build)),
-        Cmd::Enter { number } => looks.extend_from_slice(&enter(host, build, *number)),
-        Cmd::Exit { number } => looks.extend_from_slice(&[
+        Cmd::Unknown { page, ipa } => checks.extend_from_slice(&unknown(host, build, *page, *ipa)),
+        Cmd::Activate => add(checks, realm_new(host, build)),
+        Cmd::Enter { number } => checks.extend_from_slice(&enter(host, build, *number)),
+        Cmd::Exit { number } => checks.extend_from_slice(&[
             rec_there(host, build, *number),
             rec_is_running(host, build, *number),
         ]),
         Cmd::Poke { number, ipa, .. } => {
-            looks.extend_from_slice(&guest_write(host, build, *number, *ipa))
+            checks.extend_from_slice(&guest_write(host, build, *number, *ipa))
         }
         _ => Ok(()),
     }
@@ -176,42 +176,42 @@ fn add_monitor<S: PageStore>(
     cmd: &Cmd,
     pages: &[u16],
     granules: &[Gran],
-    looks: &mut Vec<Look>,
+    checks: &mut Vec<Check>,
 ) -> Result<(), AllocError>
-    ensures { OnOk result (looks.new.items ≡ looks.old.items ++ monitor_looks host.now build cmd.now pages.now granules.now) }
+    ensures { OnOk result (checks.new.items ≡ checks.old.items ++ monitor_checks host.now build cmd.now pages.now granules.now) }
 {
     match cmd {
-        Cmd::Take { order } => add_take(host, *order, looks),
+        Cmd::Take { order } => add_take(host, *order, checks),
         Cmd::Fill { page, .. } | Cmd::Peek { page, .. } | Cmd::Delegate { page } => {
-            add(looks, page_undelegated(host, build, *page))
+            add(checks, page_undelegated(host, build, *page))
         }
         Cmd::Realm { width, .. } => {
-            add_realm_create(host, build, *width, pages, granules, looks)
+            add_realm_create(host, build, *width, pages, granules, checks)
         }
-        Cmd::Rec { .. } => add_rec_create(host, build, pages, granules, looks),
-        _ => add_there(host, build, cmd, looks),
+        Cmd::Rec { .. } => add_rec_create(host, build, pages, granules, checks),
+        _ => add_there(host, build, cmd, checks),
     }
 }
 
 /// Adds the checks of a command in their order.
-#[tactic(auto, unfolding(crate::specs::Commands::command_looks))]
+#[tactic(auto, unfolding(crate::specs::Commands::command_checks))]
 pub(crate) fn add_command<S: PageStore>(
     host: &Host<S>,
     build: BuildId,
     cmd: &Cmd,
-    looks: &mut Vec<Look>,
+    checks: &mut Vec<Check>,
 ) -> Result<(), AllocError>
-    ensures { OnOk result (looks.new.items ≡ looks.old.items ++ command_looks host.now build cmd.now) }
+    ensures { OnOk result (checks.new.items ≡ checks.old.items ++ command_checks host.now build cmd.now) }
 {
-    let pages = pages_told(cmd);
+    let pages = pages_named(cmd);
     let granules = granules_of(host, build, pages.as_slice());
-    add_needs(host, build, cmd, pages.as_slice(), looks)?;
+    add_needs(host, build, cmd, pages.as_slice(), checks)?;
     add_monitor(
         host,
         build,
         cmd,
         pages.as_slice(),
         granules.as_slice(),
-        looks,
+        checks,
     )
 }

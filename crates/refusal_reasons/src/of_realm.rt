@@ -1,10 +1,10 @@
 //! Checks of a realm that is to be made, and of the state of one that is there. RMM 1.0, RMI_REALM_CREATE, Realm attributes.
 ghost use Rattle.std.specs.Prelude.{◌≡◌, ◌++◌, ◌∷◌, ◌≤◌, OnOk, length};
-ghost use Rattle.refusal_reasons.specs.OfRealm.{state_of_realm, state_look, realm_new, realm_active, follow, are_adjacent, begins_right, width_look, apart_look, start_looks, realm_create_looks};
+ghost use Rattle.refusal_reasons.specs.OfRealm.{state_of_realm, state_check, realm_new, realm_active, follow, are_adjacent, begins_right, width_check, apart_check, start_checks, realm_create_checks};
 
-use crate::look::{Fact, Look, add, rmi_look};
-use crate::of_input::{add_delegated, input_look};
-use crate::realm_fact::RealmFact;
+use crate::check::{Check, Fact, add, rmi_check};
+use crate::of_input::{add_delegated, input_check};
+use crate::rmi_facts::RealmFact;
 use granule_addr::{BuildId, Gran, IpaWidth};
 use page_arena::PageStore;
 use realm_host::{Host, RealmState, Rmi};
@@ -22,27 +22,27 @@ fn state_of_realm<S: PageStore>(host: &Host<S>, build: BuildId) -> Option<RealmS
 }
 
 // A check of the state that was found, against the one that is wanted.
-fn state_look(found: Option<RealmState>, wanted: RealmState, fails: bool) -> Look
-    ensures { result ≡ state_look found wanted fails }
+fn state_check(found: Option<RealmState>, wanted: RealmState, fails: bool) -> Check
+    ensures { result ≡ state_check found wanted fails }
 {
     let fact = Fact::Realm(RealmFact::State(wanted, found));
-    rmi_look(fact, fails, Rmi::REALM)
+    rmi_check(fact, fails, Rmi::REALM)
 }
 
 /// The realm of a build is NEW.
-pub(crate) fn realm_new<S: PageStore>(host: &Host<S>, build: BuildId) -> Look
+pub(crate) fn realm_new<S: PageStore>(host: &Host<S>, build: BuildId) -> Check
     ensures { result ≡ realm_new host.now build }
 {
     let found = state_of_realm(host, build);
-    state_look(found, New, !matches!(found, Some(New)))
+    state_check(found, New, !matches!(found, Some(New)))
 }
 
 /// The realm of a build is ACTIVE.
-pub(crate) fn realm_active<S: PageStore>(host: &Host<S>, build: BuildId) -> Look
+pub(crate) fn realm_active<S: PageStore>(host: &Host<S>, build: BuildId) -> Check
     ensures { result ≡ realm_active host.now build }
 {
     let found = state_of_realm(host, build);
-    state_look(found, Active, !matches!(found, Some(Active)))
+    state_check(found, Active, !matches!(found, Some(Active)))
 }
 
 // Whether the granules are the one with number `first` and those behind it, in their order.
@@ -83,52 +83,52 @@ fn begins_right(tables: &[Gran]) -> bool
 }
 
 // A realm may have that IPA width.
-fn width_look(width: u8) -> Look
-    ensures { result ≡ width_look width }
+fn width_check(width: u8) -> Check
+    ensures { result ≡ width_check width }
 {
-    input_look(
+    input_check(
         Fact::Realm(RealmFact::Width(width)),
         IpaWidth::new(width).is_none(),
     )
 }
 
 // The RD is not one of the starting tables.
-fn apart_look(rd: Gran, tables: &[Gran]) -> Look
-    ensures { result ≡ apart_look rd tables.now }
+fn apart_check(rd: Gran, tables: &[Gran]) -> Check
+    ensures { result ≡ apart_check rd tables.now }
 {
-    input_look(Fact::Realm(RealmFact::Apart), tables.contains(&rd))
+    input_check(Fact::Realm(RealmFact::Apart), tables.contains(&rd))
 }
 
 // The checks of the starting tables, but for their states.
-fn add_tables(rd: Gran, tables: &[Gran], looks: &mut Vec<Look>) -> Result<(), AllocError>
-    ensures { OnOk result (looks.new.items ≡ looks.old.items ++ start_looks rd tables.now) }
+fn add_tables(rd: Gran, tables: &[Gran], checks: &mut Vec<Check>) -> Result<(), AllocError>
+    ensures { OnOk result (checks.new.items ≡ checks.old.items ++ start_checks rd tables.now) }
 {
-    looks.extend_from_slice(&[
-        input_look(Fact::Realm(RealmFact::Adjacent), !are_adjacent(tables)),
-        input_look(
+    checks.extend_from_slice(&[
+        input_check(Fact::Realm(RealmFact::Adjacent), !are_adjacent(tables)),
+        input_check(
             Fact::Realm(RealmFact::Multiple(tables.len())),
             !begins_right(tables),
         ),
-        apart_look(rd, tables),
+        apart_check(rd, tables),
     ])
 }
 
 /// Adds the checks of RMI_REALM_CREATE, of an RD page, starting tables from a page on, and the granules of all of them.
-#[tactic(auto, unfolding(crate::specs::OfRealm::realm_create_looks))]
+#[tactic(auto, unfolding(crate::specs::OfRealm::realm_create_checks))]
 pub(crate) fn add_realm_create<S: PageStore>(
     host: &Host<S>,
     build: BuildId,
     width: u8,
     pages: &[u16],
     granules: &[Gran],
-    looks: &mut Vec<Look>,
+    checks: &mut Vec<Check>,
 ) -> Result<(), AllocError>
-    ensures { OnOk result (looks.new.items ≡ looks.old.items ++ realm_create_looks host.now build width pages.now granules.now) }
+    ensures { OnOk result (checks.new.items ≡ checks.old.items ++ realm_create_checks host.now build width pages.now granules.now) }
 {
     let Some((rd, tables)) = granules.split_first() else {
         return Ok(());
     };
-    add(looks, width_look(width))?;
-    add_tables(*rd, tables, looks)?;
-    add_delegated(host, build, pages, looks)
+    add(checks, width_check(width))?;
+    add_tables(*rd, tables, checks)?;
+    add_delegated(host, build, pages, checks)
 }

@@ -1,22 +1,22 @@
 //! Checks of where a walk ends. RMM 1.0, RTT walk, RMI_ERROR_RTT.
 ghost use Rattle.std.specs.Prelude.{◌≡◌, ◌+◌, ◌-◌, ◌≤◌};
 ghost use Rattle.realm_host.specs.declared.reading.RowView.{RowView as Row};
-ghost use Rattle.refusal_reasons.specs.OfWalk.{rtt_look, level_of, state_of, granule_of_row, walk_ends, entry_unassigned};
+ghost use Rattle.refusal_reasons.specs.OfWalk.{rtt_check, level_of, state_of, granule_of_row, walk_ends, entry_unassigned};
 ghost use Rattle.refusal_reasons.specs.OfWalk.{entry_assigned, entry_no_table, entry_leads, is_free_entry, are_free, entries_free};
 
-use crate::look::{Fact, Look};
-use crate::of_input::input_look;
-use crate::walk_fact::WalkFact;
+use crate::check::{Check, Fact};
+use crate::of_input::input_check;
+use crate::rmi_facts::WalkFact;
 use granule_addr::{BuildId, Gran, Level};
 use page_arena::PageStore;
 use realm_host::{EntryState, Host, Refusal, Rmi, RowView};
 use realm_model::Status;
 
 // A check of tables, and the level that it is refused with.
-fn rtt_look(fact: WalkFact, fails: bool, level: u8) -> Look
-    ensures { result ≡ rtt_look fact fails level }
+fn rtt_check(fact: WalkFact, fails: bool, level: u8) -> Check
+    ensures { result ≡ rtt_check fact fails level }
 {
-    Look {
+    Check {
         fact: Fact::Walk(fact),
         fails,
         refusal: Refusal::Rmi(Rmi {
@@ -55,32 +55,32 @@ fn granule_of_row(row: Option<RowView>) -> Option<Gran>
 }
 
 /// The walk of an IPA granule towards a level ends there.
-pub(crate) fn walk_ends<S: PageStore>(host: &Host<S>, build: BuildId, ipa: u32, to: Level) -> Look
+pub(crate) fn walk_ends<S: PageStore>(host: &Host<S>, build: BuildId, ipa: u32, to: Level) -> Check
     ensures { result ≡ walk_ends host.now build ipa to }
 {
     let ended = level_of(host.row(build, ipa, to));
     let to = to.number();
-    rtt_look(WalkFact::Walk(ipa, to, ended), !(ended == to), ended)
+    rtt_check(WalkFact::Walk(ipa, to, ended), !(ended == to), ended)
 }
 
 /// The entry where the walk to level 3 ends is UNASSIGNED.
-pub(crate) fn entry_unassigned<S: PageStore>(host: &Host<S>, build: BuildId, ipa: u32) -> Look
+pub(crate) fn entry_unassigned<S: PageStore>(host: &Host<S>, build: BuildId, ipa: u32) -> Check
     ensures { result ≡ entry_unassigned host.now build ipa }
 {
     let row = host.row(build, ipa, Level::last());
     let (level, found) = (level_of(row), state_of(row));
     let fact = WalkFact::Entry(level, EntryState::Unassigned, found);
-    rtt_look(fact, !matches!(found, Some(EntryState::Unassigned)), level)
+    rtt_check(fact, !matches!(found, Some(EntryState::Unassigned)), level)
 }
 
 /// The entry where the walk to level 3 ends is ASSIGNED.
-pub(crate) fn entry_assigned<S: PageStore>(host: &Host<S>, build: BuildId, ipa: u32) -> Look
+pub(crate) fn entry_assigned<S: PageStore>(host: &Host<S>, build: BuildId, ipa: u32) -> Check
     ensures { result ≡ entry_assigned host.now build ipa }
 {
     let row = host.row(build, ipa, Level::last());
     let (level, found) = (level_of(row), state_of(row));
     let fact = WalkFact::Entry(level, EntryState::Assigned, found);
-    rtt_look(fact, !matches!(found, Some(EntryState::Assigned)), level)
+    rtt_check(fact, !matches!(found, Some(EntryState::Assigned)), level)
 }
 
 /// The entry where the walk towards a level ends is not TABLE.
@@ -89,12 +89,12 @@ pub(crate) fn entry_no_table<S: PageStore>(
     build: BuildId,
     ipa: u32,
     to: Level,
-) -> Look
+) -> Check
     ensures { result ≡ entry_no_table host.now build ipa to }
 {
     let row = host.row(build, ipa, to);
     let (level, found) = (level_of(row), state_of(row));
-    rtt_look(
+    rtt_check(
         WalkFact::NoTable(level, found),
         matches!(found, Some(EntryState::Table)),
         level,
@@ -102,11 +102,11 @@ pub(crate) fn entry_no_table<S: PageStore>(
 }
 
 /// The entry of a page leads to its granule.
-pub(crate) fn entry_leads<S: PageStore>(host: &Host<S>, build: BuildId, ipa: u32) -> Look
+pub(crate) fn entry_leads<S: PageStore>(host: &Host<S>, build: BuildId, ipa: u32) -> Check
     ensures { result ≡ entry_leads host.now build ipa }
 {
     let granule = granule_of_row(host.row(build, ipa, Level::last()));
-    input_look(Fact::Walk(WalkFact::Leads(granule)), granule.is_none())
+    input_check(Fact::Walk(WalkFact::Leads(granule)), granule.is_none())
 }
 
 // Whether the entry of level 3 of an IPA granule is UNASSIGNED.
@@ -136,10 +136,10 @@ pub(crate) fn entries_free<S: PageStore>(
     build: BuildId,
     ipa: u32,
     count: u16,
-) -> Look
+) -> Check
     ensures { result ≡ entries_free host.now build ipa count }
 {
     let behind = ipa as u64 + count as u64;
     let free = behind <= 4_294_967_296 && are_free(host, build, ipa, count);
-    rtt_look(WalkFact::Free(ipa, count), !free, 3)
+    rtt_check(WalkFact::Free(ipa, count), !free, 3)
 }

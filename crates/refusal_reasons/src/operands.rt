@@ -2,7 +2,7 @@
 ghost use Rattle.std.specs.Prelude.{◌≡◌, ◌++◌, ◌+◌, ◌<◌, ◌≤◌, [], length};
 ghost use Rattle.std.specs.List.{filter_map, cons_option, range_with_len};
 ghost use Rattle.build_books.specs.View.{granule_of_page};
-ghost use Rattle.refusal_reasons.specs.Pages.{tables_told, pages_told};
+ghost use Rattle.refusal_reasons.specs.Pages.{tables_within, pages_named};
 
 use arrayvec::ArrayVec;
 use build_commands::tables_named;
@@ -11,8 +11,8 @@ use page_arena::PageStore;
 use realm_host::{Cmd, Host};
 
 // How many of them are told of: only the first, where no pages have the numbers of the last ones.
-fn tables_told(root: u16, width: u8) -> u16
-    ensures value { result ≡ tables_told root width }
+fn tables_within(root: u16, width: u8) -> u16
+    ensures value { result ≡ tables_within root width }
     ensures few { result ≤ 16 }
     ensures inside { root + result ≤ 65536 }
 {
@@ -48,8 +48,8 @@ fn push_all(pages: &mut ArrayVec<u16, 17>, more: &[u16])
 
 /// The pages that a command names, in the order in which they are written.
 #[tactic(auto, unfolding(build_commands::specs::Needs::operands))]
-pub(crate) fn pages_told(cmd: &Cmd) -> ArrayVec<u16, 17>
-    ensures value { result.items ≡ pages_told cmd.now }
+pub(crate) fn pages_named(cmd: &Cmd) -> ArrayVec<u16, 17>
+    ensures value { result.items ≡ pages_named cmd.now }
     ensures few { length result.items ≤ 17 }
 {
     let mut pages = ArrayVec::new();
@@ -65,7 +65,7 @@ pub(crate) fn pages_told(cmd: &Cmd) -> ArrayVec<u16, 17>
         }
         Cmd::Realm { rd, root, width } => {
             pages.push(*rd);
-            push_run(&mut pages, *root, tables_told(*root, *width));
+            push_run(&mut pages, *root, tables_within(*root, *width));
         }
         Cmd::Rec { page, auxiliaries } => {
             pages.push(*page);

@@ -1,5 +1,0 @@
-use Rattle.std.proofs.lemmas.List.{append-nil}
-use Rattle.refusal_reasons.proofs.sentence.two_in.Goals as goal
-
-pub returns : goal.returns
-returns c = simp append-nil
