@@ -9,6 +9,7 @@ pub mod Runs
 pub mod Counted
 pub mod Smooth
 pub mod Drawing
+pub mod Rotating
 pub mod SameEnd
 pub mod Visits
 pub mod Samples

@@ -12,3 +12,4 @@ pub mod OrderText
 pub mod Exploring
 pub mod Lines
 pub mod Leaving
+pub mod Rotation

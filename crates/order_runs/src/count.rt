@@ -6,8 +6,8 @@ use crate::choice::Choice;
 use crate::tally::Tally;
 use std::alloc::{AllocError, Global};
 
-// The builds of the turns, in their order.
-fn builds_of(alloc: Global, order: &[Choice]) -> Result<Vec<usize>, AllocError>
+/// The builds of the turns, in their order. At an `Err` allocation failed.
+pub(crate) fn builds_of(alloc: Global, order: &[Choice]) -> Result<Vec<usize>, AllocError>
     ensures { IfOk result (λ builds. builds.items ≡ map (λ choice. choice.build) order.now) }
 {
     order.iter().map(|choice| choice.build).collect(alloc)

@@ -38,9 +38,9 @@ pub(crate) fn builds_left(plan: &Plan, places: &[Place; 8]) -> [bool; 8]
     left
 }
 
-// The lowest build that has a step left.
+/// The lowest build that has a step left.
 #[tactic(auto, unfolding(crate::specs::Chosen::lowest_of))]
-fn lowest_of(left: &[bool; 8]) -> Option<usize>
+pub(crate) fn lowest_of(left: &[bool; 8]) -> Option<usize>
     ensures { result ≡ lowest_of left.now }
 {
     (0..8).find(|build| left[*build])

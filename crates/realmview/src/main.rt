@@ -1,5 +1,5 @@
 //! Shows plans: what is wrong with one, why its steps are refused, what other orders of its turns come to, the history of its run as
-//! text, its run as data and as a page, and the map that a history leads to. The plan or the history comes on standard input.
+//! text, its run as data and as a page, and the map that a history leads to. The plan or the history is a file, or standard input.
 #![tactic(auto)]
 
 ghost use Rattle.std.specs.Prelude.{◌≡◌, IfErr};
@@ -9,34 +9,55 @@ ghost use Rattle.view_program.specs.Stop.{view_exit_status};
 
 mod meter;
 
-use command_line::{Stop, arguments};
+use command_line::{Ended, Input, Output, Painting, Stop, arguments};
 use meter::Meter;
 use std::process::ExitCode;
 use told_device::Told;
 use view_program::{Asked, Fault, Verdict, run};
 
+/// The input that is awaited.
+fn awaited(asked: Asked) -> &'static str {
+    match asked {
+        Asked::Apply(_) => "a history",
+        _ => "a plan",
+    }
+}
+
+/// The lines of the output that are painted on a terminal.
+fn painting(asked: Asked) -> Option<Painting> {
+    match asked {
+        Asked::Check | Asked::Why { .. } => Some(Painting::Messages),
+        _ => None,
+    }
+}
+
 /// Does what the command line asks for.
-fn show(rt: &HostRuntime) -> Result<Verdict, Stop<Fault>> {
+fn show(rt: &HostRuntime) -> Result<Ended<Verdict>, Stop<Fault>> {
     let alloc = rt.alloc();
     let words = arguments::<_, Fault>(rt)?;
-    let asked = Asked::of(alloc, &words)?;
-    let mut input = Told::new(rt.stdin());
-    let mut output = Told::new(rt.stdout());
+    let line = match Asked::of(alloc, &words) {
+        Ok(line) => line,
+        Err(error) => return Ended::shown(alloc, error, &mut Told::new(rt.stdout())),
+    };
+    let mut input = Told::new(Input::open(rt, "realmview", line.file, awaited(line.asked))?);
+    let mut output = Told::new(Output::open(rt, painting(line.asked)));
     let meter = Meter::new(rt);
-    let outcome = run(alloc, asked, &mut input, &mut output, &meter);
+    let source = line.file.unwrap_or("plan");
+    let outcome = run(alloc, line.asked, source, &mut input, &mut output, &meter);
     meter.end();
-    Ok(outcome?)
+    Ended::of_run(outcome, output.is_closed())
 }
 
 /// The exit status. Where the program stops, standard error is told why. The errors of a plan stand on standard output.
-fn end(rt: &HostRuntime, outcome: Result<Verdict, Stop<Fault>>) -> ExitCode
+fn end(rt: &HostRuntime, outcome: Result<Ended<Verdict>, Stop<Fault>>) -> ExitCode
     ensures value { exit_status result ≡ view_exit_status outcome }
     ensures stops { IfErr outcome (λ _. IsStatus (exit_status result)) }
 {
     match outcome {
-        Ok(Verdict::Done) => ExitCode::SUCCESS,
-        Ok(Verdict::HasErrors) => ExitCode::FAILURE,
-        Err(stop) => stop.end(rt),
+        Ok(Ended::Done(Verdict::Done) | Ended::Shown) => ExitCode::SUCCESS,
+        Ok(Ended::Done(Verdict::HasErrors)) => ExitCode::FAILURE,
+        Ok(Ended::Closed) => ExitCode::from(141),
+        Err(stop) => stop.end_in_colour(rt),
     }
 }
 

@@ -1,5 +1,5 @@
 //! How far an exploration has come, on a terminal.
-use order_runs::Progress;
+use order_runs::{Expected, Progress};
 use std::cell::Cell;
 use std::io::IsTerminal;
 use std::time::Instant;
@@ -7,13 +7,18 @@ use std::time::Instant;
 /// Milliseconds from one line to the next.
 const PAUSE: u128 = 200;
 
-/// Tells on standard error how many orders have been run, five times a second at most, where that is a terminal. Each line is
-/// written over the one before it.
+/// From how many orders on a run is long enough to be told of before it begins.
+const LONG: u64 = 10_000;
+
+/// Tells on standard error what orders are run, where that is a terminal: before a long run how many there are, and
+/// meanwhile how many have been run, five times a second at most. Each line of these is written over the one before
+/// it.
 #[derive(Drop)]
 pub struct Meter<'a> {
     rt: &'a HostRuntime,
     begun: Option<Instant>,
     pauses: Cell<u128>,
+    most: Cell<u64>,
 }
 
 impl Meter<'_> {
@@ -24,14 +29,30 @@ impl Meter<'_> {
         } else {
             None
         };
-        let pauses = Cell::new(0);
-        Meter { rt, begun, pauses }
+        Meter {
+            rt,
+            begun,
+            pauses: Cell::new(0),
+            most: Cell::new(0),
+        }
     }
 
     // How many pauses have passed since the beginning, where anything is told.
     fn passed(&self) -> Option<u128> {
         let since = self.begun?.elapsed(self.rt).ok()?;
         Some(since.as_millis() / PAUSE)
+    }
+
+    // Tells how many orders a plan has, and how many of them are run at most.
+    fn tell_begin(&self, expected: Expected, most: u64) {
+        let about = if expected.is_exact { "" } else { "about " };
+        let _lost = match expected.orders {
+            Some(count) if count == most && expected.is_exact => {
+                eprintln!(self.rt; "{count} orders, all of them are run")
+            }
+            Some(count) => eprintln!(self.rt; "{about}{count} orders, at most {most} are run"),
+            None => eprintln!(self.rt; "more than 2^64 orders, at most {most} are run"),
+        };
     }
 
     /// Takes the last line away.
@@ -43,13 +64,23 @@ impl Meter<'_> {
 }
 
 impl Progress for Meter<'_> {
+    fn begins(&self, expected: Expected, most: u32) {
+        let most = u64::from(most);
+        self.most.set(most);
+        let is_long = most >= LONG && expected.orders.unwrap_or(LONG) >= LONG;
+        if self.begun.is_some() && is_long {
+            self.tell_begin(expected, most);
+        }
+    }
+
     fn told(&self, orders: u64) {
         let Some(passed) = self.passed() else {
             return;
         };
         if passed > self.pauses.get() {
             self.pauses.set(passed);
-            let _lost = eprint!(self.rt; "\r\x1b[K{orders} orders run");
+            let most = self.most.get();
+            let _lost = eprint!(self.rt; "\r\x1b[K{orders} of at most {most} orders run");
         }
     }
 }

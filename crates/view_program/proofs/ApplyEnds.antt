@@ -12,7 +12,7 @@ use Rattle.view_program.specs.Applied.{host_of_opening, IsHistoryIn, IsNoEvent, 
 use Rattle.view_program.specs.Printed.{IsApplyEnd, IsMapPrinted}
 use Rattle.view_program.specs.Taking.{AreLinesTaken, AreCutShort, AreNotTaken}
 use Rattle.view_program.specs.declared.fault.Fault.{Fault}
-use Rattle.view_program.specs.declared.fault.Fault.TheVariants.{Plan, NoOpening, NoEvent, Refused, EraseNamesNoBuild, Memory, Device}
+use Rattle.view_program.specs.declared.fault.Fault.TheVariants.{NoPlan, Plan, NoOpening, NoEvent, Refused, EraseNamesNoBuild, OrderOutsideLimits, Memory, Device}
 use Rattle.view_program.proofs.Takings.{length-taken}
 
 -- nothing was read ahead
@@ -65,17 +65,19 @@ module _ (first : List ℕ) (o : Opening) (opens : IsOpeningText first o) where
   }
 
   pub no_history_in : (input ahead : Option (List ℕ)) (fault : Fault) → IsLine input first ahead → AreNotTaken ahead (host_of_opening o) fault → IsNoHistoryIn input fault
+  no_history_in input ahead (NoPlan errors) is none = absurd none
   no_history_in input ahead (Plan fault) is none = absurd none
   no_history_in input ahead NoOpening is none = absurd none
   no_history_in None ahead (NoEvent number) is none = tt
   no_history_in (Some xs) None (NoEvent number) is none = absurd is
   no_history_in (Some xs) (Some ys) (NoEvent number) is none =
       stops (λ host line. IsNoEvent line) (lines_in xs) (lines_in ys) number (NoEvent number) is none none.untaken.0 none.untaken.1
-  no_history_in None ahead (Refused number why) is none = tt
-  no_history_in (Some xs) None (Refused number why) is none = absurd is
-  no_history_in (Some xs) (Some ys) (Refused number why) is none =
-      stops (IsEventRefused why) (lines_in xs) (lines_in ys) number (Refused number why) is none none.untaken.0 none.untaken.1
+  no_history_in None ahead (Refused number why words) is none = tt
+  no_history_in (Some xs) None (Refused number why words) is none = absurd is
+  no_history_in (Some xs) (Some ys) (Refused number why words) is none =
+      stops (IsEventRefused why) (lines_in xs) (lines_in ys) number (Refused number why words) is none none.untaken.0 none.untaken.1
   no_history_in input ahead EraseNamesNoBuild is none = absurd none
+  no_history_in input ahead OrderOutsideLimits is none = absurd none
   no_history_in input ahead Memory is none = tt
   no_history_in input ahead Device is none = tt
 
@@ -84,21 +86,25 @@ module _ (first : List ℕ) (o : Opening) (opens : IsOpeningText first o) where
 module _ (erase : Option ℕ) (unread : Bool) (input : Option (List ℕ)) where
   -- where there is no history, nothing is written
   pub no_history : (output : Option (List ℕ)) (fault : Fault) → IsNoHistoryIn input fault → (fault ≡ Device → unread ≡ true) → IsApplyEnd erase unread input output output (Err fault)
+  no_history output (NoPlan errors) none read = absurd none
   no_history output (Plan fault) none read = absurd none
   no_history output NoOpening none read = (none, keeps_same output)
   no_history output (NoEvent number) none read = (none, keeps_same output)
-  no_history output (Refused number why) none read = (none, keeps_same output)
+  no_history output (Refused number why words) none read = (none, keeps_same output)
   no_history output EraseNamesNoBuild none read = absurd none
+  no_history output OrderOutsideLimits none read = absurd none
   no_history output Memory none read = keeps_same output
   no_history output Device none read = rw (read refl) (keeps_same output)
 
   -- a history, and no map of it
   pub no_map : (output : Option (List ℕ)) (o : Opening) (host : HostView) (fault : Fault) → IsHistoryIn input o host → HasNoMap erase o fault → IsApplyEnd erase unread input output output (Err fault)
+  no_map output o host (NoPlan errors) history none = absurd none
   no_map output o host (Plan fault) history none = absurd none
   no_map output o host NoOpening history none = absurd none
   no_map output o host (NoEvent number) history none = absurd none
-  no_map output o host (Refused number why) history none = absurd none
+  no_map output o host (Refused number why words) history none = absurd none
   no_map output o host EraseNamesNoBuild history none = (record { o = o; host = host; history = history; none = none }, keeps_same output)
+  no_map output o host OrderOutsideLimits history none = absurd none
   no_map output o host Memory history none = keeps_same output
   no_map output o host Device history none = absurd none
 

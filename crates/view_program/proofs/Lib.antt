@@ -4,4 +4,7 @@ mod Legal
 mod ApplyEnds
 mod Once
 mod CheckEnds
+mod ReorderEnds
+mod PlanEnds
 mod WithoutBuilds
+mod TurnTexts

@@ -9,7 +9,7 @@ use Rattle.history_text.proofs.Short.{event_is_short}
 use Rattle.view_program.specs.Applied.{IsLineTaken, AreTaken, IsNoEvent}
 use Rattle.view_program.specs.Taking.{AreLinesTaken, IsUntaken, AreCutShort, AreNotTaken}
 use Rattle.view_program.specs.declared.fault.Fault.{Fault}
-use Rattle.view_program.specs.declared.fault.Fault.TheVariants.{Plan, NoOpening, NoEvent, Refused, EraseNamesNoBuild, Memory, Device}
+use Rattle.view_program.specs.declared.fault.Fault.TheVariants.{NoPlan, Plan, NoOpening, NoEvent, Refused, EraseNamesNoBuild, OrderOutsideLimits, Memory, Device}
 
 -- ---- what was read
 
@@ -97,11 +97,13 @@ module _ (start now : Option (List ℕ)) (old mid : HostView) (s : SoFar start n
   next_is (Some xs) (Some ys) line is = (lines_in ys, is)
 
   pub not_taken : (next : Option (List ℕ)) (line : List ℕ) (fault : Fault) → IsLine now line next → IsUntaken mid line fault → AreNotTaken start old fault
+  not_taken next line (NoPlan errors) is untaken = absurd untaken
   not_taken next line (Plan fault) is untaken = absurd untaken
   not_taken next line NoOpening is untaken = absurd untaken
   not_taken next line (NoEvent number) is untaken = cut_at start now line (NoEvent number) s.took (next_is now next line is) untaken
-  not_taken next line (Refused number why) is untaken = cut_at start now line (Refused number why) s.took (next_is now next line is) untaken
+  not_taken next line (Refused number why words) is untaken = cut_at start now line (Refused number why words) s.took (next_is now next line is) untaken
   not_taken next line EraseNamesNoBuild is untaken = absurd untaken
+  not_taken next line OrderOutsideLimits is untaken = absurd untaken
   not_taken next line Memory is untaken = tt
   not_taken next line Device is untaken = tt
 

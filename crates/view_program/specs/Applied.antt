@@ -95,7 +95,7 @@ pub record StopsAt (IsReason : HostView → List ℕ → Type 0) (lines : List (
 abbrev pub IsNoHistoryIn : Option (List ℕ) → Fault → Type 0
 IsNoHistoryIn input NoOpening = IfSome input (λ bytes. OpensNone (lines_in bytes))
 IsNoHistoryIn input (NoEvent number) = IfSome input (λ bytes. StopsAt (λ host line. IsNoEvent line) (lines_in bytes) number)
-IsNoHistoryIn input (Refused number why) = IfSome input (λ bytes. StopsAt (IsEventRefused why) (lines_in bytes) number)
+IsNoHistoryIn input (Refused number why words) = IfSome input (λ bytes. StopsAt (IsEventRefused why) (lines_in bytes) number)
 IsNoHistoryIn input Memory = Unit {0}
 IsNoHistoryIn input Device = Unit {0}
 IsNoHistoryIn input fault = ⊥

@@ -7,4 +7,5 @@ pub mod Taking
 pub mod Checked
 pub mod Why
 pub mod Orders
+pub mod Reordered
 pub mod Printed

@@ -25,14 +25,15 @@ AreWorldsWithout host (build ∷ builds) old new = (mid : List ℕ) × IsWithout
 abbrev pub AreWithoutWorlds : Plan → HostView → List ℕ → List ℕ → Type 0
 AreWithoutWorlds plan host old new = AreWorldsWithout host (range_with_len 0 (length plan.builds)) old new
 
--- the document of some run of the plan, and the worlds of its history without each build
+-- the document of some run of the plan, the worlds of its history without each build, and further members
 pub record IsPageData (plan : Plan) (json : List ℕ) : Type 0 where
   pub document : List ℕ
   pub last : HostView
   pub is_document : IsDocument plan (opening_host plan) last document
   pub worlds : List ℕ
   pub are_worlds : AreWithoutWorlds plan last (codes "{\"run\":" ++ (document ++ codes ",\"without\":[")) worlds
-  pub whole : json ≡ worlds ++ codes "]}"
+  pub members : List ℕ
+  pub whole : json ≡ worlds ++ (codes "]" ++ (members ++ codes "}"))
 
 -- the page around such data
 pub record IsPageText (plan : Plan) (text : List ℕ) : Type 0 where

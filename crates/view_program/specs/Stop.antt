@@ -1,6 +1,7 @@
 -- How the program ends.
-use Rattle.std.specs.Prelude.{ℕ, Result, Ok, Err}
-use Rattle.command_line.specs.Stop.{status_of_stop}
+use Rattle.std.specs.Prelude.{ℕ, Result}
+use Rattle.command_line.specs.Ended.{status_of_end}
+use Rattle.command_line.specs.declared.ended.Ended.{Ended}
 use Rattle.command_line.specs.declared.stop.Stop.{Stop}
 use Rattle.told_device.specs.declared.lines.LineError.{LineError}
 use Rattle.told_device.specs.declared.lines.LineError.TheVariants as line_error
@@ -10,14 +11,16 @@ use Rattle.realm_program.specs.declared.input.ReadError.TheVariants as read_erro
 use Rattle.view_program.specs.declared.checking.Verdict.{Verdict}
 use Rattle.view_program.specs.declared.checking.Verdict.TheVariants.{Done, HasErrors}
 use Rattle.view_program.specs.declared.fault.Fault.{Fault}
-use Rattle.view_program.specs.declared.fault.Fault.TheVariants.{Plan, NoOpening, NoEvent, Refused, EraseNamesNoBuild, Memory, Device}
+use Rattle.view_program.specs.declared.fault.Fault.TheVariants.{NoPlan, Plan, NoOpening, NoEvent, Refused, EraseNamesNoBuild, OrderOutsideLimits, Memory, Device}
 
 abbrev pub view_status_of : Fault → ℕ
+view_status_of (NoPlan errors) = 1
 view_status_of (Plan fault) = plan.status_of fault
 view_status_of NoOpening = 1
 view_status_of (NoEvent line) = 1
-view_status_of (Refused line why) = 1
+view_status_of (Refused line why words) = 1
 view_status_of EraseNamesNoBuild = 2
+view_status_of OrderOutsideLimits = 1
 view_status_of Memory = 3
 view_status_of Device = 5
 
@@ -29,8 +32,10 @@ abbrev pub view_fault_of_read : ReadError → Fault
 view_fault_of_read read_error.Memory = Memory
 view_fault_of_read read_error.Device = Device
 
--- a program that has done what it was asked for ends with 0, unless a plan has errors
-abbrev pub view_exit_status : Result Verdict (Stop Fault) → ℕ
-view_exit_status (Ok Done) = 0
-view_exit_status (Ok HasErrors) = 1
-view_exit_status (Err stop) = status_of_stop view_status_of stop
+-- a verdict ends the program with 0, unless a plan has errors
+abbrev pub view_verdict_status : Verdict → ℕ
+view_verdict_status Done = 0
+view_verdict_status HasErrors = 1
+
+abbrev pub view_exit_status : Result (Ended Verdict) (Stop Fault) → ℕ
+view_exit_status outcome = status_of_end view_verdict_status view_status_of outcome

@@ -15,7 +15,7 @@ pub record AreLinesTaken (input : Option (List ℕ)) (old new : HostView) : Type
 -- a host does not take this line, whose number follows from how many events it has
 abbrev pub IsUntaken : HostView → List ℕ → Fault → Type 0
 IsUntaken host line (NoEvent number) = (number ≡ length host.history + 2) × IsNoEvent line
-IsUntaken host line (Refused number why) = (number ≡ length host.history + 2) × IsEventRefused why host line
+IsUntaken host line (Refused number why words) = (number ≡ length host.history + 2) × IsEventRefused why host line
 IsUntaken host line fault = ⊥
 
 pub record AreCutShort (old : HostView) (lines : List (List ℕ)) (fault : Fault) : Type 0 where
@@ -30,7 +30,7 @@ pub record AreCutShort (old : HostView) (lines : List (List ℕ)) (fault : Fault
 -- why not all lines to come are taken
 abbrev pub AreNotTaken : Option (List ℕ) → HostView → Fault → Type 0
 AreNotTaken input old (NoEvent number) = IfSome input (λ bytes. AreCutShort old (lines_in bytes) (NoEvent number))
-AreNotTaken input old (Refused number why) = IfSome input (λ bytes. AreCutShort old (lines_in bytes) (Refused number why))
+AreNotTaken input old (Refused number why words) = IfSome input (λ bytes. AreCutShort old (lines_in bytes) (Refused number why words))
 AreNotTaken input old Memory = Unit {0}
 AreNotTaken input old Device = Unit {0}
 AreNotTaken input old fault = ⊥

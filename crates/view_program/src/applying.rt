@@ -32,7 +32,7 @@ fn host_in<R: Read>(
     let mut line = Vec::new(alloc);
     let opening = opening_in(&mut lines, input, &mut line)?;
     let mut host = boot(alloc, &opening)?;
-    take_lines(&mut lines, input, &mut line, &mut host)?;
+    take_lines(alloc, &mut lines, input, &mut line, &mut host)?;
     Ok((opening, host))
 }
 

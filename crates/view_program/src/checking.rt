@@ -1,4 +1,4 @@
-//! Bytes in, what is told of them as a plan out.
+//! The report on an input as a plan.
 ghost use Rattle.std.specs.Prelude.{◌≡◌, ◌+◌, ◌≤◌, ◌↔◌, ◌⊎◌, false, true, Err};
 ghost use Rattle.view_program.specs.Checked.{verdict_of, IsCheckEnd};
 ghost use Rattle.view_program.specs.declared.fault.Fault.TheVariants.{Device};
@@ -37,17 +37,18 @@ fn verdict_of(is_plan: bool) -> Verdict
 /// failed and nothing is written, or where a write failed and a prefix of the text is written.
 pub fn check<R: Read, W: Write>(
     alloc: Global,
+    source: &str,
     input: &mut Told<R>,
     output: &mut Told<W>,
 ) -> Result<Verdict, Fault>
     requires readable { input.old.failed ≡ false }
     requires writable { output.old.failed ≡ false }
-    ensures end { IsCheckEnd input.new.failed (R.remaining input.old.device) (W.contents output.old.device) (W.contents output.new.device) result }
+    ensures end { IsCheckEnd source.now input.new.failed (R.remaining input.old.device) (W.contents output.old.device) (W.contents output.new.device) result }
     ensures device { ((input.new.failed ≡ true) ⊎ (output.new.failed ≡ true)) ↔ (result ≡ Err Device) }
     ensures asked { input.new.reads ≤ input.old.reads + 1048578 }
 {
     let bytes = read_whole(alloc, input)?;
-    let report = Report::on(alloc, &bytes)?;
+    let report = Report::on(alloc, source, &bytes)?;
     output.write_whole(report.text.as_bytes())?;
     Ok(verdict_of(report.is_plan))
 }

@@ -11,9 +11,12 @@ use told_device::{DeviceFailed, LineError};
 
 /// Why what was asked for is not printed, or only a prefix of the text. Its line goes to standard error. Lines are
 /// counted from 1.
-#[derive(Clone, Copy, Debug, Error)]
+#[derive(Debug, Drop, Error)]
 pub enum Fault {
-    /// A plan has no history, for this reason.
+    /// The input is no plan: its errors, as `check` writes them.
+    #[error("{}", .0.trim_end())]
+    NoPlan(String),
+    /// A plan has no such text, for this reason.
     #[error(transparent)]
     Plan(realm_program::Fault),
     /// The first line opens no machine, or there is none.
@@ -22,12 +25,15 @@ pub enum Fault {
     /// The line is no event.
     #[error("line {0} is no event")]
     NoEvent(usize),
-    /// The event of the line cannot be applied, for this reason.
-    #[error("line {0} is refused: {1}")]
-    Refused(usize, WhyNot),
+    /// The event of the line cannot be applied, for this reason, which the words say.
+    #[error("line {0} is refused: {2}")]
+    Refused(usize, WhyNot, String),
     /// The build to be left out is not one of the machine's.
     #[error("erase names no build")]
     EraseNamesNoBuild,
+    /// With the turns that its builds need, a plan has more turns or more bytes than a plan may have.
+    #[error("with the turns that its builds need, the plan has more than 16384 turns or 1048576 bytes")]
+    OrderOutsideLimits,
     /// Allocation failed.
     #[error("memory")]
     Memory,
@@ -45,8 +51,10 @@ impl Reason for Fault {
 
     fn status(&self) -> u8 {
         match self {
+            Fault::NoPlan(_) => 1,
             Fault::Plan(fault) => fault.status(),
             Fault::NoOpening | Fault::NoEvent(_) | Fault::Refused(..) => 1,
+            Fault::OrderOutsideLimits => 1,
             Fault::EraseNamesNoBuild => 2,
             Fault::Memory => 3,
             Fault::Device => 5,

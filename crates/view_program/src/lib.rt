@@ -1,10 +1,11 @@
 //! The parts of the program that reads: the history of a plan as text, a history applied to a machine, what is wrong with a
-//! plan, why its steps are refused, what its orders come to, its run as data and as a page, the command line, and why the program
-//! stops.
+//! plan, why its steps are refused, what its orders come to, the plan with all the turns that it needs, its run as data and as
+//! a page, the command line, and why the program stops.
 //!
-//! `Histories`, `Reasons`, `Documents`, `Pages` and `Exploring` are the texts of plans that `realm_program::print` writes. `apply`
-//! goes from the lines of a history to the map of the machine that it leads to, `check` from bytes to what is told of them as a
-//! plan. Each of them is for any reader and any writer, and `run` does what the command line asks for.
+//! `Histories`, `Reasons`, `Documents`, `Pages` and `Exploring` are the texts of plans that `print` writes. `apply`
+//! goes from the lines of a history to the map of the machine that it leads to, `check` from bytes to the findings on them as a
+//! plan, `reorder` from a plan to the same plan with another order. Each of them is for any reader and any writer, and `run` does
+//! what the command line asks for.
 //! Whatever they say of a run they take from a host. Nothing here looks at the process that it runs in: a caller hands in the
 //! words and the devices.
 #![tactic(auto)]
@@ -14,22 +15,32 @@ mod checking;
 mod fault;
 mod law;
 mod machine;
+mod order_place;
+mod order_text;
+mod page_words;
 mod plan_history;
 mod plan_json;
+mod plan_order;
 mod plan_orders;
 mod plan_page;
 mod plan_reasons;
+mod plan_text;
+mod plan_title;
+mod printing;
 mod running;
 mod taking;
 
 pub use applying::apply;
 pub use checking::{Verdict, check};
-pub use command_line::realmview::{Asked, Orders};
+pub use command_line::realmview::{Asked, Orders, Turns};
 pub use fault::Fault;
 pub use law::{histories_do_not_stop, what_is_applied_is_legal};
 pub use plan_history::Histories;
 pub use plan_json::Documents;
+pub use plan_order::reorder;
 pub use plan_orders::Exploring;
 pub use plan_page::Pages;
 pub use plan_reasons::Reasons;
+pub use plan_text::ViewText;
+pub use printing::print;
 pub use running::run;

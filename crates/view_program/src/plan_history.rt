@@ -4,13 +4,14 @@ ghost use Rattle.realm_plan.specs.PlanView.{plan_view};
 ghost use Rattle.realm_program.specs.Replay.{opening_host, IsWithoutText};
 ghost use Rattle.view_program.specs.History.{opening_of, IsBuildOfPlan, IsHistoryText};
 
+use crate::plan_text::ViewText;
 use buddy::BuddyArena;
 use granule_addr::BuildId;
 use history_text::{Opening, push_history};
 use plan_runs::run_turns;
 use realm_host::Host;
 use realm_plan::Plan;
-use realm_program::{Fault, PlanText, boot};
+use realm_program::{Fault, boot};
 use std::alloc::{AllocError, Global};
 
 // The size of the plan's machine.
@@ -76,12 +77,12 @@ pub struct Histories {
     pub erase: Option<BuildId>,
 }
 
-impl PlanText for Histories {
+impl ViewText for Histories {
     ghost is_text = { λ asked. IsHistoryText asked.erase };
 
     ghost is_without = { λ asked. IsWithoutText asked.erase };
 
-    fn text_of(&self, alloc: Global, plan: &Plan) -> Result<Vec<u8>, Fault> {
+    fn text_of(&self, alloc: Global, plan: &Plan, _source: &[u8]) -> Result<Vec<u8>, Fault> {
         let erase = checked_erase(plan, self.erase)?;
         Ok(run_text(alloc, plan, erase)?.into_bytes())
     }

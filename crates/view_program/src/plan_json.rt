@@ -5,10 +5,11 @@ ghost use Rattle.realm_program.specs.Replay.{IsWithoutText, opening_host};
 ghost use Rattle.run_json.specs.Document.{IsDocument};
 ghost use Rattle.view_program.specs.Json.{IsJsonText};
 
+use crate::plan_text::ViewText;
 use buddy::BuddyArena;
 use realm_host::Books;
 use realm_plan::Plan;
-use realm_program::{Fault, PlanText, boot};
+use realm_program::{Fault, boot};
 use run_json::run_document;
 use std::alloc::{AllocError, Global};
 
@@ -25,12 +26,12 @@ pub(crate) fn run_of(alloc: Global, plan: &Plan) -> Result<(String, Books), Allo
 #[derive(Drop)]
 pub struct Documents;
 
-impl PlanText for Documents {
+impl ViewText for Documents {
     ghost is_text = { λ asked. IsJsonText };
 
     ghost is_without = { λ asked. IsWithoutText None };
 
-    fn text_of(&self, alloc: Global, plan: &Plan) -> Result<Vec<u8>, Fault> {
+    fn text_of(&self, alloc: Global, plan: &Plan, _source: &[u8]) -> Result<Vec<u8>, Fault> {
         let (document, _books) = run_of(alloc, plan)?;
         Ok(document.into_bytes())
     }

@@ -5,9 +5,11 @@ ghost use Rattle.order_runs.specs.Exploring.{IsNotExplored};
 ghost use Rattle.order_runs.specs.Lines.{orders_text, drawn_text};
 ghost use Rattle.view_program.specs.Orders.{IsFirstText, IsDrawnText, IsOrdersText, IsWithoutOrders};
 
+use crate::plan_text::ViewText;
 use command_line::realmview::Orders;
 use order_runs::{
-    Explored, Progress, Totals, explore as run_first, push_drawn, push_orders, sample,
+    Expected, Explored, Progress, Totals, explore as run_first, order_in_rotation, push_drawn,
+    push_orders, sample,
 };
 use rand_core::SeedableRng;
 use rand_xoshiro::Xoshiro256PlusPlus;
@@ -33,6 +35,31 @@ fn text_of_drawn(alloc: Global, plan: &Plan, totals: &Totals) -> Result<String, 
     Ok(text)
 }
 
+// How many orders are run at most: those that are asked for, or all where it is known that these are fewer.
+fn most_run(expected: Expected, orders: Orders) -> u32 {
+    match orders {
+        Orders::First(most) if expected.is_exact => match expected.orders {
+            Some(count) => u32::try_from(count).unwrap_or(most).min(most),
+            None => most,
+        },
+        Orders::First(most) => most,
+        Orders::Drawn(count, _) => count,
+    }
+}
+
+// Tells how many orders a plan has, and how many of them are run at most.
+fn tell_begin<P: Progress>(
+    alloc: Global,
+    plan: &Plan,
+    orders: Orders,
+    progress: &P,
+) -> Result<(), AllocError> {
+    let order = order_in_rotation(alloc, plan)?;
+    let expected = Expected::of(plan, &order);
+    progress.begins(expected, most_run(expected, orders));
+    Ok(())
+}
+
 // Runs the orders of a plan, at most `most` of them, and tells what they come to.
 fn run_first_of<P: Progress>(
     alloc: Global,
@@ -43,6 +70,7 @@ fn run_first_of<P: Progress>(
     ensures ok { IfOk result (λ text. IsFirstText most (plan_view plan.now) (string_bytes text)) }
     ensures err { IfErr result (IsNotExplored (plan_view plan.now)) }
 {
+    tell_begin(alloc, plan, Orders::First(most), progress)?;
     let explored = run_first(alloc, plan, most, progress)?;
     Ok(text_of_first(alloc, plan, &explored)?)
 }
@@ -57,6 +85,7 @@ fn run_drawn_of<P: Progress>(
 ) -> Result<String, AllocError>
     ensures { IfOk result (λ text. IsDrawnText count seed (plan_view plan.now) (string_bytes text)) }
 {
+    tell_begin(alloc, plan, Orders::Drawn(count, seed), progress)?;
     let mut numbers = Xoshiro256PlusPlus::seed_from_u64(seed as u64);
     let totals = sample(alloc, plan, count, &mut numbers, progress)?;
     text_of_drawn(alloc, plan, &totals)
@@ -91,12 +120,12 @@ pub struct Exploring<'a, P> {
     pub progress: &'a P,
 }
 
-impl<P: Progress> PlanText for Exploring<'_, P> {
+impl<P: Progress> ViewText for Exploring<'_, P> {
     ghost is_text = { λ asked. IsOrdersText asked.orders };
 
     ghost is_without = { λ asked. IsWithoutOrders asked.orders };
 
-    fn text_of(&self, alloc: Global, plan: &Plan) -> Result<Vec<u8>, Fault> {
+    fn text_of(&self, alloc: Global, plan: &Plan, _source: &[u8]) -> Result<Vec<u8>, Fault> {
         Ok(orders_text_of(alloc, plan, self.orders, self.progress)?.into_bytes())
     }
 }

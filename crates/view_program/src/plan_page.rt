@@ -1,5 +1,5 @@
 //! The pages that show runs.
-ghost use Rattle.std.specs.Prelude.{◌≡◌, ◌<◌, ◌++◌, None, OnOk, IfOk, string_bytes};
+ghost use Rattle.std.specs.Prelude.{◌≡◌, ◌<◌, ◌++◌, None, codes, OnOk, IfOk, string_bytes};
 ghost use Rattle.realm_plan.specs.PlanView.{plan_view};
 ghost use Rattle.realm_host.specs.Recorded.{fresh_like, IsWithout};
 ghost use Rattle.realm_program.specs.Replay.{opening_host, IsWithoutText};
@@ -7,12 +7,14 @@ ghost use Rattle.run_json.specs.Items.{comma};
 ghost use Rattle.run_json.specs.Worlds.{IsWorldText};
 ghost use Rattle.view_program.specs.PageData.{IsWithoutWorld, AreWithoutWorlds, IsPageData, IsPageText};
 
+use crate::page_words::further_members;
 use crate::plan_json::run_of;
+use crate::plan_text::ViewText;
 use buddy::BuddyArena;
 use granule_addr::BuildId;
 use realm_host::{Books, Host, apply_without};
 use realm_plan::Plan;
-use realm_program::{Fault, PlanText, boot};
+use realm_program::{Fault, boot};
 use run_json::{Comma, page_of, push_world};
 use std::alloc::{AllocError, Global};
 
@@ -83,15 +85,23 @@ fn push_all_without(
     Ok(())
 }
 
-// The data of a page: the document of a run of the plan, and the worlds without each build.
-fn page_data(alloc: Global, plan: &Plan) -> Result<String, AllocError>
+// Appends the end of the list of worlds, further members, and the end of the data.
+fn push_end(text: &mut String, members: &str) -> Result<(), AllocError>
+    ensures { OnOk result (string_bytes text.new ≡ string_bytes text.old ++ (codes "]" ++ (members.now ++ codes "}"))) }
+{
+    write!(text, "]{members}}}")
+}
+
+// The data of a page: the document of a run of the plan, the worlds without each build, the words for refusals, and the title.
+fn page_data(alloc: Global, plan: &Plan, source: &[u8]) -> Result<String, AllocError>
     ensures { IfOk result (λ text. IsPageData (plan_view plan.now) (string_bytes text)) }
 {
     let (document, books) = run_of(alloc, plan)?;
     let mut text = String::new(alloc);
     write!(text, "{{\"run\":{document},\"without\":[")?;
     push_all_without(alloc, &mut text, plan, &books)?;
-    text.push_str("]}")?;
+    let members = further_members(alloc, plan, source)?;
+    push_end(&mut text, members.as_str())?;
     Ok(text)
 }
 
@@ -100,13 +110,13 @@ fn page_data(alloc: Global, plan: &Plan) -> Result<String, AllocError>
 #[derive(Drop)]
 pub struct Pages;
 
-impl PlanText for Pages {
+impl ViewText for Pages {
     ghost is_text = { λ asked. IsPageText };
 
     ghost is_without = { λ asked. IsWithoutText None };
 
-    fn text_of(&self, alloc: Global, plan: &Plan) -> Result<Vec<u8>, Fault> {
-        let json = page_data(alloc, plan)?;
+    fn text_of(&self, alloc: Global, plan: &Plan, source: &[u8]) -> Result<Vec<u8>, Fault> {
+        let json = page_data(alloc, plan, source)?;
         Ok(page_of(alloc, json.as_bytes())?)
     }
 }

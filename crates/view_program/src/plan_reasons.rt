@@ -1,48 +1,94 @@
 //! The runs of plans, with the reasons of their refusals.
-ghost use Rattle.std.specs.Prelude.{◌≡◌, [], None, OnOk, string_bytes};
+ghost use Rattle.std.specs.Prelude.{◌≡◌, None, OnOk, IfOk, string_bytes};
 ghost use Rattle.realm_plan.specs.PlanView.{plan_view};
-ghost use Rattle.realm_program.specs.Replay.{opening_host, IsWithoutText};
-ghost use Rattle.view_program.specs.Why.{IsWhyText};
+ghost use Rattle.realm_program.specs.Replay.{IsWithoutText};
+ghost use Rattle.view_program.specs.Why.{AppendsTurn, AppendsTurns, AppendsEnds, IsWhyText};
 
+use crate::plan_text::ViewText;
 use buddy::BuddyArena;
 use plan_runs::push_map;
 use realm_host::Host;
 use realm_plan::Plan;
-use realm_program::{Fault, PlanText, boot};
-use refusal_reasons::{explain_turns, push_unfinished};
+use realm_program::{Fault, boot};
+use refusal_reasons::{
+    ExplainedTurn, explain_turns, reason_lines, unfinished_aborts, unfinished_lines,
+};
 use std::alloc::{AllocError, Global};
 
-// Appends the text of a run of the plan by a fresh host.
-fn push_run(
+// Appends the line of a turn, and below it why the turn is refused, if it is.
+fn push_turn(
     alloc: Global,
-    plan: &Plan,
-    host: &mut Host<BuddyArena>,
     text: &mut String,
+    turn: &ExplainedTurn,
+    all: bool,
 ) -> Result<(), AllocError>
-    requires fresh { host.old ≡ opening_host (plan_view plan.now) }
-    requires empty { string_bytes text.old ≡ [] }
-    ensures { OnOk result (IsWhyText (plan_view plan.now) (string_bytes text.new)) }
+    ensures { OnOk result (AppendsTurn turn.now (string_bytes text.old) (string_bytes text.new)) }
 {
-    explain_turns(alloc, host, plan, text)?;
-    push_map(text, host)?;
-    push_unfinished(text, host)
+    text.push_str(turn.line.as_str())?;
+    match &turn.reason {
+        Some(reason) => {
+            let lines = reason_lines(alloc, reason, all)?;
+            text.push_str(lines.as_str())
+        }
+        None => Ok(()),
+    }
 }
 
-/// The texts of runs of plans: the line of each turn, with the lines of its checks below it if it is refused, up to the
-/// one that fails; the map in the end; and a line for each build whose abort is under way then. A plan has none only
-/// where allocation failed.
-#[derive(Drop)]
-pub struct Reasons;
+// Appends the texts of turns.
+fn push_turns(
+    alloc: Global,
+    text: &mut String,
+    turns: &[ExplainedTurn],
+    all: bool,
+) -> Result<(), AllocError>
+    ensures { OnOk result (AppendsTurns turns.now (string_bytes text.old) (string_bytes text.new)) }
+{
+    for turn in turns {
+        push_turn(alloc, text, turn, all)?;
+    }
+    Ok(())
+}
 
-impl PlanText for Reasons {
+// Appends words for the aborts that are under way, if there are any.
+fn push_ends(alloc: Global, text: &mut String, host: &Host<BuddyArena>) -> Result<(), AllocError>
+    ensures { OnOk result (AppendsEnds host.now (string_bytes text.old) (string_bytes text.new)) }
+{
+    let aborts = unfinished_aborts(alloc, host)?;
+    if aborts.is_empty() {
+        return Ok(());
+    }
+    let lines = unfinished_lines(alloc, aborts.as_slice())?;
+    text.push_str(lines.as_str())
+}
+
+// The text of a run of the plan by a fresh host.
+fn why_text(alloc: Global, plan: &Plan, all: bool) -> Result<String, AllocError>
+    ensures { IfOk result (λ text. IsWhyText (plan_view plan.now) (string_bytes text)) }
+{
+    let mut host = boot::<BuddyArena>(alloc, plan)?;
+    let turns = explain_turns(alloc, &mut host, plan)?;
+    let mut text = String::new(alloc);
+    push_turns(alloc, &mut text, turns.as_slice(), all)?;
+    push_map(&mut text, &host)?;
+    push_ends(alloc, &mut text, &host)?;
+    Ok(text)
+}
+
+/// The texts of runs of plans: the line of each turn, with the check that fails below it if it is refused; the map in the
+/// end; and what each abort lacks that is under way then. A plan has none only where allocation failed.
+#[derive(Drop)]
+pub struct Reasons {
+    /// Whether the checks that passed before are listed too.
+    pub all: bool,
+}
+
+impl ViewText for Reasons {
     ghost is_text = { λ asked. IsWhyText };
 
     ghost is_without = { λ asked. IsWithoutText None };
 
-    fn text_of(&self, alloc: Global, plan: &Plan) -> Result<Vec<u8>, Fault> {
-        let mut host = boot::<BuddyArena>(alloc, plan)?;
-        let mut text = String::new(alloc);
-        push_run(alloc, plan, &mut host, &mut text)?;
+    fn text_of(&self, alloc: Global, plan: &Plan, _source: &[u8]) -> Result<Vec<u8>, Fault> {
+        let text = why_text(alloc, plan, self.all)?;
         Ok(text.into_bytes())
     }
 }

@@ -1,35 +1,44 @@
 //! What the command line asks for is done.
-ghost use Rattle.std.specs.Prelude.{◌≡◌, ◌↔◌, ◌⊎◌, false, true};
-ghost use Rattle.view_program.specs.Printed.{IsDeviceFault, IsRunEnd};
+ghost use Rattle.std.specs.Prelude.{◌≡◌, ◌↔◌, ◌⊎◌, false, true, Err};
+ghost use Rattle.view_program.specs.Printed.{IsRunEnd};
+ghost use Rattle.view_program.specs.declared.fault.Fault.TheVariants.{Device};
 
-use crate::{Asked, Documents, Exploring, Fault, Histories, Pages, Reasons, Verdict, apply, check};
+use crate::printing::print;
+use crate::{
+    Asked, Documents, Exploring, Fault, Histories, Pages, Reasons, Verdict, apply, check, reorder,
+};
 use order_runs::Progress;
-use realm_program::print;
 use std::alloc::Global;
 use std::io::{Read, Write};
 use told_device::Told;
 
-/// Does what is asked, over any reader and any writer. `progress` is told how far an exploration of orders has come.
+/// Does what is asked, over any reader and any writer. Findings on a plan name the input by `source`. `progress` is told how far
+/// an exploration of orders has come.
 pub fn run<R: Read, W: Write, P: Progress>(
     alloc: Global,
     asked: Asked,
+    source: &str,
     input: &mut Told<R>,
     output: &mut Told<W>,
     progress: &P,
 ) -> Result<Verdict, Fault>
     requires readable { input.old.failed ≡ false }
     requires writable { output.old.failed ≡ false }
-    ensures device { ((input.new.failed ≡ true) ⊎ (output.new.failed ≡ true)) ↔ IsDeviceFault result }
-    ensures end { IsRunEnd asked input.new.failed (R.remaining input.old.device) (W.contents output.old.device) (W.contents output.new.device) result }
+    ensures device { ((input.new.failed ≡ true) ⊎ (output.new.failed ≡ true)) ↔ (result ≡ Err Device) }
+    ensures end { IsRunEnd asked source.now input.new.failed (R.remaining input.old.device) (W.contents output.old.device) (W.contents output.new.device) result }
 {
     match asked {
-        Asked::History(erase) => print(&Histories { erase }, alloc, input, output)?,
+        Asked::History(erase) => print(&Histories { erase }, alloc, source, input, output)?,
         Asked::Apply(erase) => apply(alloc, input, output, erase)?,
-        Asked::Json => print(&Documents, alloc, input, output)?,
-        Asked::Page => print(&Pages, alloc, input, output)?,
-        Asked::Check => return check(alloc, input, output),
-        Asked::Explore(orders) => print(&Exploring { orders, progress }, alloc, input, output)?,
-        Asked::Why => print(&Reasons, alloc, input, output)?,
+        Asked::Json => print(&Documents, alloc, source, input, output)?,
+        Asked::Page => print(&Pages, alloc, source, input, output)?,
+        Asked::Check => return check(alloc, source, input, output),
+        Asked::Explore(orders) => {
+            let exploring = Exploring { orders, progress };
+            print(&exploring, alloc, source, input, output)?;
+        }
+        Asked::Order(turns) => reorder(alloc, source, input, output, turns)?,
+        Asked::Why { all } => print(&Reasons { all }, alloc, source, input, output)?,
     }
     Ok(Verdict::Done)
 }

@@ -10,7 +10,9 @@ ghost use Rattle.view_program.specs.declared.fault.Fault.TheVariants.{Device};
 use crate::fault::Fault;
 use history_text::{MOST_LINE, Opening, parse_event, parse_opening};
 use page_arena::PageStore;
-use realm_host::Host;
+use realm_host::{Event, Host, WhyNot};
+use refusal_reasons::event_words;
+use std::alloc::Global;
 use std::io::Read;
 use told_device::{Lines, Next, Told};
 
@@ -21,8 +23,17 @@ fn next_number<S: PageStore>(host: &Host<S>) -> usize
     host.history().len() + 2
 }
 
+// The words for an event that is refused: the check that refuses it, or else the reason as it is.
+fn words_for<S: PageStore>(alloc: Global, host: &Host<S>, event: &Event, why: WhyNot) -> String {
+    let words = event_words(alloc, host, event).unwrap_or(String::new(alloc));
+    if !words.is_empty() {
+        return words;
+    }
+    why.to_string(alloc).unwrap_or(String::new(alloc))
+}
+
 // Applies the event that a line is.
-fn take_line<S: PageStore>(host: &mut Host<S>, line: &[u8]) -> Result<(), Fault>
+fn take_line<S: PageStore>(alloc: Global, host: &mut Host<S>, line: &[u8]) -> Result<(), Fault>
     ensures ok { OnOk result (IsLineTaken host.old line.now host.new) }
     ensures err { IfErr result (IsUntaken host.old line.now) }
 {
@@ -32,12 +43,15 @@ fn take_line<S: PageStore>(host: &mut Host<S>, line: &[u8]) -> Result<(), Fault>
     if host.apply_recorded(&event) {
         Ok(())
     } else {
-        Err(Fault::Refused(next_number(host), host.why_not(&event)))
+        let why = host.why_not(&event);
+        let words = words_for(alloc, host, &event, why);
+        Err(Fault::Refused(next_number(host), why, words))
     }
 }
 
 /// Applies the events of the lines to come, in their order, up to the first line that is no event or cannot be applied.
 pub fn take_lines<R: Read, S: PageStore>(
+    alloc: Global,
     lines: &mut Lines,
     input: &mut Told<R>,
     line: &mut Vec<u8>,
@@ -50,7 +64,7 @@ pub fn take_lines<R: Read, S: PageStore>(
 {
     for _ in 0..u64::MAX {
         match lines.next_line(input, MOST_LINE, line)? {
-            Next::Line => take_line(host, line)?,
+            Next::Line => take_line(alloc, host, line)?,
             Next::TooLong => return Err(Fault::NoEvent(next_number(host))),
             Next::End => return Ok(()),
         }

@@ -14,8 +14,8 @@ returns-in_err-bytes-clause-end g c =
     let input = g.R.Read.remaining c.args.input.now.device in
     let output = g.W.Write.contents c.args.output.now.device in
     let unread = c.read_whole.new.input.failed in
-    subst (IsCheckEnd unread input output output) (sym (told.1 ∙ ap Err told.2))
-    (unreported unread input output c.in_err-bytes.field-0.0 (λ is. c.in_err-bytes.ensures.told.1 (ap Err is)))
+    subst (IsCheckEnd c.args.source.now unread input output output) (sym (told.1 ∙ ap Err told.2))
+    (unreported c.args.source.now unread input output c.in_err-bytes.field-0.0 (λ is. c.in_err-bytes.ensures.told.1 (ap Err is)))
 
 pub returns-in_err-report-clause-end : goal.returns-in_err-report-clause-end
 returns-in_err-report-clause-end g c =
@@ -23,7 +23,7 @@ returns-in_err-report-clause-end g c =
     let input = g.R.Read.remaining c.args.input.now.device in
     let output = g.W.Write.contents c.args.output.now.device in
     let unread = c.read_whole.new.input.failed in
-    subst (IsCheckEnd unread input output output) (sym (told.1 ∙ ap Err told.2)) (keeps_same output)
+    subst (IsCheckEnd c.args.source.now unread input output output) (sym (told.1 ∙ ap Err told.2)) (keeps_same output)
 
 pub returns-in_err-write_whole-clause-end : goal.returns-in_err-write_whole-clause-end
 returns-in_err-write_whole-clause-end g c =
@@ -33,10 +33,10 @@ returns-in_err-write_whole-clause-end g c =
     let new = g.W.Write.contents c.write_whole.new.self.device in
     let unread = c.read_whole.new.input.failed in
     let report = c.in_ok-report.report in
-    let is = subst (λ (bytes : List ℕ). IsReport bytes report) c.deref.ensures.value c.in_ok-report.ensures in
-    subst (IsCheckEnd unread input old new) (sym (told.1 ∙ ap Err told.2))
-    (cut_report unread input old new report (bytes_read_well unread c.in_ok-bytes.bytes c.in_ok-bytes.ensures.told)
-    (report_from_kept input c.in_ok-bytes.bytes.items report c.in_ok-bytes.ensures.bytes is) (subst (AppendsFront old new) c.as_bytes.ensures.value c.in_err-write_whole.ensures.err))
+    let is = subst (λ (bytes : List ℕ). IsReport c.args.source.now bytes report) c.deref.ensures.value c.in_ok-report.ensures in
+    subst (IsCheckEnd c.args.source.now unread input old new) (sym (told.1 ∙ ap Err told.2))
+    (cut_report c.args.source.now unread input old new report (bytes_read_well unread c.in_ok-bytes.bytes c.in_ok-bytes.ensures.told)
+    (report_from_kept c.args.source.now input c.in_ok-bytes.bytes.items report c.in_ok-bytes.ensures.bytes is) (subst (AppendsFront old new) c.as_bytes.ensures.value c.in_err-write_whole.ensures.err))
 
 pub returns-clause-end : goal.returns-clause-end
 returns-clause-end g c =
@@ -44,11 +44,11 @@ returns-clause-end g c =
     let old = g.W.Write.contents c.args.output.now.device in
     let new = g.W.Write.contents c.write_whole.new.self.device in
     let report = c.in_ok-report.report in
-    let is = subst (λ (bytes : List ℕ). IsReport bytes report) c.deref.ensures.value c.in_ok-report.ensures in
+    let is = subst (λ (bytes : List ℕ). IsReport c.args.source.now bytes report) c.deref.ensures.value c.in_ok-report.ensures in
     let kept = c.in_ok-bytes.ensures.bytes in
     record {
       report = report;
-      of_input = report_from_kept input c.in_ok-bytes.bytes.items report kept is;
+      of_input = report_from_kept c.args.source.now input c.in_ok-bytes.bytes.items report kept is;
       written = subst (Appends old new) c.as_bytes.ensures.value c.in_ok-write_whole.ensures.ok;
-      verdict_is = subst (IsVerdictOn input) (sym c.verdict_of.ensures) (verdict_from_kept input c.in_ok-bytes.bytes.items report kept is);
+      verdict_is = subst (IsVerdictOn input) (sym c.verdict_of.ensures) (verdict_from_kept c.args.source.now input c.in_ok-bytes.bytes.items report kept is);
     }

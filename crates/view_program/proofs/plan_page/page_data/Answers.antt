@@ -26,5 +26,6 @@ returns c =
       are_worlds =
           subst (λ t. AreWithoutWorlds (plan_view c.args.plan.now) c.in_ok-document.books t worlds) head
           c.in_ok-push_all_without.ensures;
-      whole = c.in_ok-push_str.ensures.bytes;
+      members = c.as_str.result.now;
+      whole = c.in_ok-push_end.ensures;
     }

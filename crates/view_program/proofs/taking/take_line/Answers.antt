@@ -19,6 +19,6 @@ returns-else-apply_recorded-clause-err g c = (
     event = c.in-Some.event;
     is_text = c.in-Some.ensures.found;
     cannot = λ can. false≢true (c.if-apply_recorded.ensures.answer.1 can);
-    because = subst (λ (host : HostView). IsWhyNot host c.in-Some.event c.why_not.result) c.if-apply_recorded.ensures.unchanged c.why_not.ensures;
+    because = subst (λ (host : HostView). IsWhyNot host c.in-Some.event c.why_not-why.result) c.if-apply_recorded.ensures.unchanged c.why_not-why.ensures;
   },
 )

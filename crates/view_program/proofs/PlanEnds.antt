@@ -1,0 +1,47 @@
+-- How the printing of a plan's text ends.
+use Rattle.std.proofs.Common.{◌≡◌, ℕ, List, Option, Ok, Err, Bool, true, false, refl, ap, sym, ◌∙◌, string_bytes}
+use Rattle.std.specs.Prelude.{IfSome}
+use Rattle.realm_plan.specs.Plan.{Plan, plan_of}
+use Rattle.realm_program.specs.Whole.{kept_of}
+use Rattle.realm_program.specs.Printed.{IsPlanOf}
+use Rattle.realm_program.proofs.KeptPlan.{plan_from_kept}
+use Rattle.realm_program.specs.declared.fault.Fault as plan_fault
+use Rattle.realm_program.specs.declared.input.ReadError.{ReadError}
+use Rattle.realm_program.specs.declared.input.ReadError.TheVariants as read_error
+use Rattle.told_device.specs.Whole.{AppendsFront}
+use Rattle.told_device.proofs.Read.{keeps_same}
+use Rattle.view_program.specs.Stop.{view_fault_of_read}
+use Rattle.view_program.specs.Checked.{GivesNoPlan}
+use Rattle.view_program.specs.Printed.{IsPlanEnd}
+use Rattle.view_program.specs.declared.fault.Fault.{Fault}
+use Rattle.view_program.specs.declared.fault.Fault.TheVariants.{NoPlan, Plan as OfPlan, NoOpening, NoEvent, Refused, EraseNamesNoBuild, OrderOutsideLimits, Memory, Device}
+use Rattle.view_program.proofs.CheckEnds.{errors_from_kept}
+
+-- a plan that is read of the bytes that were kept is that of the input
+pub input_is : (input : Option (List ℕ)) (bytes read : List ℕ) (plan : Plan) → IfSome input (λ xs. bytes ≡ kept_of xs) → read ≡ bytes → plan_of read ≡ Ok plan → IsPlanOf input plan
+input_is input bytes read plan kept same is = plan_from_kept input bytes (Ok plan) kept (ap plan_of (sym same) ∙ is)
+
+module _ (texts : Plan → List ℕ → Type 0) (without : Plan → plan_fault.Fault → Type 0) (source : List ℕ) (unread : Bool) (input : Option (List ℕ)) where
+  -- nothing was read
+  pub unread_plan : (output : Option (List ℕ)) (error : ReadError) → (error ≡ read_error.Device → unread ≡ true)
+      → IsPlanEnd texts without source unread input output output (Err (view_fault_of_read error))
+  unread_plan output read_error.Memory read = keeps_same output
+  unread_plan output read_error.Device read = rw (read refl) (keeps_same output)
+
+  -- the input is no plan
+  pub no_plan : (output : Option (List ℕ)) (bytes : List ℕ) (fault : Fault) → IfSome input (λ xs. bytes ≡ kept_of xs) → GivesNoPlan source bytes fault
+      → IsPlanEnd texts without source unread input output output (Err fault)
+  no_plan output bytes (NoPlan errors) kept gives = (errors_from_kept source input bytes (string_bytes errors) kept gives, keeps_same output)
+  no_plan output bytes (OfPlan fault) kept gives = absurd gives
+  no_plan output bytes NoOpening kept gives = absurd gives
+  no_plan output bytes (NoEvent line) kept gives = absurd gives
+  no_plan output bytes (Refused line why words) kept gives = absurd gives
+  no_plan output bytes EraseNamesNoBuild kept gives = absurd gives
+  no_plan output bytes OrderOutsideLimits kept gives = absurd gives
+  no_plan output bytes Memory kept gives = keeps_same output
+  no_plan output bytes Device kept gives = absurd gives
+
+  -- a prefix of the text was written
+  pub cut : (old new : Option (List ℕ)) (plan : Plan) (text : List ℕ) → unread ≡ false → IsPlanOf input plan → texts plan text → AppendsFront old new text
+      → IsPlanEnd texts without source unread input old new (Err Device)
+  cut old new plan text read of_input is_text written = rw read (record { text = text; text_of = record { plan = plan; of_input = of_input; is_text = is_text }; written = written })

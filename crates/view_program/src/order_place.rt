@@ -1,0 +1,147 @@
+//! The place of `order` in the text of a plan.
+//!
+//! The text is one that the reader of TOML has taken, so only what comes next is asked. Where something comes that is
+//! not expected, the place behind the last key that was read is given.
+use std::alloc::{AllocError, Global};
+use toml_parser::text::{first, skip, skip_blank, skip_ws};
+use toml_parser::{Key, ParseError, dotted_key, quoted, starts_string, unquoted};
+
+/// A part of a text, from one place to another.
+#[derive(Clone, Copy)]
+pub struct OrderPlace {
+    pub from: usize,
+    pub to: usize,
+    /// Whether the value of a key `order` stands there. Else a line with the key can be put there.
+    pub is_value: bool,
+}
+
+/// Why a key cannot be read.
+#[derive(Drop)]
+enum Lost {
+    /// Allocation failed.
+    Memory,
+    /// What comes next is not what was expected.
+    Unread,
+}
+
+impl From<ParseError> for Lost {
+    fn from(error: ParseError) -> Lost {
+        match error {
+            ParseError::OutOfMemory => Lost::Memory,
+            ParseError::At(..) => Lost::Unread,
+        }
+    }
+}
+
+/// The value of the key `order` of a plan; or, where there is none, the place below the last key above the first
+/// header.
+pub fn order_place(alloc: Global, text: &str) -> Result<OrderPlace, AllocError> {
+    let mut below = 0;
+    let mut rest = skip_blank(text.strip_prefix('\u{feff}').unwrap_or(text), true);
+    for _ in 0..text.len() {
+        if rest.is_empty() || first(rest) == b'[' {
+            break;
+        }
+        match pair(alloc, rest) {
+            Ok((key, value, after)) if is_order(&key) => return Ok(part(text, value, after)),
+            Ok((_, _, after)) => {
+                below = before(text, line_below(after));
+                rest = skip_blank(after, true);
+            }
+            Err(Lost::Unread) => break,
+            Err(Lost::Memory) => return Err(AllocError),
+        }
+    }
+    Ok(OrderPlace {
+        from: below,
+        to: below,
+        is_value: false,
+    })
+}
+
+// How many bytes of the text stand before the rest of it.
+fn before(text: &str, rest: &str) -> usize {
+    text.len().saturating_sub(rest.len())
+}
+
+// The value of the key, from its beginning up to what comes behind it.
+fn part(text: &str, value: &str, after: &str) -> OrderPlace {
+    OrderPlace {
+        from: before(text, value),
+        to: before(text, after),
+        is_value: true,
+    }
+}
+
+fn is_order(key: &Key) -> bool {
+    key.path.is_empty() && key.last.as_str() == "order"
+}
+
+// What stands below the line that begins here.
+fn line_below(s: &str) -> &str {
+    match s.split_once('\n') {
+        Some((_, below)) => below,
+        None => "",
+    }
+}
+
+// A key, the text from its value on, and the text behind the value.
+fn pair(alloc: Global, s: &str) -> Result<(Key, &str, &str), Lost> {
+    let (key, equals) = dotted_key(alloc, s)?;
+    let value = skip_ws(after_byte(equals)?);
+    let after = after_value(alloc, value)?;
+    Ok((key, value, after))
+}
+
+// The text behind a value.
+fn after_value(alloc: Global, s: &str) -> Result<&str, Lost> {
+    let mut rest = s;
+    let mut depth: usize = 0;
+    for _ in 0..s.len() {
+        let after = after_part(alloc, rest, depth)?;
+        depth = depth_after(depth, first(rest));
+        if depth == 0 {
+            return Ok(after);
+        }
+        rest = skip_blank(after, true);
+    }
+    Err(Lost::Unread)
+}
+
+// The text behind a string, a scalar that is a whole value, or a byte, where `depth` arrays and tables are open.
+fn after_part(alloc: Global, s: &str, depth: usize) -> Result<&str, Lost> {
+    let next = first(s);
+    if starts_string(s) {
+        behind(quoted(alloc, s))
+    } else if depth == 0 && next != b'[' && next != b'{' {
+        behind(unquoted(alloc, s))
+    } else {
+        after_byte(s)
+    }
+}
+
+// The text behind what was read.
+fn behind<T: Drop>(read: Result<(T, &str), ParseError>) -> Result<&str, Lost> {
+    match read {
+        Ok((_, after)) => Ok(after),
+        Err(error) => Err(Lost::from(error)),
+    }
+}
+
+// How many arrays and tables are open behind a byte.
+fn depth_after(depth: usize, byte: u8) -> usize {
+    match byte {
+        b'[' | b'{' => depth.saturating_add(1),
+        b']' | b'}' => depth.saturating_sub(1),
+        _ => depth,
+    }
+}
+
+// The text behind its first byte, where that is a character.
+fn after_byte(s: &str) -> Result<&str, Lost> {
+    let byte = first(s);
+    if byte == 0 || byte >= 128 {
+        return Err(Lost::Unread);
+    }
+    Ok(skip(s, 1))
+}

@@ -1,0 +1,138 @@
+//! A plan in, the same plan with an order that gives each build all the turns that it needs out.
+ghost use Rattle.std.specs.Prelude.{◌≡◌, ◌+◌, ◌≤◌, ◌↔◌, ◌⊎◌, false, true, Err, IfOk, IfErr, OnOk};
+ghost use Rattle.realm_plan.specs.PlanView.{plan_view};
+ghost use Rattle.view_program.specs.Reordered.{IsOrderOf, IsWholeText, IsNotWhole, IsNotReordered, IsReorderEnd};
+ghost use Rattle.view_program.specs.declared.fault.Fault.TheVariants.{Device};
+
+use crate::fault::Fault;
+use crate::order_place::{OrderPlace, order_place};
+use crate::order_text::order_array;
+use crate::printing::plan_from;
+use command_line::realmview::Turns;
+use order_runs::{order_in_rotation, order_one_by_one};
+use realm_plan::{Plan, PlanError, PlanFault};
+use realm_program::read_whole;
+use std::alloc::{AllocError, Global};
+use std::io::{Read, Write};
+use std::str::from_utf8;
+use told_device::Told;
+
+// The order of a run of the plan in which each build has all the turns that it needs.
+fn order_of(alloc: Global, plan: &Plan, turns: Turns) -> Result<Vec<usize>, AllocError>
+    ensures { IfOk result (λ order. IsOrderOf turns (plan_view plan.now) order.items) }
+{
+    match turns {
+        Turns::InRotation => order_in_rotation(alloc, plan),
+        Turns::OneByOne => order_one_by_one(alloc, plan),
+    }
+}
+
+// The text that goes to the place: the order, or a line with the key and the order.
+fn part_for(
+    alloc: Global,
+    bytes: &[u8],
+    place: OrderPlace,
+    order: &[usize],
+) -> Result<String, AllocError> {
+    let array = order_array(alloc, order)?;
+    if place.is_value {
+        return Ok(array);
+    }
+    let (front, _) = bytes.split_at(place.from.min(bytes.len()));
+    let mut line = String::new(alloc);
+    if !front.is_empty() && !front.ends_with(b"\n") {
+        line.push_str("\n")?;
+    }
+    writeln!(line, "order = {array}")?;
+    Ok(line)
+}
+
+// The bytes with another part between two places.
+fn with_part(
+    alloc: Global,
+    bytes: &[u8],
+    from: usize,
+    to: usize,
+    part: &str,
+) -> Result<Vec<u8>, AllocError> {
+    let (until, back) = bytes.split_at(to.min(bytes.len()));
+    let (front, _) = until.split_at(from.min(until.len()));
+    let mut text = Vec::new(alloc);
+    text.extend_from_slice(front)?;
+    text.extend_from_slice(part.as_bytes())?;
+    text.extend_from_slice(back)?;
+    Ok(text)
+}
+
+// The text of a plan with this order in the place of its own.
+fn with_order(alloc: Global, bytes: &[u8], order: &[usize]) -> Result<Vec<u8>, AllocError> {
+    let place = order_place(alloc, from_utf8(bytes).unwrap_or(""))?;
+    let part = part_for(alloc, bytes, place, order)?;
+    with_part(alloc, bytes, place.from, place.to, &part)
+}
+
+// Whether a plan's own order gives each build all the turns that it needs.
+fn has_whole_order(alloc: Global, plan: &Plan, turns: Turns) -> Result<bool, AllocError>
+    ensures { IfOk result (λ whole. whole ≡ true → IsOrderOf turns (plan_view plan.now) (plan_view plan.now).order) }
+{
+    let order = order_of(alloc, plan, turns)?;
+    let own: Vec<usize> = plan
+        .order
+        .iter()
+        .map(|build| build.number() as usize)
+        .collect(alloc)?;
+    Ok(own == order)
+}
+
+// Reads a text back: it is to be a plan whose order gives each build all the turns that it needs.
+fn read_back(alloc: Global, text: &[u8], turns: Turns) -> Result<(), Fault>
+    ensures ok { OnOk result (IsWholeText turns text.now) }
+    ensures err { IfErr result (IsNotWhole text.now) }
+{
+    match Plan::from_bytes(alloc, text) {
+        Ok(plan) if has_whole_order(alloc, &plan, turns)? => Ok(()),
+        Err(PlanError::Memory) => Err(Fault::Memory),
+        Err(PlanError::Fault(PlanFault::Limit)) => Err(Fault::OrderOutsideLimits),
+        _ => Err(Fault::Plan(realm_program::Fault::Mismatch)),
+    }
+}
+
+// The text of a plan, with its whole order.
+fn reordered(alloc: Global, bytes: &[u8], plan: &Plan, turns: Turns) -> Result<Vec<u8>, Fault>
+    ensures ok { IfOk result (λ text. IsWholeText turns text.items) }
+    ensures err { IfErr result IsNotReordered }
+{
+    let order = order_of(alloc, plan, turns)?;
+    let text = with_order(alloc, bytes, &order)?;
+    read_back(alloc, &text, turns)?;
+    Ok(text)
+}
+
+/// Reads a plan, and writes it with an order that gives each build all the turns that it needs, aborts and ways back
+/// included: the value of `order` is another one, and all else of the text is as it was. What is written is read back
+/// before: its order is that of a run of itself, in which each turn is of a build that has a step left, until none has.
+///
+/// The text is made whole before any of it is written. Errors: NoPlan, with the errors of an input that is no plan;
+/// OrderOutsideLimits, where the plan would have too many turns or bytes; Memory, where allocation failed; Device,
+/// where a read failed and nothing is written, or where a write failed and a prefix of the text is written. Mismatch
+/// never comes on a host that gives the same answers to the same calls.
+pub fn reorder<R: Read, W: Write>(
+    alloc: Global,
+    source: &str,
+    input: &mut Told<R>,
+    output: &mut Told<W>,
+    turns: Turns,
+) -> Result<(), Fault>
+    requires readable { input.old.failed ≡ false }
+    requires writable { output.old.failed ≡ false }
+    ensures end { IsReorderEnd turns source.now input.new.failed (R.remaining input.old.device)
+        (W.contents output.old.device) (W.contents output.new.device) result }
+    ensures device { ((input.new.failed ≡ true) ⊎ (output.new.failed ≡ true)) ↔ (result ≡ Err Device) }
+    ensures asked { input.new.reads ≤ input.old.reads + 1048578 }
+{
+    let bytes = read_whole(alloc, input)?;
+    let plan = plan_from(alloc, source, &bytes)?;
+    let text = reordered(alloc, &bytes, &plan, turns)?;
+    output.write_whole(&text)?;
+    Ok(())
+}

@@ -1,0 +1,24 @@
+//! The texts of plans that are made of a plan and of the bytes that it is read from.
+ghost use Rattle.std.specs.Prelude.{ℕ, List, IfOk, IfErr};
+ghost use Rattle.realm_plan.specs.Plan.{Plan as PlanModel};
+ghost use Rattle.realm_plan.specs.PlanView.{plan_view};
+ghost use Rattle.realm_program.specs.Printed.{IsFaultOfText};
+ghost use Rattle.realm_program.specs.declared.fault.Fault.{Fault as FaultModel};
+
+use realm_plan::Plan;
+use realm_program::Fault;
+use std::alloc::Global;
+
+/// A kind of texts of plans.
+pub trait ViewText {
+    ghost is_text: { Self → PlanModel → List ℕ → Type 0 };
+
+    ghost is_without: { Self → PlanModel → FaultModel → Type 0 };
+
+    /// The text of a plan, made whole in memory, or the reason why there is none. `source` has the bytes that the plan is
+    /// read from, with its comments.
+    fn text_of(&self, alloc: Global, plan: &Plan, source: &[u8]) -> Result<Vec<u8>, Fault>
+        ensures ok { IfOk result (λ text. is_text self.now (plan_view plan.now) text.items) }
+        ensures err { IfErr result (λ fault. is_without self.now (plan_view plan.now) fault) }
+        ensures kind { IfErr result IsFaultOfText };
+}

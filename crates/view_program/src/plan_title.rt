@@ -1,0 +1,25 @@
+//! The title of a plan.
+use std::alloc::{AllocError, Global};
+use std::str::from_utf8;
+
+// The text of a line that is a comment.
+fn comment_in(line: &str) -> Option<&str> {
+    Some(line.trim().strip_prefix('#')?.trim())
+}
+
+/// The comment that a plan begins with, its lines joined by spaces. It is empty if there is none.
+pub(crate) fn plan_title(alloc: Global, source: &[u8]) -> Result<String, AllocError> {
+    let text = from_utf8(source).unwrap_or("");
+    let text = text.strip_prefix('\u{feff}').unwrap_or(text);
+    let mut title = String::new(alloc);
+    for line in text.trim_start().lines() {
+        let Some(words) = comment_in(line) else {
+            break;
+        };
+        if !title.is_empty() {
+            title.push_str(" ")?;
+        }
+        title.push_str(words)?;
+    }
+    Ok(title)
+}

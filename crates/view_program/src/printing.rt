@@ -1,0 +1,56 @@
+//! The texts of a plan, or its errors.
+ghost use Rattle.std.specs.Prelude.{◌≡◌, ◌↔◌, ◌⊎◌, false, true, Err, IfOk, IfErr};
+ghost use Rattle.realm_plan.specs.Plan.{plan_of};
+ghost use Rattle.realm_plan.specs.PlanView.{plan_view};
+ghost use Rattle.view_program.specs.Checked.{GivesNoPlan};
+ghost use Rattle.view_program.specs.Printed.{IsPlanEnd};
+ghost use Rattle.view_program.specs.declared.fault.Fault.TheVariants.{Device};
+
+use crate::fault::Fault;
+use crate::plan_text::ViewText;
+use plan_check::Report;
+use realm_plan::{Plan, PlanError};
+use realm_program::read_whole;
+use std::alloc::Global;
+use std::io::{Read, Write};
+use told_device::Told;
+
+/// The plan that the bytes are.
+pub(crate) fn plan_from(alloc: Global, source: &str, bytes: &[u8]) -> Result<Plan, Fault>
+    ensures ok { IfOk result (λ plan. plan_of bytes.now ≡ Ok (plan_view plan)) }
+    ensures err { IfErr result (GivesNoPlan source.now bytes.now) }
+{
+    match Plan::from_bytes(alloc, bytes) {
+        Ok(plan) => Ok(plan),
+        Err(PlanError::Memory) => Err(Fault::Memory),
+        Err(PlanError::Fault(_)) => {
+            let report = Report::on(alloc, source, bytes)?;
+            Err(Fault::NoPlan(report.text))
+        }
+    }
+}
+
+/// Reads a plan, and writes the text of it that is asked for.
+///
+/// The text is made whole before any of it is written. Errors: NoPlan, with the errors of an input that is no plan; why a plan
+/// has no such text; Memory, where allocation failed; Device, where a read failed and nothing is written, or where a write
+/// failed and a prefix of the text is written.
+pub fn print<T: ViewText, R: Read, W: Write>(
+    asked: &T,
+    alloc: Global,
+    source: &str,
+    input: &mut Told<R>,
+    output: &mut Told<W>,
+) -> Result<(), Fault>
+    requires readable { input.old.failed ≡ false }
+    requires writable { output.old.failed ≡ false }
+    ensures end { IsPlanEnd (T.is_text asked.now) (T.is_without asked.now) source.now input.new.failed
+        (R.remaining input.old.device) (W.contents output.old.device) (W.contents output.new.device) result }
+    ensures device { ((input.new.failed ≡ true) ⊎ (output.new.failed ≡ true)) ↔ (result ≡ Err Device) }
+{
+    let bytes = read_whole(alloc, input)?;
+    let plan = plan_from(alloc, source, &bytes)?;
+    let text = asked.text_of(alloc, &plan, &bytes)?;
+    output.write_whole(text.as_slice())?;
+    Ok(())
+}
