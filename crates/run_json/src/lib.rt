@@ -3,7 +3,7 @@
 //!
 //! What is told of the host is what the host says: granules, rows, RECs and realms are read after the turn that named them
 //! (`specs/Turns.antt`), and all of them in the end (`specs/Worlds.antt`). A document is made whole in memory
-//! (`specs/Document.antt`); nothing here reads or writes a device. docs/JSON.md says what each member means.
+//! (`specs/Document.antt`); nothing here reads or writes a device. REALMVIEW.md says what each member means.
 #![tactic(auto)]
 
 mod answer;

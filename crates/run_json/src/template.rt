@@ -1,4 +1,4 @@
-//! What stands before and behind the data of a page. `tools/page_template` makes this file of those in `page/`.
+//! The page before and after its data. `tools/page_template` makes this file of those in `page/`.
 
 /// The page up to its data.
 pub const HEAD: &str = "<!DOCTYPE html>
@@ -9,548 +9,965 @@ pub const HEAD: &str = "<!DOCTYPE html>
 <title>A run of realm builds</title>
 <style>
 :root {
-  --paper: #ffffff; --ink: #1b1b1b; --soft: #5c5c5c; --line: #c9c9c9; --panel: #f4f4f2; --accent: #0072b2; --wrong: #b3261e; --mark: #fff3c4; --new: #c2178b;
-  --free: #ffffff; --undelegated: #cfe6f7; --delegated: #f2cf5b; --rd: #5b1f55; --rec: #b0400b; --rec-aux: #f0a36b; --data: #0f5c9e; --rtt: #3fae8c;
-  --on-undelegated: #12303f; --on-delegated: #3a2b00; --on-rd: #ffffff; --on-rec: #ffffff; --on-rec-aux: #3a1a05; --on-data: #ffffff; --on-rtt: #04231a;
-  --b0: #000000; --b1: #d55e00; --b2: #0072b2; --b3: #007a58; --b4: #9b3f73; --b5: #8a6a00; --b6: #2f8fc4; --b7: #6b6b6b;
+  --paper: #ffffff; --ink: #1b1b1b; --soft: #5a5a5a; --line: #878787; --panel: #f4f4f2; --accent: #0066a1; --wrong: #b3261e; --mark: #fff3c4; --new: #c2178b;
+  --undelegated: #cfe6f7; --delegated: #f2cf5b; --rd: #5b1f55; --rec: #a83a08; --rec-aux: #f3a9b4; --data: #0f5c9e; --rtt: #3fae8c;
+  --on-undelegated: #12303f; --on-delegated: #3a2b00; --on-rd: #ffffff; --on-rec: #ffffff; --on-rec-aux: #3f0f1a; --on-data: #ffffff; --on-rtt: #04231a;
+  --b0: #1b1b1b; --b1: #d96f0c; --b2: #0958bc; --b3: #10635c; --b4: #34004d; --b5: #683a07; --b6: #4e95af; --b7: #8c8d7f;
+  --on-b0: #ffffff; --on-b1: #000000; --on-b2: #ffffff; --on-b3: #ffffff; --on-b4: #ffffff; --on-b5: #ffffff; --on-b6: #000000; --on-b7: #000000;
 }
 :root[data-theme=\"dark\"] {
-  --paper: #15181b; --ink: #ececec; --soft: #a8a8a8; --line: #454a50; --panel: #1e2226; --accent: #56b4e9; --wrong: #ff8f85; --mark: #4a4014; --new: #ff7ad1;
-  --free: #15181b; --undelegated: #28465f; --delegated: #e3bd45; --rd: #d19bc6; --rec: #b94a14; --rec-aux: #e6985f; --data: #1d6fb8; --rtt: #3aa585;
-  --on-undelegated: #d5e9f8; --on-delegated: #2b2000; --on-rd: #2f0a28; --on-rec: #ffffff; --on-rec-aux: #2b1303; --on-data: #ffffff; --on-rtt: #021a13;
-  --b0: #f5f5f5; --b1: #ff8a3c; --b2: #56b4e9; --b3: #33d6a6; --b4: #ee9fcb; --b5: #f0e442; --b6: #9fd8ff; --b7: #a9a9a9;
+  --paper: #15181b; --ink: #ececec; --soft: #a8a8a8; --line: #757b82; --panel: #1e2226; --accent: #56b4e9; --wrong: #ff8f85; --mark: #352d0e; --new: #ff7ad1;
+  --undelegated: #28465f; --delegated: #e3bd45; --rd: #d19bc6; --rec: #b94a14; --rec-aux: #f3a9b4; --data: #1d6fb8; --rtt: #3aa585;
+  --on-undelegated: #d5e9f8; --on-delegated: #2b2000; --on-rd: #2f0a28; --on-rec: #ffffff; --on-rec-aux: #33101a; --on-data: #ffffff; --on-rtt: #021a13;
+  --b0: #f5f5f5; --b1: #e8810b; --b2: #0165ff; --b3: #71b094; --b4: #905b7b; --b5: #ffff90; --b6: #83bdfe; --b7: #836648;
+  --on-b0: #000000; --on-b1: #000000; --on-b2: #ffffff; --on-b3: #000000; --on-b4: #ffffff; --on-b5: #000000; --on-b6: #000000; --on-b7: #ffffff;
 }
+[data-b=\"0\"] { --frame: var(--b0); --on-frame: var(--on-b0); }
+[data-b=\"1\"] { --frame: var(--b1); --on-frame: var(--on-b1); }
+[data-b=\"2\"] { --frame: var(--b2); --on-frame: var(--on-b2); }
+[data-b=\"3\"] { --frame: var(--b3); --on-frame: var(--on-b3); }
+[data-b=\"4\"] { --frame: var(--b4); --on-frame: var(--on-b4); }
+[data-b=\"5\"] { --frame: var(--b5); --on-frame: var(--on-b5); }
+[data-b=\"6\"] { --frame: var(--b6); --on-frame: var(--on-b6); }
+[data-b=\"7\"] { --frame: var(--b7); --on-frame: var(--on-b7); }
+.UNDELEGATED { --fill: var(--undelegated); --on-fill: var(--on-undelegated); }
+.DELEGATED { --fill: var(--delegated); --on-fill: var(--on-delegated); }
+.RD { --fill: var(--rd); --on-fill: var(--on-rd); }
+.RTT { --fill: var(--rtt); --on-fill: var(--on-rtt); }
+.DATA { --fill: var(--data); --on-fill: var(--on-data); }
+.REC { --fill: var(--rec); --on-fill: var(--on-rec); }
+.REC_AUX { --fill: var(--rec-aux); --on-fill: var(--on-rec-aux); }
+
 * { box-sizing: border-box; }
 [hidden] { display: none !important; }
 body { margin: 0 auto; padding: 0 20px 12px; max-width: 1560px; background: var(--paper); color: var(--ink); font: 15px/1.45 system-ui, \"Segoe UI\", sans-serif; }
-header { display: flex; flex-wrap: wrap; align-items: baseline; gap: 4px 18px; padding-top: 12px; }
-h1 { font-size: 21px; margin: 0; }
-h2 { font-size: 16px; margin: 14px 0 6px; }
-h3 { font-size: 15px; margin: 4px 0 6px; }
-#machine { margin: 0; color: var(--soft); flex: 1; }
-button, select { font: inherit; color: inherit; background: var(--panel); border: 1px solid var(--line); border-radius: 5px; padding: 4px 11px; cursor: pointer; }
-button:hover, select:hover { border-color: var(--accent); }
+h1, h2, h3, p { margin: 0; }
+h1 { font-size: 21px; line-height: 1.25; overflow-wrap: anywhere; }
+h2 { font-size: 16px; margin: 16px 0 6px; }
+h3 { font-size: 15px; }
+header { display: grid; grid-template-columns: minmax(0, 1fr) auto auto; align-items: center; gap: 2px 18px; padding-top: 14px; }
+#machine { color: var(--soft); }
+#about { grid-column: 1 / -1; max-width: 100ch; color: var(--soft); }
+#about:empty { display: none; }
+button, select { font: inherit; color: inherit; background: var(--panel); border: 1px solid var(--line); border-radius: 6px; padding: 4px 11px; cursor: pointer; }
+button:hover, select:hover { border-color: var(--accent); background: var(--paper); }
 :focus-visible { outline: 3px solid var(--accent); outline-offset: 1px; }
-#controls { position: sticky; top: 0; z-index: 2; display: flex; flex-wrap: wrap; align-items: center; gap: 6px; padding: 9px 0; background: var(--paper); border-bottom: 1px solid var(--line); }
-#slider { flex: 1; min-width: 160px; accent-color: var(--accent); }
-#play { min-width: 68px; }
-#count { min-width: 112px; margin-right: 14px; text-align: right; font-variant-numeric: tabular-nums; }
-#turn { min-height: 62px; padding: 8px 14px; margin-top: 10px; background: var(--panel); border-left: 5px solid var(--accent); border-radius: 4px; }
+
+/* Controls and the turn */
+#controls { position: sticky; top: 0; z-index: 3; display: flex; align-items: center; gap: 12px; padding: 10px 0; background: var(--paper); border-bottom: 1px solid var(--line); }
+.buttons { display: flex; gap: 6px; }
+#controls button { height: 34px; }
+#controls svg { display: block; width: 16px; height: 16px; fill: currentColor; stroke: currentColor; stroke-width: 1.6; stroke-linejoin: round; stroke-linecap: round; }
+#play { min-width: 70px; }
+#slider { flex: 1; min-width: 60px; margin: 0; accent-color: var(--accent); }
+#count { order: 1; min-width: 8.5em; text-align: right; font-variant-numeric: tabular-nums; }
+#without-label { order: 2; white-space: nowrap; }
+#turn { min-height: 66px; padding: 9px 16px; margin-top: 12px; background: var(--panel); border-left: 5px solid var(--accent); border-radius: 6px; }
+#turn.helped { min-height: 88px; }
 #turn.refused { border-left-color: var(--wrong); }
-#turn p { margin: 0; }
 #line { font: 600 18px/1.4 ui-monospace, \"Cascadia Mono\", Consolas, monospace; overflow-wrap: anywhere; }
 #reason { color: var(--soft); }
 .refused #reason { color: var(--wrong); }
-#turn.apart { opacity: 0.5; }
-#run { display: grid; grid-template-columns: minmax(320px, 5fr) minmax(300px, 5fr) minmax(220px, 3fr); gap: 0 26px; }
-.grid { display: grid; grid-template-columns: repeat(var(--columns), minmax(0, var(--cell))); gap: var(--gap); padding: 4px; container-type: inline-size; --side: min(var(--cell), (100cqi - (var(--columns) - 1) * var(--gap)) / var(--columns)); }
-.grid i { position: relative; aspect-ratio: 1; display: flex; align-items: center; justify-content: center; font: 600 calc(var(--side) * 0.27)/1 system-ui, sans-serif; background: var(--free); border: calc(1px + var(--side) * 0.05) solid var(--line); border-radius: calc(var(--side) * 0.1); cursor: default; }
-.grid i b, .grid i u { position: absolute; font-size: 0.72em; font-weight: 500; text-decoration: none; opacity: 0.85; }
-.grid i b { right: 5%; bottom: 4%; }
-.grid i u { left: 5%; top: 4%; }
-.grid.middle i { font-size: calc(var(--side) * 0.34); }
-.grid.small i { font-size: calc(var(--side) * 0.3); }
-.grid.middle i b, .grid.middle i u, .grid.small i b, .grid.small i u { display: none; }
-.grid.small i.new { box-shadow: 0 0 0 2px var(--new); }
-.grid.small i.differs { box-shadow: 0 0 0 2px var(--wrong); }
-.grid i.free { border-style: dotted; border-width: 1px; color: var(--soft); }
-.UNDELEGATED { background: var(--undelegated) !important; color: var(--on-undelegated); }
-.DELEGATED { background: var(--delegated) !important; color: var(--on-delegated); }
-.RD { background: var(--rd) !important; color: var(--on-rd); }
-.REC { background: var(--rec) !important; color: var(--on-rec); }
-.REC_AUX { background: var(--rec-aux) !important; color: var(--on-rec-aux); }
-.DATA { background: var(--data) !important; color: var(--on-data); }
-.RTT { background: var(--rtt) !important; color: var(--on-rtt); }
-.grid i.new { box-shadow: 0 0 0 3px var(--new); z-index: 1; }
-.grid i.pick { box-shadow: 0 0 0 3px var(--accent); z-index: 1; }
-.grid i.differs::after { content: \"\\2260\"; position: absolute; right: 4%; top: 2%; font-size: 0.9em; color: var(--wrong); background: var(--paper); border-radius: 3px; padding: 0 2px; }
-.grid i.differs { box-shadow: 0 0 0 3px var(--wrong); z-index: 1; }
-#legend { display: flex; flex-wrap: wrap; gap: 4px 14px; margin-top: 9px; font-size: 13px; }
-#legend span { display: inline-flex; align-items: center; gap: 5px; }
-#legend i { display: inline-flex; min-width: 22px; height: 22px; padding: 0 4px; align-items: center; justify-content: center; font: 600 11px system-ui; border: 1px solid var(--line); border-radius: 3px; }
-#legend i.free { border-style: dotted; color: var(--soft); }
-#legend i.frame { background: none; border-width: 3px; color: var(--ink); }
-#cell { margin: 8px 0 0; min-height: 44px; color: var(--soft); font-size: 14px; }
-table { border-collapse: collapse; width: 100%; font-size: 14px; }
-th, td { text-align: left; padding: 3px 9px 3px 0; border-bottom: 1px solid var(--line); font-variant-numeric: tabular-nums; }
-th { color: var(--soft); font-weight: 600; }
-tr.now td { background: var(--mark); }
-.tag { display: inline-block; min-width: 24px; text-align: center; border: 3px solid; border-radius: 4px; font-weight: 600; line-height: 1.15; }
-.realm { border: 1px solid var(--line); border-left: 5px solid; border-radius: 4px; padding: 6px 12px 9px; margin-bottom: 10px; }
-.realm p { margin: 2px 0; font-size: 14px; }
-.realm code, .tree { font: 13px/1.5 ui-monospace, \"Cascadia Mono\", Consolas, monospace; }
-.realm code { overflow-wrap: anywhere; color: var(--soft); }
-.realm.differs { box-shadow: 0 0 0 3px var(--wrong); }
-.tree, .tree ul { list-style: none; margin: 2px 0 0; padding-left: 4px; }
-.tree ul { padding-left: 17px; margin-left: 5px; border-left: 1px solid var(--line); }
-.tree summary { cursor: pointer; }
-.tree .new { background: var(--mark); }
-.ripas { display: inline-block; padding: 0 5px; border-radius: 3px; border: 1px solid var(--line); font-size: 12px; }
-.ripas.RAM { background: var(--data); color: var(--on-data); border-color: transparent; }
-.ripas.DESTROYED { border: 1px dashed var(--wrong); }
-.none, .hint { color: var(--soft); }
-.hint { margin: 0 0 6px; font-size: 13px; }
-#history { list-style: none; margin: 0; padding: 0; max-height: calc(100vh - 260px); min-height: 220px; overflow-y: auto; border: 1px solid var(--line); border-radius: 4px; font: 13px/1.5 ui-monospace, \"Cascadia Mono\", Consolas, monospace; }
-#history button { display: flex; gap: 9px; width: 100%; text-align: left; border: 0; border-radius: 0; background: none; padding: 1px 9px; font: inherit; }
-#history button:hover { background: var(--panel); }
-#history .turn { color: var(--soft); min-width: 3.2em; text-align: right; }
-#history .refused { color: var(--wrong); }
-#history .later { opacity: 0.45; }
-#history [aria-current] { background: var(--mark); }
-#history .out { text-decoration: line-through; opacity: 0.45; }
-#compare { margin-top: 10px; }
-#compare:not([hidden]) + #run { grid-template-columns: 1fr; }
-#verdict { margin: 12px 0 2px; font-size: 18px; }
+#help b { color: var(--accent); }
+#turn code { font: 0.93em ui-monospace, \"Cascadia Mono\", Consolas, monospace; color: var(--ink); }
+
+/* The parts of the page, by the size of the machine */
+#run { display: grid; gap: 0 30px; grid-template: \"machine realms history\" auto / minmax(0, 5fr) minmax(0, 5fr) minmax(220px, 3fr); }
+#run.middle { grid-template-columns: minmax(0, 7fr) minmax(0, 5fr) minmax(220px, 3fr); }
+#run.small, #run.tiny { grid-template: \"machine history\" auto \"machine realms\" 1fr / minmax(0, 2fr) minmax(280px, 1fr); }
+#run.compared { grid-template: \"compare\" auto \"history\" auto / minmax(0, 1fr); }
+#run.large.compared { grid-template: \"compare history\" auto / minmax(0, 10fr) minmax(220px, 3fr); }
+#compare { grid-area: compare; }
+#machine-part { grid-area: machine; }
+#realm-part { grid-area: realms; }
+#history-part { grid-area: history; }
+#worlds { display: grid; grid-template-columns: minmax(0, 1fr) minmax(0, 1fr); gap: 0 30px; }
+#verdict { margin: 14px 0 2px; font-size: 18px; }
 #verdict.same::before { content: \"\\2713  \"; color: var(--accent); }
 #verdict.differ::before { content: \"\\2260  \"; color: var(--wrong); }
-#verdict-why { margin: 0 0 8px; color: var(--soft); }
-.worlds .realms { margin-top: 12px; }
-.worlds { display: grid; grid-template-columns: 1fr 1fr; gap: 26px; }
-footer { margin-top: 16px; color: var(--soft); font-size: 13px; border-top: 1px solid var(--line); }
-@media (min-width: 1700px) { body { max-width: 2200px; font-size: 17px; } #history, .realm code, .tree { font-size: 15px; } table, .realm p, #cell, #legend { font-size: 16px; } #line { font-size: 22px; } }
-@media (max-width: 1150px) { #run { grid-template-columns: 1fr 1fr; } #history-part { grid-column: 1 / -1; } #history { max-height: 40vh; } }
-@media (max-width: 760px) { #run, .worlds { grid-template-columns: 1fr; } body { padding: 0 12px 12px; } }
-@media (prefers-reduced-motion: no-preference) { .grid i { transition: background-color 0.15s, border-color 0.15s; } }
+#verdict-why { color: var(--soft); }
+
+/* Granules: a grid's font has the size of a tile's label, and all of a tile is measured by that */
+#machine-part, #worlds > section { container-type: inline-size; min-width: 0; }
+.grid { --gap: 4px; --most: 84px; --label: 0.25; --side: min(var(--most), (100cqi - (var(--columns) - 1) * var(--gap)) / var(--columns)); }
+.grid { display: grid; grid-template-columns: repeat(var(--columns), var(--side)); grid-auto-rows: var(--side); gap: var(--gap); padding: 4px 0; border-radius: 6px; font: 600 calc(var(--side) * var(--label))/1 system-ui, \"Segoe UI\", sans-serif; }
+.grid.middle { --gap: 3px; --most: 50px; --label: 0.27; }
+.grid.small { --gap: 2px; --most: 28px; --label: 0.62; line-height: calc(var(--side) * 0.76); }
+.grid.tiny { --gap: 1px; --most: 20px; --label: 0.62; line-height: calc(var(--side) * 0.76); }
+.grid > div { display: contents; }
+.grid i { position: relative; display: flex; align-items: center; justify-content: center; overflow: hidden; contain: strict; cursor: default; font-style: normal; color: var(--on-fill); background: no-repeat 7% 93% / 0.68em 0.68em var(--fill); border: calc(1px + 0.16em) solid var(--frame); border-radius: 0.5em; }
+.grid.middle i { padding-bottom: 0.5em; background-size: 0.74em 0.74em; }
+.grid.small i, .grid.tiny i { display: block; text-align: center; border: calc(1px + 0.06em) solid var(--frame); border-radius: 2px; background-position: center bottom; background-size: 100% 20%; }
+.grid.large i::before { content: attr(data-g); position: absolute; left: 7%; top: 6%; font-size: 0.8em; font-weight: 500; }
+.grid.large i::after, .grid.middle i::after { content: attr(data-b); position: absolute; right: 0; bottom: 0; padding: 0.14em 0.36em 0.06em; border-top-left-radius: 0.4em; background: var(--frame); color: var(--on-frame); font-size: 0.86em; }
+.grid i.free { --fill: var(--paper); --on-fill: var(--soft); --frame: var(--line); border-width: 1px; border-style: dotted; }
+.grid.large i.free::after, .grid.middle i.free::after { content: none; }
+.zero { background-image: radial-gradient(circle closest-side, transparent 50%, currentColor 58% 86%, transparent 96%) !important; }
+.full { background-image: radial-gradient(circle closest-side, currentColor 86%, transparent 96%) !important; }
+.small .zero, .tiny .zero { background-image: none !important; }
+.small .full, .tiny .full { background-image: linear-gradient(currentColor, currentColor) !important; }
+.grid i.new { box-shadow: 0 0 0 3px var(--new); z-index: 1; }
+.grid i.differs { box-shadow: 0 0 0 3px var(--wrong); z-index: 1; }
+.grid.small i.new, .grid.tiny i.new { box-shadow: 0 0 0 2px var(--new); }
+.grid.small i.differs, .grid.tiny i.differs { box-shadow: 0 0 0 1px var(--wrong); }
+.grid i.pick { outline: 3px solid var(--accent); outline-offset: 0; z-index: 2; }
+.grid.large i.differs::before { content: attr(data-g) \" \\2260\"; font-weight: 700; }
+#cell { min-height: 2.9em; margin: 6px 0; color: var(--soft); font-size: 14px; }
+#legend { display: grid; grid-template-columns: repeat(auto-fill, minmax(16.2em, 1fr)); gap: 5px 10px; font-size: 13px; line-height: 1.25; }
+#legend span { display: flex; align-items: center; gap: 6px; }
+#legend i { display: inline-flex; flex: none; width: 38px; height: 22px; align-items: center; justify-content: center; font: 600 11px/1 system-ui, \"Segoe UI\", sans-serif; color: var(--on-fill); background: no-repeat center / 11px 11px var(--fill); border: 1px solid var(--line); border-radius: 4px; }
+#legend i.free { border-style: dotted; }
+#legend i.dot { border-color: transparent; color: var(--ink); }
+
+/* Builds, realms, history */
+table { border-collapse: collapse; width: 100%; font-size: 14px; }
+th, td { text-align: left; padding: 4px 9px 4px 0; border-bottom: 1px solid var(--line); font-variant-numeric: tabular-nums; font-weight: 400; }
+thead th { color: var(--soft); font-weight: 600; }
+tr.now > * { background: var(--mark); }
+#free { margin-top: 6px; }
+#legend i.tag { width: 22px; margin: 0 8px; }
+.tag, #legend i.tag { display: inline-block; min-width: 22px; padding: 3px 0; text-align: center; font: 600 13px/1.25 system-ui, \"Segoe UI\", sans-serif; color: var(--on-frame); background: var(--frame); border: 0; border-radius: 4px; }
+.realm { border: 1px solid var(--line); border-left: 5px solid var(--frame); border-radius: 6px; padding: 8px 14px 10px; margin-bottom: 12px; }
+.realm p { margin: 3px 0; font-size: 14px; }
+.realm code, .tree { font: 12.5px/1.6 ui-monospace, \"Cascadia Mono\", Consolas, monospace; }
+.realm code { max-width: 32ch; overflow-wrap: anywhere; color: var(--soft); }
+.measured { display: flex; flex-wrap: wrap; gap: 0 10px; }
+#worlds .realms { margin-top: 14px; }
+.realm.differs { box-shadow: 0 0 0 3px var(--wrong); }
+.tree, .tree ul { list-style: none; margin: 2px 0 0; padding-left: 2px; }
+.tree { max-height: 26em; overflow: auto; }
+.tree ul { padding-left: 16px; margin-left: 5px; border-left: 1px solid var(--line); }
+.tree summary { cursor: pointer; }
+.tree .new { background: var(--mark); }
+.level { color: var(--soft); }
+.ripas { display: inline-block; padding: 0 5px; border-radius: 4px; border: 1px solid var(--line); font-size: 12px; line-height: 1.4; }
+.ripas.RAM { background: var(--data); color: var(--on-data); }
+.ripas.DESTROYED { border: 1px dashed var(--wrong); }
+.none, .hint { color: var(--soft); }
+.hint { margin-bottom: 6px; font-size: 13px; }
+#history-part { position: sticky; top: 56px; align-self: start; min-width: 0; }
+#run.small #history-part, #run.tiny #history-part, #run.compared:not(.large) #history-part { position: static; }
+#history { list-style: none; margin: 0; padding: 3px 0; max-height: max(240px, calc(100vh - 290px)); overflow-y: auto; border: 1px solid var(--line); border-radius: 6px; font: 13px/1.5 ui-monospace, \"Cascadia Mono\", Consolas, monospace; }
+#run.small #history, #run.tiny #history, #run.compared:not(.large) #history { max-height: 380px; }
+#history li { content-visibility: auto; contain-intrinsic-size: auto 100px auto 22px; }
+#history button { display: flex; gap: 10px; width: 100%; text-align: left; border: 0; border-radius: 0; background: none; padding: 1px 10px; font: inherit; }
+#history button:hover { background: var(--panel); }
+#history .turn { color: var(--soft); min-width: 2.6em; text-align: right; }
+#history .later { color: var(--soft); }
+#history .refused { color: var(--wrong); }
+#history button[aria-current] { background: var(--mark); font-weight: 600; }
+#history .out { color: var(--soft); text-decoration: line-through; }
+#history .none { padding: 4px 12px; }
+footer { margin-top: 18px; padding-top: 8px; color: var(--soft); font-size: 13px; border-top: 1px solid var(--line); }
+
+@media (min-width: 1700px) {
+  body { max-width: 2200px; font-size: 17px; }
+  h1 { font-size: 25px; } h2 { font-size: 18px; } h3 { font-size: 17px; }
+  #history, .realm code, .tree { font-size: 15px; }
+  table, .realm p, #cell, #legend, .hint, footer { font-size: 16px; }
+  #line { font-size: 22px; }
+}
+@media (max-width: 1150px) {
+  #run.large, #run.middle { grid-template: \"machine realms\" auto \"history history\" auto / minmax(0, 1fr) minmax(0, 1fr); }
+  #run.small, #run.tiny { grid-template: \"machine machine\" auto \"realms history\" auto / minmax(0, 1fr) minmax(0, 1fr); }
+  #run.compared, #run.large.compared { grid-template: \"compare\" auto \"history\" auto / minmax(0, 1fr); }
+  #history-part, #run #history-part { position: static; }
+  #history, #run #history { max-height: 40vh; }
+}
+@media (max-width: 760px) {
+  body { padding: 0 12px 12px; }
+  header { grid-template-columns: minmax(0, 1fr) auto; }
+  #machine, #about { grid-column: 1 / -1; grid-row: auto; font-size: 14px; }
+  #theme { grid-row: 1; grid-column: 2; }
+  #run.large, #run.middle, #run.small, #run.tiny { grid-template: \"machine\" auto \"realms\" auto \"history\" auto / minmax(0, 1fr); }
+  #run.large.compared, #run.compared { grid-template: \"compare\" auto \"history\" auto / minmax(0, 1fr); }
+  #worlds { grid-template-columns: minmax(0, 1fr); }
+  #controls { flex-wrap: wrap; gap: 6px 8px; padding: 7px 0; }
+  .buttons { gap: 4px; }
+  .buttons button { padding: 4px 8px; }
+  #play { min-width: 62px; }
+  #count { order: 0; flex: 1; min-width: 0; font-size: 14px; white-space: nowrap; }
+  #slider { order: 1; flex: 1 1 170px; }
+  #without-label { font-size: 14px; }
+  #legend { grid-template-columns: repeat(auto-fill, minmax(165px, 1fr)); }
+  #line { font-size: 16px; }
+}
+@media (prefers-reduced-motion: no-preference) { .grid.large i, .grid.middle i { transition: background-color 0.15s, border-color 0.15s; } }
 @media print {
-  :root, :root[data-theme=\"dark\"] { --paper: #fff; --ink: #000; --panel: #fff; --soft: #333; --line: #888; }
-  #controls button, #slider, #theme, #without-label, footer, #cell, .hint { display: none; }
-  #controls { position: static; border: 0; } #history { max-height: none; overflow: visible; columns: 2; }
+  :root, :root[data-theme=\"dark\"] { --paper: #fff; --ink: #000; --panel: #fff; --soft: #333; --line: #777; }
+  .buttons, #slider, #theme, #without-label, footer, #cell, .hint { display: none; }
+  #controls { position: static; border: 0; } #history, #run #history { max-height: none; overflow: visible; columns: 2; } .tree { max-height: none; }
   * { print-color-adjust: exact; -webkit-print-color-adjust: exact; } body { max-width: none; }
 }
 </style>
 </head>
 <body>
 <header>
-<h1>A run of realm builds</h1>
+<h1 id=\"title\">A run of realm builds</h1>
 <p id=\"machine\"></p>
 <button id=\"theme\" type=\"button\" title=\"Dark or light (T)\">Dark</button>
+<p id=\"about\"></p>
 </header>
 <nav id=\"controls\" aria-label=\"Turns\">
-<button id=\"first\" type=\"button\" title=\"Before the first turn (Home)\" aria-label=\"Before the first turn\">|&#9664;</button>
-<button id=\"back\" type=\"button\" title=\"One turn back (Left)\" aria-label=\"One turn back\">&#9664;</button>
+<span class=\"buttons\">
+<button id=\"first\" type=\"button\" title=\"Before the first turn (Home)\" aria-label=\"Before the first turn\"><svg viewBox=\"0 0 16 16\"><path d=\"M3 3v10M13 3L6 8l7 5z\"/></svg></button>
+<button id=\"back\" type=\"button\" title=\"One turn back (Left)\" aria-label=\"One turn back\"><svg viewBox=\"0 0 16 16\"><path d=\"M12 3L4 8l8 5z\"/></svg></button>
 <button id=\"play\" type=\"button\" title=\"Play or pause (Space)\">Play</button>
-<button id=\"next\" type=\"button\" title=\"One turn on (Right)\" aria-label=\"One turn on\">&#9654;</button>
-<button id=\"last\" type=\"button\" title=\"The last turn (End)\" aria-label=\"The last turn\">&#9654;|</button>
-<input id=\"slider\" type=\"range\" min=\"0\" value=\"0\" step=\"1\" aria-label=\"Turn\">
+<button id=\"next\" type=\"button\" title=\"One turn on (Right)\" aria-label=\"One turn on\"><svg viewBox=\"0 0 16 16\"><path d=\"M4 3l8 5-8 5z\"/></svg></button>
+<button id=\"last\" type=\"button\" title=\"The last turn (End)\" aria-label=\"The last turn\"><svg viewBox=\"0 0 16 16\"><path d=\"M13 3v10M3 3l7 5-7 5z\"/></svg></button>
+</span>
 <output id=\"count\" for=\"slider\"></output>
+<input id=\"slider\" type=\"range\" min=\"0\" value=\"0\" step=\"1\" aria-label=\"Turn\">
 <label id=\"without-label\">Leave out <select id=\"without\"><option value=\"\">nobody</option></select></label>
 </nav>
-<section id=\"turn\" aria-live=\"polite\">
+<section id=\"turn\" aria-label=\"This turn\" aria-live=\"polite\">
 <p id=\"line\"></p>
 <p id=\"reason\"></p>
-</section>
-<section id=\"compare\" hidden>
-<h2 id=\"verdict\"></h2>
-<p id=\"verdict-why\"></p>
-<div class=\"worlds\">
-<div><h3>The last world of the run</h3><div id=\"last-grid\" class=\"grid\"></div><div id=\"last-realms\" class=\"realms\"></div></div>
-<div><h3 id=\"other-title\"></h3><div id=\"other-grid\" class=\"grid\"></div><div id=\"other-realms\" class=\"realms\"></div></div>
-</div>
+<p id=\"help\"></p>
 </section>
 <main id=\"run\">
-<section id=\"machine-part\" aria-label=\"Granules\">
-<h2>Granules</h2>
-<div id=\"grid\" class=\"grid\"></div>
+<section id=\"compare\" aria-label=\"A build left out\" hidden>
+<div role=\"status\">
+<h2 id=\"verdict\"></h2>
+<p id=\"verdict-why\"></p>
+</div>
+<div id=\"worlds\">
+<section aria-labelledby=\"run-title\"><h2 id=\"run-title\"></h2><div id=\"run-grid\" class=\"grid\" role=\"grid\" tabindex=\"0\" aria-labelledby=\"run-title\"></div><div id=\"run-realms\" class=\"realms\"></div></section>
+<section aria-labelledby=\"other-title\"><h2 id=\"other-title\"></h2><div id=\"other-grid\" class=\"grid\" role=\"grid\" tabindex=\"0\" aria-labelledby=\"other-title\"></div><div id=\"other-realms\" class=\"realms\"></div></section>
+</div>
+</section>
+<section id=\"machine-part\" aria-labelledby=\"granules-title\">
+<h2 id=\"granules-title\">Granules of the machine</h2>
+<div id=\"grid\" class=\"grid\" role=\"grid\" tabindex=\"0\" aria-labelledby=\"granules-title\" aria-describedby=\"cell\"></div>
+<div id=\"key\">
+<p id=\"cell\" aria-live=\"polite\">Point at a granule for what it is and what it contains.</p>
 <div id=\"legend\"></div>
-<p id=\"cell\">Point at a granule, or go to it with Tab and the arrow keys.</p>
+</div>
 <h2>Builds</h2>
 <table id=\"builds\"><thead><tr><th>Build</th><th>Pages</th><th>Open</th><th>Mark</th><th>Realm</th></tr></thead><tbody></tbody></table>
+<p id=\"free\" class=\"hint\"></p>
 </section>
-<section id=\"realm-part\" aria-label=\"Realms\">
-<h2>Realms</h2>
+<section id=\"realm-part\" aria-labelledby=\"realms-title\">
+<h2 id=\"realms-title\">Realms</h2>
 <div id=\"realms\" class=\"realms\"></div>
 </section>
-<aside id=\"history-part\" aria-label=\"History\">
-<h2>History</h2>
-<p class=\"hint\">Each command, in its order: the event of one that was accepted, and in red those that were refused. Click one to see the machine after it.</p>
+<aside id=\"history-part\" aria-labelledby=\"history-title\">
+<h2 id=\"history-title\">History</h2>
+<p class=\"hint\">Each event, and in red each step that was refused. Choose one to see the machine after it.</p>
 <ol id=\"history\"></ol>
 </aside>
 </main>
-<footer><p>Left and Right: a turn back and on. Home and End: the start and the end. Space: play. 0 to 7: leave that build out. Escape: back to the run. T: dark or light.</p></footer>
+<footer><p><b>Left</b> and <b>Right</b> a turn back and on; <b>Home</b> and <b>End</b> the start and the end; <b>Space</b> play; <b>0</b> to <b>7</b> leave that build out; <b>Escape</b> back to the run; <b>T</b> dark or light. In the granules: <b>Shift</b> and an arrow key. In the history: <b>Up</b> and <b>Down</b>.</p></footer>
 <noscript><p>This page draws its data by a script, which is switched off here.</p></noscript>
 <script id=\"data\" type=\"application/json\">";
 
-/// The page from behind its data on.
+/// The page after its data.
 pub const TAIL: &str = "</script>
 <script>
 \"use strict\";
-// Draws the run that stands in the page as data. What changes at a turn, and the worlds without a build, are the data's own:
-// nothing here knows what a command does.
+// The words for states and refusals.
+const WORDS = { UNDELEGATED: \"U\", DELEGATED: \"D\", RD: \"RD\", RTT: \"RTT\", DATA: \"DATA\", REC: \"REC\", REC_AUX: \"AUX\" };
+const MEANINGS = {
+  UNDELEGATED: \"the host's\", DELEGATED: \"the RMM's\", RD: \"a realm descriptor\", RTT: \"a translation table\",
+  DATA: \"a realm's memory\", REC: \"a virtual CPU\", REC_AUX: \"a REC's auxiliary\",
+};
+const STATUS = { 1: \"RMI_ERROR_INPUT\", 2: \"RMI_ERROR_REALM\", 3: \"RMI_ERROR_REC\", 4: \"RMI_ERROR_RTT\" };
+const HARDWARE = \"The hardware refuses, and no command is involved: the page is not the host's.\"
+  + \" On a machine the access raises a granule protection fault.\";
+const REFUSALS = {
+  NoBuild: \"There is no such build.\",
+  Aborting: \"The build is being aborted.\",
+  BadOrder: \"A block has at most 512 pages.\",
+  NotLeased: \"The build has no page $1.\",
+  RealmThere: \"The build has a realm already.\",
+  NoRealm: \"The build has no realm.\",
+  NothingToUndo: \"There is nothing to undo, or no mark to go back to.\",
+  RecRunning: \"A REC that would have to go is running.\",
+  JournalFull: \"The build has 512 operations open.\",
+  HistoryFull: \"The rest of the build's room in the history is kept for its undos.\",
+  NoBlock: \"No 2^$1 pages in a row, from a multiple of 2^$1 on, are free.\",
+  NoVmid: \"All VMIDs are in use.\",
+  Rmi: \"The RMM refuses: $status.\",
+};
+
+const counted = (n, one) => n + \" \" + one + (n === 1 ? \"\" : \"s\");
+
+// A refusal in general words, for a page whose data has no line of its own for the turn.
+function refusalText(turn) {
+  const [word] = turn.step.split(\" \"), name = turn.answer.split(\" \")[2], [, first, index] = turn.numbers;
+  if (name === \"Rmi\" && (word === \"fill\" || word === \"peek\")) return HARDWARE;
+  const status = (STATUS[first] || \"status \" + first) + (first === 4 ? \", index \" + index : \"\");
+  return (REFUSALS[name] || \"Refused.\").replace(\"$status\", status).replaceAll(\"$1\", first);
+}
+// The worlds of the run. The data has what each turn changed of granules, rows, RECs and realms; a world is made by
+// applying these changes in order. The world without a build is made by those of the others alone. What a page contains
+// follows from the events: fill, data and poke write, and any other event clears the granules that it changes.
 const data = JSON.parse(document.getElementById(\"data\").textContent);
 const run = data.run, turns = run.turns, pages = run.settings.pages, builds = run.settings.builds;
-const $ = (id) => document.getElementById(id);
-const SIZES = { 1: 262144, 2: 512, 3: 1 };
-const WORDS = { UNDELEGATED: \"U\", DELEGATED: \"D\", RD: \"RD\", RTT: \"RTT\", DATA: \"DATA\", REC: \"REC\", REC_AUX: \"AUX\" };
-const MEANINGS = { UNDELEGATED: \"UNDELEGATED: the host's\", DELEGATED: \"DELEGATED: the monitor's, unused\", RD: \"RD: a realm descriptor\", REC: \"REC: a virtual processor\",
-  REC_AUX: \"REC_AUX: auxiliary of a REC\", DATA: \"DATA: a realm's memory\", RTT: \"RTT: a translation table\" };
-const REASONS = { NoBuild: \"There is no such build.\", Aborting: \"The build is being aborted.\", BadOrder: \"A block has at most 512 pages.\",
-  NotLeased: \"The build has no page $1.\", RealmThere: \"The build has a realm already.\", NoRealm: \"The build has no realm.\",
-  NothingToUndo: \"There is nothing to undo, or no mark to go back to.\", RecRunning: \"A REC that would have to go is running.\",
-  JournalFull: \"The build has 512 acts open.\", HistoryFull: \"The rest of the build's room in the history is kept for its undos.\",
-  NoBlock: \"No 2^$1 pages in a row, from a multiple of 2^$1 on, are free.\", NoVmid: \"All VMIDs are in use.\", Rmi: \"The monitor refuses: $status, index $2.\" };
-const STATUS = { 1: \"RMI_ERROR_INPUT\", 2: \"RMI_ERROR_REALM\", 3: \"RMI_ERROR_REC\", 4: \"RMI_ERROR_RTT\" };
+const COVERED = { 1: 262144, 2: 512, 3: 1 };
 
-// ---- worlds: granules, and the realm of each build with its rows as ranges
+// ---- the bytes of a page: one value, and the bytes that were written over it
 
+const filled = (value) => ({ value, written: new Map(), sum: 4096 * value });
+const ZERO = filled(0);
+const byteAt = (page, offset) => page.written.get(offset) ?? page.value;
+function withByte(page, offset, value) {
+  return { value: page.value, written: new Map(page.written).set(offset, value),
+    sum: page.sum - byteAt(page, offset) + value };
+}
+function isSamePage(one, other) {
+  if (one === other || one.sum !== other.sum) return one === other;
+  if (one.value === other.value && one.written.size + other.written.size === 0) return true;
+  for (let offset = 0; offset < 4096; offset++) if (byteAt(one, offset) !== byteAt(other, offset)) return false;
+  return true;
+}
+
+// ---- worlds
+
+const FREE = { state: \"UNDELEGATED\", build: null, realm: null };
 function freshWorld() {
-  return { granules: Array.from({ length: pages }, (_, g) => ({ granule: g, state: \"UNDELEGATED\", build: null, realm: null })),
-    realms: Array(builds).fill(null), open: Array(builds).fill(0), mark: Array(builds).fill(null), aborting: Array(builds).fill(false) };
+  return {
+    granules: Array.from({ length: pages }, (_, granule) => ({ granule, ...FREE })),
+    contents: Array(pages).fill(ZERO), numbers: Array(pages).fill(0), leased: Array(builds).fill(0),
+    realms: Array(builds).fill(null), open: Array(builds).fill(0),
+    mark: Array(builds).fill(null), aborting: Array(builds).fill(false),
+  };
 }
 function copyWorld(world) {
-  return { granules: world.granules.slice(), realms: world.realms.map((r) => r && { ...r, rows: r.rows.slice(), recs: r.recs.slice() }),
-    open: world.open.slice(), mark: world.mark.slice(), aborting: world.aborting.slice() };
+  return {
+    granules: world.granules.slice(), contents: world.contents.slice(), numbers: world.numbers.slice(),
+    leased: world.leased.slice(),
+    realms: world.realms.slice(), open: world.open.slice(), mark: world.mark.slice(), aborting: world.aborting.slice(),
+  };
 }
-// A row item takes the place of what stood in its range, at its level and below.
-function putRow(rows, item) {
-  const from = item.first, to = item.first + item.count * SIZES[item.level], kept = [];
+// A row item takes the place of what was in its range, at its level and below.
+function withRow(rows, item) {
+  const from = item.first, to = item.first + item.count * COVERED[item.level], kept = [];
   for (const row of rows) {
-    const size = SIZES[row.level], start = row.first, end = row.first + row.count * size;
+    const size = COVERED[row.level], start = row.first, end = row.first + row.count * size;
     if (row.level < item.level || end <= from || to <= start) { kept.push(row); continue; }
     if (start < from) kept.push({ ...row, count: (from - start) / size });
     if (to < end) kept.push({ ...row, first: to, count: (end - to) / size });
   }
   kept.push(item);
-  kept.sort((a, b) => a.first - b.first || a.level - b.level);
-  return kept;
+  return kept.sort((a, b) => a.first - b.first || a.level - b.level);
+}
+function withRec(recs, rec) {
+  const others = recs.filter((it) => it.number !== rec.number);
+  return rec.state ? [...others, rec].sort((a, b) => a.number - b.number) : others;
+}
+function granuleAt(realm, ipa) {
+  return realm.rows.find((row) => row.level === 3 && row.first <= ipa && ipa < row.first + row.count).granule;
+}
+// What an event does, as its word and its numbers.
+function eventOf(turn) {
+  const [, word, ...numbers] = turn.event.split(\" \");
+  return { word, numbers: numbers.map(Number) };
+}
+// The granules that a turn changed, in what they are or in what they contain.
+function changedBy(turn, world) {
+  if (turn === null || turn.event === null) return [];
+  const { word, numbers } = eventOf(turn);
+  if (word === \"fill\") return [numbers[0]];
+  if (word === \"poke\") return [granuleAt(world.realms[turn.build], numbers[1])];
+  return (turn.granules || []).map((item) => item.granule);
+}
+function stepRealm(world, turn) {
+  const old = world.realms[turn.build];
+  let realm = old;
+  if (\"realm\" in turn) realm = turn.realm && { ...turn.realm, rows: old ? old.rows : [], recs: old ? old.recs : [] };
+  if (realm && turn.rows) realm = { ...realm, rows: turn.rows.reduce(withRow, realm.rows) };
+  if (realm && turn.recs) realm = { ...realm, recs: turn.recs.reduce(withRec, realm.recs) };
+  world.realms[turn.build] = realm;
+}
+// A build's own number of a page is how many it had when it took the page.
+function stepLeases(world, build, word, [order, first]) {
+  if (word === \"take\") for (let k = 0; k < 2 ** order; k++) world.numbers[first + k] = world.leased[build]++;
+  if (word === \"untake\") world.leased[build] -= 2 ** order;
+}
+function stepContents(world, turn, word, numbers) {
+  const contents = world.contents, [changed] = changedBy(turn, world);
+  if (word === \"fill\") contents[changed] = filled(numbers[1]);
+  else if (word === \"data\") contents[changed] = contents[numbers[2]];
+  else if (word === \"poke\") contents[changed] = withByte(contents[changed], numbers[2], numbers[3]);
+  else for (const granule of changedBy(turn, world)) contents[granule] = ZERO;
 }
 function stepWorld(world, turn) {
-  const b = turn.build;
   for (const item of turn.granules || []) world.granules[item.granule] = item;
-  if (\"realm\" in turn) {
-    const old = world.realms[b];
-    world.realms[b] = turn.realm && { ...turn.realm, rows: old ? old.rows : [], recs: old ? old.recs : [] };
+  stepRealm(world, turn);
+  if (turn.event !== null) {
+    const { word, numbers } = eventOf(turn);
+    stepLeases(world, turn.build, word, numbers);
+    stepContents(world, turn, word, numbers);
   }
-  const realm = world.realms[b];
-  if (realm) {
-    for (const item of turn.rows || []) realm.rows = putRow(realm.rows, item);
-    for (const rec of turn.recs || []) {
-      realm.recs = realm.recs.filter((r) => r.number !== rec.number);
-      if (rec.state) realm.recs = [...realm.recs, rec].sort((x, y) => x.number - y.number);
+  world.open[turn.build] = turn.open;
+  world.mark[turn.build] = turn.mark;
+  world.aborting[turn.build] = turn.aborting;
+}
+
+// The worlds after each number of turns, of which only the chosen ones count.
+// Every so often one is kept, to begin from.
+class Worlds {
+  constructor(isChosen) {
+    this.isChosen = isChosen;
+    this.every = 512;
+    this.kept = [freshWorld()];
+    this.go(0);
+  }
+  go(k) {
+    this.world = copyWorld(this.kept[k]);
+    this.at = k * this.every;
+  }
+  after(n) {
+    const k = Math.min(Math.floor(n / this.every), this.kept.length - 1);
+    if (n < this.at || k * this.every > this.at) this.go(k);
+    while (this.at < n) {
+      const turn = turns[this.at++];
+      if (this.isChosen(turn)) stepWorld(this.world, turn);
+      if (this.at === this.kept.length * this.every) this.kept.push(copyWorld(this.world));
+    }
+    return this.world;
+  }
+}
+const everyone = new Worlds(() => true);
+const othersOf = Array.from({ length: builds }, (_, b) => new Worlds((turn) => turn.build !== b));
+// Grids of granules: a tile each, filled by its state and framed by its build.
+const element = (tag, text, className) => {
+  const made = document.createElement(tag);
+  if (text !== undefined) made.textContent = text;
+  if (className) made.className = className;
+  return made;
+};
+const $ = (id) => document.getElementById(id);
+const SIZE = pages <= 64 ? \"large\" : pages <= 256 ? \"middle\" : pages <= 1024 ? \"small\" : \"tiny\";
+const COLUMNS = { large: [8, 8], middle: [16, 8], small: [32, 16], tiny: [64, 32] };
+const isNarrow = matchMedia(\"(max-width: 760px)\");
+const columnsNow = () => Math.min(pages, COLUMNS[SIZE][isNarrow.matches ? 1 : 0]);
+const hasBytes = (state) => state === \"UNDELEGATED\" || state === \"DELEGATED\" || state === \"DATA\";
+
+// What the page of a granule contains: the RMM's own, nothing but zeros, or more.
+const kindOf = (state, page) => (!hasBytes(state) ? \"\" : page.sum === 0 ? \"zero\" : \"full\");
+function contentText(state, page) {
+  if (!hasBytes(state)) return \"holds what the RMM keeps there\";
+  return page.sum === 0 ? \"all bytes zero\" : \"not zero, sum of its bytes \" + page.sum;
+}
+function granuleText(world, g) {
+  const { state, build, realm } = world.granules[g], bytes = contentText(state, world.contents[g]);
+  if (build === null) return \"granule \" + g + \", free; \" + bytes;
+  const own = \"granule \" + g + \", page \" + world.numbers[g] + \" of build \" + build + \": \";
+  const whose = realm === null ? \"\" : \", of the realm with RD \" + realm;
+  return own + state + \", \" + MEANINGS[state] + whose + \"; \" + bytes;
+}
+
+const CELL = element(\"i\", \" \");
+CELL.setAttribute(\"role\", \"gridcell\");
+class Grid {
+  constructor(place) {
+    this.place = place;
+    place.classList.add(SIZE);
+    this.cells = Array.from({ length: pages }, () => CELL.cloneNode(true));
+    if (SIZE === \"large\") this.cells.forEach((cell, g) => (cell.dataset.g = g));
+    this.granuleOf = new Map(this.cells.map((cell, g) => [cell, g]));
+    this.shown = Array(pages).fill(\"\");
+    this.arrange();
+  }
+  arrange() {
+    const columns = columnsNow(), rows = [];
+    for (let g = 0; g < pages; g++) {
+      if (g % columns === 0) rows.push(element(\"div\"));
+      rows[rows.length - 1].append(this.cells[g]);
+    }
+    rows.forEach((row) => row.setAttribute(\"role\", \"row\"));
+    this.place.style.setProperty(\"--columns\", columns);
+    this.place.replaceChildren(...rows);
+  }
+  draw(world, marks) {
+    for (let g = 0; g < pages; g++) {
+      const { state, build, realm } = world.granules[g], page = world.contents[g], mark = marks(g);
+      const shown = [state, build, realm, world.numbers[g], page.sum, mark].join(\" \");
+      if (this.shown[g] === shown) continue;
+      this.shown[g] = shown;
+      this.drawCell(g, world, (build === null ? \"free\" : state) + \" \" + kindOf(state, page) + \" \" + mark);
     }
   }
-  world.open[b] = turn.open; world.mark[b] = turn.mark; world.aborting[b] = turn.aborting;
-}
-// A world as the document tells it whole.
-function toldWorld(told) {
-  const world = freshWorld();
-  world.granules = told.granules;
-  for (const b of told.builds) {
-    world.realms[b.build] = b.realm && { ...b.realm, recs: b.realm.recs.filter((rec) => rec.state) };
-    world.open[b.build] = b.open.length; world.mark[b.build] = b.mark; world.aborting[b.build] = b.aborting;
+  drawCell(g, world, className) {
+    const cell = this.cells[g], { state, build } = world.granules[g];
+    cell.className = className;
+    cell.firstChild.data = build === null ? \"\" : SIZE === \"small\" || SIZE === \"tiny\" ? build : WORDS[state];
+    if (build === null) cell.removeAttribute(\"data-b\");
+    else cell.setAttribute(\"data-b\", build);
+    cell.setAttribute(\"aria-label\", granuleText(world, g));
   }
-  return world;
-}
-const EVERY = 256, kept = [freshWorld()];
-let at = 0, world = freshWorld();
-function worldAt(n) {
-  if (n < at || n - at > EVERY) {
-    const k = Math.min(Math.floor(n / EVERY), kept.length - 1);
-    world = copyWorld(kept[k]); at = k * EVERY;
-  }
-  for (; at < n; at++) {
-    if (at > 0 && at % EVERY === 0 && at / EVERY === kept.length) kept.push(copyWorld(world));
-    stepWorld(world, turns[at]);
-  }
-  return world;
-}
-
-// ---- granules
-
-const buildColour = (b) => (b === null ? \"\" : \"var(--b\" + b + \")\");
-function element(tag, text, className) {
-  const e = document.createElement(tag);
-  if (text !== undefined) e.textContent = text;
-  if (className) e.className = className;
-  return e;
-}
-function granuleText(item) {
-  const who = item.build === null ? \"free\" : \"of build \" + item.build;
-  const state = item.build === null ? \"\" : \": \" + MEANINGS[item.state];
-  return \"granule \" + item.granule + \", \" + who + state + (item.realm === null || item.realm === undefined ? \"\" : \", of the realm with RD \" + item.realm);
-}
-function makeGrid(grid) {
-  const columns = pages <= 64 ? Math.min(pages, 8) : pages <= 256 ? 16 : pages <= 1024 ? 32 : 64;
-  const size = pages <= 64 ? \"large\" : pages <= 256 ? \"middle\" : \"small\";
-  grid.style.setProperty(\"--columns\", columns);
-  grid.style.setProperty(\"--cell\", { large: 84, middle: 48, small: pages <= 1024 ? 24 : 12 }[size] + \"px\");
-  grid.style.setProperty(\"--gap\", { large: 4, middle: 3, small: 1 }[size] + \"px\");
-  grid.classList.add(size);
-  const cells = [];
-  for (let g = 0; g < pages; g++) {
-    const cell = element(\"i\");
-    cell.dataset.granule = g;
-    cells.push({ cell, told: \"\" });
-    grid.append(cell);
-  }
-  return { grid, cells, columns, size };
-}
-function drawGrid(made, granules, marks) {
-  for (const { granule: g, state, build, realm } of granules) {
-    const mark = marks(g), told = state + build + \",\" + realm + mark, slot = made.cells[g];
-    if (slot.told === told) continue;
-    slot.told = told;
-    const { cell } = slot;
-    cell.className = (build === null ? \"free\" : state) + (mark ? \" \" + mark : \"\");
-    cell.style.borderColor = buildColour(build);
-    cell.textContent = build === null || made.size === \"small\" ? \"\" : WORDS[state];
-    cell.append(element(\"u\", g));
-    if (build !== null) cell.append(element(\"b\", \"b\" + build));
-    cell.title = granuleText(granules[g]);
-    cell.setAttribute(\"aria-label\", cell.title);
+  pick(g, isPicked) {
+    const cell = this.cells[g];
+    cell.classList.toggle(\"pick\", isPicked);
+    cell.title = cell.getAttribute(\"aria-label\");
+    cell.id = this.place.id + \"-\" + g;
+    if (isPicked) this.place.setAttribute(\"aria-activedescendant\", cell.id);
   }
 }
-
-// ---- realms
-
-const range = (row) => {
-  const end = row.first + row.count * SIZES[row.level] - 1;
-  return row.first === end ? \"IPA granule \" + row.first : \"IPA granules \" + row.first + \" to \" + end;
-};
-const isIn = (row, items) => items.some((i) => i.level === row.level && i.first < row.first + row.count * SIZES[row.level] && row.first < i.first + i.count * SIZES[i.level]);
-function rowLine(row, items) {
-  const line = element(\"span\", \"level \" + row.level + \", \" + range(row) + \": \" + row.state + (row.granule === null ? \"\" : \" \\u2192 granule \" + row.granule) + \" \");
-  if (row.state !== \"TABLE\") line.append(element(\"span\", row.ripas, \"ripas \" + row.ripas));
-  if (isIn(row, items)) line.className = \"new\";
+// Realms: what each has, and its tables as a tree.
+const folded = new Set(), NO_ROWS = [];
+const endOf = (row) => row.first + row.count * COVERED[row.level];
+const lastOf = (row) => row.granule + row.count - 1;
+// Rows of one table that follow each other, and whose granules do, as one; but what a turn has changed stands alone.
+function asRuns(rows, items) {
+  const runs = [];
+  for (const row of rows) {
+    const last = runs[runs.length - 1], isNew = isIn(row, items);
+    const isPlain = (it) => it && it.state !== \"TABLE\" && it.granule !== null && !it.isNew;
+    const isNext = isPlain(last) && isPlain({ ...row, isNew })
+      && [\"level\", \"state\", \"ripas\"].every((it) => last[it] === row[it])
+      && endOf(last) === row.first && lastOf(last) + 1 === row.granule;
+    if (isNext) last.count += row.count;
+    else runs.push({ ...row, isNew });
+  }
+  return runs;
+}
+const isIn = (row, items) =>
+  items.some((it) => it.level === row.level && it.first < endOf(row) && row.first < endOf(it));
+function rangeText(row) {
+  const last = endOf(row) - 1;
+  return \"IPA \" + row.first + (row.first === last ? \"\" : \"\\u2013\" + last);
+}
+function rowLine(row) {
+  const line = element(\"span\", undefined, row.isNew ? \"new\" : \"\");
+  line.append(element(\"span\", \"L\" + row.level, \"level\"), \" \" + rangeText(row) + \": \" + row.state);
+  line.firstChild.title = \"level \" + row.level;
+  const granules = row.count === 1 ? \"granule \" + row.granule : \"granules \" + row.granule + \"\\u2013\" + lastOf(row);
+  if (row.granule !== null) line.append(\" \\u2192 \" + granules);
+  if (row.state !== \"TABLE\") line.append(\" \", element(\"span\", row.ripas, \"ripas \" + row.ripas));
   return line;
 }
-// Rows in rising address, TABLE rows before those of their tables: those inside a TABLE row's range and below its level are its own.
-function treeOf(rows, items) {
+// The entry of a table, which can be folded; it stays as it was left while the turns change.
+function tableEntry(key, line) {
+  const details = element(\"details\"), summary = element(\"summary\"), list = element(\"ul\");
+  details.open = !folded.has(key);
+  summary.dataset.key = key;
+  summary.append(line);
+  summary.addEventListener(\"click\", () => (details.open ? folded.add(key) : folded.delete(key)));
+  details.append(summary, list);
+  return { details, list };
+}
+// Rows in rising address, a TABLE row before the rows of its table: those in its range and below its level.
+function treeOf(b, rows, items) {
   const root = element(\"ul\", undefined, \"tree\"), stack = [{ level: 0, end: Infinity, list: root }];
-  for (const row of rows) {
-    while (row.level <= stack[stack.length - 1].level || row.first >= stack[stack.length - 1].end) stack.pop();
-    const li = element(\"li\");
-    stack[stack.length - 1].list.append(li);
-    if (row.state !== \"TABLE\") { li.append(rowLine(row, items)); continue; }
-    const details = element(\"details\"), summary = element(\"summary\"), list = element(\"ul\");
-    details.open = true;
-    summary.append(rowLine(row, items));
-    details.append(summary, list);
-    li.append(details);
-    stack.push({ level: row.level, end: row.first + SIZES[row.level], list });
+  const top = () => stack[stack.length - 1];
+  for (const row of asRuns(rows, items)) {
+    while (row.level <= top().level || row.first >= top().end) stack.pop();
+    const entry = element(\"li\"), line = rowLine(row);
+    top().list.append(entry);
+    if (row.state !== \"TABLE\") { entry.append(line); continue; }
+    const { details, list } = tableEntry([b, row.level, row.first].join(\"/\"), line);
+    entry.append(details);
+    stack.push({ level: row.level, end: endOf(row), list });
   }
   return root;
 }
 function recText(rec) {
-  return \"REC \" + rec.number + \": \" + rec.state + \", granule \" + rec.granule + (rec.auxiliaries.length ? \", auxiliaries \" + rec.auxiliaries.join(\" \") : \"\");
+  const auxiliaries = rec.auxiliaries.length ? \", auxiliaries \" + rec.auxiliaries.join(\" \") : \"\";
+  return \"REC \" + rec.number + \": \" + rec.state + \", granule \" + rec.granule + auxiliaries;
 }
-function realmBox(b, realm, turn, differs) {
-  const box = element(\"div\", undefined, \"realm\" + (differs ? \" differs\" : \"\"));
-  box.dataset.build = b;
-  box.style.borderLeftColor = buildColour(b);
-  const tables = realm.tables === 1 ? \"starting table \" + realm.table : \"starting tables \" + realm.table + \" to \" + (realm.table + realm.tables - 1);
-  const head = element(\"p\");
-  head.append(element(\"strong\", \"Realm of build \" + b + \": \" + realm.state), \", VMID \" + realm.vmid + \", RD \" + realm.rd + \", \" + realm.width + \" bits of IPA, \" + tables);
-  box.append(head);
-  const measured = element(\"p\", \"Measurement \");
+function realmBox(b, realm, items, isMarked) {
+  const box = element(\"div\", undefined, \"realm\" + (isMarked ? \" differs\" : \"\")), head = element(\"h3\");
+  const measured = element(\"p\", \"Measurement\", \"measured\");
+  box.dataset.b = b;
+  head.append(element(\"span\", b, \"tag\"), \" Realm of build \" + b + \": \" + realm.state);
+  head.firstChild.dataset.b = b;
+  const last = realm.table + realm.tables - 1;
+  const tables = realm.tables === 1
+    ? \"starting table \" + realm.table
+    : \"starting tables \" + realm.table + \" to \" + last;
   measured.append(element(\"code\", realm.measurement));
-  box.append(measured);
-  box.append(element(\"p\", realm.recs.length ? realm.recs.map(recText).join(\"; \") : \"No REC\"));
-  box.append(treeOf(realm.rows, turn && turn.build === b ? turn.rows || [] : []));
+  const ids = \"VMID \" + realm.vmid + \", RD \" + realm.rd + \", \" + realm.width + \" bits of IPA, \" + tables;
+  box.append(head, element(\"p\", ids), measured);
+  const recs = realm.recs.length ? realm.recs.map(recText).join(\"; \") : \"No REC\";
+  box.append(element(\"p\", recs), treeOf(b, realm.rows, items));
   return box;
 }
-function drawRealms(place, realms, turn, differs) {
-  place.replaceChildren();
-  realms.forEach((realm, b) => realm && place.append(realmBox(b, realm, turn, differs && differs(b))));
-  if (!place.childNodes.length) place.append(element(\"p\", \"There is no realm.\", \"none\"));
-}
 
-// ---- the turn
-
-let now = 0, playing = null;
-const grid = makeGrid($(\"grid\"));
-const lineOf = (turn) => (turn.step === null ? turn.build + \" - idle\" : turn.build + \" \" + turn.step + \" = \" + turn.answer);
-function reasonOf(turn) {
-  if (turn.step === null) return \"The build has no step left.\";
-  if (turn.accepted) return turn.event === null ? \"Nothing changes.\" : \"Event: \" + turn.event;
-  const [, ...about] = turn.numbers, name = turn.answer.split(\" \")[2];
-  return (REASONS[name] || \"Refused.\").replace(\"$status\", STATUS[about[0]] || \"status \" + about[0]).replaceAll(\"$1\", about[0]).replace(\"$2\", about[1]) + \" A refusal changes nothing.\";
-}
-const eventOf = [], buttons = [];
-function makeHistory() {
-  turns.forEach((turn, i) => {
-    const isRefused = turn.step !== null && !turn.accepted;
-    if (turn.event === null && !isRefused) return;
-    const li = element(\"li\"), button = element(\"button\");
-    button.type = \"button\";
-    button.append(element(\"span\", i + 1, \"turn\"), element(\"span\", isRefused ? lineOf(turn) : turn.event));
-    button.title = \"Turn \" + (i + 1);
-    button.addEventListener(\"click\", () => show(i + 1));
-    li.append(button);
-    $(\"history\").append(li);
-    eventOf.push(i);
-    buttons.push(button);
-  });
-  if (!buttons.length) $(\"history\").append(element(\"li\", \"No command was asked for.\", \"none\"));
-}
-function drawHistory() {
-  const out = $(\"without\").value;
-  let last = null;
-  buttons.forEach((button, k) => {
-    button.className = (turns[eventOf[k]].event === null ? \"refused \" : \"\") + (eventOf[k] >= now ? \"later\" : \"\") + (out !== \"\" && String(turns[eventOf[k]].build) === out ? \" out\" : \"\");
-    button.removeAttribute(\"aria-current\");
-    if (eventOf[k] < now) last = button;
-  });
-  if (last) {
-    last.setAttribute(\"aria-current\", \"true\");
-    const list = $(\"history\"), top = last.offsetTop - list.offsetTop;
-    if (top < list.scrollTop || top > list.scrollTop + list.clientHeight - 40) list.scrollTop = top - list.clientHeight / 2;
+// The boxes of a world's realms. A box whose realm is as it was stays in its place, with its focus and its scroll.
+class Realms {
+  constructor(place) {
+    this.place = place;
+    this.slots = Array.from({ length: builds }, () => ({ shown: [], box: null }));
+    this.none = element(\"p\", \"There is no realm.\", \"none\");
   }
+  draw(realms, turn, isMarked) {
+    const focused = this.place.contains(document.activeElement) ? document.activeElement.dataset.key : undefined;
+    const folds = [...folded].join(\" \");
+    realms.forEach((realm, b) => {
+      const items = realm && turn !== null && turn.build === b && turn.rows ? turn.rows : NO_ROWS;
+      const shown = realm ? [realm, items, isMarked(b), folds] : [];
+      if (shown.length === this.slots[b].shown.length && shown.every((it, k) => it === this.slots[b].shown[k])) return;
+      this.slots[b].shown = shown;
+      this.replace(b, realm && realmBox(b, realm, items, isMarked(b)));
+    });
+    if (this.slots.every(({ box }) => box === null)) this.place.replaceChildren(this.none);
+    else this.none.remove();
+    if (focused) this.place.querySelector('[data-key=\"' + focused + '\"]')?.focus({ preventScroll: true });
+  }
+  replace(b, box) {
+    const old = this.slots[b].box, next = this.slots.slice(b + 1).find((it) => it.box !== null);
+    const top = old ? old.lastChild.scrollTop : 0;
+    if (old) old.remove();
+    if (box) this.place.insertBefore(box, next ? next.box : null);
+    if (box && top) box.lastChild.scrollTop = top;
+    this.slots[b].box = box;
+  }
+}
+// The turn that is shown: its line, its reason, the machine behind it, and the history up to it.
+const refusedAt = new Map((data.refused || []).map((it) => [it.turn, it]));
+const bare = (text, label) => (text.startsWith(label + \": \") ? text.slice(label.length + 2) : text);
+const isRefused = (turn) => turn.accepted === false;
+const lineOf = (turn) => turn.build + (turn.step === null ? \" - idle\" : \" \" + turn.step + \" = \" + turn.answer);
+
+// Of the turn at a place: why it was refused, and what mends it; or what it added to the history.
+function reasonOf(at) {
+  const turn = turns[at], found = refusedAt.get(at);
+  if (turn.step === null) return { text: \"The build has no step left.\" };
+  if (!isRefused(turn)) return { text: turn.event === null ? \"Nothing changes.\" : \"Event: \" + turn.event };
+  return found
+    ? { error: bare(found.error, \"error\"), help: found.help && bare(found.help, \"help\") }
+    : { error: refusalText(turn) };
+}
+// A text in which what is between two backquotes is code.
+const withCode = (text) => text.split(\"`\").map((part, k) => (k % 2 ? element(\"code\", part) : part));
+function drawReason(reason) {
+  const error = reason.error && [element(\"b\", \"error:\"), \" \", ...withCode(reason.error)];
+  $(\"reason\").replaceChildren(...(error || [reason.text]));
+  $(\"help\").replaceChildren(...(reason.help ? [element(\"b\", \"help:\"), \" \", ...withCode(reason.help)] : []));
+}
+
+// ---- the history
+
+const entries = [];
+function makeEntry(at) {
+  const turn = turns[at], button = element(\"button\"), item = element(\"li\");
+  button.type = \"button\";
+  button.tabIndex = -1;
+  button.title = \"Turn \" + (at + 1);
+  button.append(element(\"span\", at + 1, \"turn\"), element(\"span\", turn.event === null ? lineOf(turn) : turn.event));
+  button.addEventListener(\"click\", () => { stop(); show(at + 1); });
+  item.append(button);
+  entries.push({ at, button, isRefused: isRefused(turn) });
+  return item;
+}
+function makeHistory() {
+  const told = turns.map((_, at) => at).filter((at) => turns[at].event !== null || isRefused(turns[at]));
+  $(\"history\").append(...told.map(makeEntry));
+  if (!told.length) $(\"history\").append(element(\"li\", \"No command was asked for.\", \"none\"));
+  else entries[0].button.tabIndex = 0;
+}
+let current = 0;
+function drawHistory() {
+  for (const { at, button, isRefused } of entries) {
+    const isOut = out !== null && turns[at].build === out;
+    button.className = (isRefused ? \"refused\" : \"\") + (at >= now ? \" later\" : \"\") + (isOut ? \" out\" : \"\");
+  }
+  if (!entries.length) return;
+  const past = entries.findIndex(({ at }) => at >= now), last = past < 0 ? entries.length - 1 : past - 1;
+  entries[current].button.removeAttribute(\"aria-current\");
+  entries[current].button.tabIndex = -1;
+  current = Math.max(0, last);
+  entries[current].button.tabIndex = 0;
+  if (last >= 0) entries[current].button.setAttribute(\"aria-current\", \"true\");
+  reveal(entries[current].button);
+}
+function reveal(button) {
+  const list = $(\"history\"), [inner, outer] = [button, list].map((it) => it.getBoundingClientRect());
+  const isIn = outer.top <= inner.top && inner.bottom <= outer.bottom;
+  if (!isIn) list.scrollTop += inner.top - outer.top - list.clientHeight / 2;
+}
+
+// ---- the builds
+
+function buildRow(b, world, isNow) {
+  const row = element(\"tr\", undefined, isNow ? \"now\" : \"\"), tag = element(\"span\", b, \"tag\"), realm = world.realms[b];
+  const texts = [world.leased[b], world.open[b] + (world.aborting[b] ? \", aborting\" : \"\"),
+    world.mark[b] === null ? \"-\" : \"at \" + world.mark[b],
+    realm ? realm.state + \", VMID \" + realm.vmid : \"-\"];
+  tag.dataset.b = b;
+  const head = element(\"th\");
+  head.scope = \"row\";
+  head.append(tag);
+  row.append(head, ...texts.map((text) => element(\"td\", text)));
+  return row;
 }
 function drawBuilds(world, turn) {
-  const body = $(\"builds\").tBodies[0];
-  body.replaceChildren();
-  for (let b = 0; b < builds; b++) {
-    const row = body.insertRow(), tag = element(\"span\", b, \"tag\"), realm = world.realms[b];
-    tag.style.borderColor = buildColour(b);
-    row.insertCell().append(tag);
-    row.insertCell().textContent = world.granules.filter((g) => g.build === b).length;
-    row.insertCell().textContent = world.open[b] + (world.aborting[b] ? \", aborting\" : \"\");
-    row.insertCell().textContent = world.mark[b] === null ? \"-\" : \"at \" + world.mark[b];
-    row.insertCell().textContent = realm ? realm.state + \", VMID \" + realm.vmid : \"-\";
-    if (turn && turn.build === b) row.className = \"now\";
-  }
+  const rows = world.leased.map((_, b) => buildRow(b, world, turn !== null && turn.build === b));
+  $(\"builds\").tBodies[0].replaceChildren(...rows);
+  $(\"free\").textContent = counted(pages - world.leased.reduce((sum, n) => sum + n, 0), \"page\") + \" free\";
+}
+
+// ---- all of it
+
+let now = 0, out = null;
+const grid = new Grid($(\"grid\")), realms = new Realms($(\"realms\"));
+function drawTurn(turn) {
+  $(\"slider\").value = now;
+  $(\"slider\").setAttribute(\"aria-valuetext\", \"turn \" + now + \" of \" + turns.length);
+  $(\"count\").textContent = \"turn \" + now + \" of \" + turns.length;
+  $(\"line\").textContent = turn ? lineOf(turn) : \"Before the first turn\";
+  drawReason(turn ? reasonOf(now - 1) : { text: \"All pages are free and zero.\" });
+  $(\"turn\").classList.toggle(\"refused\", turn !== null && isRefused(turn));
+}
+function drawRun(turn) {
+  const world = everyone.after(now), changed = new Set(changedBy(turn, world));
+  grid.draw(world, (g) => (changed.has(g) ? \"new\" : \"\"));
+  realms.draw(world.realms, turn, () => false);
+  drawBuilds(world, turn);
+}
+function draw() {
+  const turn = now ? turns[now - 1] : null;
+  drawTurn(turn);
+  if (out === null) drawRun(turn);
+  else drawCompared(turn);
+  drawHistory();
+  drawPicked();
+  tellAddress();
 }
 function show(n) {
   now = Math.max(0, Math.min(turns.length, n));
-  const turn = now ? turns[now - 1] : null, world = worldAt(now);
-  $(\"slider\").value = now;
-  $(\"count\").textContent = \"turn \" + now + \" of \" + turns.length;
-  $(\"line\").textContent = turn ? lineOf(turn) : \"Before the first turn\";
-  $(\"reason\").textContent = turn ? reasonOf(turn) : \"All pages are free and zero.\";
-  $(\"turn\").className = turn && turn.accepted === false ? \"refused\" : \"\";
-  const fresh = new Set(((turn && turn.granules) || []).map((item) => item.granule));
-  drawGrid(grid, world.granules, (g) => (fresh.has(g) ? \"new\" : \"\"));
-  drawRealms($(\"realms\"), world.realms, turn);
-  drawBuilds(world, turn);
-  drawHistory();
   if (now === turns.length) stop();
-  tellAddress();
+  draw();
 }
-// The address of the page has the turn, so that it can be sent on or put on a slide.
-function tellAddress() {
-  const out = $(\"without\").value, asked = new URLSearchParams({ turn: now, theme: document.documentElement.dataset.theme });
-  if (out !== \"\") asked.set(\"without\", out);
-  try { history.replaceState(null, \"\", \"#\" + asked); } catch { /* a browser that lets no page of a file do so */ }
-}
-
-// ---- a build left out
-
+// A build left out: the run up to the turn that is shown, beside the same history without the events of that build.
 let pair = null;
-const plain = (realm) => JSON.stringify(realm);
-function compare() {
-  const out = $(\"without\").value;
-  $(\"compare\").hidden = out === \"\";
-  $(\"machine-part\").hidden = $(\"realm-part\").hidden = out !== \"\";
-  $(\"turn\").classList.toggle(\"apart\", out !== \"\");
-  drawHistory();
+function makePair() {
+  const grids = [new Grid($(\"run-grid\")), new Grid($(\"other-grid\"))];
+  return { grids, realms: [new Realms($(\"run-realms\")), new Realms($(\"other-realms\"))] };
+}
+function differsIn(world, other) {
+  return (g) => {
+    const one = world.granules[g], two = other.granules[g];
+    const isSame = one.state === two.state && one.build === two.build && one.realm === two.realm;
+    return !isSame || !isSamePage(world.contents[g], other.contents[g]);
+  };
+}
+function tellVerdict(world, granules, realms) {
+  const isSame = granules + realms === 0, open = world.open[out];
+  const hasBegun = turns.slice(0, now).some((turn) => turn.build === out && turn.event !== null);
+  $(\"verdict\").className = isSame ? \"same\" : \"differ\";
+  $(\"verdict\").textContent = isSame
+    ? \"No difference: at this turn \" + (hasBegun ? \"nothing of build \" + out + \" is left\" : \"build \" + out + \" has done nothing yet\")
+    : \"Build \" + out + \" makes a difference here: in \"
+      + counted(granules, \"granule\") + \" and \" + counted(realms, \"realm\");
+  $(\"verdict-why\").textContent = open === 0
+    ? \"Build \" + out + \" has nothing open at this turn.\"
+    : \"Build \" + out + \" has \" + counted(open, \"operation\") + \" open at this turn: what it holds is what differs.\"
+      + \" After its abort there is no difference.\";
+}
+function drawCompared(turn) {
+  pair = pair || makePair();
+  const worlds = [everyone.after(now), othersOf[out].after(now)], differs = differsIn(...worlds);
+  const marks = worlds[0].granules.map((_, g) => (differs(g) ? \"differs\" : \"\"));
+  const [mine, theirs] = worlds.map((world) => world.realms.map((realm) => JSON.stringify(realm)));
+  const isMarked = (b) => mine[b] !== theirs[b];
+  worlds.forEach((world, k) => {
+    pair.grids[k].draw(world, (g) => marks[g]);
+    pair.realms[k].draw(world.realms, k === 0 || turn === null || turn.build !== out ? turn : null, isMarked);
+  });
+  tellVerdict(worlds[0], marks.filter(Boolean).length, mine.filter((_, b) => isMarked(b)).length);
+  $(\"run-title\").textContent = now === turns.length
+    ? \"The run, all \" + counted(now, \"turn\")
+    : \"The run after turn \" + now;
+  $(\"other-title\").textContent = \"The same history without build \" + out;
+}
+function leaveOut(build) {
+  out = build;
+  $(\"without\").value = build === null ? \"\" : build;
+  $(\"compare\").hidden = build === null;
+  $(\"machine-part\").hidden = $(\"realm-part\").hidden = build !== null;
+  $(\"run\").classList.toggle(\"compared\", build !== null);
+  (build === null ? $(\"grid\") : $(\"worlds\")).after($(\"key\"));
+  draw();
+}
+// The address of the page: it says what is shown, and a link to it can ask for that, also in an open tab.
+const DARK = matchMedia(\"(prefers-color-scheme: dark)\");
+let themeAsked = null;
+function setTheme(theme) {
+  document.documentElement.dataset.theme = theme;
+  $(\"theme\").textContent = theme === \"dark\" ? \"Light\" : \"Dark\";
+}
+function chooseTheme(theme) {
+  themeAsked = theme;
+  setTheme(theme);
+}
+// The number in a part of the address, where it is a count up to `most`.
+function countIn(text, most) {
+  return /^(0|[1-9][0-9]{0,5})$/.test(text) && Number(text) <= most ? Number(text) : undefined;
+}
+// A part that is missing asks for the default; a wrong one is ignored, and so is an address that has none of the parts.
+function followAddress(hash) {
+  const asked = new URLSearchParams(hash.slice(1));
+  const [turn, build, theme] = [\"turn\", \"without\", \"theme\"].map((it) => asked.get(it));
+  if (turn !== null || build !== null || theme !== null) {
+    if (theme === \"dark\" || theme === \"light\") chooseTheme(theme);
+    now = turn === null ? turns.length : countIn(turn, turns.length) ?? now;
+    leaveOut(build === null ? null : countIn(build, builds - 1) ?? out);
+  }
   tellAddress();
-  if (out === \"\") return;
-  stop();
-  pair = pair || [makeGrid($(\"last-grid\")), makeGrid($(\"other-grid\"))];
-  const last = toldWorld(run.world), other = toldWorld(data.without[out]), b = Number(out);
-  const differs = (g) => plain(last.granules[g]) !== plain(other.granules[g]);
-  const realmDiffers = (r) => plain(last.realms[r]) !== plain(other.realms[r]);
-  const sums = (told) => told.builds.map((it) => plain(it.pages));
-  const [mine, theirs] = [sums(run.world), sums(data.without[out])];
-  const counts = [last.granules.filter((item) => differs(item.granule)).length, last.realms.filter((_, r) => realmDiffers(r)).length, mine.filter((text, r) => text !== theirs[r]).length];
-  drawGrid(pair[0], last.granules, (g) => (differs(g) ? \"differs\" : \"\"));
-  drawGrid(pair[1], other.granules, (g) => (differs(g) ? \"differs\" : \"\"));
-  drawRealms($(\"last-realms\"), last.realms, null, realmDiffers);
-  drawRealms($(\"other-realms\"), other.realms, null, realmDiffers);
-  const same = counts.every((n) => n === 0);
-  $(\"verdict\").className = same ? \"same\" : \"differ\";
-  $(\"verdict\").textContent = same ? \"No difference: build \" + out + \" left no trace\" : \"They differ in \" + number(counts[0], \"granule\") + \", \" + number(counts[1], \"realm\") + \", and the pages of \" + number(counts[2], \"build\");
-  $(\"verdict-why\").textContent = last.open[b] === 0
-    ? \"Build \" + out + \" has nothing open in the end. The world on the right is that of a second machine, to which the history was applied without the events of build \" + out + \".\"
-    : \"Build \" + out + \" has \" + number(last.open[b], \"act\") + \" open in the end: what it holds is what differs. After an abort of it there is no difference. The world on the right is that of a second machine, to which the history was applied without the events of build \" + out + \".\";
-  $(\"other-title\").textContent = \"The world of the history without build \" + out;
 }
-function leaveOut(value) {
-  $(\"without\").value = value;
-  compare();
+function addressNow() {
+  const parts = { turn: now };
+  if (out !== null) parts.without = out;
+  if (themeAsked !== null) parts.theme = themeAsked;
+  return \"#\" + new URLSearchParams(parts);
 }
-
-// ---- controls
-
+// Browsers limit how often a page may change its address; so it changes at once and then at most four times a second.
+let pending = null;
+function tellAddress() {
+  if (pending !== null) return;
+  writeAddress();
+  pending = setTimeout(() => { pending = null; writeAddress(); }, 250);
+}
+function writeAddress() {
+  if (location.hash === addressNow()) return;
+  try { history.replaceState(null, \"\", addressNow()); } catch { /* a browser that lets no page of a file do so */ }
+}
+// The controls, the keys, and the beginning.
+let playing = null;
 function stop() {
-  if (playing !== null) clearInterval(playing);
+  if (playing === null) return;
+  clearInterval(playing);
   playing = null;
   $(\"play\").textContent = \"Play\";
+  $(\"turn\").setAttribute(\"aria-live\", \"polite\");
 }
 function play() {
   if (playing !== null) { stop(); return; }
   if (now === turns.length) show(0);
   $(\"play\").textContent = \"Pause\";
+  $(\"turn\").setAttribute(\"aria-live\", \"off\");
   playing = setInterval(() => show(now + 1), Math.max(40, Math.min(700, 60000 / Math.max(1, turns.length))));
 }
-function setTheme(dark) {
-  document.documentElement.dataset.theme = dark ? \"dark\" : \"light\";
-  $(\"theme\").textContent = dark ? \"Light\" : \"Dark\";
+function go(n) {
+  stop();
+  show(n);
 }
-const number = (n, one) => n + \" \" + one + (n === 1 ? \"\" : \"s\");
+
+// ---- the granule that is pointed at or gone to
+
+let picked = null;
+const gridsNow = () => (out === null ? [grid] : pair.grids);
+const allGrids = () => (pair ? [grid, ...pair.grids] : [grid]);
+function drawPicked() {
+  if (picked === null) return;
+  $(\"cell\").textContent = out === null
+    ? granuleText(everyone.world, picked)
+    : \"In the run: \" + granuleText(everyone.world, picked)
+      + \". Without build \" + out + \": \" + granuleText(othersOf[out].world, picked);
+}
+function pick(g) {
+  if (picked !== null) allGrids().forEach((it) => it.pick(picked, false));
+  picked = g;
+  gridsNow().forEach((it) => it.pick(g, true));
+  drawPicked();
+}
+function pickAt(e) {
+  const it = allGrids().find(({ place }) => place === e.currentTarget), g = it.granuleOf.get(e.target);
+  if (g !== undefined) pick(g);
+}
+for (const id of [\"grid\", \"run-grid\", \"other-grid\"]) {
+  $(id).addEventListener(\"mouseover\", pickAt);
+  $(id).addEventListener(\"click\", pickAt);
+  $(id).addEventListener(\"focus\", () => pick(picked === null ? 0 : picked));
+}
+function walk(step) {
+  const g = (picked === null ? 0 : picked) + step;
+  if (g >= 0 && g < pages) pick(g);
+}
+function walkHistory(step) {
+  const at = entries.findIndex(({ button }) => button === document.activeElement) + step;
+  if (entries[at]) { go(entries[at].at + 1); entries[at].button.focus(); }
+}
+
+// ---- keys: the same wherever the focus is
+
+const TURNS = {
+  ArrowLeft: () => go(now - 1), ArrowRight: () => go(now + 1), Home: () => go(0),
+  End: () => go(turns.length), \" \": play,
+  Escape: () => { stop(); leaveOut(null); }, t: () => $(\"theme\").click(), T: () => $(\"theme\").click(),
+};
+const WALKS = {
+  ArrowLeft: () => walk(-1), ArrowRight: () => walk(1),
+  ArrowUp: () => walk(-columnsNow()), ArrowDown: () => walk(columnsNow()),
+};
+const LIST = { ArrowUp: () => walkHistory(-1), ArrowDown: () => walkHistory(1) };
+function actionOf(e) {
+  const at = e.target instanceof Element ? e.target : document.body;
+  const inGrid = at.closest(\".grid\"), inHistory = at.closest(\"#history\");
+  if (inGrid && (e.shiftKey || e.key === \"ArrowUp\" || e.key === \"ArrowDown\") && WALKS[e.key]) return WALKS[e.key];
+  if (inHistory && LIST[e.key]) return LIST[e.key];
+  const build = countIn(e.key, builds - 1);
+  if (build !== undefined) return () => leaveOut(out === build ? null : build);
+  return TURNS[e.key];
+}
+document.addEventListener(\"keydown\", (e) => {
+  const action = e.ctrlKey || e.metaKey || e.altKey ? undefined : actionOf(e);
+  if (!action) return;
+  e.preventDefault();
+  e.stopPropagation();
+  if (e.key !== \" \" || !e.repeat) action();
+}, true);
+// A button that has the focus is pressed by Space when the key is let go.
+document.addEventListener(\"keyup\", (e) => { if (e.key === \" \") e.preventDefault(); }, true);
+
+// ---- the beginning
+
 function addKey(sign, meaning) {
   const key = element(\"span\");
   key.append(sign, meaning);
   $(\"legend\").append(key);
 }
-const isDark = () => document.documentElement.dataset.theme === \"dark\";
-function begin() {
-  const s = run.settings;
-  $(\"machine\").textContent = number(s.pages, \"page\") + \", \" + number(s.vmids, \"VMID\") + \", \" + number(s.builds, \"build\") + \", \" + number(turns.length, \"turn\") + \", \" + number(turns.filter((t) => t.event !== null).length, \"event\");
-  for (const state of Object.keys(WORDS)) addKey(element(\"i\", WORDS[state], state), MEANINGS[state]);
-  addKey(element(\"i\", \"\", \"free\"), \"free: no build leases it\");
-  const frame = element(\"i\", \"b0\", \"frame\");
-  frame.style.borderColor = buildColour(0);
-  addKey(frame, \"the frame, and b0: the build that leases it. At the top left: the granule's number\");
-  for (let b = 0; b < builds; b++) {
-    const option = element(\"option\", \"build \" + b);
-    option.value = b;
-    $(\"without\").append(option);
+function makeLegend() {
+  const isSmall = SIZE === \"small\" || SIZE === \"tiny\";
+  for (const state of Object.keys(WORDS)) {
+    addKey(element(\"i\", isSmall ? \"\" : WORDS[state], state), state + \": \" + MEANINGS[state]);
   }
+  addKey(element(\"i\", \"\", \"free\"), \"free\");
+  if (!isSmall) addKey(element(\"i\", \"\", \"dot zero\"), \"all bytes zero\");
+  addKey(element(\"i\", \"\", \"dot full\"), \"not zero\");
+  const tag = element(\"i\", \"0\", \"tag\");
+  tag.dataset.b = 0;
+  addKey(tag, \"leased by build 0\");
+}
+function makeTitle() {
+  if (!data.title) return;
+  const title = data.title.replace(/`|\\*\\*/g, \"\");
+  const [, first, rest] = title.match(/^(.*?[.!?])\\s+(\\S.*)$/s) || [null, title, \"\"];
+  document.title = title;
+  $(\"title\").textContent = first;
+  $(\"about\").textContent = rest && !/[.!?]$/.test(rest) ? rest + \" \\u2026\" : rest;
+}
+function begin() {
+  const s = run.settings, events = turns.filter((turn) => turn.event !== null).length;
+  const sizes = [[s.pages, \"page\"], [s.vmids, \"VMID\"], [s.builds, \"build\"], [turns.length, \"turn\"], [events, \"event\"]];
+  $(\"machine\").textContent = sizes.map(([n, one]) => counted(n, one)).join(\", \");
+  $(\"run\").classList.add(SIZE);
+  if ((data.refused || []).some((it) => it.help)) $(\"turn\").classList.add(\"helped\");
+  for (let b = 0; b < builds; b++) $(\"without\").append(new Option(\"build \" + b, b));
   $(\"slider\").max = turns.length;
-  setTheme(matchMedia(\"(prefers-color-scheme: dark)\").matches);
+  setTheme(DARK.matches ? \"dark\" : \"light\");
+  makeTitle();
+  makeLegend();
   makeHistory();
-  const asked = new URLSearchParams(location.hash.slice(1));
-  if (asked.has(\"theme\")) setTheme(asked.get(\"theme\") === \"dark\");
-  show(asked.has(\"turn\") ? Number(asked.get(\"turn\")) : turns.length);
-  if (asked.has(\"without\")) leaveOut(asked.get(\"without\"));
+  const asked = location.hash;
+  show(turns.length);
+  followAddress(asked);
 }
-$(\"slider\").addEventListener(\"input\", () => { stop(); show(Number($(\"slider\").value)); });
-$(\"first\").addEventListener(\"click\", () => { stop(); show(0); });
-$(\"back\").addEventListener(\"click\", () => { stop(); show(now - 1); });
-$(\"next\").addEventListener(\"click\", () => { stop(); show(now + 1); });
-$(\"last\").addEventListener(\"click\", () => { stop(); show(turns.length); });
-$(\"play\").addEventListener(\"click\", play);
-$(\"theme\").addEventListener(\"click\", () => { setTheme(!isDark()); tellAddress(); });
-$(\"without\").addEventListener(\"change\", compare);
-matchMedia(\"(prefers-color-scheme: dark)\").addEventListener(\"change\", (e) => setTheme(e.matches));
-
-// The granule that is pointed at or gone to; the arrow keys go on in a grid that has the focus.
-$(\"grid\").tabIndex = 0;
-let picked = null;
-function pick(g) {
-  if (picked !== null) grid.cells[picked].cell.classList.remove(\"pick\");
-  picked = g;
-  grid.cells[g].cell.classList.add(\"pick\");
-  $(\"cell\").textContent = granuleText(world.granules[g]);
-}
-$(\"grid\").addEventListener(\"mouseover\", (e) => { const cell = e.target.closest(\"i\"); if (cell) pick(Number(cell.dataset.granule)); });
-$(\"grid\").addEventListener(\"focus\", () => { if (picked === null) pick(0); });
-$(\"grid\").addEventListener(\"keydown\", (e) => {
-  const move = { ArrowLeft: -1, ArrowRight: 1, ArrowUp: -grid.columns, ArrowDown: grid.columns }[e.key];
-  if (move === undefined) return;
-  e.preventDefault();
-  e.stopPropagation();
-  if (picked + move >= 0 && picked + move < pages) pick(picked + move);
+$(\"slider\").addEventListener(\"input\", () => go(Number($(\"slider\").value)));
+const BUTTONS = { first: TURNS.Home, back: TURNS.ArrowLeft, next: TURNS.ArrowRight, last: TURNS.End, play };
+for (const [id, action] of Object.entries(BUTTONS)) $(id).addEventListener(\"click\", action);
+$(\"theme\").addEventListener(\"click\", () => {
+  chooseTheme(document.documentElement.dataset.theme === \"dark\" ? \"light\" : \"dark\");
+  tellAddress();
 });
-document.addEventListener(\"keydown\", (e) => {
-  if (e.ctrlKey || e.metaKey || e.altKey || e.target.tagName === \"SELECT\") return;
-  const keys = { ArrowLeft: () => { stop(); show(now - 1); }, ArrowRight: () => { stop(); show(now + 1); }, Home: () => { stop(); show(0); }, End: () => { stop(); show(turns.length); },
-    t: () => $(\"theme\").click(), T: () => $(\"theme\").click(), Escape: () => leaveOut(\"\") };
-  if (e.key === \" \" && e.target.tagName !== \"BUTTON\") { e.preventDefault(); play(); return; }
-  if (/^[0-7]$/.test(e.key) && Number(e.key) < builds) { leaveOut($(\"without\").value === e.key ? \"\" : e.key); return; }
-  if (keys[e.key]) { e.preventDefault(); keys[e.key](); }
-});
+$(\"without\").addEventListener(\"change\", () => leaveOut($(\"without\").value === \"\" ? null : Number($(\"without\").value)));
+DARK.addEventListener(\"change\", () => { if (themeAsked === null) setTheme(DARK.matches ? \"dark\" : \"light\"); });
+isNarrow.addEventListener(\"change\", () => allGrids().forEach((it) => it.arrange()));
+addEventListener(\"hashchange\", (e) => followAddress(new URL(e.newURL).hash));
 begin();
 </script>
 </body>
