@@ -1,35 +1,48 @@
-//! A monitor on a pipe: the lines of a trace come on standard input, and go to standard output with their answers; or are
-//! checked.
+//! A monitor on a pipe: the lines of a trace come from a file or from standard input, and go to standard output with their answers;
+//! or are checked.
 #![tactic(auto)]
 
 ghost use Rattle.std.specs.Prelude.{◌≡◌, IfErr};
 ghost use Rattle.std.specs.Process.{exit_status};
 ghost use Rattle.trace_program.specs.Stop.{trace_exit_status, IsTraceStatus};
 
-use command_line::{Stop, arguments};
+use command_line::{Ended, Input, Output, Painting, Stop, arguments};
 use std::process::ExitCode;
 use told_device::Told;
 use trace_program::{Asked, Fault, Verdict, run};
 
+/// The lines of the output that are painted on a terminal.
+fn painting(asked: Asked) -> Option<Painting> {
+    match asked {
+        Asked::Answer => None,
+        Asked::Check => Some(Painting::Difference),
+    }
+}
+
 /// Does what the command line asks for.
-fn serve(rt: &HostRuntime) -> Result<Verdict, Stop<Fault>> {
+fn serve(rt: &HostRuntime) -> Result<Ended<Verdict>, Stop<Fault>> {
     let alloc = rt.alloc();
     let words = arguments::<_, Fault>(rt)?;
-    let asked = Asked::of(alloc, &words)?;
-    let mut input = Told::new(rt.stdin());
-    let mut output = Told::new(rt.stdout());
-    Ok(run(alloc, asked, &mut input, &mut output)?)
+    let line = match Asked::of(alloc, &words) {
+        Ok(line) => line,
+        Err(error) => return Ended::shown(alloc, error, &mut Told::new(rt.stdout())),
+    };
+    let mut input = Told::new(Input::open(rt, "rmitrace", line.file, "a trace")?);
+    let mut output = Told::new(Output::open(rt, painting(line.asked)));
+    let outcome = run(alloc, line.asked, &mut input, &mut output);
+    Ended::of_run(outcome, output.is_closed())
 }
 
 /// The exit status. Where the program stops, standard error says why. A line that is wrong stands on standard output.
-fn end(rt: &HostRuntime, outcome: Result<Verdict, Stop<Fault>>) -> ExitCode
+fn end(rt: &HostRuntime, outcome: Result<Ended<Verdict>, Stop<Fault>>) -> ExitCode
     ensures value { exit_status result ≡ trace_exit_status outcome }
     ensures stops { IfErr outcome (λ _. IsTraceStatus (exit_status result)) }
 {
     match outcome {
-        Ok(Verdict::Agree) => ExitCode::SUCCESS,
-        Ok(Verdict::NoAnswers | Verdict::Differ) => ExitCode::FAILURE,
-        Err(stop) => stop.end(rt),
+        Ok(Ended::Done(Verdict::Agree) | Ended::Shown) => ExitCode::SUCCESS,
+        Ok(Ended::Done(Verdict::NoAnswers | Verdict::Differ)) => ExitCode::FAILURE,
+        Ok(Ended::Closed) => ExitCode::from(141),
+        Err(stop) => stop.end_in_colour(rt),
     }
 }
 

@@ -1,6 +1,7 @@
 -- How the program ends.
-use Rattle.std.specs.Prelude.{◌≡◌, ◌⊎◌, ℕ, Result, Ok, Err}
-use Rattle.command_line.specs.Stop.{status_of_stop}
+use Rattle.std.specs.Prelude.{◌≡◌, ◌⊎◌, ℕ, Result}
+use Rattle.command_line.specs.Ended.{status_of_end}
+use Rattle.command_line.specs.declared.ended.Ended.{Ended}
 use Rattle.command_line.specs.declared.stop.Stop.{Stop}
 use Rattle.trace_program.specs.declared.checking.Verdict.{Verdict}
 use Rattle.trace_program.specs.declared.checking.Verdict.TheVariants.{Agree, NoAnswers, Differ}
@@ -11,13 +12,14 @@ abbrev pub trace_status_of : Fault → ℕ
 trace_status_of Memory = 3
 trace_status_of Device = 5
 
--- a program that has done what it was asked for ends with 0, unless a line of the trace is wrong, or no answer of it
--- was compared
-abbrev pub trace_exit_status : Result Verdict (Stop Fault) → ℕ
-trace_exit_status (Ok Agree) = 0
-trace_exit_status (Ok NoAnswers) = 1
-trace_exit_status (Ok Differ) = 1
-trace_exit_status (Err stop) = status_of_stop trace_status_of stop
+-- a verdict ends the program with 0, unless a line of the trace is wrong, or no answer of it was compared
+abbrev pub trace_verdict_status : Verdict → ℕ
+trace_verdict_status Agree = 0
+trace_verdict_status NoAnswers = 1
+trace_verdict_status Differ = 1
+
+abbrev pub trace_exit_status : Result (Ended Verdict) (Stop Fault) → ℕ
+trace_exit_status outcome = status_of_end trace_verdict_status trace_status_of outcome
 
 -- the statuses of a program that stops
 abbrev pub IsTraceStatus : ℕ → Type 0

@@ -51,13 +51,29 @@ pub record IsAgreed (old : Now) (bytes : List ℕ) (new : Now) : Type 0 where
   pub answer : IsTraceAnswer (line_of_trace bytes) old given new
   pub right : IsRight (stated_in bytes) given
 
--- The line is performed, and it is wrong. What is said of it is its number, the line, and the line as it is answered.
+-- where the line is no command, words may follow that help; else nothing follows
+abbrev pub IsHint : Option Answer → List ℕ → Type 0
+IsHint (Some NoCommand) hint = Unit {0}
+IsHint given hint = hint ≡ []
+
+-- a hint is added to a text
+pub record AddsHint (given : Option Answer) (old new : List ℕ) : Type 0 where
+  pub hint : List ℕ
+  pub is_hint : IsHint given hint
+  pub added : new ≡ old ++ hint
+
+-- what is said of a line that is wrong: its number, the line, the line as it is answered, and a hint
+abbrev pub IsDifference : ℕ → List ℕ → Line → Option Answer → List ℕ → Type 0
+IsDifference number bytes line given text =
+    AddsHint given (codes "line " ++ repeated_line (decimal number) ++ repeated_line bytes ++ written_with bytes line given) text
+
+-- The line is performed, and it is wrong.
 pub record LineDiffers (old : Now) (number : ℕ) (bytes text : List ℕ) : Type 0 where
   pub new : Now
   pub given : Option Answer
   pub answer : IsTraceAnswer (line_of_trace bytes) old given new
   pub wrong : ¬ IsRight (stated_in bytes) given
-  pub told : text ≡ codes "line " ++ repeated_line (decimal number) ++ repeated_line bytes ++ written_with bytes (line_of_trace bytes) given
+  pub told : IsDifference number bytes (line_of_trace bytes) given text
 
 -- ---- lines in their order
 

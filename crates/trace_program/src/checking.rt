@@ -4,7 +4,7 @@ ghost use Rattle.std.specs.Option.{option_copied};
 ghost use Rattle.std.specs.Io.KnownBytes.{Keeps, IsAtEnd};
 ghost use Rattle.rmi_trace.specs.Answers.{repeated_line};
 ghost use Rattle.trace_program.specs.Session.{written_with};
-ghost use Rattle.trace_program.specs.Verdict.{stated_with, IsRight, is_command_or_reading, agreement_text, LineDiffers, IsTraceJudged, IsChecked, IsCheckedInPart};
+ghost use Rattle.trace_program.specs.Verdict.{stated_with, IsDifference, IsHint, IsRight, is_command_or_reading, agreement_text, LineDiffers, IsTraceJudged, IsChecked, IsCheckedInPart};
 ghost use Rattle.trace_program.specs.Checking.{CountsLine, IsAgreedSoFar, IsAgreedUnderway, StopsAtFeed};
 ghost use Rattle.trace_program.specs.declared.fault.Fault.TheVariants.{Memory, Device};
 ghost use Rattle.trace_program.specs.declared.checking.Verdict.TheVariants.{Agree, NoAnswers};
@@ -12,7 +12,7 @@ ghost use Rattle.trace_program.specs.declared.checking.Verdict.TheVariants.{Agre
 use crate::answering::keep;
 use crate::session::push_told;
 use crate::{Fault, Session};
-use rmi_trace::{Answer, Line, Request, cut_answer, parse, push_line};
+use rmi_trace::{Answer, Line, Request, cut_answer, nearest_word, parse, push_line};
 use std::alloc::{AllocError, Global};
 use std::io::{Read, Write};
 use told_device::Told;
@@ -101,6 +101,22 @@ fn agreement(alloc: Global, counts: Counts) -> Result<Judged, AllocError>
     Ok(Judged { verdict, text })
 }
 
+// The line of a word that was probably meant, where the line is no command.
+fn hint_of(alloc: Global, bytes: &[u8], given: &Option<Answer>) -> Result<Vec<u8>, AllocError>
+    ensures { IfOk result (λ hint. IsHint given.now hint.items) }
+{
+    let mut hint = Vec::new(alloc);
+    let Some(Answer::NoCommand) = given else {
+        return Ok(hint);
+    };
+    if let Some(word) = nearest_word(alloc, bytes)? {
+        hint.extend_from_slice(b"help: did you mean ")?;
+        hint.extend_from_slice(word.as_bytes())?;
+        hint.extend_from_slice(b"?\n")?;
+    }
+    Ok(hint)
+}
+
 // What is told of the line of that number.
 fn difference(
     alloc: Global,
@@ -109,12 +125,14 @@ fn difference(
     line: &Line,
     given: &Option<Answer>,
 ) -> Result<Vec<u8>, AllocError>
-    ensures { IfOk result (λ text. text.items ≡ codes "line " ++ repeated_line (decimal number) ++ repeated_line bytes.now ++ written_with bytes.now line.now given.now) }
+    ensures { IfOk result (λ text. IsDifference number bytes.now line.now given.now text.items) }
 {
     let mut text = Vec::from_slice(alloc, b"line ")?;
     push_line(&mut text, itoa::Buffer::new().format(number).as_bytes())?;
     push_line(&mut text, bytes)?;
     push_told(&mut text, bytes, line, given)?;
+    let hint = hint_of(alloc, bytes, given)?;
+    text.extend_from_slice(&hint)?;
     Ok(text)
 }
 
