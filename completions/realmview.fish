@@ -1,23 +1,37 @@
 # Completions of realmview for fish. tools/completions makes this file of what --help says.
 complete -c realmview -f
-complete -c realmview -n __fish_use_subcommand -a history -d 'Replays the plan on standard input, and writes its history: the size of the machine, and an event a line'
-complete -c realmview -n __fish_use_subcommand -a apply -d 'Applies the history on standard input, event by event, and writes the map of the machine that it leads to'
-complete -c realmview -n __fish_use_subcommand -a json -d 'Replays the plan on standard input, and writes the run as one JSON document: each turn with what it changed, and the last world'
-complete -c realmview -n __fish_use_subcommand -a page -d 'Replays the plan on standard input, and writes a page for browsers that shows the run, turn by turn, and the worlds without each build'
-complete -c realmview -n __fish_use_subcommand -a why -d 'Replays the plan on standard input, and writes below each turn that is refused its checks, up to the one that fails'
-complete -c realmview -n __fish_use_subcommand -a explore -d 'Runs the plan on standard input in every order of its builds'\'' turns, and writes in how many orders each step is refused, and the maps in the end'
-complete -c realmview -n __fish_use_subcommand -a check -d 'Writes what is wrong with the plan on standard input, each mistake with its line, or how much the plan has'
+complete -c realmview -n __fish_use_subcommand -a history -d 'Print the history of a plan'\''s run, one event a line'
+complete -c realmview -n __fish_use_subcommand -a apply -d 'Apply a history event by event, and print the map that it leads to'
+complete -c realmview -n __fish_use_subcommand -a json -d 'Print a plan'\''s run as one JSON document'
+complete -c realmview -n __fish_use_subcommand -a page -d 'Print a web page that shows a plan'\''s run, turn by turn'
+complete -c realmview -n __fish_use_subcommand -a why -d 'Explain why steps of a plan are refused'
+complete -c realmview -n __fish_use_subcommand -a explore -d 'Run a plan in every order of its builds'\'' turns, and print what differs'
+complete -c realmview -n __fish_use_subcommand -a order -d 'Print a plan with an order that gives each build all the turns that it needs, in rotation'
+complete -c realmview -n __fish_use_subcommand -a check -d 'Check a plan, and print each mistake with its line'
+complete -c realmview -n __fish_use_subcommand -a help -d 'Print this message or the help of the given subcommand(s)'
 complete -c realmview -n '__fish_use_subcommand' -s h -l help -d 'Print help'
 complete -c realmview -n '__fish_use_subcommand' -s V -l version -d 'Print version'
-complete -c realmview -n '__fish_seen_subcommand_from history' -l erase -x -a '0 1 2 3 4 5 6 7' -d 'Leaves the events of build B out'
+complete -c realmview -n '__fish_seen_subcommand_from history' -l erase -x -a '0 1 2 3 4 5 6 7' -d 'Leave out the events of build B'
 complete -c realmview -n '__fish_seen_subcommand_from history' -s h -l help -d 'Print help'
-complete -c realmview -n '__fish_seen_subcommand_from apply' -l erase -x -a '0 1 2 3 4 5 6 7' -d 'Leaves the events of build B out'
+complete -c realmview -n '__fish_seen_subcommand_from history' -F
+complete -c realmview -n '__fish_seen_subcommand_from apply' -l erase -x -a '0 1 2 3 4 5 6 7' -d 'Leave out the events of build B'
 complete -c realmview -n '__fish_seen_subcommand_from apply' -s h -l help -d 'Print help'
+complete -c realmview -n '__fish_seen_subcommand_from apply' -F
 complete -c realmview -n '__fish_seen_subcommand_from json' -s h -l help -d 'Print help'
+complete -c realmview -n '__fish_seen_subcommand_from json' -F
 complete -c realmview -n '__fish_seen_subcommand_from page' -s h -l help -d 'Print help'
+complete -c realmview -n '__fish_seen_subcommand_from page' -F
+complete -c realmview -n '__fish_seen_subcommand_from why' -l all -d 'List the checks that passed, too'
 complete -c realmview -n '__fish_seen_subcommand_from why' -s h -l help -d 'Print help'
-complete -c realmview -n '__fish_seen_subcommand_from explore' -l most -x -d 'Runs at most N orders, in lexicographic order [default: 1000000]'
-complete -c realmview -n '__fish_seen_subcommand_from explore' -l sample -x -d 'Draws K orders at random, never more than N [default: 1000, where a seed is given]'
-complete -c realmview -n '__fish_seen_subcommand_from explore' -l seed -x -d 'Draws orders by the random numbers of the seed S [default: 0]'
+complete -c realmview -n '__fish_seen_subcommand_from why' -F
+complete -c realmview -n '__fish_seen_subcommand_from explore' -l most -x -d 'Run at most N orders, in lexicographic order [default: 1000000]'
+complete -c realmview -n '__fish_seen_subcommand_from explore' -l sample -x -d 'Draw K orders at random, K up to N [default: 1000, if a seed is given]'
+complete -c realmview -n '__fish_seen_subcommand_from explore' -l seed -x -d 'Draw orders by the random numbers of the seed S [default: 0]'
 complete -c realmview -n '__fish_seen_subcommand_from explore' -s h -l help -d 'Print help'
+complete -c realmview -n '__fish_seen_subcommand_from explore' -F
+complete -c realmview -n '__fish_seen_subcommand_from order' -l one-by-one -d 'Give a build all its turns before the next build has one'
+complete -c realmview -n '__fish_seen_subcommand_from order' -s h -l help -d 'Print help'
+complete -c realmview -n '__fish_seen_subcommand_from order' -F
 complete -c realmview -n '__fish_seen_subcommand_from check' -s h -l help -d 'Print help'
+complete -c realmview -n '__fish_seen_subcommand_from check' -F
+complete -c realmview -n '__fish_seen_subcommand_from help' -a 'history apply json page why explore order check'

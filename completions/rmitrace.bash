@@ -11,12 +11,13 @@ _rmitrace() {
         before=${COMP_WORDS[COMP_CWORD - 2]}
     fi
     for ((at = 1; at < COMP_CWORD; at++)); do
-        case ${COMP_WORDS[at]} in answer | check) command=${COMP_WORDS[at]} && break ;; esac
+        case ${COMP_WORDS[at]} in answer | check | help) command=${COMP_WORDS[at]} && break ;; esac
     done
     case $command:$before in
-        answer:*) COMPREPLY=($(compgen -W '-h --help' -- "$word")) ;;
-        check:*) COMPREPLY=($(compgen -W '-h --help' -- "$word")) ;;
-        :*) COMPREPLY=($(compgen -W 'answer check -h --help -V --version' -- "$word")) ;;
+        answer:*) [[ $word == -* ]] && COMPREPLY=($(compgen -W '-h --help' -- "$word")) ;;
+        check:*) [[ $word == -* ]] && COMPREPLY=($(compgen -W '-h --help' -- "$word")) ;;
+        help:*) COMPREPLY=($(compgen -W 'answer check' -- "$word")) ;;
+        :*) COMPREPLY=($(compgen -W 'answer check help -h --help -V --version' -- "$word")) ;;
     esac
 }
 complete -o default -F _rmitrace rmitrace
