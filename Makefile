@@ -1,7 +1,7 @@
 # PLAN: the plans of `make try` (several in quotes: PLAN="a.toml b.toml"). TRACE: the traces of `make try-trace`, likewise.
-PLAN ?= plans/first.toml
+PLAN ?= plans/missing-tables.toml
 TRACE ?= traces/granules.trace
-# CRATE: the crates whose wrong bodies are tried (all). SINCE: a commit; only what has changed since then is tried.
+# CRATE: the crates whose mutants are tried (all). SINCE: a commit; only what has changed since then is tried.
 # JOBS: how many checks run side by side (one a processor).
 CRATE ?=
 SINCE ?=
@@ -13,50 +13,54 @@ PREFIX ?= /usr/local
 DESTDIR ?=
 
 PROGRAMS = realmhost rmitrace realmview
+DOCS = docs $(patsubst %/,%,$(sort $(dir $(wildcard docs/*/*))))
 SHARE = $(DESTDIR)$(PREFIX)/share
 LIB = $(DESTDIR)$(PREFIX)/lib
 
-.PHONY: allocations bench build c-library c-test fuzz help install install-c-library memcheck planted test try try-trace wrong-bodies
+.PHONY: allocations bench build c-library c-test docs-html fuzz help install install-c-library memcheck planted test try try-trace wrong-bodies
 
 help: ## lists the targets
 	@grep -E '^[a-z-]+:.*## ' $(MAKEFILE_LIST) | sed 's/:.*## /\t/' | expand -t 20
 
-try: ## a minute: builds realmhost with nothing proved, and replays PLAN
-	@tools/try realmhost $(PLAN) -- replay
+try: ## a minute: builds realmview with nothing proved, and explains PLAN
+	@tools/try realmview $(PLAN) -- why
 
 try-trace: ## a minute: builds rmitrace with nothing proved, and checks TRACE
 	@tools/try rmitrace $(TRACE) -- check
 
-build: ## proves the three programs and all that they stand on, and puts them into bin/
+build: ## proves the three programs with their libraries, and puts them into bin/
 	@tools/build
 
-c-library: ## proves the bench for C, and puts its libraries into build/
+c-library: ## proves the RMM as a library for C, and puts it into build/
 	@tools/c-library
 
-c-test: c-library ## tries the bench from C, C++ and Python, over 1,000 random traces too (needs a C compiler)
+c-test: c-library ## tries the library from C, C++ and Python, over 1,000 random traces too (needs a C compiler)
 	@test -x bin/rmitrace || tools/build rmitrace
 	@tests/c-library --all
 
+docs-html: ## makes a site of the documents in build/html, which can be read offline (needs pandoc)
+	@tools/docs_html
+
 install: ## copies what `make build` and `make c-library` have built, man pages, completions, documents, plans and traces below PREFIX
 	@for it in $(PROGRAMS); do test -x bin/$$it || { echo "install: there is no bin/$$it yet: make build" >&2; exit 1; }; done
-	install -d $(DESTDIR)$(PREFIX)/bin $(SHARE)/doc/realmhost/docs/pictures $(SHARE)/realmhost/plans/guide $(SHARE)/realmhost/traces $(SHARE)/realmhost/examples
+	install -d $(DESTDIR)$(PREFIX)/bin $(DOCS:%=$(SHARE)/doc/realmhost/%) $(SHARE)/realmhost/plans/guide $(SHARE)/realmhost/traces $(SHARE)/realmhost/examples
 	install -m 755 $(PROGRAMS:%=bin/%) $(DESTDIR)$(PREFIX)/bin
-	install -d $(SHARE)/man/man1 $(SHARE)/bash-completion/completions $(SHARE)/zsh/site-functions $(SHARE)/fish/vendor_completions.d
+	install -d $(SHARE)/man/man1 $(SHARE)/man/man5 $(SHARE)/bash-completion/completions $(SHARE)/zsh/site-functions $(SHARE)/fish/vendor_completions.d
 	install -m 644 man/*.1 $(SHARE)/man/man1
+	install -m 644 man/*.5 $(SHARE)/man/man5
 	for it in $(PROGRAMS); do install -m 644 completions/$$it.bash $(SHARE)/bash-completion/completions/$$it || exit 1; done
 	install -m 644 completions/_* $(SHARE)/zsh/site-functions
 	install -m 644 completions/*.fish $(SHARE)/fish/vendor_completions.d
 	install -m 644 README.md CHANGELOG.md CONTRIBUTING.md LICENSE $(SHARE)/doc/realmhost
-	install -m 644 docs/*.md $(SHARE)/doc/realmhost/docs
-	install -m 644 docs/pictures/*.svg $(SHARE)/doc/realmhost/docs/pictures
+	for it in $(wildcard docs/*.md docs/*/*.md docs/*/*.json docs/pictures/*); do install -m 644 $$it $(SHARE)/doc/realmhost/$$it || exit 1; done
 	install -m 644 plans/*.* $(SHARE)/realmhost/plans
 	install -m 644 plans/guide/* $(SHARE)/realmhost/plans/guide
-	install -m 644 traces/* $(SHARE)/realmhost/traces
+	install -m 644 traces/*.trace $(SHARE)/realmhost/traces
 	install -m 644 examples/drive.py $(SHARE)/realmhost/examples
 	@if test -f build/librmi_bench.a; then $(MAKE) --no-print-directory install-c-library; \
-	  else echo "install: there is no build/librmi_bench.a, and the bench for C is left out: make c-library"; fi
+	  else echo "install: there is no build/librmi_bench.a, and the library for C is left out: make c-library"; fi
 
-install-c-library: ## copies the bench for C and Python alone below PREFIX, after `make c-library`
+install-c-library: ## copies the library for C and Python alone below PREFIX, after `make c-library`
 	install -d $(DESTDIR)$(PREFIX)/include $(LIB)/pkgconfig $(SHARE)/realmhost/python $(SHARE)/realmhost/examples/c
 	install -m 644 include/rmi_bench.h $(DESTDIR)$(PREFIX)/include
 	install -m 644 build/librmi_bench.a $(LIB)
@@ -70,9 +74,9 @@ test: ## the whole gate from nothing: proofs, tests, what the built programs pri
 	@mkdir -p bin
 	@for it in $(PROGRAMS) test_memory; do install -m 755 crates/$$it/out/$$it bin/$$it || exit 1; done
 	@! command -v $(CC) > /dev/null || tools/c-library
-	@tools/at_once tests/commands tests/program tests/traces tests/rules tests/view tests/orders tests/json tests/page tests/allocations tests/c-library tests/documents tests/believed tests/names tests/pages tests/schema "tools/pictures --check" "tools/calls --check" "tools/page_template --check"
+	@tools/at_once tests/commands tests/program tests/traces tests/rules tests/rmm_traces tests/rmm_rules tests/view tests/terminal tests/orders tests/json tests/page tests/allocations tests/c-library tests/documents tests/prose tests/believed tests/names tests/pages tests/schema "tools/pictures --check" "tools/calls --check" "tools/page_template --check"
 
-wrong-bodies: ## tries bodies that do something else, of CRATE or all: the prover has to refuse each
+wrong-bodies: ## tries the mutants of CRATE or all: the prover has to refuse each
 	@tests/wrong-bodies $(if $(JOBS),--jobs $(JOBS)) $(if $(SINCE),--since $(SINCE)) $(CRATE)
 
 planted: ## tries edits that are no wrong bodies, after a change of tests/wrong-bodies or of the toolchain

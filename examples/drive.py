@@ -1,12 +1,20 @@
-"""A driver: it asks a monitor what a trace asks, by the registers of the calls, and tells the first word that differs.
+"""A driver: it asks an RMM what a trace asks, by the registers of the calls, and prints the first word that differs.
 
     python3 examples/drive.py < TRACE
 
-The answers in the trace are those that are wanted; `rmitrace answer` gives them to any trace. `Toy` stands for your
-monitor: it has granules and realms and nothing else, and a bug. Set MONITOR to a class of your own, made of the three
-numbers of a `machine` line, whose `call` reaches your monitor, by an SMC or in a simulator. `Driver.registers` is the table
-of docs/TRACES.md, "From lines to calls"; that page also says what the lines are that are no calls alone: host_fill,
-host_peek, rec_enter, rec_exit and guest_write.
+The answers in the trace are those that are expected; `rmitrace answer` gives them to any trace. `Toy` is in the place
+of your RMM: it has granules and realms and nothing else, and a bug. Set MONITOR to a class of your own, made of the
+three numbers of a `machine` line. Its `call` reaches your RMM, by an SMC or in a simulator. `Driver.registers` is the
+table of TEST-AN-RMM.md, "From lines to calls".
+
+Four lines are no calls of the RMI. For each of them MONITOR needs a method of its name, and that is all:
+
+    host_fill(address, value)           the host stores the byte in the whole granule: 0, or 1 if it gets a fault
+    host_peek(address, offset)          the host loads a byte: (0, byte), or 1 if it gets a fault
+    rec_exit(rec)                       the guest leaves, and its entry returns: 0; 3 if it does not run, 1 if no REC
+    guest_write(rec, address, value)    the guest stores a byte at its own address: 0, or the refusal
+
+Where a method is missing, the trace ends at the line. `Toy` has the first two.
 """
 import sys
 from dataclasses import dataclass
@@ -14,6 +22,8 @@ from dataclasses import dataclass
 # Granule 0. The addresses from there on belong to the trace, and behind its last granule there is no memory.
 BASE = 0x8000_0000
 READINGS = ("state", "sum", "word", "realm", "measurement", "rec")
+# The lines that are no calls. For each the class of the RMM has a method of this name, or the trace ends there.
+HOOKS = ("host_fill", "host_peek", "rec_exit", "guest_write")
 
 
 def address(granule):
@@ -61,7 +71,7 @@ class Driver:
         self.recs = {}
 
     def registers(self, name, numbers):
-        """X1, X2 .. of a call; in the place of the address of a structure, the structure. None of what is no call."""
+        """X1, X2 .. of a call, with a structure in the place of its address. None of what is no command."""
         match name, numbers:
             case "realm_create", [rd, root, vmid, width]:
                 return [address(rd), RealmParams(width, address(root), 1, starting_tables(width), vmid)]
@@ -82,8 +92,17 @@ class Driver:
                 return [address(rd), address(rec), params]
             case "rec_enter", [rec]:
                 return [address(rec), RecRun()]
-            case "granule_delegate" | "granule_undelegate" | "realm_activate" | "realm_destroy" | "rec_destroy", [granule]:
+            case "granule_delegate" | "granule_undelegate", [granule]:
                 return [address(granule)]
+            case "realm_activate" | "realm_destroy" | "rec_destroy", [granule]:
+                return [address(granule)]
+            # The operands of HOOKS.
+            case "host_fill" | "host_peek", [granule, number]:
+                return [address(granule), number]
+            case "rec_exit", [rec]:
+                return [address(rec)]
+            case "guest_write", [rec, ipa, offset, value]:
+                return [address(rec), (ipa << 12) + offset, value]
             case _:
                 return None
 
@@ -101,14 +120,30 @@ class Toy:
     def __init__(self, granules, vmids, _aux):
         self.states = {address(it): "UNDELEGATED" for it in range(granules)}
         self.vmids, self.used, self.realms = vmids, set(), {}
+        # The byte of each granule that the host has filled.
+        self.bytes = {}
 
     def call(self, command, registers):
         """X0 of a call: the result word. None where the monitor has no such call."""
         answer = getattr(self, command, None)
         return None if answer is None else answer(*registers)
 
+    def host_fill(self, granule, value):
+        if self.states.get(granule) != "UNDELEGATED":
+            return 1
+        self.bytes[granule] = value
+        return 0
+
+    def host_peek(self, granule, offset):
+        if self.states.get(granule) != "UNDELEGATED" or offset > 4095:
+            return 1
+        return 0, self.bytes.get(granule, 0)
+
     def granule_delegate(self, granule):
-        return self.moved([granule], "UNDELEGATED", "DELEGATED")
+        word = self.moved([granule], "UNDELEGATED", "DELEGATED")
+        if word == 0:
+            self.bytes.pop(granule, None)
+        return word
 
     def granule_undelegate(self, granule):
         return self.moved([granule], "DELEGATED", "UNDELEGATED")
@@ -148,8 +183,27 @@ class Toy:
 MONITOR = Toy
 
 
+class NoAnswer(Exception):
+    """Why a line has no answer."""
+
+
+def answer_of(driver, monitor, name, numbers):
+    """The numbers of an answer. A call has the result word alone, and not the number of a REC."""
+    registers, of = driver.registers(name, numbers), type(monitor).__name__
+    if registers is None:
+        raise NoAnswer("this is no line of a trace, or it has other operands")
+    if name in HOOKS:
+        missing, hook = f"this is no call, and {of} has no method `{name}` for it", getattr(monitor, name, None)
+        answer = hook and hook(*registers)
+    else:
+        missing, answer = f"{of} has no such command", monitor.call(name, registers)
+    if answer is None:
+        raise NoAnswer(missing)
+    return answer if isinstance(answer, tuple) else (answer,)
+
+
 def main(lines):
-    driver, monitor, agreed, left_out = Driver(), None, 0, 0
+    driver, monitor, agreed, unanswered, left_out = Driver(), None, 0, 0, 0
     for number, line in enumerate(lines, 1):
         asked, _, wanted = line.rstrip("\r\n").partition(" = ")
         if not asked or asked.startswith("#"):
@@ -167,21 +221,23 @@ def main(lines):
             continue
         if monitor is None:
             sys.exit(f"line {number}: {asked}: there is no `machine` line before it")
-        registers = driver.registers(name, numbers)
-        word = None if registers is None else monitor.call(name, registers)
-        if word is None:
-            why = "no call has these operands, or this monitor has no such command"
+        try:
+            answer = answer_of(driver, monitor, name, numbers)
+        except NoAnswer as why:
             print(f"line {number}: {asked}: {why}; {agreed} answers agree before")
             return 1
-        if wanted and word != int(wanted.split(" ")[0]):
-            print(f"line {number}: {line.rstrip()}, and this monitor answers {word}; {agreed} answers agree before")
+        if wanted and [str(it) for it in answer] != wanted.split(" ")[: len(answer)]:
+            said = " ".join(map(str, answer))
+            print(f"line {number}: {line.rstrip()}, and this monitor answers {said}; {agreed} answers agree before")
             return 1
         agreed += bool(wanted)
-        if word == 0:
+        unanswered += not wanted
+        if answer[0] == 0:
             driver.accepted(name, numbers)
-    print(f"{agreed} answers agree, {left_out} lines are left out")
+    print(f"{agreed} answers agree; {unanswered} lines had no answer, {left_out} were not asked")
     # (a trace of which nothing was compared shows nothing)
     return 0 if agreed else 1
 
 
-sys.exit(main(sys.stdin))
+if __name__ == "__main__":
+    sys.exit(main(sys.stdin))

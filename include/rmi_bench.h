@@ -1,8 +1,8 @@
 /* rmi_bench.h: a simulated Realm Management Monitor as a library, to test monitors against. For C11 and C++11.
  *
  * It is the monitor of `rmitrace`: the commands of Arm's Realm Management Monitor 1.0 (DEN0137), on granules that are
- * named by their number. The commands, their operands, result words and readings are those of docs/TRACES.md. Each function
- * is proved to answer and to do what its command's definition says, whatever its operands; docs/C.md says what that covers.
+ * named by their number. The commands, their operands, result words and readings are those of TRACES.md. Each function
+ * is proved to answer and to do what its command's definition says, whatever its operands; C.md says what that covers.
  *
  * A handle is 16 bytes of the caller's. All of them 0 is a closed handle. Operands have 64 bits, as registers have: one that
  * its field cannot hold is RMI_ERROR_INPUT, and a reading of one is false. Nothing is cut, and nothing is allocated but by
@@ -170,7 +170,7 @@ RMI_STATIC_ASSERT(sizeof(rmi_rec) == 152 && offsetof(rmi_rec, auxiliaries) == 24
 /* The REC that a granule is.   Owed: handle; `seen` is not NULL, and may be written to. */
 bool rmi_read_rec(rmi_bench *bench, uint64_t rec, rmi_rec *seen) RMI_NO_NULL;
 
-/* ---- names, as the standard and docs/TRACES.md write them; "?" for a number that has none */
+/* ---- names, as the standard and TRACES.md write them; "?" for a number that has none */
 
 static inline const char *rmi_status_name(uint64_t word)
 {

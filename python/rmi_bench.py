@@ -7,7 +7,7 @@
         word, byte = bench.host_peek(0, 0)     # Word(1), RMI_ERROR_INPUT, and None: it is delegated
         bench.state(0)                         # 'DELEGATED'
 
-The methods are named as the commands and readings of docs/TRACES.md, and take their numbers. A command answers its result
+The methods are named as the commands and readings of TRACES.md, and take their numbers. A command answers its result
 word. With `raises=True` a word that is not RMI_SUCCESS is raised as `Refused`. A number that no register holds, below 0 or
 from 2^64 on, is an OverflowError, a bench that is closed a ValueError; then nothing is asked.
 

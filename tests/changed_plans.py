@@ -187,13 +187,17 @@ def fault_of_threads(replayed, ran):
 
 # A finding: its line, its column, and `error` or `warning`.
 FINDING = re.compile(r"plan:(\d+):(\d+): (error|warning): (.+)\n")
-SIZE = re.compile(r"plan: (\d+) builds, (\d+) steps, (\d+) turns\n")
+# A line below the carets of a finding.
+NOTE = re.compile(r"(help: |note: |    ).*\n")
 # How many bytes of a line are shown on either side of a place; two fewer where some are left out.
 SHOWN = 80
 
 
 def cut_lines(text):
-    """The line of each place as it is shown, and the caret below it."""
+    """The line of each place as it is shown, and how much of it may stand before and above the carets below it."""
+
+    def plain(part):
+        return bytes(0x20 if byte < 0x20 or byte == 0x7F else byte for byte in part).decode(errors="replace")
 
     def shown(line, column):
         # (columns count characters, and what is no UTF-8 counts as it does in the text)
@@ -204,11 +208,17 @@ def cut_lines(text):
             front = b".." + front[2 - SHOWN :]
         if len(back) > SHOWN:
             back = back[: SHOWN - 2] + b".."
-        plain = bytes(0x20 if byte < 0x20 or byte == 0x7F else byte for byte in front + back)
-        width = sum(byte & 0xC0 != 0x80 for byte in front)
-        return f"{plain.decode(errors='replace')}\n", f"{' ' * width}^\n"
+        return f"{plain(front)}{plain(back)}\n", len(plain(front)), len(plain(back))
 
     return shown
+
+
+def size_of(plan):
+    """The line that tells how much a plan has."""
+    keys = tomllib.loads(plan.decode().removeprefix("\ufeff"))
+    counts = len(keys["build"]), sum(len(it["steps"]) for it in keys["build"]), len(keys.get("order", []))
+    nouns = ("build", "step", "turn")
+    return "plan: " + ", ".join(f"{count} {noun}{'s' if count != 1 else ''}" for count, noun in zip(counts, nouns)) + "\n"
 
 
 def fault_of_a_check(plan, replayed, checked):
@@ -219,23 +229,25 @@ def fault_of_a_check(plan, replayed, checked):
     if (status, err) != (1 if is_fault else 0, b""):
         return f"status {status} and {err!r}, where a replay has {replayed[0]} and {replayed[2]!r}"
     shown, lines = cut_lines(plan), [f"{line}\n" for line in out.decode().split("\n")[:-1]]
-    if not is_fault:
-        keys = tomllib.loads(plan.decode().removeprefix("\ufeff"))
-        size = SIZE.fullmatch(lines.pop())
-        wanted = len(keys["build"]), sum(len(it["steps"]) for it in keys["build"]), len(keys.get("order", []))
-        if not size or tuple(int(it) for it in size.groups()) != wanted:
-            return f"a plan of size {wanted} has not this size"
-    if len(lines) % 3 or is_fault and not lines:
-        return f"{len(lines)} lines"
+    if not is_fault and lines.pop() != size_of(plan):
+        return "another size of the plan"
+    if is_fault and not lines:
+        return "no line"
     places = []
-    for head, row, caret in zip(lines[::3], lines[1::3], lines[2::3]):
-        at = FINDING.fullmatch(head)
-        if not at or at[3] != ("error" if is_fault else "warning"):
-            return f"the line {head!r}"
+    while lines:
+        if len(lines) < 3 or not (at := FINDING.fullmatch(lines[0])) or at[3] != ("error" if is_fault else "warning"):
+            return f"the lines {lines[:3]!r}"
         line, column = int(at[1]), int(at[2])
-        if not 1 <= line <= plan.count(b"\n") + 1 or (row, caret) != shown(line, column):
-            return f"{head!r} shows {row!r} and {caret!r}"
+        if not 1 <= line <= plan.count(b"\n") + 1:
+            return f"the line {lines[0]!r}"
+        row, before, most = shown(line, column)
+        carets = lines[2][before:-1]
+        if lines[1] != row or lines[2][:before].strip() or carets.strip("^") or not 1 <= len(carets) <= max(most, 1):
+            return f"{lines[0]!r} shows {lines[1]!r} and {lines[2]!r}"
         places.append((line, column))
+        del lines[:3]
+        while lines and NOTE.fullmatch(lines[0]):
+            del lines[0]
     return None if places == sorted(places) else "the places are in no order"
 
 

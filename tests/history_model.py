@@ -1,15 +1,15 @@
 """What a history leads to on the second monitor: for `tests/json`.
 
-Each event of a history (docs/HISTORY.md) is a command to tests/second_monitor.py. What the host keeps itself, as which pages a
+Each event of a history (REALMVIEW.md) is a command to tests/second_monitor.py. What the host keeps itself, as which pages a
 build leases and which granule is which REC, is kept here, from the events. What is there then is told as a document of
-`realmview json` tells it (docs/JSON.md). The module has no code in common with `realmview`.
+`realmview json` tells it (REALMVIEW.md). The module has no code in common with `realmview`.
 """
 from collections.abc import Iterator
 
 from second_machine import Entry, Realm
 from second_monitor import COVERED, Monitor
 
-# The command of each event, by its word. The numbers in braces are places in the event, as docs/HISTORY.md has them.
+# The command of each event, by its word. The numbers in braces are places in the event, as REALMVIEW.md has them.
 COMMANDS = {
     "fill": "host_fill {0} {1}",
     "peek": "host_peek {0} {1}",

@@ -1,6 +1,6 @@
 """A second monitor, in which each rule can be switched off: for `tests/rules`, and to see what a rule is good for.
 
-It was written from docs/TRACES.md, docs/RULES.md and the definitions in crates/realm_model/specs/Command, and has no
+It was written from TRACES.md, RULES.md and the definitions in crates/realm_model/specs/Command, and has no
 code in common with `rmitrace`. A command is a generator: it yields its checks in their order, and then changes the
 machine. A rule is named by its command and a word, as `data_create.new`; effects begin with `then_` or `says_`, and
 what is allowed with `may_`.

@@ -1,4 +1,4 @@
-"""The picture of the crates: the groups of crates.txt, and which stands on which."""
+"""The picture of the crates: the groups of crates.txt, and which depends on which."""
 import textwrap
 from itertools import pairwise
 from pathlib import Path
@@ -15,7 +15,7 @@ LEFT, WIDE, RIGHT, NARROW, GAP, LINE = 16, 476, 540, 274, 26, 16
 
 
 def groups_of(lines):
-    """The groups by name: what each is, and its crates with the libraries that they stand on."""
+    """The groups by name: what each is, and its crates with the libraries on which they depend."""
     groups, crates = {}, {}
     for line in lines[1:]:
         name, _, rest = line.partition(":")
@@ -28,13 +28,13 @@ def groups_of(lines):
 
 
 def edges_of(groups):
-    """The groups that each stands on, but for those that another one of them stands on."""
+    """The groups on which each depends, but for those on which another of them depends."""
     group_of = {crate: name for name, (_, crates) in groups.items() for crate in crates}
     below = {
         name: {group_of[it] for libraries in crates.values() for it in libraries if it in group_of} - {name}
         for name, (_, crates) in groups.items()
     }
-    # (a group comes after those that it stands on)
+    # (a group comes after those on which it depends)
     for name in below:
         below[name] |= {it for other in below[name] for it in below[other]}
     return {name: its - {it for other in its for it in below[other]} for name, its in below.items()}
@@ -93,11 +93,11 @@ def crates_picture():
     edges = edges_of(groups)
     shown = {name: its for name, its in groups.items() if name in MAIN or name in BESIDE}
     boxes = boxes_of(shown)
-    said = "; ".join(f"{name} stands on {', '.join(sorted(edges[name])) or 'no other'}" for name in shown)
+    said = "; ".join(f"{name} depends on {', '.join(sorted(edges[name])) or 'no other'}" for name in shown)
     last = boxes["Model"]
     drawn = [
         MARKER, text(20, 34, TITLE, "ink b h"),
-        text(20, 54, "An arrow leads from a group to one that it stands on. Crates of tests are left out.", "soft"),
+        text(20, 54, "An arrow leads from a group to one on which it depends. Crates of tests are left out.", "soft"),
         *(it for box in boxes.values() for it in box.drawn()), *arrows(boxes, edges),
     ]
     return picture(TITLE, said, last.y + last.height + 18, drawn)

@@ -1,6 +1,6 @@
 """What the pictures are drawn with: a card for light and dark pages, the colours of the states, and elements of SVG.
 
-Each cell has its state's word beside its colour, and the colours differ in lightness too: no hue has to be told apart.
+Each cell has its state's word beside its colour, and the colours differ in lightness too: no hue has to be distinguished.
 """
 from xml.sax.saxutils import escape
 

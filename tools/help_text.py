@@ -8,14 +8,16 @@ TOP = Path(__file__).resolve().parent.parent
 PROGRAMS = ("realmhost", "rmitrace", "realmview")
 # An option: its letter and its value's name may be None.
 Option = namedtuple("Option", "letter name value said")
-# A program or a subcommand of it. A subcommand has none itself.
-Command = namedtuple("Command", "name said options commands")
+# What stands in a command line without a sign before it, as FILE. It may be left out.
+Argument = namedtuple("Argument", "name said")
+# A program or a subcommand of it. A subcommand has none itself, and its argument may be None.
+Command = namedtuple("Command", "name said options commands argument")
 
 
 def told(*words):
-    """What a program of bin/ says on standard error."""
-    words = [TOP / "bin" / words[0], *words[1:]]
-    return subprocess.run(words, stdin=subprocess.DEVNULL, stderr=subprocess.PIPE, text=True, timeout=60).stderr
+    """What a program of bin/ prints: help and version of realmhost are on standard error, those of the others on standard output."""
+    how = {"stdin": subprocess.DEVNULL, "stdout": subprocess.PIPE, "stderr": subprocess.STDOUT, "text": True, "timeout": 60}
+    return subprocess.run([TOP / "bin" / words[0], *words[1:]], **how).stdout
 
 
 def rows_of(text, heading):
@@ -33,8 +35,17 @@ def options_of(text):
     return [option_of(row) for row in rows_of(text, "Options")]
 
 
+def argument_of(text):
+    for row in rows_of(text, "Arguments"):
+        return Argument(*re.fullmatch(r"  \[(\w+)\]  +(.*)", row).groups())
+
+
 def command_of(program, name, said):
-    return Command(name, said, options_of(told(program, name, "--help")), [])
+    """A subcommand. `help` has no help of its own: behind it stands the name of another."""
+    if name == "help":
+        return Command(name, said, [], [], Argument("COMMAND", said))
+    text = told(program, name, "--help")
+    return Command(name, said, options_of(text), [], argument_of(text))
 
 
 def program_of(name):
@@ -42,7 +53,7 @@ def program_of(name):
     text = told(name, "--help")
     rows = [re.fullmatch(r"  (\S+)  +(.*)", row).groups() for row in rows_of(text, "Commands")]
     said = " ".join(text.split("\n\n")[0].split("\n"))
-    return Command(name, said, options_of(text), [command_of(name, *row) for row in rows])
+    return Command(name, said, options_of(text), [command_of(name, *row) for row in rows], None)
 
 
 def version_of(name):

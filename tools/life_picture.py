@@ -76,6 +76,6 @@ def life_picture():
              "cleared.", "ink b"),
         text(20, 475, "A build undoes its own arrows alone, the newest first; abort and back are such undos, one a turn.",
              "soft"),
-        text(20, 495, "RMM 1.0 does not say that a delegation clears the page: that is a choice of the monitor here.", "soft"),
+        text(20, 495, "RMM 1.0 does not say that a delegation clears the page: that is a choice of the RMM here.", "soft"),
     ]
     return picture(TITLE, SAID, 512, drawn)

@@ -93,7 +93,7 @@ class Sheet:
             back = [row for row, _ in takewhile(lambda it: it[1] == "abort", own[len(before) :])]
             if before and back and most:
                 yield from self.bracket(build, before[0], before[-1], f"build {build} grows")
-                said = f"build {build} shrinks:", "each turn takes", "back one act, the", "newest first"
+                said = f"build {build} shrinks:", "each turn undoes", "one operation, the", "newest first"
                 yield from self.bracket(build, back[0], back[-1], *said)
 
     def bracket(self, build, first, last, *said):
