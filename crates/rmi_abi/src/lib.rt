@@ -5,17 +5,21 @@
 
 mod call;
 mod features;
+mod hash;
 pub mod law;
 mod mpidr;
 mod realm_params;
+mod rec_params;
 mod registers;
 mod settings;
 mod word;
 
 pub use call::{Call, decode_call, encode_call};
 pub use features::feature_register;
+pub use hash::HashAlgorithm;
 pub use mpidr::{is_mpidr, rec_number};
 pub use realm_params::RealmParams;
+pub use rec_params::RecParams;
 pub use registers::{Answer, Registers, answer_registers, unknown_registers};
 pub use settings::{Layout, Platform, Settings};
 pub use word::Word;

@@ -1,5 +1,5 @@
 -- Lists of checks, one after another.
-use Rattle.std.proofs.Common.{◌≡◌, Bool, true, false, cond, List, [], ◌∷◌, ◌++◌, Option, Some, None, refl, sym, ◌∙◌}
+use Rattle.std.proofs.Common.{◌≡◌, Bool, true, false, cond, List, [], ◌∷◌, ◌++◌, Option, Some, None, refl, ◌∙◌}
 use Rattle.rmm_model.specs.declared.answer.Refusal.{Refusal}
 use Rattle.rmm_model.specs.Check.{Check, first_failing}
 

@@ -1,5 +1,5 @@
 -- The checks of RMI_REALM_CREATE, one operand after another.
-use Rattle.std.proofs.Common.{◌≡◌, ℕ, ◌++◌, List, Some, None, ap, ◌∙◌}
+use Rattle.std.proofs.Common.{◌≡◌, ℕ, List, Some, None, ap, ◌∙◌}
 use Rattle.rmi_abi.specs.declared.realm_params.RealmParams.{RealmParams}
 use Rattle.rmm_model.specs.declared.answer.Refusal.{Refusal}
 use Rattle.rmm_model.specs.declared.condition.Condition.TheVariants.{ParamsAlign, ParamsBound, ParamsPas, RdAlign, RdBound, RdState}

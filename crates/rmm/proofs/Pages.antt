@@ -1,8 +1,8 @@
 -- A page that is written word by word.
-use Rattle.std.proofs.Common.{◌≡◌, ℕ, ◌+◌, ◌<◌, List, [], length, set, ap, sym, ◌∙◌, add-one}
-use Rattle.std.proofs.lemmas.List.{get_or-set_same, set-set}
+use Rattle.std.proofs.Common.{◌≡◌, ◌≢◌, ℕ, ◌+◌, ◌<◌, List, [], length, set, ap, sym, ◌∙◌, add-one}
+use Rattle.std.proofs.lemmas.List.{get_or-set_same, get_or-set_other, set-set}
 use Rattle.page_arena.specs.Word.{page_with_word}
-use Rattle.rmm_model.specs.Machine.{Machine, with_page, with_word}
+use Rattle.rmm_model.specs.Machine.{Machine, page_in, with_page, with_word}
 use Rattle.rmm_model.specs.Table.{with_words}
 
 -- one word more
@@ -15,3 +15,7 @@ with_words-more m granule count f page inside =
     (ap (λ (old : List ℕ). set (set m.pages granule written) granule (page_with_word old count (f count))) (get_or-set_same m.pages granule written [] inside)
     ∙ set-set m.pages granule written (page_with_word written count (f count))
     ∙ ap (λ (n : ℕ). set m.pages granule (with_words n f page)) (sym (add-one count)))
+
+-- another page stays
+pub page_in-other : (m : Machine) (granule other : ℕ) (page : List ℕ) → other ≢ granule → page_in (with_page m granule page) other ≡ page_in m other
+page_in-other m granule other page apart = get_or-set_other m.pages granule other page [] apart

@@ -1,18 +1,25 @@
 -- The operands of a command that passes, as found in a machine.
-use Rattle.std.specs.Prelude.{◌≡◌, ℕ, ◌-◌, ◌^◌, ◌<◌, ◌≤◌, Some}
+use Rattle.std.specs.Prelude.{◌≡◌, ◌≢◌, ℕ, ◌-◌, ◌^◌, ◌<◌, ◌≤◌, Some}
 use Rattle.rmm_model.specs.Entry.{descriptor_of}
 use Rattle.rmm_model.specs.Machine.{Machine, granule_count, number_of}
 use Rattle.rmm_model.specs.Realm.{IsServed}
 use Rattle.rmm_model.specs.declared.realm.RttWalk.{RttWalk}
 use Rattle.rmm_model.specs.Walk.{entry_at, table_below, memory_below, walk}
-use Rattle.rmm_model.specs.Command.Operand.{realm_at}
+use Rattle.rmm_model.specs.Command.Operand.{realm_at, rec_at}
 use Rattle.rmm_model.specs.Command.RealmCreate.{params_at, realm_for}
 use Rattle.rmm.specs.declared.data.Mapped.{Mapped}
 use Rattle.rmm.specs.declared.data.PageVacancy.{PageVacancy}
+use Rattle.rmm.specs.declared.data_create.NewPage.{NewPage}
+use Rattle.rmm.specs.declared.data_create.Source.{Source}
+use Rattle.rmm.specs.declared.data_create.Target.{Target}
 use Rattle.rmm.specs.declared.fold.Foldable.{Foldable}
+use Rattle.rmm.specs.declared.init_ripas.RipasRange.{RipasRange}
+use Rattle.rmm.specs.declared.psci.Completion.{Completion}
 use Rattle.rmm.specs.declared.realm_create.NewRealm.{NewRealm}
+use Rattle.rmm.specs.declared.rec_create.NewRec.{NewRec}
 use Rattle.rmm.specs.declared.rtt_create.Vacancy.{Vacancy}
 use Rattle.rmm.specs.declared.rtt_destroy.Unused.{Unused}
+use Rattle.rmm.specs.declared.set_ripas.RequestedRange.{RequestedRange}
 
 -- the place of a new table
 pub record IsVacancy (m : Machine) (rd rtt ipa level : ℕ) (vacancy : Vacancy) : Type 0 where
@@ -53,6 +60,56 @@ pub record IsPageVacancy (m : Machine) (rd page ipa : ℕ) (vacancy : PageVacanc
   pub above : vacancy.found.table < granule_count m
   pub entry : vacancy.entry ≡ entry_at m vacancy.found ipa
 
+-- a page of the host, and a DELEGATED granule
+pub record IsSource (m : Machine) (page source : ℕ) (found : Source) : Type 0 where
+  pub content : found.page ≡ number_of m source
+  pub content_inside : found.page < granule_count m
+  pub granule : found.granule ≡ number_of m page
+  pub inside : found.granule < granule_count m
+  pub apart : found.granule ≢ found.page
+
+-- the realm and the table of a new page
+pub record IsTarget (m : Machine) (rd ipa : ℕ) (target : Target) : Type 0 where
+  pub owner : target.owner.granule ≡ number_of m rd
+  pub inside : target.owner.granule < granule_count m
+  pub realm : target.owner.realm ≡ realm_at m rd
+  pub served : IsServed (granule_count m) target.owner.realm
+  pub place : target.found ≡ walk m (realm_at m rd) ipa 3
+  pub above : target.found.table < granule_count m
+
+-- a page of data that can be made
+pub record IsNewPage (m : Machine) (rd page ipa source : ℕ) (new : NewPage) : Type 0 where
+  pub content : new.source ≡ number_of m source
+  pub content_inside : new.source < granule_count m
+  pub granule : new.granule ≡ number_of m page
+  pub inside : new.granule < granule_count m
+  pub apart : new.granule ≢ new.source
+  pub owner : new.owner.granule ≡ number_of m rd
+  pub owner_inside : new.owner.granule < granule_count m
+  pub realm : new.owner.realm ≡ realm_at m rd
+  pub served : IsServed (granule_count m) new.owner.realm
+  pub place : new.found ≡ walk m (realm_at m rd) ipa 3
+  pub above : new.found.table < granule_count m
+
+-- the realm and the table of a range
+pub record IsRipasRange (m : Machine) (rd base : ℕ) (range : RipasRange) : Type 0 where
+  pub owner : range.owner.granule ≡ number_of m rd
+  pub inside : range.owner.granule < granule_count m
+  pub realm : range.owner.realm ≡ realm_at m rd
+  pub served : IsServed (granule_count m) range.owner.realm
+  pub place : range.found ≡ walk m (realm_at m rd) base 3
+  pub above : range.found.table < granule_count m
+  pub low : base < 2 ^ 48
+
+-- a REC that asked for a range, and the table of the range
+pub record IsRequestedRange (m : Machine) (rd rec base : ℕ) (range : RequestedRange) : Type 0 where
+  pub named : range.granule ≡ number_of m rec
+  pub inside : range.granule < granule_count m
+  pub attributes : range.rec ≡ rec_at m rec
+  pub place : range.found ≡ walk m (realm_at m rd) base 3
+  pub above : range.found.table < granule_count m
+  pub low : base < 2 ^ 48
+
 -- a page that is mapped
 pub record IsMapped (m : Machine) (rd ipa : ℕ) (mapped : Mapped) : Type 0 where
   pub place : mapped.found ≡ walk m (realm_at m rd) ipa 3
@@ -74,3 +131,26 @@ pub record IsNewRealm (m : Machine) (rd params : ℕ) (found : NewRealm) : Type 
   pub inside : found.rd < granule_count m
   pub realm : found.realm ≡ realm_for m (params_at m params)
   pub served : IsServed (granule_count m) found.realm
+
+-- a REC that can be made
+pub record IsNewRec (m : Machine) (rd rec params : ℕ) (found : NewRec) : Type 0 where
+  pub place : found.rec ≡ number_of m rec
+  pub inside : found.rec < granule_count m
+  pub source : found.source ≡ number_of m params
+  pub source_inside : found.source < granule_count m
+  pub different : found.source ≢ found.rec
+  pub owner : found.rd ≡ number_of m rd
+  pub owner_inside : found.rd < granule_count m
+  pub realm : found.realm ≡ realm_at m rd
+  pub served : IsServed (granule_count m) found.realm
+  pub next : found.realm.next_rec < 2 ^ 31
+  pub count : found.realm.rec_count < 2 ^ 15
+
+-- a request that can be complete
+pub record IsCompletion (m : Machine) (calling target : ℕ) (found : Completion) : Type 0 where
+  pub place : found.calling ≡ number_of m calling
+  pub inside : found.calling < granule_count m
+  pub caller : found.caller ≡ rec_at m calling
+  pub target_place : found.target ≡ number_of m target
+  pub target_inside : found.target < granule_count m
+  pub named : found.named ≡ rec_at m target

@@ -17,7 +17,7 @@ use rmi_abi::{Answer, Word};
 use rmm_granules::Granules;
 use rmm_model::{Condition, Entry, Granule, GranuleState, Refusal, Ripas, RttWalk};
 
-const DATA: Names = Names {
+pub const DATA: Names = Names {
     align: Condition::DataAlign,
     bound: Condition::DataBound,
     state: Condition::DataState,

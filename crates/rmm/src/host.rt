@@ -2,10 +2,12 @@
 ghost use Rattle.std.specs.Prelude.{◌≡◌, ◌<◌, is_some, IfSome};
 ghost use Rattle.rmm_model.specs.Machine.{granule_count, number_of};
 ghost use Rattle.rmm_model.specs.Host as hosts;
+ghost use Rattle.rmm.specs.Reading.{word_shown};
 
 use granule_addr::Gran;
 use page_arena::{PageStore, word_in};
 use rmm_granules::Granules;
+use rmm_model::GranuleState;
 
 // The granule of a page of the host that an address lies in.
 fn host_granule<S: PageStore>(granules: &Granules<S>, address: u64) -> Option<Gran>
@@ -34,6 +36,29 @@ pub fn load<S: PageStore>(granules: &Granules<S>, address: u64) -> Option<u64>
     match host_granule(granules, address) {
         Some(granule) => Some(word_in(granules.page(granule), (address % 4096 / 8) as usize)),
         None => None,
+    }
+}
+
+// The state of the granule that begins at an address; `None` comes if there is none.
+pub fn state<S: PageStore>(granules: &Granules<S>, address: u64) -> Option<GranuleState>
+    ensures { result ≡ hosts.state_shown granules.now address }
+{
+    if address % 4096 == 0 && granules.is_inside(address) {
+        Some(granules.state(granules.number_of(address)))
+    } else {
+        None
+    }
+}
+
+// Word `index` of the granule that begins at an address; `None` comes if there is none.
+pub fn word<S: PageStore>(granules: &Granules<S>, address: u64, index: u16) -> Option<u64>
+    ensures { result ≡ word_shown granules.now address index }
+{
+    if address % 4096 == 0 && granules.is_inside(address) && index < 512 {
+        let page = granules.page(granules.number_of(address));
+        Some(word_in(page, index as usize))
+    } else {
+        None
     }
 }
 

@@ -4,19 +4,28 @@
 //! something only if all of them pass. No call takes memory, and no call has a precondition.
 #![tactic(auto)]
 
+mod auxiliary;
 mod data;
+mod data_create;
 mod fold;
 mod granule;
 mod host;
 mod information;
+mod init_ripas;
 mod monitor;
 mod operand;
+mod psci;
 mod read_entry;
 mod realm;
 mod realm_create;
 mod realm_destroy;
+mod rec;
+mod rec_create;
+mod rec_destroy;
+mod ripas_range;
 mod rtt_create;
 mod rtt_destroy;
+mod set_ripas;
 mod unprotected;
 mod walking;
 

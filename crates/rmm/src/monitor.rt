@@ -1,23 +1,33 @@
 //! The monitor, and its one call.
 ghost use Rattle.std.specs.Prelude.{◌≡◌};
 ghost use Rattle.rmm_model.specs.Call.{rmi, performed};
-ghost use Rattle.rmm_model.specs.Host.{can_access, can_fill, loaded, after_store, after_fill};
+ghost use Rattle.rmm_model.specs.Host.{can_access, can_fill, loaded, state_shown, after_store, after_fill};
+ghost use Rattle.rmm.specs.Reading.{word_shown};
 
 use crate::data::{data_create_unknown, data_destroy};
+use crate::data_create::data_create;
 use crate::fold::rtt_fold;
 use crate::granule::{granule_delegate, granule_undelegate};
-use crate::host::{fill, load, store};
+use crate::host::{fill, load, state, store, word};
 use crate::information::{features, rec_aux_count, version};
+use crate::init_ripas::rtt_init_ripas;
+use crate::psci::psci_complete;
 use crate::read_entry::rtt_read_entry;
 use crate::realm::realm_activate;
 use crate::realm_create::realm_create;
 use crate::realm_destroy::realm_destroy;
+use crate::rec_create::rec_create;
+use crate::rec_destroy::rec_destroy;
 use crate::rtt_create::rtt_create;
 use crate::rtt_destroy::rtt_destroy;
+use crate::set_ripas::rtt_set_ripas;
 use crate::unprotected::{rtt_map_unprotected, rtt_unmap_unprotected};
 use page_arena::PageStore;
-use rmi_abi::{Answer, Call, Registers, answer_registers, decode_call, unknown_registers};
+use rmi_abi::{
+    Answer, Call, Registers, Settings, answer_registers, decode_call, unknown_registers,
+};
 use rmm_granules::Granules;
+use rmm_model::GranuleState;
 use std::marker::Model;
 
 /// A monitor of a platform over a store of pages. It is seen as its machine.
@@ -45,6 +55,13 @@ impl<S: PageStore> Rmm<S> {
         Rmm { granules }
     }
 
+    /// The settings of the platform.
+    pub fn settings(&self) -> &Settings
+        ensures { result.now ≡ self.now.settings }
+    {
+        self.granules.settings()
+    }
+
     /// The granules of a monitor.
     pub fn into_granules(self) -> Granules<S>
         ensures { result ≡ self }
@@ -57,6 +74,22 @@ impl<S: PageStore> Rmm<S> {
         ensures { result ≡ loaded self.now address }
     {
         load(&self.granules, address)
+    }
+
+    /// The state of the granule that begins at an address, with its realm or its REC; `None` comes if there is none. No
+    /// host sees it.
+    pub fn state(&self, address: u64) -> Option<GranuleState>
+        ensures { result ≡ state_shown self.now address }
+    {
+        state(&self.granules, address)
+    }
+
+    /// Word `index` of the granule that begins at an address, whatever its state; `None` comes if there is none. No host
+    /// sees it.
+    pub fn word(&self, address: u64, index: u16) -> Option<u64>
+        ensures { result ≡ word_shown self.now address index }
+    {
+        word(&self.granules, address, index)
     }
 
     /// Stores eight bytes at an address; `false`, with nothing changed, comes where the host faults.
@@ -127,7 +160,25 @@ fn perform<S: PageStore>(granules: &mut Granules<S>, call: Call) -> Option<Answe
         Call::DataCreateUnknown { rd, data, ipa } => {
             Some(data_create_unknown(granules, rd, data, ipa))
         }
+        Call::DataCreate {
+            rd,
+            data,
+            ipa,
+            source,
+            flags,
+        } => Some(data_create(granules, rd, data, ipa, source, flags)),
+        Call::RttInitRipas { rd, base, top } => Some(rtt_init_ripas(granules, rd, base, top)),
+        Call::RttSetRipas { rd, rec, base, top } => {
+            Some(rtt_set_ripas(granules, rd, rec, base, top))
+        }
         Call::DataDestroy { rd, ipa } => Some(data_destroy(granules, rd, ipa)),
+        Call::RecCreate { rd, rec, params } => Some(rec_create(granules, rd, rec, params)),
+        Call::RecDestroy { rec } => Some(rec_destroy(granules, rec)),
+        Call::PsciComplete {
+            calling,
+            target,
+            status,
+        } => Some(psci_complete(granules, calling, target, status)),
         _ => None,
     }
 }

@@ -1,7 +1,8 @@
 //! Operands, and the checks that they have to pass.
-ghost use Rattle.std.specs.Prelude.{◌≡◌, ◌+◌, ◌^◌, ◌<◌, ◌≤◌, ◌++◌, ◌∷◌, [], not, IfOk, OnOk};
+ghost use Rattle.std.specs.Prelude.{◌≡◌, ◌+◌, ◌^◌, ◌<◌, ◌≤◌, ◌++◌, ◌∷◌, [], true, not, IfOk, OnOk};
 ghost use Rattle.rmm_model.specs.Check.{check, first_failing, refusal_in, error_input, error_rtt, error_rtt_top as with_top};
-ghost use Rattle.rmm_model.specs.Machine.{granule_count, number_of};
+ghost use Rattle.rmm_model.specs.Machine.{granule_count, granule_at, number_of};
+ghost use Rattle.rmm_model.specs.Granule.{is_undelegated, is_delegated};
 ghost use Rattle.rmm_model.specs.Realm as realms;
 ghost use Rattle.rmm_model.specs.Realm.{IsServed};
 ghost use Rattle.rmm_model.specs.Command.Operand as operands;
@@ -64,6 +65,7 @@ pub fn host_page<S: PageStore>(
     ensures refusal { refusal_in result
         ≡ first_failing (operands.host_checks names.align names.bound names.state granules.now address) }
     ensures number { IfOk result (λ granule. granule ≡ number_of granules.now address) }
+    ensures state { IfOk result (λ granule. is_undelegated (granule_at granules.now granule).state ≡ true) }
     ensures inside { IfOk result (λ granule. granule < granule_count granules.now) }
 {
     let granule = named(granules, address, names)?;
@@ -83,6 +85,7 @@ pub fn delegated<S: PageStore>(
     ensures refusal { refusal_in result
         ≡ first_failing (operands.delegated_checks names.align names.bound names.state granules.now address) }
     ensures number { IfOk result (λ granule. granule ≡ number_of granules.now address) }
+    ensures state { IfOk result (λ granule. is_delegated (granule_at granules.now granule).state ≡ true) }
     ensures inside { IfOk result (λ granule. granule < granule_count granules.now) }
 {
     let granule = named(granules, address, names)?;

@@ -1,9 +1,9 @@
 //! RMI_REALM_ACTIVATE.
 ghost use Rattle.std.specs.Prelude.{◌≡◌, ◌<◌, IfOk};
 ghost use Rattle.rmm_model.specs.Check.{outcome, first_failing, refusal_in, error_realm};
-ghost use Rattle.rmm_model.specs.Machine.{granule_count, number_of};
-ghost use Rattle.rmm_model.specs.Realm.{is_new, IsServed};
-ghost use Rattle.rmm_model.specs.Command.Operand.{realm_at};
+ghost use Rattle.rmm_model.specs.Machine.{granule_count, number_of, with_realm};
+ghost use Rattle.rmm_model.specs.Realm.{is_new, with_rim, IsServed};
+ghost use Rattle.rmm_model.specs.Command.Operand.{realm_at, new_checks};
 ghost use Rattle.rmm_model.specs.Command.RealmActivate.{realm_activate as activating};
 
 use crate::operand::{Rd, realm_of};
@@ -29,6 +29,35 @@ pub fn error_realm(condition: Condition) -> Refusal
     }
 }
 
+// Passes a realm that is NEW.
+pub fn check_new(realm: &Realm) -> Result<(), Refusal>
+    ensures { refusal_in result ≡ first_failing (new_checks realm.now) }
+{
+    if is_new(realm) {
+        Ok(())
+    } else {
+        Err(error_realm(Condition::RealmState))
+    }
+}
+
+// Writes the measurement of a realm.
+pub fn set_rim<S: PageStore>(granules: &mut Granules<S>, owner: &Rd, rim: &[u8; 64])
+    requires inside { owner.now.granule < granule_count granules.old }
+    requires served { IsServed (granule_count granules.old) owner.now.realm }
+    ensures { granules.new
+        ≡ with_realm granules.old owner.now.granule (with_rim owner.now.realm rim.now) }
+{
+    let realm = Realm {
+        rim: *rim,
+        ..owner.realm
+    };
+    let kept = Granule {
+        state: GranuleState::Rd(realm),
+        owner: None,
+    };
+    granules.set(owner.granule, kept);
+}
+
 // The NEW realm that RMI_REALM_ACTIVATE activates, if it passes.
 #[tactic(auto, unfolding(rmm_model::specs::Command::RealmActivate::realm_activate))]
 fn find_new<S: PageStore>(granules: &Granules<S>, rd: u64) -> Result<Rd, Refusal>
@@ -39,11 +68,8 @@ fn find_new<S: PageStore>(granules: &Granules<S>, rd: u64) -> Result<Rd, Refusal
     ensures served { IfOk result (λ found. IsServed (granule_count granules.now) found.realm) }
 {
     let found = realm_of(granules, rd)?;
-    if is_new(&found.realm) {
-        Ok(found)
-    } else {
-        Err(error_realm(Condition::RealmState))
-    }
+    check_new(&found.realm)?;
+    Ok(found)
 }
 
 // RMI_REALM_ACTIVATE

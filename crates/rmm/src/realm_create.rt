@@ -11,14 +11,15 @@ ghost use Rattle.rmm.specs.Found.{IsNewRealm};
 use crate::operand::{Names, RD, delegated, granule_after, host_page, is_protected, start_table};
 use granule_addr::Gran;
 use page_arena::PageStore;
-use rmi_abi::{Answer, RealmParams, Settings, Word};
+use rmi_abi::{Answer, HashAlgorithm, RealmParams, Settings, Word};
 use rmm_granules::Granules;
+use rmm_measurement::initial;
 use rmm_model::{
-    Condition, Entry, Granule, GranuleState, HashAlgorithm, Realm, RealmState, Refusal, Ripas,
-    entry_size, error_input, start_count,
+    Condition, Entry, Granule, GranuleState, Realm, RealmState, Refusal, Ripas, entry_size,
+    error_input, start_count,
 };
 
-const PARAMS: Names = Names {
+pub const PARAMS: Names = Names {
     align: Condition::ParamsAlign,
     bound: Condition::ParamsBound,
     state: Condition::ParamsPas,
@@ -195,9 +196,11 @@ fn realm_for<S: PageStore>(granules: &Granules<S>, p: &RealmParams) -> Realm
     ensures value { result ≡ command.realm_for granules.now p.now }
     ensures served { IsServed (granule_count granules.now) result }
 {
+    let hash = hash_of(p.hash_algo);
     Realm {
         state: RealmState::New,
-        hash: hash_of(p.hash_algo),
+        hash,
+        rim: initial(hash, p),
         s2sz: p.s2sz,
         start_level: p.rtt_level_start as u8,
         first_table: granules.number_of(p.rtt_base),

@@ -33,7 +33,7 @@ pub fn write<S: PageStore>(granules: &mut Granules<S>, found: &RttWalk, ipa: u64
 
 // The granule that an address names, where that is one of the machine.
 #[tactic(auto, unfolding(rmm_model::specs::Walk::granule_named))]
-fn granule_named<S: PageStore>(granules: &Granules<S>, address: u64) -> Option<Gran>
+pub fn granule_named<S: PageStore>(granules: &Granules<S>, address: u64) -> Option<Gran>
     ensures value { result ≡ walks.granule_named granules.now address }
     ensures inside { IfSome result (λ granule. granule < granule_count granules.now) }
 {

@@ -3,7 +3,7 @@ ghost use Rattle.std.specs.Prelude.{◌≡◌, ◌≢◌, ◌+◌, ◌%◌, ◌^
 ghost use Rattle.granule_addr.specs.Page.{page_of};
 ghost use Rattle.rmi_abi.specs.Settings.{IsPlatform};
 ghost use Rattle.rmm_model.specs.declared.granule.GranuleState.TheVariants.{Undelegated};
-ghost use Rattle.rmm_model.specs.Granule.{of_no_realm, realm_of, is_undelegated, is_delegated};
+ghost use Rattle.rmm_model.specs.Granule.{of_no_realm, realm_of, rec_of, is_undelegated, is_delegated};
 ghost use Rattle.rmm_model.specs.Machine as machine;
 ghost use Rattle.rmm_model.specs.Machine.{granule_count, granule_at, page_in};
 ghost use Rattle.rmm_model.specs.Realm.{IsServed};
@@ -13,7 +13,7 @@ use crate::taking::take_all;
 use granule_addr::{Gran, MOST_PAGES};
 use page_arena::PageStore;
 use rmi_abi::{Platform, Settings};
-use rmm_model::{Granule, Realm};
+use rmm_model::{Granule, GranuleState, Realm, Rec};
 use std::alloc::{AllocError, Global};
 use std::marker::Model;
 
@@ -164,6 +164,15 @@ impl<S: PageStore> Granules<S> {
             .is_delegated()
     }
 
+    /// The state of a granule.
+    pub fn state(&self, granule: Gran) -> GranuleState
+        requires { granule < granule_count self.now }
+        ensures { result ≡ (granule_at self.now granule).state }
+    {
+        let kept = &self.granules[granule.number() as usize];
+        kept.state
+    }
+
     /// The realm of an RD. Its starting tables lie in the machine.
     pub fn realm(&self, granule: Gran) -> Option<Realm>
         requires { granule < granule_count self.now }
@@ -171,6 +180,22 @@ impl<S: PageStore> Granules<S> {
         ensures served { IfSome result (IsServed (granule_count self.now)) }
     {
         self.granules[granule.number() as usize].state.realm()
+    }
+
+    /// The attributes of a REC.
+    pub fn rec(&self, granule: Gran) -> Option<Rec>
+        requires { granule < granule_count self.now }
+        ensures { result ≡ rec_of (granule_at self.now granule).state }
+    {
+        self.granules[granule.number() as usize].state.rec()
+    }
+
+    /// The RD of the realm that owns a granule.
+    pub fn owner(&self, granule: Gran) -> Option<Gran>
+        requires { granule < granule_count self.now }
+        ensures { result ≡ (granule_at self.now granule).owner }
+    {
+        self.granules[granule.number() as usize].owner
     }
 
     /// Sets the attributes of a granule.

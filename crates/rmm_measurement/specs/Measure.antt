@@ -3,18 +3,18 @@ use Rattle.std.specs.Prelude.{ℕ, List, ◌++◌, slice_range}
 use Rattle.std.specs.Int.{to_le_bytes, w64}
 use Rattle.sha2.specs.Sha256.{sha256}
 use Rattle.sha2.specs.Sha512.{sha512}
+use Rattle.rmi_abi.specs.declared.hash.HashAlgorithm.{HashAlgorithm}
+use Rattle.rmi_abi.specs.declared.hash.HashAlgorithm.TheVariants.{Sha256, Sha512}
 use Rattle.rmi_abi.specs.declared.realm_params.RealmParams.{RealmParams}
 use Rattle.rmm_measurement.specs.declared.measure.Extension.{Extension}
 use Rattle.rmm_measurement.specs.declared.measure.Extension.TheVariants.{Data, Rec, Ripas}
 use Rattle.rmm_measurement.specs.Bytes.{zeros}
-use Rattle.rmm_model.specs.declared.realm.HashAlgorithm.{HashAlgorithm}
-use Rattle.rmm_model.specs.declared.realm.HashAlgorithm.TheVariants.{Sha256, Sha512}
 
 abbrev pub word : ℕ → List ℕ
 word number = to_le_bytes w64 number
 
 -- the digest of a message in 64 bytes, the rest of which are 0
-abbrev pub digest : HashAlgorithm → List ℕ → List ℕ
+unfoldable pub digest : HashAlgorithm → List ℕ → List ℕ
 digest Sha256 message = sha256 message ++ zeros 32
 digest Sha512 message = sha512 message
 
@@ -25,7 +25,7 @@ abbrev pub params_bytes : RealmParams → List ℕ
 params_bytes p = word p.flags ++ word p.s2sz ++ word p.sve_vl ++ word p.num_bps ++ word p.num_wps ++ word p.pmu_num_ctrs ++ word p.hash_algo ++ zeros 4040
 
 -- The measurement of a new realm.
-abbrev pub initial : HashAlgorithm → RealmParams → List ℕ
+unfoldable pub initial : HashAlgorithm → RealmParams → List ℕ
 initial hash p = digest hash (params_bytes p)
 
 -- ---- extensions
@@ -46,7 +46,7 @@ abbrev pub descriptor : List ℕ → Extension → List ℕ
 descriptor rim extension = with_content (word (type_of extension) ++ word 0x100 ++ rim) extension
 
 -- The measurement after an extension.
-abbrev pub extended : HashAlgorithm → List ℕ → Extension → List ℕ
+unfoldable pub extended : HashAlgorithm → List ℕ → Extension → List ℕ
 extended hash rim extension = digest hash (descriptor rim extension)
 
 -- ---- RECs
@@ -56,5 +56,5 @@ abbrev pub rec_bytes : List ℕ → List ℕ
 rec_bytes page = slice_range page 0 8 ++ zeros 504 ++ slice_range page 512 520 ++ zeros 248 ++ slice_range page 768 832 ++ zeros 3264
 
 -- The digest of a REC's parameters.
-abbrev pub rec_digest : HashAlgorithm → List ℕ → List ℕ
+unfoldable pub rec_digest : HashAlgorithm → List ℕ → List ℕ
 rec_digest hash page = digest hash (rec_bytes page)

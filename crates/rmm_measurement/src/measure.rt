@@ -4,8 +4,7 @@ ghost use Rattle.rmm_measurement.specs.Bytes as bytes;
 ghost use Rattle.rmm_measurement.specs.Measure as measures;
 
 use crate::digest::{feed_word, feed_zeros};
-use rmi_abi::RealmParams;
-use rmm_model::HashAlgorithm;
+use rmi_abi::{HashAlgorithm, RealmParams};
 use sha2::{Digest, Sha256, Sha512};
 
 /// An event that extends a measurement. RMM 1.0, RmmMeasurementDescriptorData, RmmMeasurementDescriptorRec and
@@ -58,6 +57,7 @@ fn hash_params<D: Digest>(p: &RealmParams) -> D::Output
 }
 
 /// The measurement of a new realm: the hash of a page that has those parameters which are measured.
+#[tactic(auto, unfolding(crate::specs::Measure::initial, crate::specs::Measure::digest))]
 pub fn initial(hash: HashAlgorithm, params: &RealmParams) -> [u8; 64]
     ensures { result ≡ measures.initial hash params.now }
 {
@@ -116,6 +116,7 @@ fn hash_descriptor<D: Digest>(rim: &[u8; 64], extension: &Extension) -> D::Outpu
 }
 
 /// The measurement after an extension.
+#[tactic(auto, unfolding(crate::specs::Measure::extended, crate::specs::Measure::digest))]
 pub fn extend(hash: HashAlgorithm, rim: &[u8; 64], extension: &Extension) -> [u8; 64]
     ensures { result ≡ measures.extended hash rim.now extension.now }
 {
@@ -126,6 +127,7 @@ pub fn extend(hash: HashAlgorithm, rim: &[u8; 64], extension: &Extension) -> [u8
 }
 
 /// The digest of a page of data.
+#[tactic(auto, unfolding(crate::specs::Measure::digest))]
 pub fn page_digest(hash: HashAlgorithm, page: &[u8]) -> [u8; 64]
     ensures { result ≡ measures.digest hash page.now }
 {
@@ -153,6 +155,7 @@ fn hash_rec<D: Digest>(page: &[u8]) -> D::Output
 }
 
 /// The digest of the parameters of a REC, of which flags, pc and gprs are measured.
+#[tactic(auto, unfolding(crate::specs::Measure::rec_digest, crate::specs::Measure::digest))]
 pub fn rec_digest(hash: HashAlgorithm, page: &[u8]) -> [u8; 64]
     requires { length page.now ≡ 4096 }
     ensures { result ≡ measures.rec_digest hash page.now }

@@ -1,2 +1,3 @@
+pub mod FixedEntries
 pub mod LiveEntries
 pub mod Parts

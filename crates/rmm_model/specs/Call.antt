@@ -1,13 +1,14 @@
 -- Calls by registers. RMM 1.0, RMI commands.
 use Rattle.std.specs.Prelude.{Option, Some, None}
 use Rattle.rmi_abi.specs.declared.call.Call.{Call}
-use Rattle.rmi_abi.specs.declared.call.Call.TheVariants.{Version, GranuleDelegate, GranuleUndelegate, DataCreateUnknown, DataDestroy, RealmActivate, RealmCreate, RealmDestroy, RttCreate, RttDestroy, RttMapUnprotected, RttReadEntry, RttUnmapUnprotected, Features, RttFold, RecAuxCount}
+use Rattle.rmi_abi.specs.declared.call.Call.TheVariants.{Version, GranuleDelegate, GranuleUndelegate, DataCreate, DataCreateUnknown, DataDestroy, RealmActivate, RealmCreate, RealmDestroy, RecCreate, RecDestroy, PsciComplete, RttCreate, RttDestroy, RttMapUnprotected, RttReadEntry, RttUnmapUnprotected, Features, RttFold, RecAuxCount, RttInitRipas, RttSetRipas}
 use Rattle.rmi_abi.specs.declared.registers.Answer.{Answer}
 use Rattle.rmi_abi.specs.declared.registers.Registers.{Registers}
 use Rattle.rmi_abi.specs.Answer.{with_answer, not_supported}
 use Rattle.rmi_abi.specs.Call.{call_in}
 use Rattle.rmm_model.specs.Check.{Command, outcome}
 use Rattle.rmm_model.specs.Machine.{Machine}
+use Rattle.rmm_model.specs.Command.DataCreate.{data_create}
 use Rattle.rmm_model.specs.Command.DataCreateUnknown.{data_create_unknown}
 use Rattle.rmm_model.specs.Command.DataDestroy.{data_destroy}
 use Rattle.rmm_model.specs.Command.Features.{features}
@@ -16,12 +17,17 @@ use Rattle.rmm_model.specs.Command.GranuleUndelegate.{granule_undelegate}
 use Rattle.rmm_model.specs.Command.RealmActivate.{realm_activate}
 use Rattle.rmm_model.specs.Command.RealmCreate.{realm_create}
 use Rattle.rmm_model.specs.Command.RealmDestroy.{realm_destroy}
+use Rattle.rmm_model.specs.Command.PsciComplete.{psci_complete}
 use Rattle.rmm_model.specs.Command.RecAuxCount.{rec_aux_count}
+use Rattle.rmm_model.specs.Command.RecCreate.{rec_create}
+use Rattle.rmm_model.specs.Command.RecDestroy.{rec_destroy}
 use Rattle.rmm_model.specs.Command.RttCreate.{rtt_create}
 use Rattle.rmm_model.specs.Command.RttDestroy.{rtt_destroy}
 use Rattle.rmm_model.specs.Command.RttFold.{rtt_fold}
+use Rattle.rmm_model.specs.Command.RttInitRipas.{rtt_init_ripas}
 use Rattle.rmm_model.specs.Command.RttMapUnprotected.{rtt_map_unprotected}
 use Rattle.rmm_model.specs.Command.RttReadEntry.{rtt_read_entry}
+use Rattle.rmm_model.specs.Command.RttSetRipas.{rtt_set_ripas}
 use Rattle.rmm_model.specs.Command.RttUnmapUnprotected.{rtt_unmap_unprotected}
 use Rattle.rmm_model.specs.Command.Version.{version}
 
@@ -41,8 +47,14 @@ command_of (RealmDestroy rd) m = Some (realm_destroy rd m)
 command_of (RttFold rd ipa level) m = Some (rtt_fold rd ipa level m)
 command_of (RttMapUnprotected rd ipa level descriptor) m = Some (rtt_map_unprotected rd ipa level descriptor m)
 command_of (RttUnmapUnprotected rd ipa level) m = Some (rtt_unmap_unprotected rd ipa level m)
+command_of (DataCreate rd page ipa source flags) m = Some (data_create rd page ipa source flags m)
 command_of (DataCreateUnknown rd page ipa) m = Some (data_create_unknown rd page ipa m)
 command_of (DataDestroy rd ipa) m = Some (data_destroy rd ipa m)
+command_of (RttInitRipas rd base top) m = Some (rtt_init_ripas rd base top m)
+command_of (RttSetRipas rd rec base top) m = Some (rtt_set_ripas rd rec base top m)
+command_of (RecCreate rd rec params) m = Some (rec_create rd rec params m)
+command_of (RecDestroy rec) m = Some (rec_destroy rec m)
+command_of (PsciComplete calling target status) m = Some (psci_complete calling target status m)
 command_of _ m = None
 
 -- the answer of a command, and the machine after it

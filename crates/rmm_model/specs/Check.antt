@@ -1,7 +1,7 @@
 -- Checks of commands, and what comes of them. RMM 1.0, failure conditions of RMI commands.
 use Rattle.std.specs.Prelude.{ℕ, Bool, cond, List, [], ◌∷◌, Option, Some, None, Result, Ok, Err}
 use Rattle.rmi_abi.specs.declared.registers.Answer.{Answer}
-use Rattle.rmi_abi.specs.declared.word.Word.TheVariants.{Success, ErrorInput, ErrorRealm, ErrorRtt}
+use Rattle.rmi_abi.specs.declared.word.Word.TheVariants.{Success, ErrorInput, ErrorRealm, ErrorRec, ErrorRtt}
 use Rattle.rmi_abi.specs.Answer.{only}
 use Rattle.rmm_model.specs.declared.answer.Refusal.{Refusal}
 use Rattle.rmm_model.specs.declared.condition.Condition.{Condition}
@@ -17,6 +17,9 @@ error_input = only ErrorInput
 
 abbrev pub error_realm : Answer
 error_realm = only (ErrorRealm 0)
+
+abbrev pub error_rec : Answer
+error_rec = only ErrorRec
 
 abbrev pub error_rtt : ℕ → Answer
 error_rtt level = only (ErrorRtt level)

@@ -1,6 +1,7 @@
 -- Entries of translation tables, and their words. RMM 1.0, RTT entry; the bits of a word are this monitor's own.
-use Rattle.std.specs.Prelude.{ℕ, ◌+◌, ◌*◌, ◌/◌, ◌%◌, ◌^◌, ◌==◌, Bool, true, false, Option, Some, None, if◌then◌else◌}
+use Rattle.std.specs.Prelude.{ℕ, ◌+◌, ◌*◌, ◌/◌, ◌%◌, ◌^◌, ◌==◌, ◌&&◌, ◌||◌, Bool, true, false, not, Option, Some, None, if◌then◌else◌}
 use Rattle.rmm_model.specs.Level.{entry_size}
+use Rattle.rmm_model.specs.declared.entry.Changeable.{Changeable}
 use Rattle.rmm_model.specs.declared.entry.Entry.{Entry}
 use Rattle.rmm_model.specs.declared.entry.Entry.TheVariants.{Unassigned, Assigned, Table, UnassignedNs, AssignedNs}
 use Rattle.rmm_model.specs.declared.entry.Ripas.{Ripas}
@@ -79,6 +80,28 @@ abbrev pub is_mapping : Entry → Bool
 is_mapping (Assigned ripas address) = true
 is_mapping (AssignedNs descriptor) = true
 is_mapping _ = false
+
+-- ---- RIPAS
+
+abbrev pub is_ram : Ripas → Bool
+is_ram Ram = true
+is_ram _ = false
+
+abbrev pub is_destroyed : Ripas → Bool
+is_destroyed Destroyed = true
+is_destroyed _ = false
+
+-- an entry is one whose RIPAS a command changes
+abbrev pub can_change : Changeable → Entry → Bool
+can_change changeable (Unassigned ripas) = changeable.destroyed || not (is_destroyed ripas)
+can_change changeable (Assigned ripas address) = changeable.assigned && (changeable.destroyed || not (is_destroyed ripas))
+can_change changeable _ = false
+
+-- an UNASSIGNED or ASSIGNED entry with another RIPAS
+abbrev pub entry_with_ripas : Ripas → Entry → Entry
+entry_with_ripas ripas (Unassigned old) = Unassigned ripas
+entry_with_ripas ripas (Assigned old address) = Assigned ripas address
+entry_with_ripas ripas entry = entry
 
 -- ---- outputs of RMI_RTT_READ_ENTRY
 

@@ -9,5 +9,6 @@ pub mod Host
 pub mod Level
 pub mod Machine
 pub mod Realm
+pub mod Rec
 pub mod Table
 pub mod Walk

@@ -6,7 +6,8 @@ use Rattle.page_arena.specs.Word.{word_of_page, page_with_word}
 use Rattle.rmi_abi.specs.declared.settings.Settings.{Settings}
 use Rattle.rmm_model.specs.declared.granule.Granule.{Granule}
 use Rattle.rmm_model.specs.declared.granule.GranuleState.{GranuleState}
-use Rattle.rmm_model.specs.declared.granule.GranuleState.TheVariants.{Undelegated}
+use Rattle.rmm_model.specs.declared.granule.GranuleState.TheVariants.{Undelegated, Rd}
+use Rattle.rmm_model.specs.declared.realm.Realm.{Realm}
 use Rattle.rmm_model.specs.Granule.{of_no_realm, realm_of}
 use Rattle.rmm_model.specs.Realm.{IsServed}
 
@@ -65,6 +66,10 @@ unfoldable pub is_secure : Machine → ℕ → Bool
 is_secure m address = nat_le m.settings.secure_base address && nat_lt ((address - m.settings.secure_base) / 4096) m.settings.secure_count
 
 -- ---- realms
+
+-- the granule of an RD has another realm
+abbrev pub with_realm : Machine → ℕ → Realm → Machine
+with_realm m rd realm = with_granule m rd (of_no_realm (Rd realm))
 
 -- each RD has a realm whose starting tables lie in the machine
 pub record HasTables (granules : List Granule) : Type 0 where

@@ -1,6 +1,6 @@
 -- Realms. RMM 1.0, Realm attributes.
-use Rattle.std.specs.Prelude.{true, false, ℕ, ◌+◌, ◌-◌, ◌*◌, ◌/◌, ◌^◌, ◌<◌, ◌≤◌, ◌==◌, ◌&&◌, Bool, not, nat_le, nat_lt}
-use Rattle.rmm_model.specs.declared.realm.HashAlgorithm.TheVariants.{Sha256}
+use Rattle.std.specs.Prelude.{true, false, ℕ, [], ◌+◌, ◌-◌, ◌*◌, ◌/◌, ◌^◌, ◌<◌, ◌≤◌, ◌==◌, ◌&&◌, Bool, not, nat_le, nat_lt, List}
+use Rattle.rmi_abi.specs.declared.hash.HashAlgorithm.TheVariants.{Sha256}
 use Rattle.rmm_model.specs.declared.realm.Realm.{Realm}
 use Rattle.rmm_model.specs.declared.realm.RealmState.{RealmState}
 use Rattle.rmm_model.specs.declared.realm.RealmState.TheVariants.{New}
@@ -8,11 +8,15 @@ use Rattle.rmm_model.specs.Level.{entry_size}
 
 -- the realm that a granule which is no RD counts as, after a check that has failed
 abbrev pub no_realm : Realm
-no_realm = record { state = New; hash = Sha256; s2sz = 0; start_level = 0; first_table = 0; table_count = 0; vmid = 0; next_rec = 0; rec_count = 0 }
+no_realm = record { state = New; hash = Sha256; rim = []; s2sz = 0; start_level = 0; first_table = 0; table_count = 0; vmid = 0; next_rec = 0; rec_count = 0 }
 
 abbrev pub is_new : RealmState → Bool
 is_new New = true
 is_new _ = false
+
+-- the realm with another measurement
+abbrev pub with_rim : Realm → List ℕ → Realm
+with_rim realm rim = record realm { rim = rim }
 
 -- the address is one of the realm's
 abbrev pub is_in_space : Realm → ℕ → Bool

@@ -2,8 +2,9 @@
 use Rattle.std.specs.Prelude.{ℕ, zero, suc, ◌+◌, ◌-◌, ◌*◌, ◌/◌, ◌==◌, ◌&&◌, Bool, true, cond, not, List, Option, Some, None, if◌then◌else◌}
 use Rattle.granule_addr.specs.Page.{page_of, zero_page}
 use Rattle.page_arena.specs.Word.{word_of_page, page_with_word}
+use Rattle.rmm_model.specs.declared.entry.Changeable.{Changeable}
 use Rattle.rmm_model.specs.declared.entry.Entry.{Entry}
-use Rattle.rmm_model.specs.Entry.{entry_of, entry_word, is_live, child_entry, repeated_byte}
+use Rattle.rmm_model.specs.Entry.{entry_of, entry_word, is_live, can_change, child_entry, repeated_byte}
 
 -- entry i of a table's page
 unfoldable pub entry_in_page : List ℕ → ℕ → Entry
@@ -23,6 +24,13 @@ first_live_from page i = first_live page (512 - i) i
 -- some entry of a table is live
 unfoldable pub has_live : List ℕ → Bool
 has_live page = not (first_live_from page 0 == 512)
+
+-- ---- entries whose RIPAS is changed
+
+-- the first entry that cannot be changed from one on, among that many; the index after them where all can
+unfoldable pub first_fixed : Changeable → List ℕ → ℕ → ℕ → ℕ
+first_fixed changeable page zero i = i
+first_fixed changeable page (suc count) i = cond (can_change changeable (entry_in_page page i)) (first_fixed changeable page count (i + 1)) i
 
 -- ---- children
 

@@ -25,6 +25,15 @@ pub enum Entry {
     AssignedNs(u64),
 }
 
+/// The entries whose RIPAS a command changes: UNASSIGNED ones, and which others.
+#[derive(Clone, Copy, Debug, PartialEq, Eq)]
+pub struct Changeable {
+    /// ASSIGNED ones.
+    pub assigned: bool,
+    /// Ones whose RIPAS is DESTROYED.
+    pub destroyed: bool,
+}
+
 // A word whose bytes are all 1.
 const REPEATED: u64 = 0x0101_0101_0101_0101;
 
@@ -63,6 +72,18 @@ impl Ripas {
             Ripas::Ram => 1,
             Ripas::Destroyed => 2,
         }
+    }
+
+    pub fn is_ram(self) -> bool
+        ensures { result ≡ entries.is_ram self }
+    {
+        matches!(self, Ripas::Ram)
+    }
+
+    pub fn is_destroyed(self) -> bool
+        ensures { result ≡ entries.is_destroyed self }
+    {
+        matches!(self, Ripas::Destroyed)
     }
 }
 
@@ -149,6 +170,30 @@ impl Entry {
             Entry::Unassigned(ripas) => ripas,
             Entry::Assigned(ripas, _) => ripas,
             _ => Ripas::Empty,
+        }
+    }
+
+    /// Whether the entry is one whose RIPAS a command changes.
+    pub fn can_change(self, changeable: Changeable) -> bool
+        ensures { result ≡ entries.can_change changeable self }
+    {
+        match self {
+            Entry::Unassigned(ripas) => changeable.destroyed || !ripas.is_destroyed(),
+            Entry::Assigned(ripas, _) => {
+                changeable.assigned && (changeable.destroyed || !ripas.is_destroyed())
+            }
+            _ => false,
+        }
+    }
+
+    /// An UNASSIGNED or ASSIGNED entry with another RIPAS.
+    pub fn with_ripas(self, ripas: Ripas) -> Entry
+        ensures { result ≡ entries.entry_with_ripas ripas self }
+    {
+        match self {
+            Entry::Unassigned(_) => Entry::Unassigned(ripas),
+            Entry::Assigned(_, address) => Entry::Assigned(ripas, address),
+            _ => self,
         }
     }
 

@@ -1,15 +1,16 @@
 //! Granules.
 ghost use Rattle.std.specs.Prelude.{◌≡◌};
 
-use crate::Realm;
+use crate::{Realm, Rec};
 use granule_addr::Gran;
 
-/// The state of a granule; an RD has its realm. RMM 1.0, RmmGranuleState.
+/// The state of a granule; an RD has its realm, a REC its attributes. RMM 1.0, RmmGranuleState.
 #[derive(Clone, Copy, Debug, PartialEq, Eq)]
 pub enum GranuleState {
     Undelegated,
     Delegated,
     Rd(Realm),
+    Rec(Rec),
     RecAux,
     Data,
     Rtt,
@@ -31,7 +32,7 @@ impl Granule {
 }
 
 impl GranuleState {
-    ghost use Rattle.rmm_model.specs.Granule.{is_undelegated, is_delegated, realm_of};
+    ghost use Rattle.rmm_model.specs.Granule.{is_undelegated, is_delegated, realm_of, rec_of};
 
     pub fn is_undelegated(&self) -> bool
         ensures { result ≡ is_undelegated self.now }
@@ -51,6 +52,16 @@ impl GranuleState {
     {
         match self {
             GranuleState::Rd(realm) => Some(*realm),
+            _ => None,
+        }
+    }
+
+    /// The attributes of a REC.
+    pub fn rec(&self) -> Option<Rec>
+        ensures { result ≡ rec_of self.now }
+    {
+        match self {
+            GranuleState::Rec(rec) => Some(*rec),
             _ => None,
         }
     }

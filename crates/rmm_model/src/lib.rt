@@ -10,12 +10,14 @@ mod entry;
 mod granule;
 mod level;
 mod realm;
+mod rec;
 mod table;
 
 pub use answer::{Refusal, error_input, error_rtt};
 pub use condition::Condition;
-pub use entry::{Entry, Ripas, entry_from_word};
+pub use entry::{Changeable, Entry, Ripas, entry_from_word};
 pub use granule::{Granule, GranuleState};
 pub use level::{entry_index, entry_size, start_offset};
-pub use realm::{HashAlgorithm, Realm, RealmState, RttWalk, start_count};
-pub use table::{first_live, has_live, has_parts};
+pub use realm::{Realm, RealmState, RttWalk, start_count};
+pub use rec::{LastExit, PsciRequest, Rec, RecState, RipasRequest, aux_address};
+pub use table::{first_fixed, first_live, has_live, has_parts};

@@ -4,6 +4,7 @@ ghost use Rattle.rmm_model.specs.Realm as realms;
 
 use crate::entry_size;
 use granule_addr::Gran;
+use rmi_abi::HashAlgorithm;
 
 /// The state of a realm. RMM 1.0, RmmRealmState.
 #[derive(Clone, Copy, Debug, PartialEq, Eq)]
@@ -13,21 +14,15 @@ pub enum RealmState {
     SystemOff,
 }
 
-/// The hash of a realm's measurements. RMM 1.0, RmiHashAlgorithm.
-#[derive(Clone, Copy, Debug, PartialEq, Eq)]
-pub enum HashAlgorithm {
-    Sha256,
-    Sha512,
-}
-
 /// The attributes of a realm. RMM 1.0, Realm attributes.
 ///
-/// The starting tables are `table_count` adjacent granules. `next_rec` counts the RECs that the realm was given,
-/// `rec_count` those that it has.
+/// `rim` is the initial measurement, the digest of `hash` with zeros up to 64 bytes. The starting tables are
+/// `table_count` adjacent granules. `next_rec` counts the RECs that the realm was given, `rec_count` those that it has.
 #[derive(Clone, Copy, Debug, PartialEq, Eq)]
 pub struct Realm {
     pub state: RealmState,
     pub hash: HashAlgorithm,
+    pub rim: [u8; 64],
     pub s2sz: u8,
     pub start_level: u8,
     pub first_table: Gran,

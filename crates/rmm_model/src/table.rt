@@ -1,9 +1,9 @@
 //! Tables: pages of 512 entries.
-ghost use Rattle.std.specs.Prelude.{◌≡◌, ◌^◌, ◌<◌, ◌≤◌, length};
+ghost use Rattle.std.specs.Prelude.{◌≡◌, ◌-◌, ◌^◌, ◌<◌, ◌≤◌, length};
 ghost use Rattle.rmm_model.specs.Table as tables;
 ghost use Rattle.rmm_model.specs.Entry.{descriptor_of};
 
-use crate::{Entry, entry_from_word};
+use crate::{Changeable, Entry, entry_from_word};
 use page_arena::word_in;
 
 /// The first live entry of a table from one on, or 512.
@@ -30,6 +30,23 @@ pub fn has_live(page: &[u8]) -> bool
     ensures { result ≡ tables.has_live page.now }
 {
     first_live(page, 0) != 512
+}
+
+/// The first entry of a table from one on whose RIPAS is not changed; `end`, if those before it are all changed.
+pub fn first_fixed(page: &[u8], changeable: Changeable, from: u16, end: u16) -> u16
+    requires page { length page.now ≡ 4096 }
+    requires from { from ≤ end }
+    requires end { end ≤ 512 }
+    ensures value { result ≡ tables.first_fixed changeable page.now (end - from) from }
+    ensures behind { from ≤ result }
+    ensures within { result ≤ end }
+{
+    for index in from..end {
+        if !entry_from_word(word_in(page, index as usize)).can_change(changeable) {
+            return index;
+        }
+    }
+    end
 }
 
 /// Whether the entries of a table of a level are the children of an entry above it.

@@ -1,8 +1,10 @@
 //! Scripts of calls: X0 to X4 before each, and after it.
+use crate::measurements::BY_SHA_256;
 use page_arena::{PageStore, PlainStore};
 use rmi_abi::{Platform, Registers, Settings};
 use rmm::Rmm;
 use rmm_granules::Granules;
+use rmm_model::GranuleState;
 use std::alloc::{AllocError, Global};
 use std::process::Abort;
 use std::test::Fail;
@@ -12,6 +14,8 @@ const VERSION: u64 = 0xC400_0150;
 const DELEGATE: u64 = 0xC400_0151;
 
 const UNDELEGATE: u64 = 0xC400_0152;
+
+const DATA_CREATE: u64 = 0xC400_0153;
 
 const DATA_CREATE_UNKNOWN: u64 = 0xC400_0154;
 
@@ -39,11 +43,17 @@ const RTT_FOLD: u64 = 0xC400_0166;
 
 const REC_AUX_COUNT: u64 = 0xC400_0167;
 
+const REC_CREATE: u64 = 0xC400_015A;
+
+const SET_RIPAS: u64 = 0xC400_0169;
+
+const INIT_RIPAS: u64 = 0xC400_0168;
+
 // X0 to X4 of a call, and of its answer.
-type Script<'a> = &'a [([u64; 5], [u64; 5])];
+pub type Script<'a> = &'a [([u64; 5], [u64; 5])];
 
 // A monitor of granules from 0x8000_0000 on.
-fn over(alloc: Global, store: PlainStore) -> Result<Rmm<PlainStore>, AllocError> {
+pub(crate) fn over(alloc: Global, store: PlainStore) -> Result<Rmm<PlainStore>, AllocError> {
     let platform = Platform::new(Settings::DEFAULT).unwrap();
     match Granules::open(alloc, platform, store) {
         Ok(granules) => Ok(Rmm::over(granules)),
@@ -52,7 +62,7 @@ fn over(alloc: Global, store: PlainStore) -> Result<Rmm<PlainStore>, AllocError>
 }
 
 // Each call is answered so.
-fn run<S: PageStore>(rt: &impl Abort, rmm: &mut Rmm<S>, script: Script<'_>) {
+pub(crate) fn run<S: PageStore>(rt: &impl Abort, rmm: &mut Rmm<S>, script: Script<'_>) {
     for (asked, wanted) in script {
         let regs = Registers {
             x0: asked[0],
@@ -74,7 +84,12 @@ fn run<S: PageStore>(rt: &impl Abort, rmm: &mut Rmm<S>, script: Script<'_>) {
 }
 
 // The host stores the parameters of a realm.
-fn ask_for<S: PageStore>(rt: &impl Abort, rmm: &mut Rmm<S>, params: u64, fields: [u64; 5]) {
+pub(crate) fn ask_for<S: PageStore>(
+    rt: &impl Abort,
+    rmm: &mut Rmm<S>,
+    params: u64,
+    fields: [u64; 5],
+) {
     for (offset, field) in [
         (0x008, fields[0]),
         (0x800, fields[1]),
@@ -537,6 +552,147 @@ fn block(rt: HostRuntime) -> Result<(), Fail> {
             ),
             ([REALM_DESTROY, rd, 0, 0, 0], [0, 0, 0, 0, 0]),
         ],
+    );
+    Ok(())
+}
+
+// ---- measured pages and ranges
+
+// The realm of an RD has a SHA-256 measurement.
+fn has_rim<S: PageStore>(rt: &impl Abort, rmm: &Rmm<S>, rd: u64, wanted: &[u8; 32]) {
+    match rmm.state(rd) {
+        Some(GranuleState::Rd(realm)) => {
+            assert_eq!(rt; realm.rim[..32], wanted[..]);
+            assert_eq!(rt; realm.rim[32..], [0; 32][..]);
+        }
+        _ => assert!(rt; false),
+    }
+}
+
+// RMI_DATA_CREATE with its flags in X5 is answered so.
+fn create_data<S: PageStore>(rt: &impl Abort, rmm: &mut Rmm<S>, operands: [u64; 5], wanted: u64) {
+    let answer = rmm.smc(Registers {
+        x0: DATA_CREATE,
+        x1: operands[0],
+        x2: operands[1],
+        x3: operands[2],
+        x4: operands[3],
+        x5: operands[4],
+        x6: 0,
+    });
+    assert_eq!(rt; answer.x0, wanted, "at {operands:?}");
+}
+
+// A realm of 33 bits, as KVM begins one: the measurements are those of the chain.
+#[test]
+fn measured_realm(rt: HostRuntime) -> Result<(), Fail> {
+    let mut rmm = over(rt.alloc(), PlainStore::build(rt.alloc(), 64)?)?;
+    for granule in [0u64, 1, 2, 3, 4, 5, 8, 9, 10, 11, 12, 13, 14, 15, 16] {
+        let address = 0x8000_0000 + granule * 4096;
+        run(
+            &rt,
+            &mut rmm,
+            &[([DELEGATE, address, 0, 0, 0], [0, 0, 0, 0, 0])],
+        );
+    }
+    ask_for(&rt, &mut rmm, 0x8001_4000, [33, 1, 0x8000_8000, 2, 8]);
+    assert!(rt; rmm.fill(0x8001_5000, 7));
+    for (offset, field) in [
+        (0x000, 1),
+        (0x200, 0x8000_0000),
+        (0x800, 2),
+        (0x808, 0x8000_4000),
+        (0x810, 0x8000_5000),
+    ] {
+        assert!(rt; rmm.store(0x8001_6000 + offset, field));
+    }
+    let (rd, ram) = (0x8000_0000, 0x8000_0000);
+    run(
+        &rt,
+        &mut rmm,
+        &[([REALM_CREATE, rd, 0x8001_4000, 0, 0], [0, 0, 0, 0, 0])],
+    );
+    has_rim(&rt, &rmm, rd, &BY_SHA_256[0]);
+    run(
+        &rt,
+        &mut rmm,
+        &[
+            ([INIT_RIPAS, rd, ram, ram, 0], [1, 0, 0, 0, 0]),
+            (
+                [INIT_RIPAS, rd, ram + 0x800, ram + 0x1000, 0],
+                [1, 0, 0, 0, 0],
+            ),
+            ([INIT_RIPAS, rd, ram, ram + 0x800, 0], [1, 0, 0, 0, 0]),
+            (
+                [INIT_RIPAS, rd, 0x1_0000_0000, 0x1_0020_0000, 0],
+                [1, 0, 0, 0, 0],
+            ),
+            ([INIT_RIPAS, rd, ram, 0x1_0020_0000, 0], [1, 0, 0, 0, 0]),
+            (
+                [INIT_RIPAS, rd, ram + 0x1000, ram + 0x20_0000, 0],
+                [0x204, 0, 0, 0, 0],
+            ),
+            ([INIT_RIPAS, rd, ram, ram + 0x1000, 0], [0x204, 0, 0, 0, 0]),
+            (
+                [INIT_RIPAS, rd, ram, ram + 0x20_0000, 0],
+                [0, ram + 0x20_0000, 0, 0, 0],
+            ),
+            ([READ_ENTRY, rd, ram, 2, 0], [0, 2, 0, 0, 1]),
+            ([READ_ENTRY, rd, ram + 0x20_0000, 2, 0], [0, 2, 0, 0, 0]),
+        ],
+    );
+    has_rim(&rt, &rmm, rd, &BY_SHA_256[1]);
+    create_data(&rt, &mut rmm, [rd, 0x8000_1000, ram, 0x8001_5000, 1], 0x204);
+    run(
+        &rt,
+        &mut rmm,
+        &[([RTT_CREATE, rd, 0x8001_0000, ram, 3], [0, 0, 0, 0, 0])],
+    );
+    create_data(&rt, &mut rmm, [rd, 0x8000_1000, ram, 0x8001_5000, 2], 1);
+    create_data(&rt, &mut rmm, [rd, 0x8000_1000, ram, 0x8000_2000, 1], 1);
+    create_data(&rt, &mut rmm, [rd, 0x8001_5000, ram, 0x8001_5000, 1], 1);
+    create_data(&rt, &mut rmm, [rd, 0x8000_1000, ram + 1, 0x8001_5000, 1], 1);
+    has_rim(&rt, &rmm, rd, &BY_SHA_256[1]);
+    create_data(&rt, &mut rmm, [rd, 0x8000_1000, ram, 0x8001_5000, 1], 0);
+    has_rim(&rt, &rmm, rd, &BY_SHA_256[2]);
+    create_data(&rt, &mut rmm, [rd, 0x8000_2000, ram, 0x8001_5000, 1], 0x304);
+    run(
+        &rt,
+        &mut rmm,
+        &[(
+            [REC_CREATE, rd, 0x8000_3000, 0x8001_6000, 0],
+            [0, 0, 0, 0, 0],
+        )],
+    );
+    has_rim(&rt, &rmm, rd, &BY_SHA_256[3]);
+    run(
+        &rt,
+        &mut rmm,
+        &[
+            ([SET_RIPAS, rd, 0x8000_3000, 0, 0], [1, 0, 0, 0, 0]),
+            ([SET_RIPAS, rd, 0x8000_2000, 0, 0x1000], [1, 0, 0, 0, 0]),
+            ([SET_RIPAS, rd, 0x8000_3000, 0, 0x1000], [1, 0, 0, 0, 0]),
+            ([READ_ENTRY, rd, ram, 3, 0], [0, 3, 1, 0x8000_1000, 1]),
+            (
+                [INIT_RIPAS, rd, ram, ram + 0x20_0000, 0],
+                [0x304, 0, 0, 0, 0],
+            ),
+            (
+                [INIT_RIPAS, rd, ram + 0x20_0000, 0xD000_0000, 0],
+                [0, 0xC000_0000, 0, 0, 0],
+            ),
+            ([REALM_ACTIVATE, rd, 0, 0, 0], [0, 0, 0, 0, 0]),
+            (
+                [INIT_RIPAS, rd, 0xC000_0000, 0xD000_0000, 0],
+                [2, 0, 0, 0, 0],
+            ),
+        ],
+    );
+    create_data(
+        &rt,
+        &mut rmm,
+        [rd, 0x8000_2000, ram + 0x1000, 0x8001_5000, 1],
+        2,
     );
     Ok(())
 }

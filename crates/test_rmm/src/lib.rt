@@ -8,3 +8,5 @@
 mod calls;
 #[cfg(test)]
 mod measurements;
+#[cfg(test)]
+mod recs;

@@ -3,14 +3,16 @@ use Rattle.std.specs.Prelude.{ℕ, ◌-◌, ◌%◌, ◌==◌, ◌&&◌, ◌||�
 use Rattle.rmi_abi.specs.declared.registers.Answer.{Answer}
 use Rattle.rmi_abi.specs.declared.settings.Settings.{Settings}
 use Rattle.rmm_model.specs.declared.condition.Condition.{Condition}
-use Rattle.rmm_model.specs.declared.condition.Condition.TheVariants.{RdAlign, RdBound, RdState, LevelBound, IpaAlign, IpaBound, RttWalk, RtteState}
+use Rattle.rmm_model.specs.declared.condition.Condition.TheVariants.{RdAlign, RdBound, RdState, RealmState, LevelBound, IpaAlign, IpaBound, RttWalk, RtteState}
 use Rattle.rmm_model.specs.declared.realm.Realm.{Realm}
 use Rattle.rmm_model.specs.declared.realm.RttWalk.{RttWalk as Walked}
-use Rattle.rmm_model.specs.Check.{Check, check, error_input}
-use Rattle.rmm_model.specs.Granule.{is_undelegated, is_delegated, realm_of}
+use Rattle.rmm_model.specs.declared.rec.Rec.{Rec}
+use Rattle.rmm_model.specs.Check.{Check, check, error_input, error_realm}
+use Rattle.rmm_model.specs.Granule.{is_undelegated, is_delegated, realm_of, rec_of}
 use Rattle.rmm_model.specs.Level.{entry_size}
 use Rattle.rmm_model.specs.Machine.{Machine, is_aligned, is_inside, is_secure, state_at}
-use Rattle.rmm_model.specs.Realm.{no_realm, is_in_space, is_protected, is_unprotected}
+use Rattle.rmm_model.specs.Realm.{no_realm, is_new, is_in_space, is_protected, is_unprotected}
+use Rattle.rmm_model.specs.Rec.{no_rec}
 
 -- ---- granules
 
@@ -41,6 +43,21 @@ rd_checks m rd = address_checks RdAlign RdBound m rd ++ check RdState (RdBound �
 -- the realm of the RD at an address
 abbrev pub realm_at : Machine → ℕ → Realm
 realm_at m rd = unwrap_or (realm_of (state_at m rd)) no_realm
+
+-- a realm is NEW
+abbrev pub new_checks : Realm → List Check
+new_checks realm = check RealmState (RdState ∷ []) (not (is_new realm.state)) error_realm ∷ []
+
+-- ---- RECs
+
+-- an address is that of a REC
+abbrev pub rec_checks : Condition → Condition → Condition → Machine → ℕ → List Check
+rec_checks align bound state m rec =
+    address_checks align bound m rec ++ check state (bound ∷ []) (is_none (rec_of (state_at m rec))) error_input ∷ []
+
+-- the REC at an address
+abbrev pub rec_at : Machine → ℕ → Rec
+rec_at m rec = unwrap_or (rec_of (state_at m rec)) no_rec
 
 -- ---- addresses of a realm
 

@@ -1,16 +1,17 @@
 -- RMI_REALM_CREATE.
 use Rattle.std.specs.Prelude.{ℕ, zero, suc, ◌+◌, ◌-◌, ◌*◌, ◌/◌, ◌%◌, ◌^◌, ◌==◌, ◌&&◌, ◌||◌, Bool, true, not, nat_le, nat_lt, List, [], ◌∷◌, ◌++◌, if◌then◌else◌}
 use Rattle.granule_addr.specs.Page.{zero_page}
+use Rattle.rmi_abi.specs.declared.hash.HashAlgorithm.{HashAlgorithm}
+use Rattle.rmi_abi.specs.declared.hash.HashAlgorithm.TheVariants.{Sha256, Sha512}
 use Rattle.rmi_abi.specs.declared.realm_params.RealmParams.{RealmParams}
 use Rattle.rmi_abi.specs.declared.settings.Settings.{Settings}
 use Rattle.rmi_abi.specs.RealmParams.{realm_params_in}
+use Rattle.rmm_measurement.specs.Measure.{initial}
 use Rattle.rmm_model.specs.declared.condition.Condition.TheVariants.{ParamsAlign, ParamsBound, ParamsPas, ParamsValid, ParamsSupp, RttNumLevel, RttAlign, Alias, RdAlign, RdBound, RdState, RttState, VmidValid}
 use Rattle.rmm_model.specs.declared.entry.Entry.{Entry}
 use Rattle.rmm_model.specs.declared.entry.Entry.TheVariants.{Unassigned, UnassignedNs}
 use Rattle.rmm_model.specs.declared.entry.Ripas.TheVariants.{Empty}
 use Rattle.rmm_model.specs.declared.granule.GranuleState.TheVariants.{Rd, Rtt}
-use Rattle.rmm_model.specs.declared.realm.HashAlgorithm.{HashAlgorithm}
-use Rattle.rmm_model.specs.declared.realm.HashAlgorithm.TheVariants.{Sha256, Sha512}
 use Rattle.rmm_model.specs.declared.realm.Realm.{Realm}
 use Rattle.rmm_model.specs.declared.realm.RealmState.TheVariants.{New}
 use Rattle.rmm_model.specs.Check.{Command, Check, check, success, error_input}
@@ -84,6 +85,7 @@ unfoldable pub realm_for : Machine → RealmParams → Realm
 realm_for m p = record {
   state = New;
   hash = hash_of p.hash_algo;
+  rim = initial (hash_of p.hash_algo) p;
   s2sz = p.s2sz;
   start_level = p.rtt_level_start;
   first_table = number_of m p.rtt_base;

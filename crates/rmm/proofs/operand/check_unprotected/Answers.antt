@@ -1,4 +1,4 @@
-use Rattle.std.proofs.Common.{◌≡◌, ◌^◌, ◌<◌, true, not, nat_lt, sym, ◌∙◌}
+use Rattle.std.proofs.Common.{◌^◌, not, nat_lt, sym, ◌∙◌}
 use Rattle.std.proofs.lemmas.Bool.{and_parts, ltb-true}
 use Rattle.rmm_model.specs.Realm.{is_protected}
 use Rattle.rmm.proofs.Widths.{space_fits}

@@ -1,4 +1,4 @@
-use Rattle.std.proofs.Common.{sym, ◌∙◌, arith}
+use Rattle.std.proofs.Common.{arith}
 use Rattle.rmm.proofs.realm_create.can_start.Goals as goal
 
 pub overflow_cast-p : goal.overflow_cast-p

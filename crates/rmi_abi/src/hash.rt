@@ -1,0 +1,8 @@
+//! Hash algorithms.
+
+/// The hash of a realm's measurements. RMM 1.0, RmiHashAlgorithm.
+#[derive(Clone, Copy, Debug, PartialEq, Eq)]
+pub enum HashAlgorithm {
+    Sha256,
+    Sha512,
+}

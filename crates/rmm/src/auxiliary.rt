@@ -1,0 +1,64 @@
+//! Auxiliary granules of RECs.
+ghost use Rattle.std.specs.Prelude.{◌≡◌, ◌<◌, ◌≤◌, None, IfSome};
+ghost use Rattle.rmm_model.specs.Granule.{realm_of};
+ghost use Rattle.rmm_model.specs.Machine.{granule_count};
+ghost use Rattle.rmm_model.specs.Command.Auxiliary as auxiliary;
+
+use crate::walking::granule_named;
+use granule_addr::Gran;
+use page_arena::PageStore;
+use rmm_granules::Granules;
+use rmm_model::{Granule, aux_address};
+
+// A granule gets other attributes, and its page is zero.
+fn wipe<S: PageStore>(granules: &mut Granules<S>, granule: Gran, kept: &Granule)
+    requires inside { granule < granule_count granules.old }
+    requires plain { realm_of kept.now.state ≡ None }
+    ensures { granules.new ≡ auxiliary.with_wiped granules.old granule kept.now }
+{
+    granules.set(
+        granule,
+        Granule {
+            state: kept.state,
+            owner: kept.owner,
+        },
+    );
+    granules.fill(granule, 0);
+}
+
+// Auxiliary granule k of a REC, if its page names a granule of the machine.
+fn aux_granule<S: PageStore>(granules: &Granules<S>, rec: Gran, k: u8) -> Option<Gran>
+    requires inside { rec < granule_count granules.now }
+    requires below { k < 16 }
+    ensures value { result ≡ auxiliary.aux_granule granules.now rec k }
+    ensures inside { IfSome result (λ granule. granule < granule_count granules.now) }
+{
+    granule_named(granules, aux_address(granules.page(rec), k))
+}
+
+// Auxiliary granule k of a REC gets other attributes, and is wiped.
+fn set_one<S: PageStore>(granules: &mut Granules<S>, rec: Gran, kept: &Granule, k: u8)
+    requires inside { rec < granule_count granules.old }
+    requires plain { realm_of kept.now.state ≡ None }
+    requires below { k < 16 }
+    ensures one { granules.new
+        ≡ auxiliary.with_wiped_if granules.old (auxiliary.aux_granule granules.old rec k) kept.now }
+    ensures count { granule_count granules.new ≡ granule_count granules.old }
+{
+    if let Some(granule) = aux_granule(granules, rec, k) {
+        wipe(granules, granule, kept);
+    }
+}
+
+// The first auxiliary granules of a REC get other attributes, and are wiped.
+pub fn set_aux<S: PageStore>(granules: &mut Granules<S>, rec: Gran, kept: &Granule, count: u8)
+    requires inside { rec < granule_count granules.old }
+    requires plain { realm_of kept.now.state ≡ None }
+    requires few { count ≤ 16 }
+    ensures aux { granules.new ≡ auxiliary.with_aux granules.old rec kept.now count }
+    ensures count { granule_count granules.new ≡ granule_count granules.old }
+{
+    for k in 0..count {
+        set_one(granules, rec, kept, k);
+    }
+}

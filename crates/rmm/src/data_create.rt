@@ -1,0 +1,208 @@
+//! RMI_DATA_CREATE.
+ghost use Rattle.std.specs.Prelude.{◌≡◌, ◌≢◌, ◌<◌, IfOk};
+ghost use Rattle.rmm_model.specs.Check.{outcome, first_failing, refusal_in};
+ghost use Rattle.rmm_model.specs.Machine.{granule_count};
+ghost use Rattle.rmm_model.specs.Command.DataCreate as command;
+ghost use Rattle.rmm.specs.NewPages.{flags_checks, with_data};
+ghost use Rattle.rmm.specs.Found.{IsSource, IsTarget, IsNewPage};
+
+use crate::data::DATA;
+use crate::operand::{Names, Rd, check_entry, check_page, delegated, host_page, realm_of};
+use crate::realm::{check_new, set_rim};
+use crate::walking::{read, walk, write};
+use granule_addr::Gran;
+use page_arena::PageStore;
+use rmi_abi::{Answer, HashAlgorithm, Settings, Word};
+use rmm_granules::Granules;
+use rmm_measurement::{Extension, extend, page_digest};
+use rmm_model::{
+    Condition, Entry, Granule, GranuleState, Realm, Refusal, Ripas, RttWalk, error_input, error_rtt,
+};
+
+const SOURCE: Names = Names {
+    align: Condition::SrcAlign,
+    bound: Condition::SrcBound,
+    state: Condition::SrcPas,
+};
+
+// A page of the host, and the granule that becomes a page of data.
+#[derive(Clone, Copy)]
+pub struct Source {
+    pub page: Gran,
+    pub granule: Gran,
+}
+
+// The RD of a new page with its realm, and the table of its entry.
+#[derive(Clone, Copy)]
+pub struct Target {
+    pub owner: Rd,
+    pub found: RttWalk,
+}
+
+// A page that can be made: its source, its granule, its RD with the realm, and the table of its entry.
+#[derive(Clone, Copy)]
+pub struct NewPage {
+    pub source: Gran,
+    pub granule: Gran,
+    pub owner: Rd,
+    pub found: RttWalk,
+}
+
+// ---- operands
+
+// Passes flags that there are, if the settings say that they are checked.
+fn check_flags(settings: &Settings, flags: u64) -> Result<(), Refusal>
+    ensures { refusal_in result ≡ first_failing (flags_checks settings.now flags) }
+{
+    if !settings.ignores_data_flags && flags > 1 {
+        return Err(error_input(Condition::FlagsValid));
+    }
+    Ok(())
+}
+
+// The source and the granule of a page of data, if they pass.
+#[tactic(auto, unfolding(rmm_model::specs::Command::DataCreate::source_checks), using(crate::proofs::StatesDiffer::delegated_apart))]
+fn find_source<S: PageStore>(
+    granules: &Granules<S>,
+    page: u64,
+    source: u64,
+    flags: u64,
+) -> Result<Source, Refusal>
+    ensures refusal { refusal_in result
+        ≡ first_failing (command.source_checks granules.now page source flags) }
+    ensures found { IfOk result (IsSource granules.now page source) }
+{
+    check_flags(granules.settings(), flags)?;
+    let source = host_page(granules, source, SOURCE)?;
+    let granule = delegated(granules, page, DATA)?;
+    Ok(Source {
+        page: source,
+        granule,
+    })
+}
+
+// Passes a walk that reached level 3, to an UNASSIGNED entry; its RIPAS is RAM, if the settings require it.
+fn check_vacant(settings: &Settings, found: &RttWalk, entry: Entry) -> Result<(), Refusal>
+    ensures { refusal_in result ≡ first_failing (command.vacancy_checks settings.now found.now entry) }
+{
+    check_entry(found, 3, entry.is_unassigned())?;
+    if settings.data_needs_ram && !entry.ripas().is_ram() {
+        return Err(error_rtt(Condition::RtteRipas, found.level));
+    }
+    Ok(())
+}
+
+// The realm and the entry of a page of data, if they pass.
+#[tactic(auto, unfolding(rmm_model::specs::Command::DataCreate::target_checks))]
+fn find_target<S: PageStore>(granules: &Granules<S>, rd: u64, ipa: u64) -> Result<Target, Refusal>
+    ensures refusal { refusal_in result ≡ first_failing (command.target_checks granules.now rd ipa) }
+    ensures found { IfOk result (IsTarget granules.now rd ipa) }
+{
+    let owner = realm_of(granules, rd)?;
+    check_page(&owner.realm, ipa)?;
+    check_new(&owner.realm)?;
+    let found = walk(granules, &owner.realm, ipa, 3);
+    check_vacant(granules.settings(), &found, read(granules, &found, ipa))?;
+    Ok(Target { owner, found })
+}
+
+// The page that RMI_DATA_CREATE makes, if its operands pass.
+fn find_page<S: PageStore>(
+    granules: &Granules<S>,
+    rd: u64,
+    page: u64,
+    ipa: u64,
+    source: u64,
+    flags: u64,
+) -> Result<NewPage, Refusal>
+    ensures refusal { refusal_in result
+        ≡ first_failing (command.data_create rd page ipa source flags granules.now).checks }
+    ensures found { IfOk result (IsNewPage granules.now rd page ipa source) }
+{
+    let source = find_source(granules, page, source, flags)?;
+    let target = find_target(granules, rd, ipa)?;
+    Ok(NewPage {
+        source: source.page,
+        granule: source.granule,
+        owner: target.owner,
+        found: target.found,
+    })
+}
+
+// ---- the measurement
+
+// The digest of a page that is measured, and else zeros.
+#[tactic(auto, unfolding(rmm_model::specs::Command::DataCreate::content_digest, rmm_measurement::specs::Bytes::zeros))]
+fn content_digest(hash: HashAlgorithm, flags: u64, page: &[u8]) -> [u8; 64]
+    ensures { result ≡ command.content_digest hash flags page.now }
+{
+    if flags % 2 == 1 {
+        page_digest(hash, page)
+    } else {
+        [0; 64]
+    }
+}
+
+// The measurement of a realm after a page of data.
+#[tactic(auto, unfolding(rmm_model::specs::Command::DataCreate::rim_with_data))]
+fn rim_with_data(realm: &Realm, ipa: u64, flags: u64, page: &[u8]) -> [u8; 64]
+    ensures { result ≡ command.rim_with_data realm.now ipa flags page.now }
+{
+    let extension = Extension::Data {
+        ipa,
+        flags,
+        digest: content_digest(realm.hash, flags, page),
+    };
+    extend(realm.hash, &realm.rim, &extension)
+}
+
+// ---- the command
+
+// A granule becomes a page of data with the bytes of its source, and the entry of an address leads to it.
+fn write_page<S: PageStore>(granules: &mut Granules<S>, place: &NewPage, page: u64, ipa: u64)
+    requires source { place.now.source < granule_count granules.old }
+    requires inside { place.now.granule < granule_count granules.old }
+    requires apart { place.now.granule ≢ place.now.source }
+    requires above { place.now.found.table < granule_count granules.old }
+    ensures machine { granules.new ≡ with_data granules.old place.now page ipa }
+    ensures count { granule_count granules.new ≡ granule_count granules.old }
+{
+    let kept = Granule {
+        state: GranuleState::Data,
+        owner: Some(place.owner.granule),
+    };
+    granules.set(place.granule, kept);
+    granules.copy(place.granule, place.source);
+    write(
+        granules,
+        &place.found,
+        ipa,
+        Entry::Assigned(Ripas::Ram, page),
+    );
+}
+
+// RMI_DATA_CREATE
+#[tactic(auto, unfolding(rmm_model::specs::Command::DataCreate::data_create))]
+pub fn data_create<S: PageStore>(
+    granules: &mut Granules<S>,
+    rd: u64,
+    page: u64,
+    ipa: u64,
+    source: u64,
+    flags: u64,
+) -> Answer
+    ensures answer { result
+        ≡ (outcome (command.data_create rd page ipa source flags granules.old) granules.old).0 }
+    ensures machine { granules.new
+        ≡ (outcome (command.data_create rd page ipa source flags granules.old) granules.old).1 }
+{
+    match find_page(granules, rd, page, ipa, source, flags) {
+        Ok(place) => {
+            let rim = rim_with_data(&place.owner.realm, ipa, flags, granules.page(place.source));
+            write_page(granules, &place, page, ipa);
+            set_rim(granules, &place.owner, &rim);
+            Answer::only(Word::Success)
+        }
+        Err(refusal) => refusal.answer,
+    }
+}

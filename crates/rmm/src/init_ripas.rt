@@ -1,0 +1,136 @@
+//! RMI_RTT_INIT_RIPAS.
+ghost use Rattle.std.specs.Prelude.{◌≡◌, ◌^◌, ◌<◌, ◌≤◌, ◌∷◌, [], IfOk, OnOk};
+ghost use Rattle.rmm_model.specs.Check.{outcome, first_failing, refusal_in};
+ghost use Rattle.rmm_model.specs.Command.RttInitRipas as command;
+ghost use Rattle.rmm.specs.Found.{IsRipasRange};
+
+use crate::operand::{Rd, is_protected, realm_of};
+use crate::realm::{error_realm, is_new, set_rim};
+use crate::ripas_range::{change_count, check_progress, check_size, write_ripas};
+use crate::walking::walk;
+use page_arena::PageStore;
+use rmi_abi::{Answer, Settings, Word};
+use rmm_granules::Granules;
+use rmm_measurement::{Extension, extend};
+use rmm_model::{
+    Changeable, Condition, Realm, Refusal, Ripas, RttWalk, entry_index, entry_size, error_input,
+};
+
+// The RD of a range with its realm, and the table of its first entry.
+#[derive(Clone, Copy)]
+pub struct RipasRange {
+    pub owner: Rd,
+    pub found: RttWalk,
+}
+
+// ---- operands
+
+// The entries that become RAM.
+fn changeable(settings: &Settings) -> Changeable
+    ensures { result ≡ command.init_changeable settings.now }
+{
+    Changeable {
+        assigned: false,
+        destroyed: !settings.stops_at_destroyed,
+    }
+}
+
+// Passes a range of pages in the protected half of a NEW realm.
+#[tactic(auto, unfolding(rmm_model::specs::Command::RttInitRipas::range_checks))]
+fn check_range(realm: &Realm, base: u64, top: u64) -> Result<(), Refusal>
+    requires { realm.now.s2sz ≤ 48 }
+    ensures refusal { refusal_in result ≡ first_failing (command.range_checks realm.now base top) }
+    ensures in_space { OnOk result (base < 2 ^ realm.now.s2sz) }
+    ensures low { OnOk result (base < 2 ^ 48) }
+{
+    if base % 4096 != 0 {
+        return Err(error_input(Condition::BaseGranAlign));
+    }
+    if top % 4096 != 0 {
+        return Err(error_input(Condition::TopGranAlign));
+    }
+    if !is_protected(realm, base) {
+        return Err(error_input(Condition::BaseBound));
+    }
+    if !is_protected(realm, top.saturating_sub(4096)) {
+        return Err(error_input(Condition::TopBound));
+    }
+    if !is_new(realm) {
+        return Err(error_realm(Condition::RealmState));
+    }
+    Ok(())
+}
+
+// The range that RMI_RTT_INIT_RIPAS changes, if its operands pass.
+#[tactic(auto, unfolding(rmm_model::specs::Command::RttInitRipas::rtt_init_ripas))]
+fn find_range<S: PageStore>(
+    granules: &Granules<S>,
+    rd: u64,
+    base: u64,
+    top: u64,
+) -> Result<RipasRange, Refusal>
+    ensures refusal { refusal_in result
+        ≡ first_failing (command.rtt_init_ripas rd base top granules.now).checks }
+    ensures found { IfOk result (IsRipasRange granules.now rd base) }
+    ensures size { OnOk result (base < top) }
+{
+    check_size(base, top)?;
+    let owner = realm_of(granules, rd)?;
+    check_range(&owner.realm, base, top)?;
+    let found = walk(granules, &owner.realm, base, 3);
+    check_progress(granules, changeable(granules.settings()), &found, base, top)?;
+    Ok(RipasRange { owner, found })
+}
+
+// ---- the measurement
+
+// The measurement of a realm after that many entries of a size, from an address on, became RAM.
+fn rim_with_ripas(realm: &Realm, size: u64, base: u64, count: u16) -> [u8; 64]
+    requires low { base < 2 ^ 48 }
+    requires size { size ≤ 2 ^ 39 }
+    requires count { count ≤ 512 }
+    ensures { result ≡ command.rim_with_ripas realm.now.hash realm.now.rim size base count }
+{
+    let mut rim = realm.rim;
+    for k in 0..count {
+        let extension = Extension::Ripas {
+            base: base + k as u64 * size,
+            top: base + (k as u64 + 1) * size,
+        };
+        rim = extend(realm.hash, &rim, &extension);
+    }
+    rim
+}
+
+// ---- the command
+
+// RMI_RTT_INIT_RIPAS
+#[tactic(auto, unfolding(rmm_model::specs::Command::RttInitRipas::rtt_init_ripas))]
+pub fn rtt_init_ripas<S: PageStore>(
+    granules: &mut Granules<S>,
+    rd: u64,
+    base: u64,
+    top: u64,
+) -> Answer
+    ensures answer { result
+        ≡ (outcome (command.rtt_init_ripas rd base top granules.old) granules.old).0 }
+    ensures machine { granules.new
+        ≡ (outcome (command.rtt_init_ripas rd base top granules.old) granules.old).1 }
+{
+    match find_range(granules, rd, base, top) {
+        Ok(range) => {
+            let changeable = changeable(granules.settings());
+            let count = change_count(granules, changeable, &range.found, base, top);
+            let size = entry_size(range.found.level);
+            let rim = rim_with_ripas(&range.owner.realm, size, base, count);
+            let first = entry_index(range.found.level, base);
+            write_ripas(granules, &range.found, first, Ripas::Ram, count);
+            set_rim(granules, &range.owner, &rim);
+            Answer {
+                x1: base + count as u64 * size,
+                ..Answer::only(Word::Success)
+            }
+        }
+        Err(refusal) => refusal.answer,
+    }
+}

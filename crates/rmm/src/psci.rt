@@ -1,0 +1,240 @@
+//! RMI_PSCI_COMPLETE.
+ghost use Rattle.std.specs.Prelude.{◌≡◌, ◌<◌, ◌==◌, ◌∷◌, [], true, IfOk};
+ghost use Rattle.rmm_model.specs.declared.condition.Condition.TheVariants.{Alias, CallingAlign, CallingBound, CallingState};
+ghost use Rattle.rmm_model.specs.Check.{check, outcome, first_failing, refusal_in, error_input};
+ghost use Rattle.rmm_model.specs.Machine.{granule_count, number_of};
+ghost use Rattle.rmm_model.specs.Command.Operand.{rec_at, rec_checks};
+ghost use Rattle.rmm_model.specs.Command.PsciComplete as command;
+ghost use Rattle.rmm.specs.Found.{IsCompletion};
+
+use crate::operand::Names;
+use crate::rec::{NamedRec, rec_of, set_rec};
+use granule_addr::Gran;
+use page_arena::PageStore;
+use rmi_abi::{Answer, Word};
+use rmm_granules::Granules;
+use rmm_model::{Condition, PsciRequest, Rec, Refusal, error_input};
+
+const PSCI_SUCCESS: u64 = 0;
+
+const PSCI_DENIED: u64 = 0xFFFF_FFFF_FFFF_FFFD;
+
+const PSCI_ALREADY_ON: u64 = 0xFFFF_FFFF_FFFF_FFFC;
+
+// The state of a processor that AFFINITY_INFO gives.
+const PSCI_OFF: u64 = 1;
+
+const CALLING: Names = Names {
+    align: Condition::CallingAlign,
+    bound: Condition::CallingBound,
+    state: Condition::CallingState,
+};
+
+const TARGET: Names = Names {
+    align: Condition::TargetAlign,
+    bound: Condition::TargetBound,
+    state: Condition::TargetState,
+};
+
+// A request that can be complete: the REC that made it, and the one that it names.
+#[derive(Clone, Copy)]
+pub struct Completion {
+    pub calling: Gran,
+    pub caller: Rec,
+    pub target: Gran,
+    pub named: Rec,
+}
+
+// ---- requests
+
+// Whether a request waits for the host.
+fn is_pending(request: PsciRequest) -> bool
+    ensures { result ≡ command.is_pending request }
+{
+    match request {
+        PsciRequest::CpuOn { .. } => true,
+        PsciRequest::AffinityInfo { .. } => true,
+        _ => false,
+    }
+}
+
+// The MPIDR that a request names.
+fn target_of(request: PsciRequest) -> u64
+    ensures { result ≡ command.target_of request }
+{
+    match request {
+        PsciRequest::CpuOn { target, .. } => target,
+        PsciRequest::AffinityInfo { target } => target,
+        _ => 0,
+    }
+}
+
+// Whether the host may deny a request.
+fn can_be_denied(request: PsciRequest) -> bool
+    ensures { result ≡ command.can_be_denied request }
+{
+    matches!(request, PsciRequest::CpuOn { .. })
+}
+
+// Whether the host may give that status.
+fn is_status(request: PsciRequest, status: u64) -> bool
+    ensures { result ≡ command.is_status request status }
+{
+    status == PSCI_SUCCESS || (status == PSCI_DENIED && can_be_denied(request))
+}
+
+// The result of a request, whose target is on or not.
+fn psci_result(request: PsciRequest, on: bool, status: u64) -> u64
+    ensures { result ≡ command.psci_result request on status }
+{
+    match request {
+        PsciRequest::CpuOn { .. } => { if on { PSCI_ALREADY_ON } else { status } }
+        _ => { if on { PSCI_SUCCESS } else { PSCI_OFF } }
+    }
+}
+
+// Whether two granules are of one realm.
+pub fn is_same_owner(a: Option<Gran>, b: Option<Gran>) -> bool
+    ensures { result ≡ command.is_same_owner a b }
+{
+    match a {
+        Some(first) => match b {
+            Some(second) => first == second,
+            None => false,
+        },
+        None => b.is_none(),
+    }
+}
+
+// Passes two RECs of one realm, of which the second is the target of the first's request, and a status that fits it.
+#[tactic(auto, unfolding(rmm_model::specs::Command::PsciComplete::request_checks))]
+fn check_request<S: PageStore>(
+    granules: &Granules<S>,
+    calling: &NamedRec,
+    target: &NamedRec,
+    status: u64,
+) -> Result<(), Refusal>
+    requires calling { calling.now.granule < granule_count granules.now }
+    requires target { target.now.granule < granule_count granules.now }
+    ensures { refusal_in result
+        ≡ first_failing (command.request_checks granules.now calling.now.granule calling.now.rec target.now.granule target.now.rec status) }
+{
+    let request = calling.rec.psci;
+    if !is_pending(request) {
+        return Err(error_input(Condition::Pending));
+    }
+    if !is_same_owner(
+        granules.owner(calling.granule),
+        granules.owner(target.granule),
+    ) {
+        return Err(error_input(Condition::Owner));
+    }
+    if target_of(request) != target.rec.mpidr {
+        return Err(error_input(Condition::Target));
+    }
+    if !is_status(request, status) {
+        return Err(error_input(Condition::Status));
+    }
+    Ok(())
+}
+
+// ---- the effect
+
+// The target of a CPU_ON that succeeds begins.
+fn begin_target<S: PageStore>(
+    granules: &mut Granules<S>,
+    granule: Gran,
+    rec: &Rec,
+    request: PsciRequest,
+)
+    requires { granule < granule_count granules.old }
+    ensures { granules.new ≡ command.with_target granules.old granule rec.now request true }
+{
+    if let PsciRequest::CpuOn {
+        entry_point,
+        context,
+        ..
+    } = request
+    {
+        let begun = Rec {
+            is_runnable: true,
+            ..*rec
+        };
+        set_rec(granules, granule, begun);
+        granules.set_word(granule, 31, entry_point);
+        granules.set_word(granule, 0, context);
+    }
+}
+
+// The REC at `calling`, if that is not `target`.
+fn find_caller<S: PageStore>(
+    granules: &Granules<S>,
+    calling: u64,
+    target: u64,
+) -> Result<NamedRec, Refusal>
+    ensures refusal { refusal_in result
+        ≡ first_failing (check Alias [] (calling == target) error_input
+        ∷ rec_checks CallingAlign CallingBound CallingState granules.now calling) }
+    ensures number { IfOk result (λ found. found.granule ≡ number_of granules.now calling) }
+    ensures inside { IfOk result (λ found. found.granule < granule_count granules.now) }
+    ensures rec { IfOk result (λ found. found.rec ≡ rec_at granules.now calling) }
+{
+    if calling == target {
+        return Err(error_input(Condition::Alias));
+    }
+    rec_of(granules, calling, CALLING)
+}
+
+// The request that RMI_PSCI_COMPLETE completes, if its operands pass.
+#[tactic(auto, unfolding(rmm_model::specs::Command::PsciComplete::psci_complete))]
+fn find_request<S: PageStore>(
+    granules: &Granules<S>,
+    calling: u64,
+    target: u64,
+    status: u64,
+) -> Result<Completion, Refusal>
+    ensures refusal { refusal_in result
+        ≡ first_failing (command.psci_complete calling target status granules.now).checks }
+    ensures found { IfOk result (IsCompletion granules.now calling target) }
+{
+    let caller = find_caller(granules, calling, target)?;
+    let named = rec_of(granules, target, TARGET)?;
+    check_request(granules, &caller, &named, status)?;
+    Ok(Completion {
+        calling: caller.granule,
+        caller: caller.rec,
+        target: named.granule,
+        named: named.rec,
+    })
+}
+
+// RMI_PSCI_COMPLETE
+#[tactic(auto, unfolding(rmm_model::specs::Command::PsciComplete::psci_complete))]
+pub fn psci_complete<S: PageStore>(
+    granules: &mut Granules<S>,
+    calling: u64,
+    target: u64,
+    status: u64,
+) -> Answer
+    ensures answer { result
+        ≡ (outcome (command.psci_complete calling target status granules.old) granules.old).0 }
+    ensures machine { granules.new
+        ≡ (outcome (command.psci_complete calling target status granules.old) granules.old).1 }
+{
+    match find_request(granules, calling, target, status) {
+        Ok(found) => {
+            let on = found.named.is_on();
+            let request = found.caller.psci;
+            let answered = Rec {
+                psci: PsciRequest::Complete(psci_result(request, on, status)),
+                ..found.caller
+            };
+            set_rec(granules, found.calling, answered);
+            if !on && status == PSCI_SUCCESS {
+                begin_target(granules, found.target, &found.named, request);
+            }
+            Answer::only(Word::Success)
+        }
+        Err(refusal) => refusal.answer,
+    }
+}

@@ -1,0 +1,67 @@
+//! RECs as operands, and their attributes.
+ghost use Rattle.std.specs.Prelude.{◌≡◌, ◌<◌, ◌++◌, ◌∷◌, [], IfOk};
+ghost use Rattle.rmm_model.specs.Check.{first_failing, refusal_in, error_rec};
+ghost use Rattle.rmm_model.specs.Machine.{granule_count, number_of};
+ghost use Rattle.rmm_model.specs.Command.Operand as operands;
+ghost use Rattle.rmm_model.specs.Command.PsciComplete.{with_rec};
+
+use crate::operand::{Names, named};
+use granule_addr::Gran;
+use page_arena::PageStore;
+use rmi_abi::{Answer, Word};
+use rmm_granules::Granules;
+use rmm_model::{Condition, Granule, GranuleState, Rec, Refusal, error_input};
+
+// A REC and its granule.
+#[derive(Clone, Copy)]
+pub struct NamedRec {
+    pub granule: Gran,
+    pub rec: Rec,
+}
+
+pub const REC: Names = Names {
+    align: Condition::RecAlign,
+    bound: Condition::RecBound,
+    state: Condition::RecGranState,
+};
+
+// RMI_ERROR_REC by a condition.
+pub fn error_rec(condition: Condition) -> Refusal
+    ensures { result ≡ record { condition = condition; answer = error_rec } }
+{
+    Refusal {
+        condition,
+        answer: Answer::only(Word::ErrorRec),
+    }
+}
+
+// The REC that an address names.
+pub fn rec_of<S: PageStore>(
+    granules: &Granules<S>,
+    address: u64,
+    names: Names,
+) -> Result<NamedRec, Refusal>
+    ensures refusal { refusal_in result
+        ≡ first_failing (operands.rec_checks names.align names.bound names.state granules.now address) }
+    ensures number { IfOk result (λ found. found.granule ≡ number_of granules.now address) }
+    ensures inside { IfOk result (λ found. found.granule < granule_count granules.now) }
+    ensures rec { IfOk result (λ found. found.rec ≡ operands.rec_at granules.now address) }
+{
+    let granule = named(granules, address, names)?;
+    match granules.rec(granule) {
+        Some(rec) => Ok(NamedRec { granule, rec }),
+        None => Err(error_input(names.state)),
+    }
+}
+
+// Sets the attributes of a REC.
+pub fn set_rec<S: PageStore>(granules: &mut Granules<S>, granule: Gran, rec: Rec)
+    requires { granule < granule_count granules.old }
+    ensures { granules.new ≡ with_rec granules.old granule rec }
+{
+    let kept = Granule {
+        state: GranuleState::Rec(rec),
+        owner: granules.owner(granule),
+    };
+    granules.set(granule, kept);
+}

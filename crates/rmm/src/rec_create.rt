@@ -1,0 +1,333 @@
+//! RMI_REC_CREATE.
+ghost use Rattle.std.specs.Prelude.{◌≡◌, ◌≢◌, ◌^◌, ◌<◌, ◌≤◌, nat_lt, length, IfOk, OnOk};
+ghost use Rattle.rmm_model.specs.Check.{outcome, first_failing, refusal_in};
+ghost use Rattle.rmm_model.specs.Machine.{granule_count, is_aligned, is_inside, page_in, with_page};
+ghost use Rattle.rmm_model.specs.Realm.{IsServed};
+ghost use Rattle.rmm_model.specs.Command.RecCreate as command;
+ghost use Rattle.rmm_model.specs.Command.RecMeasurement as measuring;
+ghost use Rattle.rmm.specs.Found.{IsNewRec};
+ghost use Rattle.rmm.specs.Tests.{aux_passes};
+
+use crate::auxiliary::set_aux;
+use crate::operand::{Names, delegated, host_page, realm_of};
+use crate::realm::{error_realm, is_new};
+use crate::realm_create::PARAMS;
+use granule_addr::Gran;
+use page_arena::PageStore;
+use rmi_abi::{Answer, RecParams, Settings, Word, is_mpidr, rec_number};
+use rmm_granules::Granules;
+use rmm_measurement::{Extension, extend, rec_digest};
+use rmm_model::{Condition, Granule, GranuleState, Realm, Rec, Refusal, error_input};
+
+const NEW_REC: Names = Names {
+    align: Condition::RecAlign,
+    bound: Condition::RecBound,
+    state: Condition::RecState,
+};
+
+// A REC that can be made: its granule, that of its parameters, its RD, and its realm.
+#[derive(Clone, Copy)]
+pub struct NewRec {
+    pub rec: Gran,
+    pub source: Gran,
+    pub rd: Gran,
+    pub realm: Realm,
+}
+
+// ---- auxiliary granules
+
+// A test of the address of an auxiliary granule.
+#[derive(Clone, Copy)]
+pub enum AuxTest {
+    Aligned,
+    Inside,
+    Delegated,
+    Not(u64),
+}
+
+// Whether an address passes a test.
+fn passes<S: PageStore>(granules: &Granules<S>, test: AuxTest, address: u64) -> bool
+    ensures { result ≡ aux_passes granules.now test address }
+{
+    match test {
+        AuxTest::Aligned => address % 4096 == 0,
+        AuxTest::Inside => granules.is_inside(address),
+        AuxTest::Delegated => {
+            granules.is_inside(address) && granules.is_delegated(granules.number_of(address))
+        }
+        AuxTest::Not(other) => address != other,
+    }
+}
+
+// Whether each of the first auxiliary granules that parameters name passes a test.
+fn all_aux<S: PageStore>(granules: &Granules<S>, page: &[u8], test: AuxTest, count: u8) -> bool
+    requires page { length page.now ≡ 4096 }
+    requires few { count ≤ 16 }
+    ensures { result ≡ command.all_aux (aux_passes granules.now test) page.now count }
+{
+    for k in 0..count {
+        if !passes(granules, test, RecParams::aux(page, k)) {
+            return false;
+        }
+    }
+    true
+}
+
+// Whether each of the first auxiliary granules is at a multiple of 4,096.
+fn are_aligned<S: PageStore>(granules: &Granules<S>, page: &[u8], count: u8) -> bool
+    requires page { length page.now ≡ 4096 }
+    requires few { count ≤ 16 }
+    ensures { result ≡ command.all_aux is_aligned page.now count }
+{
+    all_aux(granules, page, AuxTest::Aligned, count)
+}
+
+// Whether each of the first auxiliary granules is one of the machine.
+fn are_inside<S: PageStore>(granules: &Granules<S>, page: &[u8], count: u8) -> bool
+    requires page { length page.now ≡ 4096 }
+    requires few { count ≤ 16 }
+    ensures { result ≡ command.all_aux (is_inside granules.now) page.now count }
+{
+    all_aux(granules, page, AuxTest::Inside, count)
+}
+
+// Whether each of the first auxiliary granules is a DELEGATED one of the machine.
+fn are_delegated<S: PageStore>(granules: &Granules<S>, page: &[u8], count: u8) -> bool
+    requires page { length page.now ≡ 4096 }
+    requires few { count ≤ 16 }
+    ensures { result ≡ command.all_aux (command.can_be_aux granules.now) page.now count }
+{
+    all_aux(granules, page, AuxTest::Delegated, count)
+}
+
+// Whether auxiliary granule k is neither the REC nor one before it.
+fn is_apart<S: PageStore>(granules: &Granules<S>, page: &[u8], rec: u64, k: u8) -> bool
+    requires page { length page.now ≡ 4096 }
+    requires below { k < 16 }
+    ensures { result ≡ command.is_apart rec page.now k }
+{
+    let address = RecParams::aux(page, k);
+    address != rec && all_aux(granules, page, AuxTest::Not(address), k)
+}
+
+// Whether no two of the REC and its auxiliary granules are one.
+fn are_apart<S: PageStore>(granules: &Granules<S>, page: &[u8], rec: u64, count: u8) -> bool
+    requires page { length page.now ≡ 4096 }
+    requires few { count ≤ 16 }
+    ensures { result ≡ command.all_from (command.is_apart rec page.now) 0 count }
+{
+    for k in 0..count {
+        if !is_apart(granules, page, rec, k) {
+            return false;
+        }
+    }
+    true
+}
+
+// Passes as many auxiliary granules as a REC has, all of them DELEGATED, and no two of them and the REC one.
+#[tactic(auto, unfolding(rmm_model::specs::Command::RecCreate::aux_checks))]
+fn check_aux<S: PageStore>(granules: &Granules<S>, page: &[u8], rec: u64) -> Result<(), Refusal>
+    requires { length page.now ≡ 4096 }
+    ensures { refusal_in result ≡ first_failing (command.aux_checks granules.now page.now rec) }
+{
+    let count = granules.settings().aux;
+    if RecParams::num_aux(page) != count as u64 {
+        return Err(error_input(Condition::NumAux));
+    }
+    if !are_aligned(granules, page, count) {
+        return Err(error_input(Condition::AuxAlign));
+    }
+    if !are_inside(granules, page, count) {
+        return Err(error_input(Condition::AuxBound));
+    }
+    if !are_apart(granules, page, rec, count) {
+        return Err(error_input(Condition::AuxAlias));
+    }
+    if !are_delegated(granules, page, count) {
+        return Err(error_input(Condition::AuxState));
+    }
+    Ok(())
+}
+
+// ---- the new REC
+
+// Whether a realm has fewer RECs than it can have.
+fn can_have_more(settings: &Settings, realm: &Realm) -> bool
+    requires { settings.now.max_recs_order ≤ 15 }
+    ensures { result ≡ nat_lt realm.now.rec_count (2 ^ settings.now.max_recs_order) }
+{
+    (realm.rec_count as u64) < 1 << settings.max_recs_order
+}
+
+// Passes the MPIDR of the next REC of a NEW realm that can have one more.
+#[tactic(auto, unfolding(rmm_model::specs::Command::RecCreate::number_checks))]
+fn check_number(settings: &Settings, page: &[u8], realm: &Realm) -> Result<(), Refusal>
+    requires page { length page.now ≡ 4096 }
+    requires order { settings.now.max_recs_order ≤ 15 }
+    ensures refusal { refusal_in result
+        ≡ first_failing (command.number_checks settings.now page.now realm.now) }
+    ensures next { OnOk result (realm.now.next_rec < 2 ^ 31) }
+    ensures count { OnOk result (realm.now.rec_count < 2 ^ 15) }
+{
+    let mpidr = RecParams::mpidr(page);
+    if !is_mpidr(mpidr) {
+        return Err(error_input(Condition::ParamsValid));
+    }
+    if rec_number(mpidr) != realm.next_rec as u64 {
+        return Err(error_input(Condition::MpidrIndex));
+    }
+    if !is_new(realm) {
+        return Err(error_realm(Condition::RealmState));
+    }
+    if !can_have_more(settings, realm) {
+        return Err(error_realm(Condition::NumRecs));
+    }
+    Ok(())
+}
+
+// Word k of the page of a new REC.
+fn rec_word(page: &[u8], k: u8) -> u64
+    requires page { length page.now ≡ 4096 }
+    requires below { k < 48 }
+    ensures { result ≡ command.rec_word page.now k }
+{
+    if k < 8 {
+        RecParams::gpr(page, k)
+    } else if k == 31 {
+        RecParams::pc(page)
+    } else if k >= 32 {
+        RecParams::aux(page, k - 32)
+    } else {
+        0
+    }
+}
+
+// Writes the page of a new REC with the parameters of a page.
+fn write_rec_page<S: PageStore>(granules: &mut Granules<S>, rec: Gran, source: Gran)
+    requires inside { rec < granule_count granules.old }
+    requires source { source < granule_count granules.old }
+    requires different { source ≢ rec }
+    ensures page { granules.new
+        ≡ with_page granules.old rec (command.rec_page (page_in granules.old source)) }
+{
+    granules.fill(rec, 0);
+    for k in 0..48 {
+        let word = rec_word(granules.page(source), k);
+        granules.set_word(rec, k as u16, word);
+    }
+}
+
+// A DELEGATED granule becomes a REC of an RD, with the parameters of a page.
+fn write_rec<S: PageStore>(granules: &mut Granules<S>, rd: Gran, rec: Gran, source: Gran)
+    requires inside { rec < granule_count granules.old }
+    requires source { source < granule_count granules.old }
+    requires different { source ≢ rec }
+    ensures { granules.new ≡ command.with_created_rec granules.old rd rec (page_in granules.old source) }
+{
+    let page = granules.page(source);
+    let attributes = Rec::new(RecParams::is_runnable(page), RecParams::mpidr(page));
+    let kept = Granule {
+        state: GranuleState::Rec(attributes),
+        owner: Some(rd),
+    };
+    granules.set(rec, kept);
+    write_rec_page(granules, rec, source);
+}
+
+// ---- the measurement
+
+// The measurement of a realm after a REC with the parameters of a page.
+#[tactic(auto, unfolding(rmm_model::specs::Command::RecMeasurement::rim_with_rec))]
+fn rim_with_rec(settings: &Settings, realm: &Realm, page: &[u8]) -> [u8; 64]
+    requires { length page.now ≡ 4096 }
+    ensures { result ≡ measuring.rim_with_rec settings.now realm.now page.now }
+{
+    if RecParams::is_runnable(page) || settings.measures_all_recs {
+        let extension = Extension::Rec {
+            digest: rec_digest(realm.hash, page),
+        };
+        extend(realm.hash, &realm.rim, &extension)
+    } else {
+        realm.rim
+    }
+}
+
+// The measurement of the realm of a new REC after it.
+fn measured_rim<S: PageStore>(granules: &Granules<S>, found: &NewRec) -> [u8; 64]
+    requires { found.now.source < granule_count granules.now }
+    ensures { result
+        ≡ measuring.rim_with_rec granules.now.settings found.now.realm (page_in granules.now found.now.source) }
+{
+    rim_with_rec(
+        granules.settings(),
+        &found.realm,
+        granules.page(found.source),
+    )
+}
+
+// ---- the command
+
+// The REC that RMI_REC_CREATE makes, if its operands pass.
+fn find_new<S: PageStore>(
+    granules: &Granules<S>,
+    rd: u64,
+    rec: u64,
+    params: u64,
+) -> Result<NewRec, Refusal>
+    ensures refusal { refusal_in result
+        ≡ first_failing (command.rec_create rd rec params granules.now).checks }
+    ensures found { IfOk result (IsNewRec granules.now rd rec params) }
+{
+    let source = host_page(granules, params, PARAMS)?;
+    let granule = delegated(granules, rec, NEW_REC)?;
+    let owner = realm_of(granules, rd)?;
+    let page = granules.page(source);
+    check_aux(granules, page, rec)?;
+    check_number(granules.settings(), page, &owner.realm)?;
+    Ok(NewRec {
+        rec: granule,
+        source,
+        rd: owner.granule,
+        realm: owner.realm,
+    })
+}
+
+// RMI_REC_CREATE
+#[tactic(auto, unfolding(rmm_model::specs::Command::RecCreate::rec_create))]
+pub fn rec_create<S: PageStore>(
+    granules: &mut Granules<S>,
+    rd: u64,
+    rec: u64,
+    params: u64,
+) -> Answer
+    ensures answer { result
+        ≡ (outcome (command.rec_create rd rec params granules.old) granules.old).0 }
+    ensures machine { granules.new
+        ≡ (outcome (command.rec_create rd rec params granules.old) granules.old).1 }
+{
+    match find_new(granules, rd, rec, params) {
+        Ok(found) => {
+            let count = granules.settings().aux;
+            let rim = measured_rim(granules, &found);
+            write_rec(granules, found.rd, found.rec, found.source);
+            let aux = Granule {
+                state: GranuleState::RecAux,
+                owner: Some(found.rd),
+            };
+            set_aux(granules, found.rec, &aux, count);
+            let realm = Realm {
+                rim,
+                next_rec: found.realm.next_rec + 1,
+                rec_count: found.realm.rec_count + 1,
+                ..found.realm
+            };
+            let kept = Granule {
+                state: GranuleState::Rd(realm),
+                owner: None,
+            };
+            granules.set(found.rd, kept);
+            Answer::only(Word::Success)
+        }
+        Err(refusal) => refusal.answer,
+    }
+}

@@ -1,0 +1,96 @@
+//! RMI_REC_DESTROY.
+ghost use Rattle.std.specs.Prelude.{◌≡◌, ◌<◌, IfOk, IfSome};
+ghost use Rattle.rmm_model.specs.Check.{outcome, first_failing, refusal_in};
+ghost use Rattle.rmm_model.specs.Granule.{realm_of};
+ghost use Rattle.rmm_model.specs.Machine.{granule_count, granule_at, number_of};
+ghost use Rattle.rmm_model.specs.Realm.{IsServed};
+ghost use Rattle.rmm_model.specs.Command.RecDestroy as command;
+
+use crate::auxiliary::set_aux;
+use crate::granule::blank;
+use crate::rec::{REC, error_rec, rec_of};
+use granule_addr::Gran;
+use page_arena::PageStore;
+use rmi_abi::{Answer, Word};
+use rmm_granules::Granules;
+use rmm_model::{Condition, Granule, GranuleState, Realm, Refusal};
+
+// The realm of an RD, if the granule is one of the machine and an RD.
+fn realm_in<S: PageStore>(granules: &Granules<S>, rd: Gran) -> Option<Realm>
+    ensures value { result ≡ realm_of (granule_at granules.now rd).state }
+    ensures inside { IfSome result (λ _. rd < granule_count granules.now) }
+    ensures served { IfSome result (IsServed (granule_count granules.now)) }
+{
+    if rd.number() < granules.count() {
+        granules.realm(rd)
+    } else {
+        None
+    }
+}
+
+// The realm of an RD has one REC less.
+fn remove_rec<S: PageStore>(granules: &mut Granules<S>, rd: Gran)
+    ensures machine { granules.new
+        ≡ command.without_rec_of granules.old rd (realm_of (granule_at granules.old rd).state) }
+    ensures count { granule_count granules.new ≡ granule_count granules.old }
+{
+    if let Some(found) = realm_in(granules, rd) {
+        let realm = Realm {
+            rec_count: found.rec_count.saturating_sub(1),
+            ..found
+        };
+        let kept = Granule {
+            state: GranuleState::Rd(realm),
+            owner: None,
+        };
+        granules.set(rd, kept);
+    }
+}
+
+// The realm that owns a REC has one REC less.
+fn leave_realm<S: PageStore>(granules: &mut Granules<S>, owner: Option<Gran>)
+    ensures machine { granules.new ≡ command.without_rec granules.old owner }
+    ensures count { granule_count granules.new ≡ granule_count granules.old }
+{
+    if let Some(rd) = owner {
+        remove_rec(granules, rd);
+    }
+}
+
+// The granule of the REC that RMI_REC_DESTROY destroys, if it passes.
+#[tactic(auto, unfolding(rmm_model::specs::Command::RecDestroy::rec_destroy))]
+fn find_ready<S: PageStore>(granules: &Granules<S>, rec: u64) -> Result<Gran, Refusal>
+    ensures refusal { refusal_in result ≡ first_failing (command.rec_destroy rec granules.now).checks }
+    ensures number { IfOk result (λ granule. granule ≡ number_of granules.now rec) }
+    ensures inside { IfOk result (λ granule. granule < granule_count granules.now) }
+{
+    let found = rec_of(granules, rec, REC)?;
+    if found.rec.is_running() {
+        Err(error_rec(Condition::RecState))
+    } else {
+        Ok(found.granule)
+    }
+}
+
+// RMI_REC_DESTROY
+#[tactic(auto, unfolding(rmm_model::specs::Command::RecDestroy::rec_destroy))]
+pub fn rec_destroy<S: PageStore>(granules: &mut Granules<S>, rec: u64) -> Answer
+    ensures answer { result ≡ (outcome (command.rec_destroy rec granules.old) granules.old).0 }
+    ensures machine { granules.new ≡ (outcome (command.rec_destroy rec granules.old) granules.old).1 }
+{
+    match find_ready(granules, rec) {
+        Ok(granule) => {
+            let count = granules.settings().aux;
+            let owner = granules.owner(granule);
+            leave_realm(granules, owner);
+            let free = Granule {
+                state: GranuleState::Delegated,
+                owner: None,
+            };
+            set_aux(granules, granule, &free, count);
+            blank(granules, granule, GranuleState::Delegated);
+            Answer::only(Word::Success)
+        }
+        Err(refusal) => refusal.answer,
+    }
+}

@@ -1,0 +1,106 @@
+//! Changes of the RIPAS of a range, as far as one table goes.
+ghost use Rattle.std.specs.Prelude.{◌≡◌, ◌+◌, ◌^◌, ◌<◌, ◌≤◌, [], OnOk};
+ghost use Rattle.rmm_model.specs.Check.{first_failing, refusal_in};
+ghost use Rattle.rmm_model.specs.Level.{entry_index as index_of};
+ghost use Rattle.rmm_model.specs.Machine.{granule_count};
+ghost use Rattle.rmm_model.specs.Command.RipasRange as ranges;
+
+use crate::walking::read;
+use page_arena::{PageStore, word_in};
+use rmm_granules::Granules;
+use rmm_model::{
+    Changeable, Condition, Refusal, Ripas, RttWalk, entry_from_word, entry_index, entry_size,
+    error_input, error_rtt, first_fixed,
+};
+
+// Passes a range that has addresses.
+pub fn check_size(base: u64, top: u64) -> Result<(), Refusal>
+    ensures refusal { refusal_in result ≡ first_failing (ranges.size_checks base top) }
+    ensures size { OnOk result (base < top) }
+{
+    if top <= base {
+        return Err(error_input(Condition::Size));
+    }
+    Ok(())
+}
+
+// Passes a range that begins with a whole entry which can be changed.
+pub fn check_progress<S: PageStore>(
+    granules: &Granules<S>,
+    changeable: Changeable,
+    found: &RttWalk,
+    base: u64,
+    top: u64,
+) -> Result<(), Refusal>
+    requires inside { found.now.table < granule_count granules.now }
+    requires low { base < 2 ^ 48 }
+    ensures { refusal_in result
+        ≡ first_failing (ranges.progress_checks [] granules.now changeable found.now base top) }
+{
+    let size = entry_size(found.level);
+    if base % size != 0 {
+        return Err(error_rtt(Condition::BaseAlign, found.level));
+    }
+    if !read(granules, found, base).can_change(changeable) {
+        return Err(error_rtt(Condition::RtteState, found.level));
+    }
+    if base + size > top {
+        return Err(error_rtt(Condition::NoProgress, found.level));
+    }
+    Ok(())
+}
+
+// The number of entries of a table, from the one of an address on, that lie below a top.
+#[tactic(auto, unfolding(rmm_model::specs::Command::RipasRange::entries_below))]
+fn entries_below(found: &RttWalk, base: u64, top: u64) -> u16
+    requires { base ≤ top }
+    ensures value { result ≡ ranges.entries_below found.now base top }
+    ensures within { index_of found.now.level base + result ≤ 512 }
+{
+    let rest = 512 - entry_index(found.level, base);
+    let whole = (top - base) / entry_size(found.level);
+    if whole <= rest as u64 {
+        whole as u16
+    } else {
+        rest
+    }
+}
+
+// The number of these that can be changed one after another.
+pub fn change_count<S: PageStore>(
+    granules: &Granules<S>,
+    changeable: Changeable,
+    found: &RttWalk,
+    base: u64,
+    top: u64,
+) -> u16
+    requires inside { found.now.table < granule_count granules.now }
+    requires size { base ≤ top }
+    ensures value { result ≡ ranges.change_count granules.now changeable found.now base top }
+    ensures within { index_of found.now.level base + result ≤ 512 }
+{
+    let first = entry_index(found.level, base);
+    let end = first + entries_below(found, base, top);
+    first_fixed(granules.page(found.table), changeable, first, end) - first
+}
+
+// Writes a RIPAS to that many entries of a table, from one on.
+pub fn write_ripas<S: PageStore>(
+    granules: &mut Granules<S>,
+    found: &RttWalk,
+    first: u16,
+    ripas: Ripas,
+    count: u16,
+)
+    requires inside { found.now.table < granule_count granules.old }
+    requires within { first + count ≤ 512 }
+    ensures changed { granules.new
+        ≡ ranges.with_ripas_from granules.old found.now.table first ripas count }
+    ensures count { granule_count granules.new ≡ granule_count granules.old }
+{
+    for k in 0..count {
+        let index = first + k;
+        let entry = entry_from_word(word_in(granules.page(found.table), index as usize));
+        granules.set_word(found.table, index, entry.with_ripas(ripas).word());
+    }
+}

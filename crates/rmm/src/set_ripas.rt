@@ -1,0 +1,161 @@
+//! RMI_RTT_SET_RIPAS.
+ghost use Rattle.std.specs.Prelude.{◌≡◌, ◌^◌, ◌<◌, ◌≤◌, ◌∷◌, [], IfOk, OnOk};
+ghost use Rattle.rmm_model.specs.Check.{outcome, first_failing, refusal_in};
+ghost use Rattle.rmm_model.specs.Machine.{granule_count, number_of};
+ghost use Rattle.rmm_model.specs.Command.Operand.{realm_at, rec_at};
+ghost use Rattle.rmm_model.specs.Command.RttSetRipas as command;
+ghost use Rattle.rmm.specs.Found.{IsRequestedRange};
+
+use crate::operand::{Rd, is_protected, realm_of};
+use crate::psci::is_same_owner;
+use crate::rec::{NamedRec, REC, error_rec, rec_of, set_rec};
+use crate::ripas_range::{change_count, check_progress, check_size, write_ripas};
+use crate::walking::walk;
+use granule_addr::Gran;
+use page_arena::PageStore;
+use rmi_abi::{Answer, Word};
+use rmm_granules::Granules;
+use rmm_model::{
+    Changeable, Condition, Realm, Rec, Refusal, RipasRequest, RttWalk, entry_index, entry_size,
+    error_input,
+};
+
+// A range that a REC asked for, and the table of its first entry.
+#[derive(Clone, Copy)]
+pub struct RequestedRange {
+    pub granule: Gran,
+    pub rec: Rec,
+    pub found: RttWalk,
+}
+
+// The entries that get another RIPAS.
+fn changeable(request: &RipasRequest) -> Changeable
+    ensures { result ≡ command.set_changeable request.now }
+{
+    Changeable {
+        assigned: true,
+        destroyed: request.changes_destroyed,
+    }
+}
+
+// Whether an address is the one that a REC asked for.
+fn is_asked(realm: &Realm, asking: &Rec, base: u64) -> bool
+    requires { realm.now.s2sz ≤ 48 }
+    ensures { result ≡ command.is_asked realm.now asking.now base }
+{
+    base == asking.ripas.base && is_protected(realm, base)
+}
+
+// Whether a REC is one of the realm of an RD.
+fn is_rec_of<S: PageStore>(
+    granules: &Granules<S>,
+    owner: &Rd,
+    asking: &NamedRec,
+    rd: u64,
+    rec: u64,
+) -> bool
+    requires inside { asking.now.granule < granule_count granules.now }
+    requires owner { owner.now.granule ≡ number_of granules.now rd }
+    requires asking { asking.now.granule ≡ number_of granules.now rec }
+    ensures { result ≡ command.is_rec_of granules.now rd rec }
+{
+    is_same_owner(granules.owner(asking.granule), Some(owner.granule))
+}
+
+// Passes a REC of the realm that does not run, and the range that it asked for.
+#[tactic(auto, unfolding(rmm_model::specs::Command::RttSetRipas::ripas_request_checks))]
+fn check_request(
+    realm: &Realm,
+    asking: &Rec,
+    is_owner: bool,
+    base: u64,
+    top: u64,
+) -> Result<(), Refusal>
+    requires { realm.now.s2sz ≤ 48 }
+    ensures refusal { refusal_in result
+        ≡ first_failing (command.ripas_request_checks realm.now asking.now is_owner base top) }
+    ensures in_space { OnOk result (base < 2 ^ realm.now.s2sz) }
+    ensures low { OnOk result (base < 2 ^ 48) }
+{
+    if top % 4096 != 0 {
+        return Err(error_input(Condition::TopGranAlign));
+    }
+    if asking.is_running() {
+        return Err(error_rec(Condition::RecState));
+    }
+    if !is_owner {
+        return Err(error_rec(Condition::RecOwner));
+    }
+    if !is_asked(realm, asking, base) {
+        return Err(error_input(Condition::BaseBound));
+    }
+    if top > asking.ripas.top {
+        return Err(error_input(Condition::TopBound));
+    }
+    Ok(())
+}
+
+// The range that RMI_RTT_SET_RIPAS changes, if its operands pass.
+fn find_range<S: PageStore>(
+    granules: &Granules<S>,
+    rd: u64,
+    rec: u64,
+    base: u64,
+    top: u64,
+) -> Result<RequestedRange, Refusal>
+    ensures refusal { refusal_in result
+        ≡ first_failing (command.rtt_set_ripas rd rec base top granules.now).checks }
+    ensures found { IfOk result (IsRequestedRange granules.now rd rec base) }
+    ensures size { OnOk result (base < top) }
+{
+    check_size(base, top)?;
+    let owner = realm_of(granules, rd)?;
+    let asking = rec_of(granules, rec, REC)?;
+    let is_owner = is_rec_of(granules, &owner, &asking, rd, rec);
+    check_request(&owner.realm, &asking.rec, is_owner, base, top)?;
+    let found = walk(granules, &owner.realm, base, 3);
+    check_progress(granules, changeable(&asking.rec.ripas), &found, base, top)?;
+    Ok(RequestedRange {
+        granule: asking.granule,
+        rec: asking.rec,
+        found,
+    })
+}
+
+// RMI_RTT_SET_RIPAS
+#[tactic(auto, unfolding(rmm_model::specs::Command::RttSetRipas::rtt_set_ripas))]
+pub fn rtt_set_ripas<S: PageStore>(
+    granules: &mut Granules<S>,
+    rd: u64,
+    rec: u64,
+    base: u64,
+    top: u64,
+) -> Answer
+    ensures answer { result
+        ≡ (outcome (command.rtt_set_ripas rd rec base top granules.old) granules.old).0 }
+    ensures machine { granules.new
+        ≡ (outcome (command.rtt_set_ripas rd rec base top granules.old) granules.old).1 }
+{
+    match find_range(granules, rd, rec, base, top) {
+        Ok(range) => {
+            let request = range.rec.ripas;
+            let count = change_count(granules, changeable(&request), &range.found, base, top);
+            let stop = base + count as u64 * entry_size(range.found.level);
+            let first = entry_index(range.found.level, base);
+            write_ripas(granules, &range.found, first, request.ripas, count);
+            let rest = Rec {
+                ripas: RipasRequest {
+                    base: stop,
+                    ..request
+                },
+                ..range.rec
+            };
+            set_rec(granules, range.granule, rest);
+            Answer {
+                x1: stop,
+                ..Answer::only(Word::Success)
+            }
+        }
+        Err(refusal) => refusal.answer,
+    }
+}

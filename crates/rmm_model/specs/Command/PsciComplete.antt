@@ -1,0 +1,100 @@
+-- RMI_PSCI_COMPLETE.
+use Rattle.std.specs.Prelude.{ℕ, ◌-◌, ◌^◌, ◌==◌, ◌&&◌, ◌||◌, Bool, true, false, not, Option, Some, None, List, [], ◌∷◌, ◌++◌, if◌then◌else◌}
+use Rattle.rmm_model.specs.declared.condition.Condition.TheVariants.{Alias, CallingAlign, CallingBound, CallingState, TargetAlign, TargetBound, TargetState}
+use Rattle.rmm_model.specs.declared.condition.Condition.TheVariants.{Pending, Owner, Target, Status}
+use Rattle.rmm_model.specs.declared.granule.GranuleState.TheVariants.{Rec as IsRec}
+use Rattle.rmm_model.specs.declared.rec.PsciRequest.{PsciRequest}
+use Rattle.rmm_model.specs.declared.rec.PsciRequest.TheVariants.{CpuOn, AffinityInfo, Complete}
+use Rattle.rmm_model.specs.declared.rec.Rec.{Rec}
+use Rattle.rmm_model.specs.Check.{Command, Check, check, success, error_input}
+use Rattle.rmm_model.specs.Machine.{Machine, granule_at, number_of, with_granule, with_word}
+use Rattle.rmm_model.specs.Rec.{is_on}
+use Rattle.rmm_model.specs.Command.Operand.{rec_checks, rec_at}
+
+-- ---- PSCI. Arm Power State Coordination Interface, return codes
+
+abbrev pub psci_success : ℕ
+psci_success = 0
+
+abbrev pub psci_denied : ℕ
+psci_denied = 2 ^ 64 - 3
+
+abbrev pub psci_already_on : ℕ
+psci_already_on = 2 ^ 64 - 4
+
+-- the state of a processor that AFFINITY_INFO gives
+abbrev pub psci_off : ℕ
+psci_off = 1
+
+-- ---- requests
+
+-- a request waits for the host
+abbrev pub is_pending : PsciRequest → Bool
+is_pending (CpuOn target entry_point context) = true
+is_pending (AffinityInfo target) = true
+is_pending _ = false
+
+-- the MPIDR that a request names
+abbrev pub target_of : PsciRequest → ℕ
+target_of (CpuOn target entry_point context) = target
+target_of (AffinityInfo target) = target
+target_of _ = 0
+
+-- the host may deny a request
+abbrev pub can_be_denied : PsciRequest → Bool
+can_be_denied (CpuOn target entry_point context) = true
+can_be_denied _ = false
+
+-- the host may give that status
+abbrev pub is_status : PsciRequest → ℕ → Bool
+is_status request status = status == psci_success || (status == psci_denied && can_be_denied request)
+
+-- the result of a request, whose target is on or not
+abbrev pub psci_result : PsciRequest → Bool → ℕ → ℕ
+psci_result (CpuOn target entry_point context) on status = if on then psci_already_on else status
+psci_result _ on status = if on then psci_success else psci_off
+
+-- two granules are of one realm
+abbrev pub is_same_owner : Option ℕ → Option ℕ → Bool
+is_same_owner (Some a) (Some b) = a == b
+is_same_owner None None = true
+is_same_owner _ _ = false
+
+-- two RECs of one realm, of which the second is the target of the first's request, and a status that fits it
+unfoldable pub request_checks : Machine → ℕ → Rec → ℕ → Rec → ℕ → List Check
+request_checks m calling caller target named status =
+    check Pending (CallingState ∷ []) (not (is_pending caller.psci)) error_input
+    ∷ check Owner (CallingState ∷ TargetState ∷ []) (not (is_same_owner (granule_at m calling).owner (granule_at m target).owner)) error_input
+    ∷ check Target (Pending ∷ TargetState ∷ []) (not (target_of caller.psci == named.mpidr)) error_input
+    ∷ check Status (Pending ∷ []) (not (is_status caller.psci status)) error_input ∷ []
+
+-- ---- the effect
+
+-- the machine with other attributes of a REC
+abbrev pub with_rec : Machine → ℕ → Rec → Machine
+with_rec m granule rec = with_granule m granule (record (granule_at m granule) { state = IsRec rec })
+
+-- the REC begins at an entry point, with a context in its first general-purpose register
+abbrev pub with_start : Machine → ℕ → ℕ → ℕ → Machine
+with_start m granule entry_point context = with_word (with_word m granule 31 entry_point) granule 0 context
+
+-- the machine where a CPU_ON that succeeds has begun its target
+abbrev pub with_target : Machine → ℕ → Rec → PsciRequest → Bool → Machine
+with_target m granule rec (CpuOn target entry_point context) true =
+    with_start (with_rec m granule (record rec { is_runnable = true })) granule entry_point context
+with_target m granule rec request begins = m
+
+-- The PSCI request of a REC is complete, and its guest gets the result. A CPU_ON that succeeds begins the target.
+-- RMM 1.0, RMI_PSCI_COMPLETE.
+unfoldable pub psci_complete : ℕ → ℕ → ℕ → Machine → Command
+psci_complete calling target status m =
+    let caller = rec_at m calling in
+    let named = rec_at m target in
+    let after = with_rec m (number_of m calling) (record caller { psci = Complete (psci_result caller.psci (is_on named) status) }) in
+    record {
+      checks = check Alias [] (calling == target) error_input ∷ rec_checks CallingAlign CallingBound CallingState m calling
+          ++ rec_checks TargetAlign TargetBound TargetState m target
+          ++ request_checks m (number_of m calling) caller (number_of m target) named status;
+      answer = success;
+      machine = with_target after (number_of m target) named caller.psci (not (is_on named) && status == psci_success);
+    }

@@ -1,0 +1,93 @@
+-- RMI_REC_CREATE.
+use Rattle.std.specs.Prelude.{ℕ, zero, suc, ◌+◌, ◌-◌, ◌^◌, ◌==◌, ◌&&◌, Bool, true, not, nat_le, nat_lt, List, [], ◌∷◌, ◌++◌, if◌then◌else◌}
+use Rattle.granule_addr.specs.Page.{zero_page}
+use Rattle.rmi_abi.specs.declared.settings.Settings.{Settings}
+use Rattle.rmi_abi.specs.Mpidr.{is_mpidr, rec_number}
+use Rattle.rmi_abi.specs.RecParams.{is_runnable_in, mpidr_in, pc_in, gpr_in, num_aux_in, aux_in}
+use Rattle.rmm_model.specs.declared.condition.Condition.TheVariants.{ParamsAlign, ParamsBound, ParamsPas, ParamsValid, RdState, RealmState}
+use Rattle.rmm_model.specs.declared.condition.Condition.TheVariants.{RecAlign, RecBound, RecState, NumAux, AuxAlign, AuxBound, AuxAlias, AuxState, MpidrIndex, NumRecs}
+use Rattle.rmm_model.specs.declared.granule.GranuleState.TheVariants.{Rd, Rec as IsRec, RecAux}
+use Rattle.rmm_model.specs.declared.realm.Realm.{Realm}
+use Rattle.rmm_model.specs.Check.{Command, Check, check, success, error_input, error_realm}
+use Rattle.rmm_model.specs.Granule.{is_delegated, of_no_realm, of_realm}
+use Rattle.rmm_model.specs.Machine.{Machine, page_in, is_aligned, is_inside, number_of, state_at, with_granule, with_page}
+use Rattle.rmm_model.specs.Realm.{is_new}
+use Rattle.rmm_model.specs.Rec.{new_rec}
+use Rattle.rmm_model.specs.Table.{with_words}
+use Rattle.rmm_model.specs.Command.Auxiliary.{with_aux}
+use Rattle.rmm_model.specs.Command.RecMeasurement.{rim_with_rec}
+use Rattle.rmm_model.specs.Command.Operand.{host_checks, delegated_checks, rd_checks, realm_at}
+
+-- ---- auxiliary granules
+
+-- that many numbers from one on pass a test
+unfoldable pub all_from : (ℕ → Bool) → ℕ → ℕ → Bool
+all_from test i zero = true
+all_from test i (suc count) = test i && all_from test (i + 1) count
+
+-- each of the first auxiliary granules that parameters name passes a test
+abbrev pub all_aux : (ℕ → Bool) → List ℕ → ℕ → Bool
+all_aux test page count = all_from (λ k. test (aux_in page k)) 0 count
+
+-- auxiliary granule k is neither the REC nor one before it
+abbrev pub is_apart : ℕ → List ℕ → ℕ → Bool
+is_apart rec page k = not (aux_in page k == rec) && all_aux (λ address. not (address == aux_in page k)) page k
+
+-- an address is that of a DELEGATED granule of the machine
+abbrev pub can_be_aux : Machine → ℕ → Bool
+can_be_aux m address = is_inside m address && is_delegated (state_at m address)
+
+-- as many auxiliary granules as a REC has, all of them DELEGATED, and no two of them and the REC one
+unfoldable pub aux_checks : Machine → List ℕ → ℕ → List Check
+aux_checks m page rec =
+    check NumAux (ParamsPas ∷ []) (not (num_aux_in page == m.settings.aux)) error_input
+    ∷ check AuxAlign (NumAux ∷ []) (not (all_aux is_aligned page m.settings.aux)) error_input
+    ∷ check AuxBound (AuxAlign ∷ []) (not (all_aux (is_inside m) page m.settings.aux)) error_input
+    ∷ check AuxAlias (NumAux ∷ []) (not (all_from (is_apart rec page) 0 m.settings.aux)) error_input
+    ∷ check AuxState (AuxBound ∷ []) (not (all_aux (can_be_aux m) page m.settings.aux)) error_input ∷ []
+
+-- ---- the new REC
+
+-- the MPIDR of the next REC of a NEW realm that can have one more
+unfoldable pub number_checks : Settings → List ℕ → Realm → List Check
+number_checks s page realm =
+    check ParamsValid (ParamsPas ∷ []) (not (is_mpidr (mpidr_in page))) error_input
+    ∷ check MpidrIndex (ParamsValid ∷ RdState ∷ []) (not (rec_number (mpidr_in page) == realm.next_rec)) error_input
+    ∷ check RealmState (RdState ∷ []) (not (is_new realm.state)) error_realm
+    ∷ check NumRecs (RdState ∷ []) (not (nat_lt realm.rec_count (2 ^ s.max_recs_order))) error_realm ∷ []
+
+-- word k of the page of a new REC: general-purpose registers 0 to 7 and the pc are those of its parameters, the others 0
+abbrev pub rec_word : List ℕ → ℕ → ℕ
+rec_word page k =
+    if nat_lt k 8 then gpr_in page k else
+    (if k == 31 then pc_in page else
+    (if nat_le 32 k then aux_in page (k - 32) else 0))
+
+-- the page of a new REC
+unfoldable pub rec_page : List ℕ → List ℕ
+rec_page page = with_words 48 (rec_word page) zero_page
+
+-- the machine with a new REC of an RD
+abbrev pub with_created_rec : Machine → ℕ → ℕ → List ℕ → Machine
+with_created_rec m rd rec page =
+    with_page (with_granule m rec (of_realm rd (IsRec (new_rec (is_runnable_in page) (mpidr_in page))))) rec (rec_page page)
+
+-- a realm that was given one REC more, and measured it
+abbrev pub with_one_more : Settings → Realm → List ℕ → Realm
+with_one_more s realm page = record realm { rim = rim_with_rec s realm page; next_rec = realm.next_rec + 1; rec_count = realm.rec_count + 1 }
+
+-- ---- the command
+
+-- A DELEGATED granule becomes a REC of a NEW realm, and DELEGATED granules its auxiliary ones. RMM 1.0, RMI_REC_CREATE.
+unfoldable pub rec_create : ℕ → ℕ → ℕ → Machine → Command
+rec_create rd rec params m =
+    let page = page_in m (number_of m params) in
+    let realm = realm_at m rd in
+    let owner = number_of m rd in
+    record {
+      checks = host_checks ParamsAlign ParamsBound ParamsPas m params ++ delegated_checks RecAlign RecBound RecState m rec
+          ++ rd_checks m rd ++ aux_checks m page rec ++ number_checks m.settings page realm;
+      answer = success;
+      machine = with_granule (with_aux (with_created_rec m owner (number_of m rec) page) (number_of m rec) (of_realm owner RecAux) m.settings.aux) owner
+          (of_no_realm (Rd (with_one_more m.settings realm page)));
+    }

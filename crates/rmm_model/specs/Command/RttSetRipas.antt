@@ -1,0 +1,58 @@
+-- RMI_RTT_SET_RIPAS.
+use Rattle.std.specs.Prelude.{ℕ, ◌+◌, ◌*◌, ◌==◌, ◌&&◌, Bool, true, not, nat_le, Option, Some, List, [], ◌∷◌, ◌++◌}
+use Rattle.rmm_model.specs.declared.condition.Condition.TheVariants.{Size, TopGranAlign, BaseBound, TopBound, RdState, RecAlign, RecBound, RecGranState, RecState, RecOwner}
+use Rattle.rmm_model.specs.declared.entry.Changeable.{Changeable}
+use Rattle.rmm_model.specs.declared.realm.Realm.{Realm}
+use Rattle.rmm_model.specs.declared.rec.Rec.{Rec}
+use Rattle.rmm_model.specs.declared.rec.RipasRequest.{RipasRequest}
+use Rattle.rmm_model.specs.Check.{Command, Check, check, success, error_input, error_rec}
+use Rattle.rmm_model.specs.Level.{entry_size}
+use Rattle.rmm_model.specs.Machine.{Machine, granule_at, number_of}
+use Rattle.rmm_model.specs.Realm.{is_protected}
+use Rattle.rmm_model.specs.Rec.{is_running}
+use Rattle.rmm_model.specs.Walk.{walk}
+use Rattle.rmm_model.specs.Command.Operand.{rd_checks, realm_at, rec_checks, rec_at, is_multiple}
+use Rattle.rmm_model.specs.Command.PsciComplete.{is_same_owner, with_rec}
+use Rattle.rmm_model.specs.Command.RipasRange.{size_checks, progress_checks, change_count, with_ripas}
+
+-- ASSIGNED entries change too, and DESTROYED ones where the REC said so
+abbrev pub set_changeable : RipasRequest → Changeable
+set_changeable request = record { assigned = true; destroyed = request.changes_destroyed }
+
+-- An address is the one that a REC asked for. It is a protected one: no REC asks for another, and the definition holds for every
+-- machine.
+abbrev pub is_asked : Realm → Rec → ℕ → Bool
+is_asked realm asking base = base == asking.ripas.base && is_protected realm base
+
+-- a REC of the realm that does not run, and the range that it asked for from its address on
+unfoldable pub ripas_request_checks : Realm → Rec → Bool → ℕ → ℕ → List Check
+ripas_request_checks realm asking is_owner base top =
+    check TopGranAlign [] (not (is_multiple top 4096)) error_input
+    ∷ check RecState (RecGranState ∷ []) (is_running asking.state) error_rec
+    ∷ check RecOwner (RecGranState ∷ RdState ∷ []) (not is_owner) error_rec
+    ∷ check BaseBound (RecState ∷ []) (not (is_asked realm asking base)) error_input
+    ∷ check TopBound (RecState ∷ []) (not (nat_le top asking.ripas.top)) error_input ∷ []
+
+-- the REC at an address is one of the realm of an RD
+abbrev pub is_rec_of : Machine → ℕ → ℕ → Bool
+is_rec_of m rd rec = is_same_owner (granule_at m (number_of m rec)).owner (Some (number_of m rd))
+
+-- a request that the host has come to an address with
+abbrev pub with_base : Rec → ℕ → Rec
+with_base rec base = record rec { ripas = record rec.ripas { base = base } }
+
+-- The entries of one table get the RIPAS that a REC asked for, from its address on, as far as they can and lie below a top. The REC
+-- asks for the rest from then on. RMM 1.0, RMI_RTT_SET_RIPAS.
+unfoldable pub rtt_set_ripas : ℕ → ℕ → ℕ → ℕ → Machine → Command
+rtt_set_ripas rd rec base top m =
+    let asking = rec_at m rec in
+    let found = walk m (realm_at m rd) base 3 in
+    let count = change_count m (set_changeable asking.ripas) found base top in
+    let stop = base + count * entry_size found.level in
+    record {
+      checks = size_checks base top ++ rd_checks m rd ++ rec_checks RecAlign RecBound RecGranState m rec
+          ++ ripas_request_checks (realm_at m rd) asking (is_rec_of m rd rec) base top
+          ++ progress_checks (Size ∷ RecGranState ∷ RdState ∷ RecState ∷ RecOwner ∷ BaseBound ∷ TopBound ∷ []) m (set_changeable asking.ripas) found base top;
+      answer = record success { x1 = stop };
+      machine = with_rec (with_ripas m found base asking.ripas.ripas count) (number_of m rec) (with_base asking stop);
+    }

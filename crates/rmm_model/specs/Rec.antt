@@ -1,0 +1,45 @@
+-- RECs. RMM 1.0, REC attributes. The words of a REC's page are this monitor's own: 0 to 30 are its general-purpose registers, 31 is its
+-- pc, 32 to 47 are the addresses of its auxiliary granules.
+use Rattle.std.specs.Prelude.{ℕ, ◌+◌, ◌||◌, Bool, true, false, List}
+use Rattle.page_arena.specs.Word.{word_of_page}
+use Rattle.rmm_model.specs.declared.entry.Ripas.TheVariants.{Empty}
+use Rattle.rmm_model.specs.declared.rec.LastExit.TheVariants.{Other}
+use Rattle.rmm_model.specs.declared.rec.PsciRequest.TheVariants.{None as NoRequest}
+use Rattle.rmm_model.specs.declared.rec.Rec.{Rec}
+use Rattle.rmm_model.specs.declared.rec.RecState.{RecState}
+use Rattle.rmm_model.specs.declared.rec.RecState.TheVariants.{Ready, Running}
+use Rattle.rmm_model.specs.declared.rec.RipasRequest.{RipasRequest}
+
+abbrev pub no_request : RipasRequest
+no_request = record { base = 0; top = 0; ripas = Empty; changes_destroyed = false }
+
+-- A new REC: it is READY, and nothing is asked or pending.
+abbrev pub new_rec : Bool → ℕ → Rec
+new_rec is_runnable mpidr = record {
+  state = Ready;
+  is_runnable = is_runnable;
+  mpidr = mpidr;
+  ripas = no_request;
+  psci = NoRequest;
+  exit = Other;
+  run = 0;
+  first_step = 0;
+  step_count = 0;
+  result_count = 0;
+}
+
+-- the REC that a granule which is none counts as, after a check that has failed
+abbrev pub no_rec : Rec
+no_rec = new_rec false 0
+
+abbrev pub is_running : RecState → Bool
+is_running Running = true
+is_running Ready = false
+
+-- the REC is on, as PSCI has it
+abbrev pub is_on : Rec → Bool
+is_on rec = rec.is_runnable || is_running rec.state
+
+-- the address of auxiliary granule k that the page of a REC has
+abbrev pub aux_of : List ℕ → ℕ → ℕ
+aux_of page k = word_of_page page (32 + k)

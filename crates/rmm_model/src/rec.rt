@@ -1,0 +1,125 @@
+//! RECs.
+ghost use Rattle.std.specs.Prelude.{◌≡◌, ◌<◌, length};
+ghost use Rattle.rmm_model.specs.Rec as recs;
+
+use crate::Ripas;
+use page_arena::word_in;
+
+/// The state of a REC. RMM 1.0, RmmRecState.
+#[derive(Clone, Copy, Debug, PartialEq, Eq)]
+pub enum RecState {
+    Ready,
+    Running,
+}
+
+/// The change of RIPAS that a REC asked for. RMM 1.0, attributes ripas_addr, ripas_top, ripas_value and ripas_destroyed.
+///
+/// The address is how far the host has come. Address and top are 0 if nothing is asked for.
+#[derive(Clone, Copy, Debug, PartialEq, Eq)]
+pub struct RipasRequest {
+    pub base: u64,
+    pub top: u64,
+    pub ripas: Ripas,
+    pub changes_destroyed: bool,
+}
+
+/// The PSCI request of a REC: none, one that the host has to complete, or the result of one that is complete.
+/// RMM 1.0, attribute psci_pending.
+#[derive(Clone, Copy, Debug, PartialEq, Eq)]
+pub enum PsciRequest {
+    None,
+    CpuOn {
+        target: u64,
+        entry_point: u64,
+        context: u64,
+    },
+    AffinityInfo {
+        target: u64,
+    },
+    Complete(u64),
+}
+
+/// The last exit of a REC, as its next entry has to answer it. RMM 1.0, attributes host_call and emulatable_abort.
+#[derive(Clone, Copy, Debug, PartialEq, Eq)]
+pub enum LastExit {
+    /// No exit, or one that no entry answers.
+    Other,
+    HostCall,
+    RipasChange,
+    /// An abort at an unprotected address that the host can emulate.
+    EmulatableAbort,
+    /// Any other abort at an unprotected address.
+    UnprotectedAbort,
+    /// A write of a system register.
+    SystemRegister,
+}
+
+/// The attributes of a REC. RMM 1.0, REC attributes.
+///
+/// Its registers and the addresses of its auxiliary granules are words of its page. While it is RUNNING, `run` is the
+/// address of its run page. The steps that its guest has yet to perform are a ring in its page.
+#[derive(Clone, Copy, Debug, PartialEq, Eq)]
+pub struct Rec {
+    pub state: RecState,
+    pub is_runnable: bool,
+    pub mpidr: u64,
+    pub ripas: RipasRequest,
+    pub psci: PsciRequest,
+    pub exit: LastExit,
+    pub run: u64,
+    pub first_step: u8,
+    pub step_count: u8,
+    pub result_count: u8,
+}
+
+impl RipasRequest {
+    /// No request.
+    pub const NONE: RipasRequest = RipasRequest {
+        base: 0,
+        top: 0,
+        ripas: Ripas::Empty,
+        changes_destroyed: false,
+    };
+}
+
+impl Rec {
+    /// A new REC.
+    pub fn new(is_runnable: bool, mpidr: u64) -> Rec
+        ensures { result ≡ recs.new_rec is_runnable mpidr }
+    {
+        Rec {
+            state: RecState::Ready,
+            is_runnable,
+            mpidr,
+            ripas: RipasRequest::NONE,
+            psci: PsciRequest::None,
+            exit: LastExit::Other,
+            run: 0,
+            first_step: 0,
+            step_count: 0,
+            result_count: 0,
+        }
+    }
+
+    pub fn is_running(&self) -> bool
+        ensures { result ≡ recs.is_running self.now.state }
+    {
+        matches!(self.state, RecState::Running)
+    }
+
+    /// Whether the REC is on, as PSCI has it: it is runnable or RUNNING.
+    pub fn is_on(&self) -> bool
+        ensures { result ≡ recs.is_on self.now }
+    {
+        self.is_runnable || self.is_running()
+    }
+}
+
+/// The address of auxiliary granule `k` that the page of a REC has.
+pub fn aux_address(page: &[u8], k: u8) -> u64
+    requires page { length page.now ≡ 4096 }
+    requires below { k < 16 }
+    ensures { result ≡ recs.aux_of page.now k }
+{
+    word_in(page, 32 + k as usize)
+}
