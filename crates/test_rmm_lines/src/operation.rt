@@ -1,0 +1,190 @@
+//! Raw operations.
+use crate::memory::{load, store};
+use crate::numbers::{MOST, numbers};
+use crate::platform::open;
+use page_arena::PlainStore;
+use rmi_abi::{HashAlgorithm, Registers};
+use rmm::Rmm;
+use rmm_model::{GranuleState, PsciRequest, Realm, RealmState, Rec};
+use std::alloc::{AllocError, Global};
+use std::fmt::Write;
+
+// The registers after a call.
+fn smc(alloc: Global, rmm: &mut Rmm<PlainStore>, n: &[u64; MOST]) -> Result<String, AllocError> {
+    let r = rmm.smc(Registers {
+        x0: n[0],
+        x1: n[1],
+        x2: n[2],
+        x3: n[3],
+        x4: n[4],
+        x5: n[5],
+        x6: n[6],
+    });
+    format!(in alloc; "{:x} {:x} {:x} {:x} {:x}", r.x0, r.x1, r.x2, r.x3, r.x4)
+}
+
+// The place of a state among those that there are.
+fn place(state: &GranuleState) -> u8 {
+    match state {
+        GranuleState::Undelegated => 0,
+        GranuleState::Delegated => 1,
+        GranuleState::Rd(_) => 2,
+        GranuleState::Rec(_) => 3,
+        GranuleState::RecAux => 4,
+        GranuleState::Data => 5,
+        GranuleState::Rtt => 6,
+    }
+}
+
+// The realm of the RD at an address.
+fn realm_at(rmm: &Rmm<PlainStore>, rd: u64) -> Option<Realm> {
+    match rmm.state(rd)? {
+        GranuleState::Rd(realm) => Some(realm),
+        _ => None,
+    }
+}
+
+// A realm, of a machine from an address on.
+fn realm_text(alloc: Global, realm: &Realm, base: u64) -> Result<String, AllocError> {
+    let state = match realm.state {
+        RealmState::New => 0,
+        RealmState::Active => 1,
+        RealmState::SystemOff => 2,
+    };
+    let first = base.wrapping_add(u64::from(realm.first_table.number()) * 4096);
+    format!(in alloc;
+        "{state:x} {:x} {:x} {:x} {first:x} {:x} {:x} {:x}",
+        realm.s2sz,
+        realm.start_level,
+        realm.table_count,
+        realm.vmid,
+        realm.next_rec,
+        realm.rec_count
+    )
+}
+
+// The measurement of a realm.
+fn rim_text(alloc: Global, realm: &Realm) -> Result<String, AllocError> {
+    let length = match realm.hash {
+        HashAlgorithm::Sha256 => 32,
+        HashAlgorithm::Sha512 => 64,
+    };
+    let mut text = String::new(alloc);
+    for byte in &realm.rim[..length] {
+        write!(text, "{byte:02x}")?;
+    }
+    Ok(text)
+}
+
+// The sum of the bytes of a granule; of a table, an RD or a REC 0.
+fn sum(rmm: &Rmm<PlainStore>, address: u64, state: &GranuleState) -> u64 {
+    if matches!(
+        state,
+        GranuleState::Rd(_) | GranuleState::Rec(_) | GranuleState::Rtt
+    ) {
+        return 0;
+    }
+    let mut sum: u64 = 0;
+    for index in 0..512 {
+        let mut word = rmm.word(address, index).unwrap_or(0);
+        for _byte in 0..8u8 {
+            sum = sum.wrapping_add(word % 0x100);
+            word /= 0x100;
+        }
+    }
+    sum
+}
+
+// A REC of a granule.
+fn rec_text(
+    alloc: Global,
+    rmm: &Rmm<PlainStore>,
+    address: u64,
+    rec: &Rec,
+) -> Result<String, AllocError> {
+    let pending = matches!(
+        rec.psci,
+        PsciRequest::CpuOn { .. } | PsciRequest::AffinityInfo { .. }
+    );
+    let pc = rmm.word(address, 31).unwrap_or(0);
+    let gpr = rmm.word(address, 0).unwrap_or(0);
+    format!(in alloc;
+        "{} - {:x} {} {} {pc:x} {gpr:x}",
+        u8::from(rec.is_running()),
+        rec.mpidr,
+        u8::from(rec.is_runnable),
+        u8::from(pending)
+    )
+}
+
+// A word of an answer.
+fn word(alloc: Global, is_done: bool) -> Result<String, AllocError> {
+    String::from_str(alloc, if is_done { "done" } else { "fault" })
+}
+
+// The result of an operation on a machine.
+fn result(
+    alloc: Global,
+    rmm: &mut Rmm<PlainStore>,
+    kind: &str,
+    words: &str,
+) -> Result<String, AllocError> {
+    if kind == "store" {
+        let (address, digits) = words.split_once(' ').unwrap_or((words, ""));
+        let digits = digits.split(' ').next().unwrap_or("");
+        let is_done = match crate::numbers::number(address) {
+            Some(address) => store(rmm, address, digits).is_some(),
+            None => false,
+        };
+        return word(alloc, is_done);
+    }
+    let Some(n) = numbers(words) else {
+        return String::from_str(alloc, "unknown");
+    };
+    match kind {
+        "smc" => smc(alloc, rmm, &n),
+        "fill" => word(alloc, rmm.fill(n[0], (n[1] % 0x100) as u8)),
+        "load" => load(alloc, rmm, n[0], n[1]),
+        "state" => match rmm.state(n[0]) {
+            Some(state) => format!(in alloc; "{:x}", place(&state)),
+            None => String::from_str(alloc, "none"),
+        },
+        "sum" => match rmm.state(n[0]) {
+            Some(state) => format!(in alloc; "{:x}", sum(rmm, n[0], &state)),
+            None => String::from_str(alloc, "none"),
+        },
+        "rec" => match rmm.state(n[0]) {
+            Some(GranuleState::Rec(rec)) => rec_text(alloc, rmm, n[0], &rec),
+            _ => String::from_str(alloc, "none"),
+        },
+        "realm" => match realm_at(rmm, n[0]) {
+            Some(realm) => realm_text(alloc, &realm, rmm.settings().base),
+            None => String::from_str(alloc, "none"),
+        },
+        "rim" => match realm_at(rmm, n[0]) {
+            Some(realm) => rim_text(alloc, &realm),
+            None => String::from_str(alloc, "none"),
+        },
+        _ => String::from_str(alloc, "unknown"),
+    }
+}
+
+/// Performs the operation of a line, and returns its result; none comes for a comment and for a platform.
+pub(crate) fn perform(
+    alloc: Global,
+    rmm: &mut Option<Rmm<PlainStore>>,
+    line: &str,
+) -> Result<String, AllocError> {
+    let (kind, words) = line.split_once(' ').unwrap_or((line, ""));
+    if kind == "platform" {
+        *rmm = match numbers(words) {
+            Some(n) => open(alloc, &n),
+            None => None,
+        };
+        return Ok(String::new(alloc));
+    }
+    match rmm {
+        Some(rmm) if kind != "#" => result(alloc, rmm, kind, words),
+        _ => Ok(String::new(alloc)),
+    }
+}
