@@ -12,3 +12,4 @@ pub mod Taking
 pub mod Held
 pub mod Linking
 pub mod Masks
+pub mod Choosing

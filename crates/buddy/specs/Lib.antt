@@ -3,3 +3,4 @@ pub mod Halves
 pub mod Heads
 pub mod InHand
 pub mod Links
+pub mod FirstBlock

@@ -5,6 +5,7 @@ ghost use Rattle.granule_addr.specs.Page.{page_of, zero_page};
 ghost use Rattle.page_arena.specs.Page.{page_at, is_free, with_byte, IsSized};
 ghost use Rattle.page_arena.specs.Block.{IsFreeBlock, IsTakenBlock, with_run, with_taken, with_given};
 ghost use Rattle.page_arena.specs.Word.{with_word};
+ghost use Rattle.buddy.specs.FirstBlock.{first_block};
 ghost use Rattle.buddy.specs.MaximalBlock.{IsMaximalBlock, TurnsUp};
 
 use crate::index::FreeIndex;
@@ -20,7 +21,7 @@ pub struct BuddyArena {
     pages: RawPages,
     index: FreeIndex,
     visits: u8,
-    ghost sized: { IsSized pages index },
+    ghost sized: { IsSized pages index.flags },
 }
 
 impl BuddyArena {
@@ -61,7 +62,9 @@ impl BuddyArena {
 impl PageStore for BuddyArena {
     ghost page_bytes = { λ arena. arena.pages };
 
-    ghost free_flags = { λ arena. arena.index };
+    ghost free_flags = { λ arena. arena.index.flags };
+
+    ghost choice = { λ arena order. first_block arena.index.lists order };
 
     fn pages(&self) -> u16 {
         self.pages.count()
@@ -71,17 +74,19 @@ impl PageStore for BuddyArena {
         self.index.count()
     }
 
-    /// The visits are one for each order from that of the block up to that of the maximal block that it is cut from,
-    /// which is the smallest order that has one. Where no order has one, there are no visits.
+    /// The block is cut from the head of the first list that serves, from that of its order up. The visits are one for each
+    /// order up to that of the list, which is the smallest order that has a block. Where no order has one, there are no
+    /// visits.
     fn take(&mut self, order: Order) -> Option<Gran>
-        ensures block { IfSome result (IsFreeBlock self.old.index order) }
-        ensures taken { IfSome result (λ first. self.new.index ≡ with_taken self.old.index order first) }
-        ensures none { IfNone result ((first : ℕ) → ¬ (IsFreeBlock self.old.index order first)) }
+        ensures first { result ≡ first_block self.old.index.lists order }
+        ensures block { IfSome result (IsFreeBlock self.old.index.flags order) }
+        ensures taken { IfSome result (λ first. self.new.index.flags ≡ with_taken self.old.index.flags order first) }
+        ensures none { IfNone result ((first : ℕ) → ¬ (IsFreeBlock self.old.index.flags order first)) }
         ensures unchanged { IfNone result (self.new.index ≡ self.old.index) }
         ensures bytes { self.new.pages ≡ self.old.pages }
-        ensures visits { IfSome result (λ first. TurnsUp self.old.index order first self.new.visits) }
+        ensures visits { IfSome result (λ first. TurnsUp self.old.index.flags order first self.new.visits) }
         ensures smallest { IfSome result (λ _. (larger start : ℕ) → order ≤ larger
-            → IsMaximalBlock self.old.index larger start → self.new.visits + order ≤ larger + 1) }
+            → IsMaximalBlock self.old.index.flags larger start → self.new.visits + order ≤ larger + 1) }
         ensures refused { IfNone result (self.new.visits ≡ 0) }
     {
         self.visits = 0;
@@ -93,8 +98,8 @@ impl PageStore for BuddyArena {
     /// The visits are one for each order from 9 down to that of the block, whether the block is taken or not. Where the
     /// block is not aligned, there are no visits.
     fn take_at(&mut self, order: Order, first: Gran) -> bool
-        ensures answer { IsTrue result ↔ IsFreeBlock self.old.index order first }
-        ensures taken { OnTrue result (self.new.index ≡ with_taken self.old.index order first) }
+        ensures answer { IsTrue result ↔ IsFreeBlock self.old.index.flags order first }
+        ensures taken { OnTrue result (self.new.index.flags ≡ with_taken self.old.index.flags order first) }
         ensures unchanged { OnFalse result (self.new.index ≡ self.old.index) }
         ensures bytes { self.new.pages ≡ self.old.pages }
         ensures visits { first % 2 ^ order ≡ 0 → self.new.visits + order ≡ 10 }
@@ -108,10 +113,10 @@ impl PageStore for BuddyArena {
 
     /// The visits are one for each order from that of the block up to that of the maximal block that it ends in.
     fn give(&mut self, first: Gran, order: Order)
-        requires { IsTakenBlock self.old.index order first }
-        ensures given { self.new.index ≡ with_given self.old.index order first }
+        requires { IsTakenBlock self.old.index.flags order first }
+        ensures given { self.new.index.flags ≡ with_given self.old.index.flags order first }
         ensures cleared { self.new.pages ≡ with_run self.old.pages first (2 ^ order) zero_page }
-        ensures visits { TurnsUp self.new.index order first self.new.visits }
+        ensures visits { TurnsUp self.new.index.flags order first self.new.visits }
     {
         let first = first.number() as usize;
         self.pages.clear(first, order.size() as usize);
@@ -124,7 +129,7 @@ impl PageStore for BuddyArena {
 
     fn fill(&mut self, granule: Gran, value: u8)
         requires inside { granule < length self.old.pages }
-        requires taken { is_free self.old.index granule ≡ false }
+        requires taken { is_free self.old.index.flags granule ≡ false }
         ensures filled { self.new.pages ≡ slice_set self.old.pages granule (page_of value) }
         ensures flags { self.new.index ≡ self.old.index }
         ensures visits { self.new.visits ≡ self.old.visits }
@@ -134,7 +139,7 @@ impl PageStore for BuddyArena {
 
     fn set(&mut self, granule: Gran, offset: PageOff, value: u8)
         requires inside { granule < length self.old.pages }
-        requires taken { is_free self.old.index granule ≡ false }
+        requires taken { is_free self.old.index.flags granule ≡ false }
         ensures written { self.new.pages ≡ with_byte self.old.pages granule offset value }
         ensures flags { self.new.index ≡ self.old.index }
         ensures visits { self.new.visits ≡ self.old.visits }
@@ -146,7 +151,7 @@ impl PageStore for BuddyArena {
     fn copy(&mut self, target: Gran, source: Gran)
         requires inside { target < length self.old.pages }
         requires source_inside { source < length self.old.pages }
-        requires taken { is_free self.old.index target ≡ false }
+        requires taken { is_free self.old.index.flags target ≡ false }
         requires different { target ≢ source }
         ensures copied { self.new.pages ≡ slice_set self.old.pages target (page_at self.old.pages source) }
         ensures flags { self.new.index ≡ self.old.index }
@@ -162,7 +167,7 @@ impl PageStore for BuddyArena {
 
     fn set_word(&mut self, granule: Gran, index: u16, word: u64)
         requires inside { granule < length self.old.pages }
-        requires taken { is_free self.old.index granule ≡ false }
+        requires taken { is_free self.old.index.flags granule ≡ false }
         requires index { index < 512 }
         ensures written { self.new.pages ≡ with_word self.old.pages granule index word }
         ensures flags { self.new.index ≡ self.old.index }

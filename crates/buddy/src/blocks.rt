@@ -50,8 +50,8 @@ fn look(lists: &mut FreeLists, granule: usize, order: usize, found: bool) -> boo
     ghost flags: { List Bool }
     requires granule { granule < 4096 }
     requires order { order < 10 }
-    requires looked { HasLooked lists.old flags granule (order + 1) found }
-    ensures looked { HasLooked lists.new flags granule order result }
+    requires looked { HasLooked lists.old.heads flags granule (order + 1) found }
+    ensures looked { HasLooked lists.new.heads flags granule order result }
     ensures unchanged { OnFalse result (lists.new ≡ lists.old) }
     ensures stays { OnTrue found (result ≡ true) }
 {
@@ -74,10 +74,10 @@ pub(crate) fn cut_out(lists: &mut FreeLists, first: usize, order: usize, top: us
     requires orders { (order ≤ top) × (top ≤ 9) }
     requires first { first < 4096 }
     requires aligned { first % 2 ^ order ≡ 0 }
-    requires lists { AreMaximal lists.old flags }
+    requires lists { AreMaximal lists.old.heads flags }
     requires top { AllBelow flags first (top + 1) }
     ensures answer { IsTrue result.0 ↔ IsFreeBlock flags order first }
-    ensures cut { OnTrue result.0 (AreMaximal lists.new (with_taken flags order first)) }
+    ensures cut { OnTrue result.0 (AreMaximal lists.new.heads (with_taken flags order first)) }
     ensures unchanged { OnFalse result.0 (lists.new ≡ lists.old) }
     ensures turns { result.1 + order ≡ top + 1 }
 {
@@ -98,8 +98,8 @@ fn free_buddy(lists: &FreeLists, first: usize, order: usize) -> Option<usize>
     requires order { order < 10 }
     ensures order { IfSome result (λ _. order < 9) }
     ensures buddy { IfSome result (λ other. other ≡ buddy_at first order) }
-    ensures head { IfSome result (λ other. head_at lists.now other ≡ order + 1) }
-    ensures none { IfNone result (order < 9 → head_at lists.now (buddy_at first order) ≢ order + 1) }
+    ensures head { IfSome result (λ other. head_at lists.now.heads other ≡ order + 1) }
+    ensures none { IfNone result (order < 9 → head_at lists.now.heads (buddy_at first order) ≢ order + 1) }
 {
     let other = other_half(first, order);
     if order < 9 && lists.head(other) as usize == order + 1 {
@@ -112,10 +112,10 @@ fn free_buddy(lists: &FreeLists, first: usize, order: usize) -> Option<usize>
 pub(crate) fn give_to(lists: &mut FreeLists, first: usize, order: usize) -> u8
     ghost flags: { List Bool }
     requires few { length flags ≤ 4096 }
-    requires lists { AreMaximal lists.old flags }
+    requires lists { AreMaximal lists.old.heads flags }
     requires order { order < 10 }
     requires block { IsTakenBlock flags order first }
-    ensures lists { AreMaximal lists.new (with_given flags order first) }
+    ensures lists { AreMaximal lists.new.heads (with_given flags order first) }
     ensures turns { TurnsUp (with_given flags order first) order first result }
 {
     let mut start = first;

@@ -1,15 +1,16 @@
 //! Which granules are free.
-ghost use Rattle.std.specs.Prelude.{◌≡◌, ◌≢◌, ℕ, ◌+◌, ◌%◌, ◌^◌, ◌<◌, ◌≤◌, ◌↔◌, true, length, filter, replicate, IsTrue, IfOk, IfSome, IfNone};
+ghost use Rattle.std.specs.Prelude.{◌≡◌, ◌≢◌, ℕ, ◌+◌, ◌%◌, ◌^◌, ◌<◌, ◌≤◌, ◌↔◌, true, length, filter, replicate, IsTrue, IfOk, IfSome, IfNone, option_map};
 ghost use Rattle.std.specs.Bool.{OnTrue, OnFalse};
 ghost use Rattle.page_arena.specs.Block.{IsFreeBlock, IsTakenBlock, with_taken, with_given};
 ghost use Rattle.buddy.specs.MaximalBlock.{IsMaximalBlock, TurnsUp};
+ghost use Rattle.buddy.specs.FirstBlock.{first_block};
 
 use crate::blocks::{cut_out, give_to, size_of, start_of};
 use crate::lists::FreeLists;
 use std::alloc::{AllocError, Global};
 use std::marker::Model;
 
-/// A flag for each granule, kept as lists of the maximal free blocks.
+/// A flag for each granule, kept as lists of the maximal free blocks. Seen as the flags and the lists.
 #[derive(Drop)]
 pub(crate) struct FreeIndex {
     lists: FreeLists,
@@ -17,21 +18,21 @@ pub(crate) struct FreeIndex {
 }
 
 impl Model for FreeIndex {
-    ghost use Rattle.std.specs.Prelude.{List, Bool};
     ghost use Rattle.buddy.specs.Heads.{IsIndex, held};
+    ghost use Rattle.buddy.specs.FirstBlock.{IndexView};
 
-    ghost Value = { List Bool };
+    ghost Value = { IndexView };
 
-    ghost view = { λ i. held i.lists };
+    ghost view = { λ i. record { flags = held i.lists.heads; lists = i.lists } };
 
-    ghost invariant = { λ i. IsIndex i.count i.lists };
+    ghost invariant = { λ i. IsIndex i.count i.lists.heads };
 }
 
 impl FreeIndex {
     /// All free. The lowest blocks come first in the lists.
     pub(crate) fn build(alloc: Global, granules: u16) -> Result<FreeIndex, AllocError>
         requires { granules ≤ 4096 }
-        ensures { IfOk result (λ index. index ≡ replicate granules true) }
+        ensures { IfOk result (λ index. index.flags ≡ replicate granules true) }
     {
         let mut lists = FreeLists::build(alloc, granules as usize)?;
         let mut granule = granules as usize;
@@ -47,7 +48,7 @@ impl FreeIndex {
 
     /// How many are free.
     pub(crate) fn count(&self) -> u16
-        ensures { result ≡ length (filter (λ flag. flag) self.now) }
+        ensures { result ≡ length (filter (λ flag. flag) self.now.flags) }
     {
         self.count
     }
@@ -55,20 +56,22 @@ impl FreeIndex {
     /// Whether a block is one of the maximal free ones.
     pub(crate) fn is_free_block(&self, order: usize, first: usize) -> bool
         requires { order < 10 }
-        ensures { IsTrue result ↔ IsMaximalBlock self.now order first }
+        ensures { IsTrue result ↔ IsMaximalBlock self.now.flags order first }
     {
         self.lists.head(first) as usize == order + 1
     }
 
-    /// Takes a block out of a free one of the smallest order that has one. Answers how many orders were looked at, too.
+    /// Takes a block out of a free one of the smallest order that has one: the first of its list. Answers how many orders
+    /// were looked at, too.
     pub(crate) fn take(&mut self, order: usize) -> Option<(usize, u8)>
         requires { order < 10 }
-        ensures block { IfSome result (λ r. IsFreeBlock self.old order r.0) }
-        ensures taken { IfSome result (λ r. self.new ≡ with_taken self.old order r.0) }
-        ensures turns { IfSome result (λ r. TurnsUp self.old order r.0 r.1) }
+        ensures first { option_map (λ r. r.0) result ≡ first_block self.old.lists order }
+        ensures block { IfSome result (λ r. IsFreeBlock self.old.flags order r.0) }
+        ensures taken { IfSome result (λ r. self.new.flags ≡ with_taken self.old.flags order r.0) }
+        ensures turns { IfSome result (λ r. TurnsUp self.old.flags order r.0 r.1) }
         ensures smallest { IfSome result (λ r. (larger start : ℕ) → order ≤ larger
-            → IsMaximalBlock self.old larger start → r.1 + order ≤ larger + 1) }
-        ensures none { IfNone result ((first : ℕ) → ¬ (IsFreeBlock self.old order first)) }
+            → IsMaximalBlock self.old.flags larger start → r.1 + order ≤ larger + 1) }
+        ensures none { IfNone result ((first : ℕ) → ¬ (IsFreeBlock self.old.flags order first)) }
         ensures unchanged { IfNone result (self.new ≡ self.old) }
     {
         let (found, first) = self.lists.lowest(order)?;
@@ -81,8 +84,8 @@ impl FreeIndex {
     pub(crate) fn take_at(&mut self, order: usize, first: usize) -> (bool, u8)
         requires order { order < 10 }
         requires first { first < 4096 }
-        ensures answer { IsTrue result.0 ↔ IsFreeBlock self.old order first }
-        ensures taken { OnTrue result.0 (self.new ≡ with_taken self.old order first) }
+        ensures answer { IsTrue result.0 ↔ IsFreeBlock self.old.flags order first }
+        ensures taken { OnTrue result.0 (self.new.flags ≡ with_taken self.old.flags order first) }
         ensures unchanged { OnFalse result.0 (self.new ≡ self.old) }
         ensures turns { first % 2 ^ order ≡ 0 → result.1 + order ≡ 10 }
         ensures slanted { first % 2 ^ order ≢ 0 → result.1 ≡ 0 }
@@ -100,9 +103,9 @@ impl FreeIndex {
     /// Gives a block back. Answers how many orders were looked at.
     pub(crate) fn give(&mut self, first: usize, order: usize) -> u8
         requires order { order < 10 }
-        requires block { IsTakenBlock self.old order first }
-        ensures given { self.new ≡ with_given self.old order first }
-        ensures turns { TurnsUp self.new order first result }
+        requires block { IsTakenBlock self.old.flags order first }
+        ensures given { self.new.flags ≡ with_given self.old.flags order first }
+        ensures turns { TurnsUp self.new.flags order first result }
     {
         let turns = give_to(&mut self.lists, first, order);
         self.count += size_of(order);

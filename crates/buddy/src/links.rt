@@ -1,7 +1,7 @@
 //! Links between the heads of one order.
 ghost use Rattle.std.specs.Prelude.{◌≡◌, ℕ, ◌+◌, ◌<◌, ◌≤◌, length, replicate, slice_set, IfOk, IfSome, IfNone};
 ghost use Rattle.buddy.specs.Heads.{head_at};
-ghost use Rattle.buddy.specs.Links.{HasHead};
+ghost use Rattle.buddy.specs.Links.{HasHead, at};
 
 use granule_addr::MOST_PAGES;
 use std::alloc::{AllocError, Global};
@@ -11,7 +11,7 @@ use std::marker::Model;
 const NOWHERE: u16 = MOST_PAGES;
 
 /// A list for each order, linked both ways by number, beside the pages and not in them: free pages are zero. Seen as
-/// the table of heads.
+/// the table of heads, and the first block of each list.
 #[derive(Drop)]
 pub(crate) struct Links {
     heads: Vec<u8>,
@@ -21,12 +21,13 @@ pub(crate) struct Links {
 }
 
 impl Model for Links {
-    ghost use Rattle.std.specs.Prelude.{List, ℕ, length};
+    ghost use Rattle.std.specs.Prelude.{length};
+    ghost use Rattle.buddy.specs.FirstBlock.{ListsView};
     ghost use Rattle.buddy.specs.Links.{IsLinked};
 
-    ghost Value = { List ℕ };
+    ghost Value = { ListsView };
 
-    ghost view = { λ l. l.heads.items };
+    ghost view = { λ l. record { heads = l.heads.items; firsts = l.firsts } };
 
     ghost invariant = { λ l. IsLinked (length l.heads.items) l.heads.items l.next.items l.prev.items l.firsts };
 }
@@ -35,7 +36,7 @@ impl Links {
     /// Lists with no block.
     pub(crate) fn build(alloc: Global, count: usize) -> Result<Links, AllocError>
         requires { count ≤ 4096 }
-        ensures { IfOk result (λ links. links ≡ replicate count 0) }
+        ensures { IfOk result (λ links. links.heads ≡ replicate count 0) }
     {
         let heads = vec![in alloc; 0u8; count]?;
         let next = vec![in alloc; NOWHERE; count]?;
@@ -50,7 +51,7 @@ impl Links {
 
     /// One more than the order of the block that the granule heads; 0 where it heads none.
     pub(crate) fn head(&self, granule: usize) -> u8
-        ensures { result ≡ head_at self.now granule }
+        ensures { result ≡ head_at self.now.heads granule }
     {
         if granule < self.heads.len() {
             self.heads[granule]
@@ -62,8 +63,9 @@ impl Links {
     /// The first of the list of an order.
     pub(crate) fn first(&self, order: usize) -> Option<usize>
         requires { order < 10 }
-        ensures head { IfSome result (λ first. head_at self.now first ≡ order + 1) }
-        ensures none { IfNone result (¬ (HasHead self.now order)) }
+        ensures first { IfSome result (λ first. first ≡ at self.now.firsts order) }
+        ensures head { IfSome result (λ first. head_at self.now.heads first ≡ order + 1) }
+        ensures none { IfNone result (¬ (HasHead self.now.heads order)) }
     {
         let first = self.firsts[order] as usize;
         if first < self.heads.len() {
@@ -76,9 +78,10 @@ impl Links {
     /// Puts a granule at the front of the list of an order.
     pub(crate) fn put(&mut self, granule: usize, order: usize)
         requires order { order < 10 }
-        requires inside { granule < length self.old }
-        requires no_head { head_at self.old granule ≡ 0 }
-        ensures { self.new ≡ slice_set self.old granule (order + 1) }
+        requires inside { granule < length self.old.heads }
+        requires no_head { head_at self.old.heads granule ≡ 0 }
+        ensures heads { self.new.heads ≡ slice_set self.old.heads granule (order + 1) }
+        ensures firsts { self.new.firsts ≡ slice_set self.old.firsts order granule }
     {
         let first = self.firsts[order];
         self.heads[granule] = order as u8 + 1;
@@ -93,8 +96,8 @@ impl Links {
     /// Takes a granule out of the list of an order, and joins its neighbours.
     pub(crate) fn take_out(&mut self, granule: usize, order: usize)
         requires order { order < 10 }
-        requires head { head_at self.old granule ≡ order + 1 }
-        ensures { self.new ≡ slice_set self.old granule 0 }
+        requires head { head_at self.old.heads granule ≡ order + 1 }
+        ensures { self.new.heads ≡ slice_set self.old.heads granule 0 }
     {
         let next = self.next[granule];
         let prev = self.prev[granule];

@@ -1,14 +1,14 @@
 //! The heads of the free blocks, in a list for each order.
 ghost use Rattle.std.specs.Prelude.{◌≡◌, ℕ, ◌+◌, ◌<◌, ◌≤◌, ◌≢◌, length, replicate, slice_set, IfOk, IfSome, IfNone};
 ghost use Rattle.buddy.specs.Heads.{head_at};
-ghost use Rattle.buddy.specs.Links.{HasHead};
+ghost use Rattle.buddy.specs.Links.{HasHead, at};
 
 use crate::links::Links;
 use std::alloc::{AllocError, Global};
 use std::marker::Model;
 
-/// Lists of blocks by order, and a mask of the orders that have one. Seen as the table of heads: for each granule, one
-/// more than the order of the block that it heads, or 0 where it heads none.
+/// Lists of blocks by order, and a mask of the orders that have one. Seen as the table of heads, and the first block of
+/// each list. The head of a granule is one more than the order of the block that it heads, or 0 where it heads none.
 #[derive(Drop)]
 pub(crate) struct FreeLists {
     links: Links,
@@ -16,21 +16,21 @@ pub(crate) struct FreeLists {
 }
 
 impl Model for FreeLists {
-    ghost use Rattle.std.specs.Prelude.{List, ℕ};
+    ghost use Rattle.buddy.specs.FirstBlock.{ListsView};
     ghost use Rattle.buddy.specs.Links.{IsMask};
 
-    ghost Value = { List ℕ };
+    ghost Value = { ListsView };
 
     ghost view = { λ l. l.links };
 
-    ghost invariant = { λ l. IsMask l.mask l.links };
+    ghost invariant = { λ l. IsMask l.mask l.links.heads };
 }
 
 impl FreeLists {
     /// Lists with no block.
     pub(crate) fn build(alloc: Global, count: usize) -> Result<FreeLists, AllocError>
         requires { count ≤ 4096 }
-        ensures { IfOk result (λ lists. lists ≡ replicate count 0) }
+        ensures { IfOk result (λ lists. lists.heads ≡ replicate count 0) }
     {
         let links = Links::build(alloc, count)?;
         Ok(FreeLists { links, mask: 0 })
@@ -38,7 +38,7 @@ impl FreeLists {
 
     /// One more than the order of the block that the granule heads; 0 where it heads none.
     pub(crate) fn head(&self, granule: usize) -> u8
-        ensures { result ≡ head_at self.now granule }
+        ensures { result ≡ head_at self.now.heads granule }
     {
         self.links.head(granule)
     }
@@ -46,10 +46,11 @@ impl FreeLists {
     /// The lowest order from `order` on that has a block, and the first of its list.
     pub(crate) fn lowest(&self, order: usize) -> Option<(usize, usize)>
         requires { order < 10 }
-        ensures head { IfSome result (λ r. head_at self.now r.1 ≡ r.0 + 1) }
+        ensures first { IfSome result (λ r. r.1 ≡ at self.now.firsts r.0) }
+        ensures head { IfSome result (λ r. head_at self.now.heads r.1 ≡ r.0 + 1) }
         ensures from { IfSome result (λ r. order ≤ r.0) }
-        ensures lowest { IfSome result (λ r. (k : ℕ) → order ≤ k → k < r.0 → ¬ (HasHead self.now k)) }
-        ensures none { IfNone result ((k : ℕ) → order ≤ k → k < 10 → ¬ (HasHead self.now k)) }
+        ensures lowest { IfSome result (λ r. (k : ℕ) → order ≤ k → k < r.0 → ¬ (HasHead self.now.heads k)) }
+        ensures none { IfNone result ((k : ℕ) → order ≤ k → k < 10 → ¬ (HasHead self.now.heads k)) }
     {
         let above = self.mask >> order;
         if above == 0 {
@@ -63,9 +64,10 @@ impl FreeLists {
     /// Puts a block at the front of the list of its order.
     pub(crate) fn put(&mut self, granule: usize, order: usize)
         requires order { order < 10 }
-        requires inside { granule < length self.old }
-        requires no_head { head_at self.old granule ≡ 0 }
-        ensures { self.new ≡ slice_set self.old granule (order + 1) }
+        requires inside { granule < length self.old.heads }
+        requires no_head { head_at self.old.heads granule ≡ 0 }
+        ensures heads { self.new.heads ≡ slice_set self.old.heads granule (order + 1) }
+        ensures firsts { self.new.firsts ≡ slice_set self.old.firsts order granule }
     {
         self.links.put(granule, order);
         self.mask |= 1 << order;
@@ -74,8 +76,8 @@ impl FreeLists {
     /// Takes a block out of its list.
     pub(crate) fn take_out(&mut self, granule: usize, order: usize)
         requires order { order < 10 }
-        requires head { head_at self.old granule ≡ order + 1 }
-        ensures { self.new ≡ slice_set self.old granule 0 }
+        requires head { head_at self.old.heads granule ≡ order + 1 }
+        ensures { self.new.heads ≡ slice_set self.old.heads granule 0 }
     {
         self.links.take_out(granule, order);
         if self.links.first(order).is_none() {

@@ -5,3 +5,4 @@ pub mod Pages
 pub mod Runs
 pub mod Blocks
 pub mod Words
+pub mod LowestBlock

@@ -2,6 +2,7 @@
 ghost use Rattle.std.specs.Prelude.{◌≡◌, ◌↔◌, ◌<◌, ◌⊎◌, true, replicate, IfOk, IsErrOf};
 ghost use Rattle.granule_addr.specs.Page.{zero_page};
 ghost use Rattle.page_arena.specs.Page.{IsSized};
+ghost use Rattle.page_arena.specs.LowestBlock.{lowest_block};
 
 mod flags;
 mod pages;
@@ -13,7 +14,7 @@ use granule_addr::{Gran, MOST_PAGES, Order, PageOff};
 use pages::{clear_run, copy_page, fill_page, zero_pages};
 use std::alloc::Global;
 
-/// A store that keeps pages and flags each in a vector, and looks for a free block from the lowest page on.
+/// A store that keeps pages and flags each in a vector, and takes the lowest free block.
 #[derive(Drop)]
 pub struct PlainStore {
     pages: Vec<[u8; 4096]>,
@@ -45,6 +46,8 @@ impl PageStore for PlainStore {
     ghost page_bytes = { λ store. store.pages.items };
 
     ghost free_flags = { λ store. store.free.items };
+
+    ghost choice = { λ store order. lowest_block store.free.items order };
 
     fn pages(&self) -> u16 {
         self.pages.len() as u16

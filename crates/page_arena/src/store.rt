@@ -1,5 +1,5 @@
 //! What a store of pages is.
-ghost use Rattle.std.specs.Prelude.{◌≡◌, ◌≢◌, ℕ, ◌+◌, ◌^◌, ◌<◌, ◌≤◌, ◌↔◌, Bool, true, false, List, length, filter, IsTrue, IfSome, IfNone, slice_set};
+ghost use Rattle.std.specs.Prelude.{◌≡◌, ◌≢◌, ℕ, ◌+◌, ◌^◌, ◌<◌, ◌≤◌, ◌↔◌, Bool, true, false, List, length, filter, Option, IsTrue, IfSome, IfNone, slice_set};
 ghost use Rattle.std.specs.Bool.{OnTrue, OnFalse};
 ghost use Rattle.granule_addr.specs.Page.{page_of, zero_page};
 ghost use Rattle.page_arena.specs.Page.{page_at, is_free, with_byte, IsSized};
@@ -18,6 +18,9 @@ pub trait PageStore {
     /// For each page, whether it is free.
     ghost free_flags: { Self → List Bool };
 
+    /// For each order, the free block that the store takes next, or `None` where there is none.
+    ghost choice: { Self → ℕ → Option ℕ };
+
     /// How many pages there are.
     fn pages(&self) -> u16
         ensures { result ≡ length (page_bytes self.now) };
@@ -26,8 +29,9 @@ pub trait PageStore {
     fn free_count(&self) -> u16
         ensures { result ≡ length (filter (λ flag. flag) (free_flags self.now)) };
 
-    /// Takes a free block. Which one is left open; `None` comes exactly where there is none.
+    /// Takes a free block: the store's choice. `None` comes exactly where there is none.
     fn take(&mut self, order: Order) -> Option<Gran>
+        ensures first { result ≡ choice self.old order }
         ensures block { IfSome result (IsFreeBlock (free_flags self.old) order) }
         ensures taken { IfSome result (λ first.
             free_flags self.new ≡ with_taken (free_flags self.old) order first) }

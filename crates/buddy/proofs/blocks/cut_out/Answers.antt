@@ -9,9 +9,9 @@ use Rattle.buddy.proofs.blocks.cut_out.Given.{Over}
 use Rattle.buddy.proofs.blocks.cut_out.Goals as goal
 
 done : (g : Over) (c : goal.After-loop-rest g) → (IsTrue c.loop-rest.found ↔ IsFreeBlock g.flags c.args.order c.args.first)
-    × OnTrue c.loop-rest.found (AreMaximal c.loop-rest.lists (with_taken g.flags c.args.order c.args.first))
+    × OnTrue c.loop-rest.found (AreMaximal c.loop-rest.lists.heads (with_taken g.flags c.args.order c.args.first))
 done g c =
-    let kept = c.loop-rest.invariant in let heads = c.loop-rest.lists in let from = kept.from in
+    let kept = c.loop-rest.invariant in let heads = c.loop-rest.lists.heads in let from = kept.from in
     let last : c.loop-rest.rest ≡ c.args.order = omega arith in let orders = c.requires.0 in
     looked_all heads g.flags c.args.order c.args.first c.requires.1.1.0 (omega arith) c.loop-rest.found (subst (λ rest. HasLooked heads g.flags c.args.first rest c.loop-rest.found) last kept.looked)
 

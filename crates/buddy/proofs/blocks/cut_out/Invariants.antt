@@ -5,7 +5,7 @@ use Rattle.buddy.proofs.blocks.cut_out.Given as goal
 
 abbrev pub invariant-loop-rest : goal.invariant-loop-rest
 invariant-loop-rest g l = record {
-  looked : HasLooked l.lists g.flags l.first l.rest l.found;
+  looked : HasLooked l.lists.heads g.flags l.first l.rest l.found;
   unchanged : OnFalse l.found (l.lists ≡ l.fn.lists);
   from : l.order ≤ l.rest;
   upto : l.rest ≤ l.top + 1;

@@ -6,7 +6,7 @@ use Rattle.buddy.proofs.blocks.give_to.Given as goal
 
 abbrev pub invariant-loop-other : goal.invariant-loop-other
 invariant-loop-other g l = record {
-  hand : InHand l.lists (with_given g.flags l.order l.first) l.rest l.start;
+  hand : InHand l.lists.heads (with_given g.flags l.order l.first) l.rest l.start;
   within : LiesWithin l.order l.first l.rest l.start;
   low : l.rest ≤ 9;
   turns : l.turns + l.order ≡ l.rest + 1;

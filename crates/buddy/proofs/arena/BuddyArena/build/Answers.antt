@@ -13,5 +13,5 @@ invariant_of-result c =
     let some : 1 ≤ pages = elim (cases_lt pages 1) [ inl none ↦ not_err (size.1 (inl none)) | inr some ↦ some ] in
     let few : pages ≤ 4096 = elim (cases_lt 4096 pages) [ inl many ↦ not_err (size.1 (inr many)) | inr few ↦ few ] in
     let zero : c.in_ok-raw.raw ≡ replicate pages zero_page = search rules in
-    let free : c.in_ok-index.index ≡ replicate pages true = search rules in
+    let free : c.in_ok-index.index.flags ≡ replicate pages true = search rules in
     record { sized = rw (zero, free) (IsSized-replicate pages true some few) }

@@ -6,7 +6,7 @@ use Rattle.buddy.proofs.arena.BuddyArenaPageStore.fill.Goals as goal
 pub invariant_of-self : goal.invariant_of-self
 invariant_of-self c =
     let was = c.args.self.now in
-    record { sized = rw c.fill.ensures (IsSized-set was.pages was.index was.sized c.number.result (page_of c.args.value) (length-page_of c.args.value)) }
+    record { sized = rw c.fill.ensures (IsSized-set was.pages was.index.flags was.sized c.number.result (page_of c.args.value) (length-page_of c.args.value)) }
 
 pub returns-clause-filled : goal.returns-clause-filled
 unfolding page_of

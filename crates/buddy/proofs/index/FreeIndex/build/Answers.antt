@@ -8,14 +8,14 @@ loop-granule-init c = subst (IsGivenFrom c.args.granules c.args.granules) (sym c
 pub give_to-requires : goal.give_to-requires
 give_to-requires c =
     let given = c.loop-granule.invariant in let sized = given.sized in
-    (omega arith, (given.lists, (omega arith, taken_page c.args.granules c.loop-granule.granule c.loop-granule.lists given (omega arith))))
+    (omega arith, (given.lists, (omega arith, taken_page c.args.granules c.loop-granule.granule c.loop-granule.lists.heads given (omega arith))))
 
 pub loop-granule-preserved : goal.loop-granule-preserved
 loop-granule-preserved c =
-    given_page c.args.granules c.loop-granule.granule c.loop-granule.lists c.loop-granule.invariant (omega arith) c.give_to.new.lists c.give_to.ensures.lists
+    given_page c.args.granules c.loop-granule.granule c.loop-granule.lists.heads c.loop-granule.invariant (omega arith) c.give_to.new.lists.heads c.give_to.ensures.lists
 
 pub invariant_of-result : goal.invariant_of-result
-invariant_of-result c = given_index c.args.granules c.loop-granule.granule c.loop-granule.lists c.loop-granule.invariant (omega arith) c.requires
+invariant_of-result c = given_index c.args.granules c.loop-granule.granule c.loop-granule.lists.heads c.loop-granule.invariant (omega arith) c.requires
 
 pub returns : goal.returns
-returns c = given_all c.args.granules c.loop-granule.granule c.loop-granule.lists c.loop-granule.invariant (omega arith)
+returns c = given_all c.args.granules c.loop-granule.granule c.loop-granule.lists.heads c.loop-granule.invariant (omega arith)

@@ -2,6 +2,7 @@ use Rattle.std.proofs.Common.{◌≡◌, ℕ, ◌+◌, ◌<◌, ◌≤◌, List,
 use Rattle.std.proofs.lemmas.List.{get_or_read}
 use Rattle.buddy.specs.Heads.{head_at}
 use Rattle.buddy.specs.Links.{IsLinked}
+use Rattle.buddy.specs.FirstBlock.{ListsView}
 use Rattle.buddy.proofs.Linking.{take_between, take_last, take_front, take_only, recounted}
 use Rattle.buddy.proofs.links.Links.take_out.Goals as goal
 use Rattle.buddy.proofs.links.Links.take_out.Goals.{then-prev-len, else-prev-len}
@@ -30,7 +31,7 @@ without {heads = heads} {next = next} {prev = prev} {p = p} {n = n} g k linked h
 
 pub invariant_of-self : goal.invariant_of-self
 invariant_of-self c =
-    let now = without c.args.granule c.args.order c.self.invariant (ap (λ heads. head_at heads c.args.granule) c.self.view_is ∙ c.requires.head) c.index-prev.ensures c.index-next.ensures in
+    let now = without c.args.granule c.args.order c.self.invariant (ap (λ (lists : ListsView). head_at lists.heads c.args.granule) c.self.view_is ∙ c.requires.head) c.index-prev.ensures c.index-next.ensures in
     elim c.if-prev-len.branch [
       | then-prev-len w ↦ let same = ap (λ links. length links.heads.items) w.self-inside-is in
           rw w.self-inside-is (now.between (omega (arith, w.if-prev-len.true, length-set {A = ℕ})) (omega (arith, length-set {A = ℕ})))
@@ -40,7 +41,7 @@ invariant_of-self c =
 
 pub invariant_of-self-else-next-len : goal.invariant_of-self-else-next-len
 invariant_of-self-else-next-len c =
-    let now = without c.args.granule c.args.order c.self.invariant (ap (λ heads. head_at heads c.args.granule) c.self.view_is ∙ c.requires.head) c.index-prev.ensures c.index-next.ensures in
+    let now = without c.args.granule c.args.order c.self.invariant (ap (λ (lists : ListsView). head_at lists.heads c.args.granule) c.self.view_is ∙ c.requires.head) c.index-prev.ensures c.index-next.ensures in
     elim c.if-prev-len.branch [
       | then-prev-len w ↦ let same = ap (λ links. length links.heads.items) w.self-inside-is in
           rw w.self-inside-is (now.last (omega (arith, w.if-prev-len.true, length-set {A = ℕ})) (omega (arith, length-set {A = ℕ})))
