@@ -3,34 +3,23 @@
 //! its build, and each report is held against the history.
 use crate::host::{Act, Answer, Event, Host, Step, act_of};
 use crate::text::{push_answer, push_map, push_step};
-use std::sync::{Mutex, MutexGuard};
+use std::sync::Mutex;
 
 type Report = Vec<(Step, Answer)>;
-
-// How many calls a worker makes at most for one taking of the lock.
-const MOST_IN_A_ROW: u8 = 8;
 
 // One build's way to the host, and the events of its calls that were accepted.
 struct Seat<'a> {
     host: &'a Mutex<Host>,
-    guard: Option<MutexGuard<'a, Host>>,
-    left: u8,
     build: usize,
     trail: Vec<Event>,
 }
 
 impl Seat<'_> {
     fn ask(&mut self, step: Step) -> Answer {
-        let mut host = self.guard.take().unwrap_or_else(|| self.host.lock().unwrap());
+        let mut host = self.host.lock().unwrap();
         let before = host.books.history.len();
         let answer = host.serve(self.build, step);
         self.trail.extend_from_slice(&host.books.history[before..]);
-        if self.left > 1 {
-            self.left -= 1;
-            self.guard = Some(host);
-        } else {
-            self.left = MOST_IN_A_ROW;
-        }
         answer
     }
 }
@@ -149,8 +138,7 @@ pub fn run(host: Host, builds: &[Vec<Step>], text: &mut String) {
                 scope.spawn({
                     let host = &host;
                     move || {
-                        let trail = Vec::with_capacity(room);
-                        let mut seat = Seat { host, guard: None, left: MOST_IN_A_ROW, build, trail };
+                        let mut seat = Seat { host, build, trail: Vec::with_capacity(room) };
                         (work(&mut seat, steps), seat.trail)
                     }
                 })

@@ -1,10 +1,9 @@
 -- What a seat is answered, beside its trail.
-use Rattle.std.proofs.Common.{◌≡◌, ℕ, ◌-◌, List, [], ◌∷◌, ◌++◌, length, refl, sym, ap, subst, ◌∙◌}
+use Rattle.std.proofs.Common.{◌≡◌, ℕ, List, [], ◌∷◌, ◌++◌, refl, sym, ap, subst, ◌∙◌}
 use Rattle.std.proofs.lemmas.List.{append-nil, append_assoc}
 use Rattle.std.proofs.lemmas.List.Elements.{filter-append}
 use Rattle.std.specs.Prelude.{Option, Some, None, Result, Ok, Err, IfOk, IfErr, filter, option_and_then}
 use Rattle.std.specs.List.{AllZip, last_or}
-use Rattle.std.specs.Result.{OnOk}
 use Rattle.realm_model.proofs.Lists.{last_push}
 use Rattle.realm_model.specs.Act.{reverse_of}
 use Rattle.realm_model.specs.Undoing.{by}
@@ -16,21 +15,15 @@ use Rattle.build_commands.specs.declared.cmd.Cmd.{Cmd}
 use Rattle.build_commands.specs.declared.cmd.Cmd.TheVariants.{Take, Fill, Peek, Delegate, Realm, Rtt, Ripas, Data, Unknown, Rec, Activate, Enter, Exit, Poke}
 use Rattle.build_commands.specs.declared.refusal.Refusal.{Refusal}
 use Rattle.build_commands.specs.declared.reply.Reply.{Reply}
-use Rattle.build_books.specs.Kept.{IsMarkOf}
 use Rattle.build_books.specs.View.{HostView, open_of}
-use Rattle.build_books.specs.declared.mark.Mark.{Mark}
-use Rattle.realm_host.proofs.Calls.{open_way, count_is}
-use Rattle.realm_host.specs.Marked.{way_back}
-use Rattle.realm_host.specs.Answer.{IsActOf, IsAnswer, replied, undone as undone_answer}
-use Rattle.realm_host.specs.Call.{Call, Ask, Undo}
-use Rattle.realm_host.specs.declared.reply.Answer.{Answer}
-use Rattle.realm_host.specs.declared.reply.Answer.TheVariants.{Replied, Undone as WasUndone, Refused}
+use Rattle.realm_host.specs.Answer.{IsActOf}
+use Rattle.realm_host.specs.Call.{Ask, Undo}
+use Rattle.realm_host.specs.declared.reply.Answer.TheVariants.{Replied, Undone as WasUndone}
 use Rattle.build_commands.specs.declared.undone.Undone.{Undone}
 use Rattle.workers.specs.Exchange.{Exchange, Did, Undid, KeptMark, LookedBack, is_event}
 use Rattle.builders.specs.Answered.{IsAnswered, AreAnswered}
 use Rattle.builders.specs.Seats.{SeatView, new_seat, with_noted}
-use Rattle.builders.specs.Kept.{KeptView, IsNoted}
-use Rattle.builders.specs.Told.{IsBehind, IsCallTold, IsCallRefused}
+use Rattle.builders.specs.Told.{IsCallTold, IsCallRefused}
 use Rattle.builders.specs.Trails.{IsActFor, IsReverseOf, IsEventOf, IsTrailOf}
 
 -- ---- the event of an accepted question
@@ -145,64 +138,33 @@ answered_more : (opened : HostView) (old : SeatView) (exchanges : List Exchange)
 answered_more opened old [] between exchange new are is = (new, subst (λ (s : SeatView). IsAnswered opened s exchange new) are is, refl)
 answered_more opened old (first ∷ exchanges) between exchange new (next, its, are) is = (next, its, answered_more opened next exchanges between exchange new are is)
 
--- the build of a seat stays
-answered_build : (opened : HostView) (old new : SeatView) (exchange : Exchange) → IsAnswered opened old exchange new → new.build ≡ old.build
-answered_build opened old new (Did cmd (Ok reply)) is = ap (λ (s : SeatView). s.build) is.noted
-answered_build opened old new (Did cmd (Err refusal)) is = ap (λ (s : SeatView). s.build) is.1
-answered_build opened old new (Undid (Ok undone)) is = ap (λ (s : SeatView). s.build) is.noted
-answered_build opened old new (Undid (Err refusal)) is = ap (λ (s : SeatView). s.build) is.1
-answered_build opened old new (KeptMark result) is = ap (λ (s : SeatView). s.build) is.1
-answered_build opened old new (LookedBack mark result) is = ap (λ (s : SeatView). s.build) is.1
-
 -- the answers to a seat that was new at first
-pub answer_more : (opened : HostView) (old new : SeatView) (exchange : Exchange) → IsAnswered opened old exchange new
+pub answer_more : (opened : HostView) (old new : SeatView) (exchange : Exchange) → new.build ≡ old.build → IsAnswered opened old exchange new
     → (earlier : List Exchange) → AreAnswered opened (new_seat old.build) earlier old → AreAnswered opened (new_seat new.build) (earlier ++ exchange ∷ []) new
-answer_more opened old new exchange is earlier are =
-    subst (λ build. AreAnswered opened (new_seat build) (earlier ++ exchange ∷ []) new) (sym (answered_build opened old new exchange is))
-    (answered_more opened (new_seat old.build) earlier old exchange new are is)
+answer_more opened old new exchange same is earlier are =
+    subst (λ build. AreAnswered opened (new_seat build) (earlier ++ exchange ∷ []) new) (sym same) (answered_more opened (new_seat old.build) earlier old exchange new are is)
 
--- ---- the answers of what lies behind the lock
+asked : (opened : HostView) (old new : SeatView) (cmd : Cmd) (result : Result Reply Refusal) → IfOk result (λ reply. IsCallTold opened (Ask cmd) (Replied reply) old new)
+    → IfErr result (λ refusal. IsCallRefused opened (Ask cmd) refusal old × (new ≡ old)) → IsAnswered opened old (Did cmd result) new
+asked opened old new cmd (Ok reply) ok err = ok
+asked opened old new cmd (Err refusal) ok err = err
 
-told : (opened : HostView) (call : Call) (answer : Answer) (kept after : KeptView) (seat new : SeatView) → IsAnswer kept.host seat.build call answer after.host
-    → IsNoted kept seat after new → IsBehind opened kept.host seat → IsBehind opened after.host new → IsCallTold opened call answer seat new
-told opened call answer kept after seat new is noted before behind =
-    record {
-      host = kept.host;
-      new = after.host;
-      event = by seat.build noted.act;
-      before = before;
-      answered = is;
-      ends = ap (λ (h : HostView). h.history) noted.host_is;
-      after = behind;
-      noted = noted.seat_is;
-    }
+-- a worker lends its command, and the seat asks for the same one
+pub asked_again : (opened : HostView) (old new : SeatView) (cmd again : Cmd) (result : Result Reply Refusal) → again ≡ cmd → IfOk result (λ reply. IsCallTold opened (Ask again) (Replied reply) old new)
+    → IfErr result (λ refusal. IsCallRefused opened (Ask again) refusal old × (new ≡ old)) → IsAnswered opened old (Did cmd result) new
+asked_again opened old new cmd again result same ok err = subst (λ c. IsAnswered opened old (Did c result) new) same (asked opened old new again result ok err)
 
-refused : (opened : HostView) (call : Call) (refusal : Refusal) (kept after : KeptView) (seat : SeatView) → IsAnswer kept.host seat.build call (Refused refusal) after.host
-    → after ≡ kept → IsBehind opened kept.host seat → IsCallRefused opened call refusal seat
-refused opened call refusal kept after seat is same before =
-    record {
-      host = kept.host;
-      behind = before;
-      answered = subst (λ (k : KeptView). IsAnswer kept.host seat.build call (Refused refusal) k.host) same is;
-    }
+pub undone : (opened : HostView) (old new : SeatView) (result : Result Undone Refusal) → IfOk result (λ undone. IsCallTold opened Undo (WasUndone undone) old new)
+    → IfErr result (λ refusal. IsCallRefused opened Undo refusal old × (new ≡ old)) → IsAnswered opened old (Undid result) new
+undone opened old new (Ok did) ok err = ok
+undone opened old new (Err refusal) ok err = err
 
-module _ (opened : HostView) (kept after : KeptView) (seat new : SeatView) (before : IsBehind opened kept.host seat) (behind : IsBehind opened after.host new) where
-  pub asked : (cmd : Cmd) (result : Result Reply Refusal) → IsAnswer kept.host seat.build (Ask cmd) (replied result) after.host
-      → IfOk result (λ _. IsNoted kept seat after new) → IfErr result (λ _. (after ≡ kept) × (new ≡ seat)) → IsAnswered opened seat (Did cmd result) new
-  asked cmd (Ok reply) is noted same = told opened (Ask cmd) (Replied reply) kept after seat new is noted before behind
-  asked cmd (Err refusal) is noted same = (refused opened (Ask cmd) refusal kept after seat is same.0 before, same.1)
+pub asked_build : (opened : HostView) (old new : SeatView) (cmd : Cmd) (result : Result Reply Refusal) → IfOk result (λ reply. IsCallTold opened (Ask cmd) (Replied reply) old new)
+    → IfErr result (λ refusal. IsCallRefused opened (Ask cmd) refusal old × (new ≡ old)) → new.build ≡ old.build
+asked_build opened old new cmd (Ok reply) ok err = ap (λ (s : SeatView). s.build) ok.noted
+asked_build opened old new cmd (Err refusal) ok err = ap (λ (s : SeatView). s.build) err.1
 
-  pub undone : (result : Result Undone Refusal) → IsAnswer kept.host seat.build Undo (undone_answer result) after.host
-      → IfOk result (λ _. IsNoted kept seat after new) → IfErr result (λ _. (after ≡ kept) × (new ≡ seat)) → IsAnswered opened seat (Undid result) new
-  undone (Ok done) is noted same = told opened Undo (WasUndone done) kept after seat new is noted before behind
-  undone (Err refusal) is noted same = (refused opened Undo refusal kept after seat is same.0 before, same.1)
-
-open_above : (host : HostView) (build : ℕ) (mark : Mark) (result : Result ℕ Refusal) → result ≡ way_back host build mark → OnOk result (IsMarkOf host build mark)
-    → IfOk result (λ count. count ≡ length (open_of host build) - mark.length)
-open_above host build mark (Ok count) is stands = (open_way host build mark count is).count_is ∙ sym (count_is host build mark stands)
-open_above host build mark (Err refusal) is stands = cc
-
-pub looked_back : (opened host : HostView) (seat new : SeatView) (mark : Mark) (result : Result ℕ Refusal) → IsBehind opened host seat → result ≡ way_back host seat.build mark
-    → OnOk result (IsMarkOf host seat.build mark) → new ≡ seat → IsAnswered opened seat (LookedBack mark result) new
-looked_back opened host seat new mark result behind is stands same =
-    (record { host = host; behind = behind; answered = is; stands = stands; count_is = open_above host seat.build mark result is stands }, same)
+pub undone_build : (opened : HostView) (old new : SeatView) (result : Result Undone Refusal) → IfOk result (λ undone. IsCallTold opened Undo (WasUndone undone) old new)
+    → IfErr result (λ refusal. IsCallRefused opened Undo refusal old × (new ≡ old)) → new.build ≡ old.build
+undone_build opened old new (Ok undone) ok err = ap (λ (s : SeatView). s.build) ok.noted
+undone_build opened old new (Err refusal) ok err = ap (λ (s : SeatView). s.build) err.1

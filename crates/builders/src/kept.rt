@@ -52,20 +52,9 @@ impl<S: PageStore, L: Ledgers> Kept<S, L> {
         ensures before { IsBehind L.opened self.old.host seat.old }
         ensures after { IsBehind L.opened self.new.host seat.new }
     {
-        self.ask(seat, &cmd)
-    }
-
-    /// Asks a command of the seat's build, as `call` does, and leaves it to the caller.
-    pub fn ask(&mut self, seat: &mut Seat<L>, cmd: &Cmd) -> Result<Reply, Refusal>
-        ensures answer { IsAnswer self.old.host seat.old.build (Ask cmd.now) (replied result) self.new.host }
-        ensures noted { IfOk result (λ _. IsNoted self.old seat.old self.new seat.new) }
-        ensures refused { IfErr result (λ _. (self.new ≡ self.old) × (seat.new ≡ seat.old)) }
-        ensures before { IsBehind L.opened self.old.host seat.old }
-        ensures after { IsBehind L.opened self.new.host seat.new }
-    {
         let build = seat.pass.build();
         self.books.audit(&mut seat.pass);
-        let reply = self.host.ask(build, cmd)?;
+        let reply = self.host.command(build, cmd)?;
         note(&self.host, &mut self.books, seat);
         Ok(reply)
     }

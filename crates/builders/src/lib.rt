@@ -3,12 +3,10 @@
 //! `Kept` is what the lock keeps: the host, and a book for each build that counts its events in the history. A `Seat` is held by
 //! one thread: it counts the same, and has a list of these events. A call through `Shared` takes the lock, asks the host, and
 //! notes the one event that ends the history in the seat, so that a caller knows that each of its calls stands in one legal
-//! history, once and in its order. A worker's calls go through a `Caller`, which may keep the lock for some in a row.
-//! `Shared::close` gives the host back, and compares the lists with the history.
+//! history, once and in its order. `Shared::close` gives the host back, and compares the lists with the history.
 #![tactic(auto)]
 
 mod blanks;
-mod caller;
 mod close;
 mod kept;
 mod ledgers;
@@ -19,7 +17,6 @@ mod teller;
 mod worker;
 
 pub use blanks::Blanks;
-pub use caller::Caller;
 pub use close::CloseFault;
 pub use kept::Kept;
 pub use ledgers::Ledgers;

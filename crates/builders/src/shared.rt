@@ -19,7 +19,7 @@ use crate::seat::{Seat, Trail, new_trails};
 use page_arena::PageStore;
 use realm_host::{Cmd, Host, Mark, Refusal, Reply, Undone};
 use std::alloc::{AllocError, Global};
-use std::sync::{Mutex, MutexGuard, Wait};
+use std::sync::{Mutex, Wait};
 
 /// A host that threads share. Each call takes the lock once.
 #[derive(Drop)]
@@ -54,11 +54,6 @@ impl<S: PageStore, L: Ledgers> Shared<S, L> {
         let seats = seated(seats, passes, trails);
         let kept = Mutex::new(Kept { host, books });
         Ok((Shared { kept }, seats))
-    }
-
-    // What is behind the lock.
-    pub(crate) fn lock(&self, rt: &impl Wait) -> MutexGuard<'_, Kept<S, L>> {
-        self.kept.lock(rt)
     }
 
     /// Asks a command of the seat's build.

@@ -2,7 +2,6 @@
 ghost use Rattle.std.specs.Prelude.{◌≡◌, ◌+◌, ◌*◌, ◌<◌, ◌≤◌, [], false, length, vec_len, vec_capacity, IfOk, IfErr};
 ghost use Rattle.builders.specs.Workers.{IsFaithful, IsWorkerRun};
 
-use crate::caller::Caller;
 use crate::ledgers::Ledgers;
 use crate::seat::Seat;
 use crate::shared::Shared;
@@ -129,11 +128,7 @@ fn work_at<R: Wait, S: PageStore, G: Gate, L: Ledgers>(
 {
     // A seat's build is below 8, before and after, and it counts its trail.
     let _ = (seat.build(), seat.count());
-    let mut caller = Caller::new(rt, shared, gate);
-    let mut teller = SeatTeller {
-        caller: &mut caller,
-        seat,
-    };
+    let mut teller = SeatTeller { rt, shared, seat };
     let ended = work(report, steps, &mut teller, gate).is_ok();
     let _ = (teller.seat.build(), teller.seat.count());
     ended

@@ -1,5 +1,5 @@
 //! Who answers a worker, and who gives it its turns.
-ghost use Rattle.std.specs.Prelude.{◌≡◌, ℕ, Bool, List, [], ◌∷◌, ◌++◌, OnOk, OnErr};
+ghost use Rattle.std.specs.Prelude.{◌≡◌, ℕ, List, [], ◌∷◌, ◌++◌, OnOk, OnErr};
 ghost use Rattle.workers.specs.Exchange.{Exchange, Did, Undid, KeptMark, LookedBack};
 
 use crate::report::Stuck;
@@ -44,16 +44,8 @@ pub trait Gate {
     /// Whether that turn of a build does not come.
     ghost stops: { Self → ℕ → ℕ → Type 0 };
 
-    /// Whether a turn may wait for those of other builds.
-    ghost waits: { Self → Bool };
-
     /// Asked by the worker of a build before each question. Turns are counted from 0.
     fn pass(&self, build: BuildId, turn: usize) -> Result<(), Stuck>
         ensures ok { OnOk result (passes self.now build turn) }
         ensures stuck { OnErr result (stops self.now build turn) };
-
-    /// Whether `pass` may wait until another build has had a turn. Where it never does, its worker may keep from one
-    /// question to the next what others need for theirs.
-    fn may_wait(&self) -> bool
-        ensures { result ≡ waits self.now };
 }

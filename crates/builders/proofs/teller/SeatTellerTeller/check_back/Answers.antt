@@ -1,7 +1,8 @@
-use Rattle.builders.proofs.Telling.{answer_more, looked_back}
+use Rattle.std.proofs.Common.{ap}
+use Rattle.builders.specs.Seats.{SeatView}
+use Rattle.builders.proofs.Telling.{answer_more}
 use Rattle.builders.proofs.teller.SeatTellerTeller.check_back.Goals as goal
 
 pub returns-clause-told : goal.returns-clause-told
 returns-clause-told g c =
-    let e = c.check_back-count.ensures in
-    answer_more g.L.Ledgers.opened _ _ _ (looked_back g.L.Ledgers.opened _ _ _ _ _ e.behind e.answer e.stands e.same.1)
+    answer_more g.L.Ledgers.opened _ _ _ (ap (λ (s : SeatView). s.build) c.check_back.ensures.seat) (c.check_back.ensures.told, c.check_back.ensures.seat)
