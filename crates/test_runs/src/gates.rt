@@ -1,6 +1,4 @@
 //! Gates at which builds wait for one another, or wait in vain.
-ghost use Rattle.std.specs.Prelude.{true, false};
-
 use granule_addr::BuildId;
 use std::sync::atomic::{AtomicU64, Ordering};
 use std::thread;
@@ -31,8 +29,6 @@ impl<'a, C: Clock> Gate for Together<'a, C> {
 
     ghost stops = { λ gate build turn. Unit {0} };
 
-    ghost waits = { λ gate. true };
-
     fn pass(&self, build: BuildId, turn: usize) -> Result<(), Stuck> {
         if turn < 2 {
             return Ok(());
@@ -51,10 +47,6 @@ impl<'a, C: Clock> Gate for Together<'a, C> {
         }
         Err(Stuck)
     }
-
-    fn may_wait(&self) -> bool {
-        true
-    }
 }
 
 /// Stops all builds but build 0 at their turn 1.
@@ -66,17 +58,11 @@ impl Gate for ForBuild0 {
 
     ghost stops = { λ gate build turn. Unit {0} };
 
-    ghost waits = { λ gate. false };
-
     fn pass(&self, build: BuildId, turn: usize) -> Result<(), Stuck> {
         if build.number() == 0 || turn == 0 {
             Ok(())
         } else {
             Err(Stuck)
         }
-    }
-
-    fn may_wait(&self) -> bool {
-        false
     }
 }

@@ -2,7 +2,7 @@
 use crate::steps::{STEPS, steps_of};
 use crate::tellers::Refusing;
 use build_commands::Step;
-use builders::{Caller, Ledgers, Seat, SeatTeller, Shared};
+use builders::{Ledgers, Seat, SeatTeller, Shared};
 use page_arena::PageStore;
 use std::alloc::Global;
 use std::process::Abort;
@@ -33,12 +33,9 @@ impl<L: Ledgers> Guest<L> {
             build: self.seat.build(),
             lines,
         };
-        let mut caller = Caller::new(rt, shared, gate);
+        let seat = &mut self.seat;
         let mut teller = Refusing {
-            teller: SeatTeller {
-                caller: &mut caller,
-                seat: &mut self.seat,
-            },
+            teller: SeatTeller { rt, shared, seat },
             asked: 0,
             refused: self.refused,
         };

@@ -11,6 +11,8 @@ mod audit;
 #[cfg(test)]
 mod devices;
 #[cfg(test)]
+mod each_step;
+#[cfg(test)]
 mod gates;
 #[cfg(test)]
 mod guests;

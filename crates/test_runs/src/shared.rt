@@ -2,11 +2,13 @@
 ghost use Rattle.std.specs.Prelude.{◌≡◌, []};
 ghost use Rattle.builders.specs.Names.{AreNamed};
 
+use crate::hosts;
 use crate::hosts::{booted, started};
-use crate::wanted::{equal, holds};
+use crate::wanted::{equal, holds, same_text};
 use builders::{Blanks, CloseFault, Ledgers, Seat, Shared};
 use granule_addr::{BuildId, PageOff};
 use page_arena::PlainStore;
+use plan_runs::map_text;
 use realm_host::{Cmd, Host, Kind, Refusal, Reply, Undone};
 use std::alloc::Global;
 use std::marker::Brand;
@@ -138,4 +140,72 @@ fn misses_a_seat(rt: HostRuntime) {
         "a seat is missing",
         fault == Some(CloseFault::SeatMissing(second)),
     );
+}
+
+// A seat takes four pages, fills each with a value of its own, and reads each.
+fn fills_four<R: Wait + Abort, L: Ledgers>(
+    rt: &R,
+    shared: &Shared<PlainStore, L>,
+    seat: &mut Seat<L>,
+    first: u8,
+) {
+    let (take, offset) = (Cmd::Take { order: 2 }, PageOff::new(4095).unwrap());
+    asks(rt, shared, seat, take, Ok(Reply::FirstPage(0)));
+    for page in 0..4 {
+        let value = first.saturating_add(page);
+        let page = page as u16;
+        asks(rt, shared, seat, Cmd::Fill { page, value }, Ok(Reply::Done));
+    }
+    for page in 0..4 {
+        let value = first.saturating_add(page);
+        let page = page as u16;
+        asks(
+            rt,
+            shared,
+            seat,
+            Cmd::Peek { page, offset },
+            Ok(Reply::Byte(value)),
+        );
+    }
+}
+
+// Each build of a host fills four pages: build 0 from 10 on, and each other from 10 more. The host is closed, and this is
+// its map.
+fn map_of_filled<R: Wait + Abort, L: Ledgers>(
+    rt: &R,
+    alloc: Global,
+    blanks: Blanks,
+    host: Host<PlainStore>,
+) -> String
+    requires empty { host.history ≡ [] }
+    requires opened { host ≡ L.opened }
+    requires named { AreNamed L.names blanks }
+{
+    let (shared, mut seats) = started::<PlainStore, L>(rt, alloc, blanks, host);
+    for seat in seats.as_mut_slice() {
+        let first = 10 + 10 * seat.build().number();
+        fills_four(rt, &shared, seat, first);
+    }
+    map_text(alloc, &hosts::closed(rt, shared, seats)).expect(rt, "memory")
+}
+
+// As `map_of_filled`, on a host of eight pages and two builds.
+fn map_of_eight<R: Wait + Abort>(rt: &R, alloc: Global) -> String {
+    let host = booted(rt, alloc, 8, 0, 2);
+    map_of_filled::<R, Brand>(rt, alloc, Blanks::new(), host)
+}
+
+#[test]
+fn fills_the_page_that_is_named(rt: HostRuntime) {
+    let want = "0 page 0 UNDELEGATED 40960
+0 page 1 UNDELEGATED 45056
+0 page 2 UNDELEGATED 49152
+0 page 3 UNDELEGATED 53248
+1 page 0 UNDELEGATED 81920
+1 page 1 UNDELEGATED 86016
+1 page 2 UNDELEGATED 90112
+1 page 3 UNDELEGATED 94208
+free 0
+";
+    same_text(&rt, map_of_eight(&rt, rt.alloc()).as_str(), want);
 }

@@ -10,8 +10,8 @@ use workers::Teller;
 
 /// Passes each question on to a seat, but refuses one, counted from 0, without asking the host.
 #[derive(Drop)]
-pub struct Refusing<'s, 'a, R: Wait, S: PageStore, L: Ledgers> {
-    pub teller: SeatTeller<'s, 'a, R, S, L>,
+pub struct Refusing<'a, R: Wait, S: PageStore, L: Ledgers> {
+    pub teller: SeatTeller<'a, R, S, L>,
     pub asked: usize,
     pub refused: Option<usize>,
 }
@@ -25,7 +25,7 @@ fn is_refused(asked: &mut usize, refused: Option<usize>) -> bool {
     refused == Some(question)
 }
 
-impl<'s, 'a, R: Wait, S: PageStore, L: Ledgers> Teller for Refusing<'s, 'a, R, S, L> {
+impl<'a, R: Wait, S: PageStore, L: Ledgers> Teller for Refusing<'a, R, S, L> {
     ghost tells = { λ refusing exchanges. Unit {0} };
 
     // the loan of the seat

@@ -53,12 +53,12 @@ fn plan<const N: usize>(rt: &impl Abort, alloc: Global, steps: [Step; N]) -> Vec
     Vec::from_array(alloc, steps).expect(rt, "memory")
 }
 
-// Which builds work side by side, and their plans.
+/// Which builds work side by side, and their plans.
 #[derive(Clone, Copy)]
-enum Plans {
-    // Build 0 fills a page, build 1 is refused at its third step, and build 2 reads what it filled.
+pub(crate) enum Plans {
+    /// Build 0 fills a page, build 1 is refused at its third step, and build 2 reads what it filled.
     Three,
-    // Both builds fill a page and read from it.
+    /// Both builds fill a page and read from it.
     Two,
 }
 
@@ -77,8 +77,8 @@ impl Plans {
         }
     }
 
-    // The steps of a build.
-    fn steps(self, rt: &impl Abort, alloc: Global, number: u8) -> Vec<Step> {
+    /// The steps of a build.
+    pub(crate) fn steps(self, rt: &impl Abort, alloc: Global, number: u8) -> Vec<Step> {
         match (self, number) {
             (Plans::Three, 0) => plan(rt, alloc, [take(1), fill(0, 1)]),
             (Plans::Three, 1) => plan(rt, alloc, [take(1), delegate(), delegate(), fill(1, 5)]),

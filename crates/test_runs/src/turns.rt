@@ -1,6 +1,4 @@
 //! A gate at which builds wait for one another.
-ghost use Rattle.std.specs.Prelude.{true};
-
 use crate::steps::STEPS;
 use granule_addr::BuildId;
 use std::sync::atomic::{AtomicU64, Ordering};
@@ -71,8 +69,6 @@ impl<'a, C: Clock> Gate for Turns<'a, C> {
 
     ghost stops = { λ gate build turn. Unit {0} };
 
-    ghost waits = { λ gate. true };
-
     fn pass(&self, build: BuildId, turn: usize) -> Result<(), Stuck> {
         let number = build.number();
         let awaited = turn.min(self.last) as u64;
@@ -84,9 +80,5 @@ impl<'a, C: Clock> Gate for Turns<'a, C> {
         self.passed(number)
             .store((turn as u64).saturating_add(1), Ordering::SeqCst);
         Ok(())
-    }
-
-    fn may_wait(&self) -> bool {
-        true
     }
 }

@@ -1,5 +1,5 @@
 //! Workers over a teller and a gate in the place of a host.
-ghost use Rattle.std.specs.Prelude.{◌≡◌, ◌+◌, ◌*◌, ◌≤◌, false, [], length, vec_capacity};
+ghost use Rattle.std.specs.Prelude.{◌≡◌, ◌+◌, ◌*◌, ◌≤◌, [], length, vec_capacity};
 
 use crate::lines;
 use crate::lines::{replied, step};
@@ -79,8 +79,6 @@ impl Gate for Turns<'_> {
 
     ghost stops = { λ gate build turn. Unit {0} };
 
-    ghost waits = { λ gate. false };
-
     fn pass(&self, build: BuildId, turn: usize) -> Result<(), Stuck> {
         let (_build, turn) = (build, turn as u64);
         let passed = self.passed.load(Ordering::SeqCst);
@@ -97,35 +95,34 @@ impl Gate for Turns<'_> {
         }
         Ok(())
     }
-
-    fn may_wait(&self) -> bool {
-        false
-    }
 }
 
-// What is refused, how many acts are above the mark, and how many turns come.
+/// What is refused, how many acts are above the mark, and how many turns come.
 #[derive(Clone, Copy)]
-struct Case {
-    refused: u64,
-    refused_later: u64,
-    above: u16,
-    turns: u64,
+pub(crate) struct Case {
+    pub refused: u64,
+    pub refused_later: u64,
+    pub above: u16,
+    pub turns: u64,
 }
 
 const NEVER: u64 = 10_000;
 
-const ALL: Case = Case {
+/// Nothing is refused, and all turns come.
+pub(crate) const ALL: Case = Case {
     refused: NEVER,
     refused_later: NEVER,
     above: 0,
     turns: NEVER,
 };
 
-fn done(place: usize) -> Line {
+/// A step is done.
+pub(crate) fn done(place: usize) -> Line {
     replied(place, Reply::Done)
 }
 
-fn undone(asked: Asked) -> Line {
+/// A delegation is undone, and the answer says that one act is left.
+pub(crate) fn undone(asked: Asked) -> Line {
     lines::undone(asked, Kind::Delegate, 1)
 }
 
@@ -136,7 +133,8 @@ fn exited(number: u16) -> Line {
     }
 }
 
-fn refused(place: usize) -> Line {
+/// A step is refused.
+pub(crate) fn refused(place: usize) -> Line {
     step(place, Answer::Refused(Refusal::HistoryFull))
 }
 
@@ -187,8 +185,15 @@ fn takes_all(report: &mut Report, case: &Case, mark: Mark, steps: &[Step]) -> bo
     work(report, steps, &mut fake, &gate).is_ok()
 }
 
-// A worker takes the steps, and has these lines then, and has ended or not.
-fn works(rt: &impl Abort, alloc: Global, case: &Case, steps: &[Step], want: &[Line], ended: bool) {
+/// A worker takes the steps, and has these lines then, and has ended or not.
+pub(crate) fn works(
+    rt: &impl Abort,
+    alloc: Global,
+    case: &Case,
+    steps: &[Step],
+    want: &[Line],
+    ended: bool,
+) {
     assert!(rt; steps.len() <= 16);
     let mark = first_mark(rt, alloc);
     let mut report = Report {
