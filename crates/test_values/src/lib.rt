@@ -37,6 +37,8 @@ mod refusals;
 #[cfg(test)]
 mod sizes;
 #[cfg(test)]
+mod tables;
+#[cfg(test)]
 mod visits;
 #[cfg(test)]
 mod wanted;
