@@ -4,5 +4,6 @@ pub mod Features
 pub mod Mpidr
 pub mod RealmParams
 pub mod RecParams
+pub mod RecRun
 pub mod Settings
 pub mod Word

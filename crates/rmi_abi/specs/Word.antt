@@ -1,7 +1,7 @@
 -- Result words. RMM 1.0, RmiCommandReturnCode: the status in bits 7:0, the index in bits 15:8.
-use Rattle.std.specs.Prelude.{ℕ, ◌+◌, ◌*◌, ◌/◌, ◌%◌, ◌==◌, ◌&&◌, Bool, true, false, nat_lt, Option, Some, None, if◌then◌else◌}
+use Rattle.std.specs.Prelude.{ℕ, ◌+◌, ◌-◌, ◌*◌, ◌^◌, ◌/◌, ◌%◌, ◌==◌, ◌&&◌, Bool, true, false, nat_lt, Option, Some, None, if◌then◌else◌}
 use Rattle.rmi_abi.specs.declared.word.Word.{Word}
-use Rattle.rmi_abi.specs.declared.word.Word.TheVariants.{Success, ErrorInput, ErrorRealm, ErrorRec, ErrorRtt}
+use Rattle.rmi_abi.specs.declared.word.Word.TheVariants.{Success, ErrorInput, ErrorRealm, ErrorRec, ErrorRtt, Running}
 
 -- the word as X0 has it
 abbrev pub number : Word → ℕ
@@ -10,6 +10,7 @@ number ErrorInput = 1
 number (ErrorRealm index) = 2 + 256 * index
 number ErrorRec = 3
 number (ErrorRtt index) = 4 + 256 * index
+number Running = 2 ^ 64 - 2
 
 -- the word of a status and an index
 abbrev pub word_at : ℕ → ℕ → Option Word

@@ -10,6 +10,8 @@ pub enum Word {
     ErrorRealm(u8),
     ErrorRec,
     ErrorRtt(u8),
+    /// No word of the standard: REC_ENTER has not come back, since its REC runs on. This monitor's own.
+    Running,
 }
 
 impl Word {
@@ -23,6 +25,7 @@ impl Word {
             Word::ErrorRealm(index) => 2 + 256 * index as u64,
             Word::ErrorRec => 3,
             Word::ErrorRtt(index) => 4 + 256 * index as u64,
+            Word::Running => 0xFFFF_FFFF_FFFF_FFFE,
         }
     }
 

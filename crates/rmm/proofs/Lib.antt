@@ -7,6 +7,7 @@ pub mod Pages
 pub mod Passing
 pub mod Ranges
 pub mod RequestedRanges
+pub mod Runs
 pub mod StartCounts
 pub mod Starts
 pub mod StatesDiffer

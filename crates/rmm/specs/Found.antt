@@ -17,6 +17,7 @@ use Rattle.rmm.specs.declared.init_ripas.RipasRange.{RipasRange}
 use Rattle.rmm.specs.declared.psci.Completion.{Completion}
 use Rattle.rmm.specs.declared.realm_create.NewRealm.{NewRealm}
 use Rattle.rmm.specs.declared.rec_create.NewRec.{NewRec}
+use Rattle.rmm.specs.declared.rec_enter.Entering.{Entering}
 use Rattle.rmm.specs.declared.rtt_create.Vacancy.{Vacancy}
 use Rattle.rmm.specs.declared.rtt_destroy.Unused.{Unused}
 use Rattle.rmm.specs.declared.set_ripas.RequestedRange.{RequestedRange}
@@ -154,3 +155,10 @@ pub record IsCompletion (m : Machine) (calling target : ℕ) (found : Completion
   pub target_place : found.target ≡ number_of m target
   pub target_inside : found.target < granule_count m
   pub named : found.named ≡ rec_at m target
+
+-- a REC that can be entered
+pub record IsEntry (m : Machine) (rec address : ℕ) (found : Entering) : Type 0 where
+  pub place : found.rec ≡ number_of m rec
+  pub inside : found.rec < granule_count m
+  pub page : found.run ≡ number_of m address
+  pub page_inside : found.run < granule_count m

@@ -10,7 +10,7 @@ use rmm_granules::Granules;
 use rmm_model::GranuleState;
 
 // The granule of a page of the host that an address lies in.
-fn host_granule<S: PageStore>(granules: &Granules<S>, address: u64) -> Option<Gran>
+pub fn host_granule<S: PageStore>(granules: &Granules<S>, address: u64) -> Option<Gran>
     ensures is { is_some result ≡ hosts.is_host_page granules.now address }
     ensures number { IfSome result (λ granule. granule ≡ number_of granules.now address) }
     ensures inside { IfSome result (λ granule. granule < granule_count granules.now) }

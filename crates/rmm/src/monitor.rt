@@ -1,6 +1,8 @@
 //! The monitor, and its one call.
 ghost use Rattle.std.specs.Prelude.{◌≡◌};
 ghost use Rattle.rmm_model.specs.Call.{rmi, performed};
+ghost use Rattle.rmm_model.specs.Guest.{queued};
+ghost use Rattle.rmm_model.specs.Command.RecEnter.{interrupted};
 ghost use Rattle.rmm_model.specs.Host.{can_access, can_fill, loaded, state_shown, after_store, after_fill};
 ghost use Rattle.rmm.specs.Reading.{word_shown};
 
@@ -8,6 +10,7 @@ use crate::data::{data_create_unknown, data_destroy};
 use crate::data_create::data_create;
 use crate::fold::rtt_fold;
 use crate::granule::{granule_delegate, granule_undelegate};
+use crate::guest::queue;
 use crate::host::{fill, load, state, store, word};
 use crate::information::{features, rec_aux_count, version};
 use crate::init_ripas::rtt_init_ripas;
@@ -18,6 +21,7 @@ use crate::realm_create::realm_create;
 use crate::realm_destroy::realm_destroy;
 use crate::rec_create::rec_create;
 use crate::rec_destroy::rec_destroy;
+use crate::rec_enter::{interrupt, rec_enter};
 use crate::rtt_create::rtt_create;
 use crate::rtt_destroy::rtt_destroy;
 use crate::set_ripas::rtt_set_ripas;
@@ -27,7 +31,7 @@ use rmi_abi::{
     Answer, Call, Registers, Settings, answer_registers, decode_call, unknown_registers,
 };
 use rmm_granules::Granules;
-use rmm_model::GranuleState;
+use rmm_model::{GranuleState, Queued, StepWords};
 use std::marker::Model;
 
 /// A monitor of a platform over a store of pages. It is seen as its machine.
@@ -109,76 +113,83 @@ impl<S: PageStore> Rmm<S> {
         fill(&mut self.granules, address, value)
     }
 
+    /// Gives the guest of a REC a step.
+    pub fn guest(&mut self, rec: u64, step: &StepWords) -> Queued
+        ensures { (result, self.new) ≡ queued self.old rec step.now }
+    {
+        queue(&mut self.granules, rec, step)
+    }
+
+    /// Ends the run of a REC; `None` comes for one that does not run.
+    pub fn interrupt(&mut self, rec: u64) -> Option<rmi_abi::Word>
+        ensures { (result, self.new) ≡ interrupted self.old rec }
+    {
+        interrupt(&mut self.granules, rec)
+    }
+
     /// Does what a call by registers asks, and returns the registers after it.
     #[tactic(auto, unfolding(rmm_model::specs::Call::rmi))]
     pub fn smc(&mut self, regs: Registers) -> Registers
         ensures { (result, self.new) ≡ rmi regs self.old }
     {
         match decode_call(regs) {
-            Some(call) => match perform(&mut self.granules, call) {
-                Some(answer) => answer_registers(regs, answer),
-                None => unknown_registers(regs),
-            },
+            Some(call) => answer_registers(regs, perform(&mut self.granules, call)),
             None => unknown_registers(regs),
         }
     }
 }
 
-// The answer of a call; `None`, with nothing changed, comes for a command that is not here yet.
+// Does what a call asks, and returns its answer.
 #[tactic(auto, unfolding(rmm_model::specs::Call::performed))]
-fn perform<S: PageStore>(granules: &mut Granules<S>, call: Call) -> Option<Answer>
+fn perform<S: PageStore>(granules: &mut Granules<S>, call: Call) -> Answer
     ensures answer { result ≡ (performed call granules.old).0 }
     ensures machine { granules.new ≡ (performed call granules.old).1 }
 {
     match call {
-        Call::Version { requested } => Some(version(granules, requested)),
-        Call::Features { index } => Some(features(granules, index)),
-        Call::GranuleDelegate { address } => Some(granule_delegate(granules, address)),
-        Call::GranuleUndelegate { address } => Some(granule_undelegate(granules, address)),
-        Call::RealmCreate { rd, params } => Some(realm_create(granules, rd, params)),
-        Call::RealmActivate { rd } => Some(realm_activate(granules, rd)),
-        Call::RecAuxCount { rd } => Some(rec_aux_count(granules, rd)),
-        Call::RttReadEntry { rd, ipa, level } => Some(rtt_read_entry(granules, rd, ipa, level)),
+        Call::Version { requested } => version(granules, requested),
+        Call::Features { index } => features(granules, index),
+        Call::GranuleDelegate { address } => granule_delegate(granules, address),
+        Call::GranuleUndelegate { address } => granule_undelegate(granules, address),
+        Call::RealmCreate { rd, params } => realm_create(granules, rd, params),
+        Call::RealmActivate { rd } => realm_activate(granules, rd),
+        Call::RecAuxCount { rd } => rec_aux_count(granules, rd),
+        Call::RttReadEntry { rd, ipa, level } => rtt_read_entry(granules, rd, ipa, level),
         Call::RttCreate {
             rd,
             rtt,
             ipa,
             level,
-        } => Some(rtt_create(granules, rd, rtt, ipa, level)),
-        Call::RttDestroy { rd, ipa, level } => Some(rtt_destroy(granules, rd, ipa, level)),
-        Call::RealmDestroy { rd } => Some(realm_destroy(granules, rd)),
-        Call::RttFold { rd, ipa, level } => Some(rtt_fold(granules, rd, ipa, level)),
+        } => rtt_create(granules, rd, rtt, ipa, level),
+        Call::RttDestroy { rd, ipa, level } => rtt_destroy(granules, rd, ipa, level),
+        Call::RealmDestroy { rd } => realm_destroy(granules, rd),
+        Call::RttFold { rd, ipa, level } => rtt_fold(granules, rd, ipa, level),
         Call::RttMapUnprotected {
             rd,
             ipa,
             level,
             descriptor,
-        } => Some(rtt_map_unprotected(granules, rd, ipa, level, descriptor)),
-        Call::RttUnmapUnprotected { rd, ipa, level } => {
-            Some(rtt_unmap_unprotected(granules, rd, ipa, level))
-        }
-        Call::DataCreateUnknown { rd, data, ipa } => {
-            Some(data_create_unknown(granules, rd, data, ipa))
-        }
+        } => rtt_map_unprotected(granules, rd, ipa, level, descriptor),
+        Call::RttUnmapUnprotected { rd, ipa, level } => rtt_unmap_unprotected(
+            granules, rd, ipa, level,
+        ),
+        Call::DataCreateUnknown { rd, data, ipa } => data_create_unknown(granules, rd, data, ipa),
         Call::DataCreate {
             rd,
             data,
             ipa,
             source,
             flags,
-        } => Some(data_create(granules, rd, data, ipa, source, flags)),
-        Call::RttInitRipas { rd, base, top } => Some(rtt_init_ripas(granules, rd, base, top)),
-        Call::RttSetRipas { rd, rec, base, top } => {
-            Some(rtt_set_ripas(granules, rd, rec, base, top))
-        }
-        Call::DataDestroy { rd, ipa } => Some(data_destroy(granules, rd, ipa)),
-        Call::RecCreate { rd, rec, params } => Some(rec_create(granules, rd, rec, params)),
-        Call::RecDestroy { rec } => Some(rec_destroy(granules, rec)),
+        } => data_create(granules, rd, data, ipa, source, flags),
+        Call::RttInitRipas { rd, base, top } => rtt_init_ripas(granules, rd, base, top),
+        Call::RttSetRipas { rd, rec, base, top } => rtt_set_ripas(granules, rd, rec, base, top),
+        Call::DataDestroy { rd, ipa } => data_destroy(granules, rd, ipa),
+        Call::RecCreate { rd, rec, params } => rec_create(granules, rd, rec, params),
+        Call::RecDestroy { rec } => rec_destroy(granules, rec),
+        Call::RecEnter { rec, run } => rec_enter(granules, rec, run),
         Call::PsciComplete {
             calling,
             target,
             status,
-        } => Some(psci_complete(granules, calling, target, status)),
-        _ => None,
+        } => psci_complete(granules, calling, target, status),
     }
 }

@@ -132,7 +132,7 @@ pub fn start_table<S: PageStore>(granules: &Granules<S>, realm: &Realm, k: u8) -
 // ---- addresses of a realm
 
 // Whether an address is one of a realm.
-fn is_in_space(realm: &Realm, ipa: u64) -> bool
+pub fn is_in_space(realm: &Realm, ipa: u64) -> bool
     requires { realm.now.s2sz ≤ 48 }
     ensures { result ≡ realms.is_in_space realm.now ipa }
 {

@@ -48,7 +48,7 @@ pub struct Completion {
 // ---- requests
 
 // Whether a request waits for the host.
-fn is_pending(request: PsciRequest) -> bool
+pub fn is_pending(request: PsciRequest) -> bool
     ensures { result ≡ command.is_pending request }
 {
     match request {

@@ -57,7 +57,8 @@ pub fn rec_of<S: PageStore>(
 // Sets the attributes of a REC.
 pub fn set_rec<S: PageStore>(granules: &mut Granules<S>, granule: Gran, rec: Rec)
     requires { granule < granule_count granules.old }
-    ensures { granules.new ≡ with_rec granules.old granule rec }
+    ensures machine { granules.new ≡ with_rec granules.old granule rec }
+    ensures count { granule_count granules.new ≡ granule_count granules.old }
 {
     let kept = Granule {
         state: GranuleState::Rec(rec),

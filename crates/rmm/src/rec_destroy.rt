@@ -16,7 +16,7 @@ use rmm_granules::Granules;
 use rmm_model::{Condition, Granule, GranuleState, Realm, Refusal};
 
 // The realm of an RD, if the granule is one of the machine and an RD.
-fn realm_in<S: PageStore>(granules: &Granules<S>, rd: Gran) -> Option<Realm>
+pub fn realm_in<S: PageStore>(granules: &Granules<S>, rd: Gran) -> Option<Realm>
     ensures value { result ≡ realm_of (granule_at granules.now rd).state }
     ensures inside { IfSome result (λ _. rd < granule_count granules.now) }
     ensures served { IfSome result (IsServed (granule_count granules.now)) }

@@ -1,5 +1,5 @@
 //! Granules, their pages and their attributes.
-ghost use Rattle.std.specs.Prelude.{◌≡◌, ◌≢◌, ◌+◌, ◌%◌, ◌^◌, ◌<◌, ◌≤◌, ◌*◌, false, length, replicate, IfOk, IfSome, IsTrue};
+ghost use Rattle.std.specs.Prelude.{◌≡◌, ◌≢◌, ◌+◌, ◌%◌, ◌^◌, ◌<◌, ◌≤◌, ◌*◌, false, length, replicate, slice_set, IfOk, IfSome, IsTrue};
 ghost use Rattle.granule_addr.specs.Page.{page_of};
 ghost use Rattle.rmi_abi.specs.Settings.{IsPlatform};
 ghost use Rattle.rmm_model.specs.declared.granule.GranuleState.TheVariants.{Undelegated};
@@ -10,7 +10,7 @@ ghost use Rattle.rmm_model.specs.Realm.{IsServed};
 ghost use Rattle.rmm_granules.specs.Inside.{platform_machine};
 
 use crate::taking::take_all;
-use granule_addr::{Gran, MOST_PAGES};
+use granule_addr::{Gran, MOST_PAGES, PageOff};
 use page_arena::PageStore;
 use rmi_abi::{Platform, Settings};
 use rmm_model::{Granule, GranuleState, Realm, Rec};
@@ -225,6 +225,17 @@ impl<S: PageStore> Granules<S> {
         ensures { self.new ≡ machine.with_word self.old granule index word }
     {
         self.store.set_word(granule, index, word);
+    }
+
+    /// Writes one byte of a granule's page.
+    pub fn set_byte(&mut self, granule: Gran, offset: u16, value: u8)
+        requires inside { granule < granule_count self.old }
+        requires offset { offset < 4096 }
+        ensures { self.new
+            ≡ machine.with_page self.old granule (slice_set (page_in self.old granule) offset value) }
+    {
+        self.store
+            .set(granule, PageOff::new(offset).unwrap(), value);
     }
 
     /// Writes one value to each byte of a granule's page.

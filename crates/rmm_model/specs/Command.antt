@@ -13,6 +13,7 @@ pub mod RealmDestroy
 pub mod RecAuxCount
 pub mod RecCreate
 pub mod RecDestroy
+pub mod RecEnter
 pub mod RecMeasurement
 pub mod RipasRange
 pub mod RttCreate

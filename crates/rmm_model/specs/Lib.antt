@@ -5,10 +5,12 @@ pub mod Codes
 pub mod Command
 pub mod Entry
 pub mod Granule
+pub mod Guest
 pub mod Host
 pub mod Level
 pub mod Machine
 pub mod Realm
 pub mod Rec
+pub mod Step
 pub mod Table
 pub mod Walk

@@ -11,6 +11,7 @@ mod granule;
 mod level;
 mod realm;
 mod rec;
+mod step;
 mod table;
 
 pub use answer::{Refusal, error_input, error_rtt};
@@ -20,4 +21,5 @@ pub use granule::{Granule, GranuleState};
 pub use level::{entry_index, entry_size, start_offset};
 pub use realm::{Realm, RealmState, RttWalk, start_count};
 pub use rec::{LastExit, PsciRequest, Rec, RecState, RipasRequest, aux_address};
+pub use step::{Came, Queued, Step, StepResult, StepWords};
 pub use table::{first_fixed, first_live, has_live, has_parts};

@@ -5,7 +5,7 @@ use crate::platform::open;
 use page_arena::PlainStore;
 use rmi_abi::{HashAlgorithm, Registers};
 use rmm::Rmm;
-use rmm_model::{GranuleState, PsciRequest, Realm, RealmState, Rec};
+use rmm_model::{GranuleState, PsciRequest, Queued, Realm, RealmState, Rec, StepWords};
 use std::alloc::{AllocError, Global};
 use std::fmt::Write;
 
@@ -117,6 +117,43 @@ fn rec_text(
     )
 }
 
+// The result of a step that a guest is given. An access of more bytes than one is not known.
+fn guest(alloc: Global, rmm: &mut Rmm<PlainStore>, n: &[u64; MOST]) -> Result<String, AllocError> {
+    let is_wide = n[1] == 0 && n[4] != 1 || n[1] == 1 && n[3] != 1;
+    let is_long = n[6] != 0;
+    if is_wide || is_long {
+        return String::from_str(alloc, "unknown");
+    }
+    let step = StepWords {
+        kind: n[1],
+        a: n[2],
+        b: n[3],
+        c: n[4],
+        d: n[5],
+    };
+    let text = match rmm.guest(n[0], &step) {
+        Queued::Queued => "queued",
+        Queued::Full => "full",
+        Queued::NoRec => "none",
+    };
+    String::from_str(alloc, text)
+}
+
+// The results of the steps of a guest since its last entry.
+fn saw(alloc: Global, rmm: &Rmm<PlainStore>, rec: u64) -> Result<String, AllocError> {
+    let Some(GranuleState::Rec(attributes)) = rmm.state(rec) else {
+        return String::from_str(alloc, "none");
+    };
+    let mut text = format!(in alloc; "{:x}", attributes.result_count)?;
+    for k in 0..u16::from(attributes.result_count) {
+        let place = 128 + 2 * (k % 32);
+        let kind = rmm.word(rec, place).unwrap_or(0);
+        let value = rmm.word(rec, place + 1).unwrap_or(0);
+        write!(text, " {kind:x} {value:x}")?;
+    }
+    Ok(text)
+}
+
 // A word of an answer.
 fn word(alloc: Global, is_done: bool) -> Result<String, AllocError> {
     String::from_str(alloc, if is_done { "done" } else { "fault" })
@@ -143,6 +180,12 @@ fn result(
     };
     match kind {
         "smc" => smc(alloc, rmm, &n),
+        "guest" => guest(alloc, rmm, &n),
+        "interrupt" => match rmm.interrupt(n[0]) {
+            Some(word) => format!(in alloc; "{:x}", word.number()),
+            None => String::from_str(alloc, "none"),
+        },
+        "saw" => saw(alloc, rmm, n[0]),
         "fill" => word(alloc, rmm.fill(n[0], (n[1] % 0x100) as u8)),
         "load" => load(alloc, rmm, n[0], n[1]),
         "state" => match rmm.state(n[0]) {

@@ -1,0 +1,141 @@
+//! Guests of RECs: their steps and results.
+ghost use Rattle.std.specs.Prelude.{◌≡◌, ◌<◌, is_some, IfSome};
+ghost use Rattle.rmm_model.specs.Guest as guests;
+ghost use Rattle.rmm_model.specs.Machine.{granule_count, number_of};
+ghost use Rattle.rmm_model.specs.Realm.{IsServed};
+ghost use Rattle.rmm_model.specs.Command.RecEnter as entering;
+
+use crate::rec::set_rec;
+use crate::rec_destroy::realm_in;
+use granule_addr::Gran;
+use page_arena::PageStore;
+use rmm_granules::Granules;
+use rmm_model::{Queued, Realm, Rec, Step, StepResult, StepWords};
+
+// The attributes of a REC; a granule that is none has those of a new one.
+pub fn rec_in<S: PageStore>(granules: &Granules<S>, g: Gran) -> Rec
+    requires { g < granule_count granules.now }
+    ensures { result ≡ guests.rec_in granules.now g }
+{
+    match granules.rec(g) {
+        Some(rec) => rec,
+        None => Rec::new(false, 0),
+    }
+}
+
+// The realm that owns a granule.
+pub fn owner_realm<S: PageStore>(granules: &Granules<S>, g: Gran) -> Option<Realm>
+    requires { g < granule_count granules.now }
+    ensures value { result ≡ entering.owner_realm granules.now g }
+    ensures served { IfSome result (IsServed (granule_count granules.now)) }
+{
+    match granules.owner(g) {
+        Some(rd) => realm_in(granules, rd),
+        None => None,
+    }
+}
+
+// The first step of a guest.
+pub fn first_step<S: PageStore>(granules: &Granules<S>, g: Gran) -> Step
+    requires { g < granule_count granules.now }
+    ensures { result ≡ guests.first_step granules.now g }
+{
+    let rec = rec_in(granules, g);
+    StepWords::read(granules.page(g), rec.first_step % 16).step()
+}
+
+// The guest of a REC is past its first step.
+#[tactic(auto, unfolding(rmm_model::specs::Guest::past_step))]
+pub fn past_step<S: PageStore>(granules: &mut Granules<S>, g: Gran)
+    requires { g < granule_count granules.old }
+    ensures machine { granules.new ≡ guests.past_step granules.old g }
+    ensures count { granule_count granules.new ≡ granule_count granules.old }
+{
+    let rec = rec_in(granules, g);
+    let past = Rec {
+        first_step: (rec.first_step % 16 + 1) % 16,
+        step_count: rec.step_count.saturating_sub(1),
+        ..rec
+    };
+    set_rec(granules, g, past);
+}
+
+// The guest of a REC has one result more.
+#[tactic(auto, unfolding(rmm_model::specs::Guest::with_result))]
+pub fn push_result<S: PageStore>(granules: &mut Granules<S>, g: Gran, r: &StepResult)
+    requires { g < granule_count granules.old }
+    ensures machine { granules.new ≡ guests.with_result granules.old g r.now }
+    ensures count { granule_count granules.new ≡ granule_count granules.old }
+{
+    let rec = rec_in(granules, g);
+    let place = rec.result_count % 32;
+    let first = 128 + 2 * place as u16;
+    granules.set_word(g, first, r.code());
+    granules.set_word(g, first + 1, r.value());
+    let more = Rec {
+        result_count: (place + 1) % 32,
+        ..rec
+    };
+    set_rec(granules, g, more);
+}
+
+// ---- the host's hand
+
+// The REC at an address.
+pub fn rec_named<S: PageStore>(granules: &Granules<S>, address: u64) -> Option<Gran>
+    ensures is { is_some result ≡ guests.is_rec_named granules.now address }
+    ensures number { IfSome result (λ g. g ≡ number_of granules.now address) }
+    ensures inside { IfSome result (λ g. g < granule_count granules.now) }
+{
+    if address % 4096 != 0 || !granules.is_inside(address) {
+        return None;
+    }
+    let g = granules.number_of(address);
+    if granules.rec(g).is_some() {
+        Some(g)
+    } else {
+        None
+    }
+}
+
+// Writes the words of a step at a place of the ring.
+fn write_step<S: PageStore>(granules: &mut Granules<S>, g: Gran, place: u8, words: &StepWords)
+    requires inside { g < granule_count granules.old }
+    requires below { place < 16 }
+    ensures { granules.new ≡ guests.with_step_at granules.old g place words.now }
+{
+    let first = 48 + 5 * place as u16;
+    granules.set_word(g, first, words.kind);
+    granules.set_word(g, first + 1, words.a);
+    granules.set_word(g, first + 2, words.b);
+    granules.set_word(g, first + 3, words.c);
+    granules.set_word(g, first + 4, words.d);
+}
+
+// A guest is given a step.
+#[tactic(auto, unfolding(rmm_model::specs::Guest::with_step))]
+pub fn queue<S: PageStore>(granules: &mut Granules<S>, address: u64, words: &StepWords) -> Queued
+    ensures { (result, granules.new) ≡ guests.queued granules.old address words.now }
+{
+    match rec_named(granules, address) {
+        Some(g) => {
+            let rec = rec_in(granules, g);
+            if rec.step_count >= 16 {
+                return Queued::Full;
+            }
+            write_step(
+                granules,
+                g,
+                (rec.first_step % 16 + rec.step_count % 16) % 16,
+                words,
+            );
+            let more = Rec {
+                step_count: rec.step_count + 1,
+                ..rec
+            };
+            set_rec(granules, g, more);
+            Queued::Queued
+        }
+        None => Queued::NoRec,
+    }
+}

@@ -1,0 +1,562 @@
+//! RMI_REC_ENTER.
+ghost use Rattle.std.specs.Prelude.{◌≡◌, ◌%◌, ◌<◌, ◌≤◌, ◌&&◌, not, true, false, IfOk};
+ghost use Rattle.rmm_model.specs.declared.rec.LastExit.TheVariants.{RipasChange, HostCall, EmulatableAbort};
+ghost use Rattle.rmm_model.specs.Granule.{realm_of};
+ghost use Rattle.rmm_model.specs.Guest as guests;
+ghost use Rattle.rmm_model.specs.Check.{outcome, first_failing, refusal_in};
+ghost use Rattle.rmm_model.specs.Machine.{granule_count, granule_at, number_of};
+ghost use Rattle.rmm_model.specs.Realm.{IsServed};
+ghost use Rattle.rmm_model.specs.Step as steps;
+ghost use Rattle.rmm_model.specs.Command.RecEnter as command;
+ghost use Rattle.rmm.specs.Found.{IsEntry};
+
+use crate::guest::{first_step, owner_realm, past_step, push_result, rec_in, rec_named};
+use crate::host::host_granule;
+use crate::operand::{Names, host_page};
+use crate::psci::is_pending;
+use crate::realm::error_realm;
+use crate::rec::{REC, error_rec, rec_of, set_rec};
+use crate::rec_destroy::realm_in;
+use crate::step::{access, came_of_call, fetched, rec_after_exit, tried};
+use granule_addr::Gran;
+use page_arena::PageStore;
+use rmi_abi::{Answer, EnterFlags, ExitReason, RecExit, Word, entry_gpr};
+use rmm_granules::Granules;
+use rmm_model::{
+    Came, Condition, Granule, GranuleState, LastExit, PsciRequest, Realm, RealmState, Rec,
+    RecState, Refusal, RipasRequest, Step, StepResult,
+};
+
+const RUN: Names = Names {
+    align: Condition::RunAlign,
+    bound: Condition::RunBound,
+    state: Condition::RunPas,
+};
+
+// A REC that can be entered, and its run page.
+#[derive(Clone, Copy)]
+pub struct Entering {
+    pub rec: Gran,
+    pub run: Gran,
+}
+
+// ---- exits
+
+// Writes an exit into a page.
+fn write_exit<S: PageStore>(granules: &mut Granules<S>, page: Gran, exit: &RecExit)
+    requires { page < granule_count granules.old }
+    ensures machine { granules.new ≡ command.with_exit_words granules.old page exit.now 256 }
+    ensures count { granule_count granules.new ≡ granule_count granules.old }
+{
+    for k in 0..256u16 {
+        granules.set_word(page, 256 + k, exit.word(256 + k));
+    }
+}
+
+// Writes an exit into the run page at an address, if that is a page of the host.
+fn write_run<S: PageStore>(granules: &mut Granules<S>, run: u64, exit: &RecExit)
+    ensures machine { granules.new ≡ command.with_exit granules.old run exit.now }
+    ensures count { granule_count granules.new ≡ granule_count granules.old }
+{
+    if let Some(page) = host_granule(granules, run) {
+        write_exit(granules, page, exit);
+    }
+}
+
+// A REC leaves.
+#[tactic(auto, unfolding(rmm_model::specs::Command::RecEnter::left))]
+pub fn leave<S: PageStore>(granules: &mut Granules<S>, g: Gran, exit: &RecExit, last: LastExit)
+    requires { g < granule_count granules.old }
+    ensures machine { granules.new ≡ command.left granules.old g exit.now last }
+    ensures count { granule_count granules.new ≡ granule_count granules.old }
+{
+    let rec = rec_in(granules, g);
+    let ready = Rec {
+        state: RecState::Ready,
+        exit: last,
+        ..rec
+    };
+    set_rec(granules, g, ready);
+    write_run(granules, rec.run, exit);
+}
+
+// ---- entries
+
+// The general-purpose registers of a REC are those that the host gives.
+fn copy_gprs<S: PageStore>(granules: &mut Granules<S>, g: Gran, run: Gran)
+    requires inside { g < granule_count granules.old }
+    requires run { run < granule_count granules.old }
+    ensures machine { granules.new ≡ command.with_gprs granules.old g run 31 }
+    ensures count { granule_count granules.new ≡ granule_count granules.old }
+{
+    for k in 0..31u8 {
+        let word = entry_gpr(granules.page(run), k);
+        granules.set_word(g, k as u16, word);
+    }
+}
+
+// The result of a change of RIPAS.
+fn ripas_result(asked: &RipasRequest, flags: u64) -> StepResult
+    ensures { result ≡ command.ripas_result asked.now flags }
+{
+    if EnterFlags::rejects_ripas(flags) && asked.ripas.is_ram() && asked.base != asked.top {
+        StepResult::Rejected(asked.base)
+    } else {
+        StepResult::Accepted(asked.base)
+    }
+}
+
+// The result of an access that the host emulated.
+fn emulated(step: Step, gpr0: u64) -> StepResult
+    ensures { result ≡ command.emulated step gpr0 }
+{
+    match step {
+        Step::Read { .. } => StepResult::Read(gpr0 % 256),
+        _ => StepResult::Done,
+    }
+}
+
+// The step that made the last exit ends with a result.
+fn end_step<S: PageStore>(granules: &mut Granules<S>, g: Gran, r: &StepResult)
+    requires { g < granule_count granules.old }
+    ensures machine { granules.new ≡ command.ended granules.old g r.now }
+    ensures count { granule_count granules.new ≡ granule_count granules.old }
+{
+    past_step(granules, g);
+    push_result(granules, g, r);
+}
+
+// The guest gets the result of its PSCI request, if that is complete.
+fn push_psci<S: PageStore>(granules: &mut Granules<S>, g: Gran, request: PsciRequest)
+    requires { g < granule_count granules.old }
+    ensures machine { granules.new ≡ command.with_psci_result granules.old g request }
+    ensures count { granule_count granules.new ≡ granule_count granules.old }
+{
+    if let PsciRequest::Complete(value) = request {
+        let rec = rec_in(granules, g);
+        let idle = Rec {
+            psci: PsciRequest::None,
+            ..rec
+        };
+        set_rec(granules, g, idle);
+        push_result(granules, g, &StepResult::Psci(value));
+    }
+}
+
+// The guest gets how far a change of RIPAS came.
+fn push_ripas<S: PageStore>(granules: &mut Granules<S>, g: Gran, flags: u64)
+    requires { g < granule_count granules.old }
+    ensures machine { granules.new ≡ command.answered granules.old g RipasChange 0 flags }
+    ensures count { granule_count granules.new ≡ granule_count granules.old }
+{
+    let rec = rec_in(granules, g);
+    let result = ripas_result(&rec.ripas, flags);
+    let idle = Rec {
+        ripas: RipasRequest::NONE,
+        ..rec
+    };
+    set_rec(granules, g, idle);
+    push_result(granules, g, &result);
+}
+
+// The guest gets the host's answer of a host call.
+fn push_return<S: PageStore>(granules: &mut Granules<S>, g: Gran, run: Gran)
+    requires inside { g < granule_count granules.old }
+    requires run { run < granule_count granules.old }
+    ensures machine { granules.new ≡ command.answered granules.old g HostCall run 0 }
+    ensures count { granule_count granules.new ≡ granule_count granules.old }
+{
+    let value = entry_gpr(granules.page(run), 0);
+    copy_gprs(granules, g, run);
+    push_result(granules, g, &StepResult::Returned(value));
+}
+
+// The guest gets the host's answer to an abort.
+fn push_abort<S: PageStore>(granules: &mut Granules<S>, g: Gran, run: Gran, flags: u64)
+    requires inside { g < granule_count granules.old }
+    requires run { run < granule_count granules.old }
+    ensures machine { granules.new ≡ command.answered granules.old g EmulatableAbort run flags }
+    ensures count { granule_count granules.new ≡ granule_count granules.old }
+{
+    if EnterFlags::injects_sea(flags) {
+        end_step(granules, g, &StepResult::Sea);
+    } else if EnterFlags::emulates_mmio(flags) {
+        let value = entry_gpr(granules.page(run), 0);
+        let result = emulated(first_step(granules, g), value);
+        end_step(granules, g, &result);
+    }
+}
+
+// The guest gets the host's answer to its last exit.
+fn answer_exit<S: PageStore>(
+    granules: &mut Granules<S>,
+    g: Gran,
+    last: LastExit,
+    run: Gran,
+    flags: u64,
+)
+    requires inside { g < granule_count granules.old }
+    requires run { run < granule_count granules.old }
+    ensures machine { granules.new ≡ command.answered granules.old g last run flags }
+    ensures count { granule_count granules.new ≡ granule_count granules.old }
+{
+    match last {
+        LastExit::RipasChange => push_ripas(granules, g, flags),
+        LastExit::HostCall => push_return(granules, g, run),
+        LastExit::SystemRegister => push_result(granules, g, &StepResult::Done),
+        LastExit::UnprotectedAbort => {
+            if EnterFlags::injects_sea(flags) {
+                end_step(granules, g, &StepResult::Sea);
+            }
+        }
+        LastExit::EmulatableAbort => push_abort(granules, g, run, flags),
+        LastExit::Other => {
+            let request = rec_in(granules, g).psci;
+            push_psci(granules, g, request);
+        }
+    }
+}
+
+// A REC is entered.
+#[tactic(auto, unfolding(rmm_model::specs::Command::RecEnter::entered))]
+fn enter<S: PageStore>(granules: &mut Granules<S>, g: Gran, address: u64, run: Gran, flags: u64)
+    requires inside { g < granule_count granules.old }
+    requires run { run < granule_count granules.old }
+    requires number { run ≡ number_of granules.old address }
+    ensures machine { granules.new ≡ command.entered granules.old g address flags }
+    ensures count { granule_count granules.new ≡ granule_count granules.old }
+{
+    let rec = rec_in(granules, g);
+    let begun = Rec {
+        state: RecState::Running,
+        run: address,
+        exit: LastExit::Other,
+        result_count: 0,
+        ..rec
+    };
+    set_rec(granules, g, begun);
+    answer_exit(granules, g, rec.exit, run, flags);
+}
+
+// ---- steps
+
+// A guest writes a byte.
+fn write_byte<S: PageStore>(granules: &mut Granules<S>, realm: &Realm, ipa: u64, value: u64) -> Came
+    requires { IsServed (granule_count granules.old) realm.now }
+    ensures came { result ≡ steps.tried (steps.access granules.old realm.now ipa true (value % 256)) }
+    ensures machine { granules.new
+        ≡ steps.after_write granules.old ipa value (steps.access granules.old realm.now ipa true (value % 256)) }
+    ensures count { granule_count granules.new ≡ granule_count granules.old }
+{
+    let byte = value % 256;
+    match access(granules, realm, ipa, true, byte) {
+        Ok(granule) => {
+            granules.set_byte(granule, (ipa % 4096) as u16, byte as u8);
+            Came::Result(StepResult::Done)
+        }
+        Err(came) => came,
+    }
+}
+
+// A guest reads a byte.
+fn read_byte<S: PageStore>(granules: &Granules<S>, realm: &Realm, ipa: u64) -> Came
+    requires { IsServed (granule_count granules.now) realm.now }
+    ensures { result ≡ steps.came_of_read granules.now ipa (steps.access granules.now realm.now ipa false 0) }
+{
+    match access(granules, realm, ipa, false, 0) {
+        Ok(granule) => {
+            let byte = granules.page(granule)[(ipa % 4096) as usize];
+            Came::Result(StepResult::Read(byte as u64))
+        }
+        Err(came) => came,
+    }
+}
+
+// The realm of an RD is off.
+fn switch_off<S: PageStore>(granules: &mut Granules<S>, rd: Gran)
+    ensures machine { granules.new
+        ≡ command.with_realm_off granules.old rd (realm_of (granule_at granules.old rd).state) }
+    ensures count { granule_count granules.new ≡ granule_count granules.old }
+{
+    if let Some(found) = realm_in(granules, rd) {
+        let realm = Realm {
+            state: RealmState::SystemOff,
+            ..found
+        };
+        let kept = Granule {
+            state: GranuleState::Rd(realm),
+            owner: None,
+        };
+        granules.set(rd, kept);
+    }
+}
+
+// The realm that owns a REC is off.
+fn system_off<S: PageStore>(granules: &mut Granules<S>, g: Gran)
+    requires { g < granule_count granules.old }
+    ensures machine { granules.new ≡ command.with_system_off granules.old (granule_at granules.old g).owner }
+    ensures count { granule_count granules.new ≡ granule_count granules.old }
+{
+    if let Some(rd) = granules.owner(g) {
+        switch_off(granules, rd);
+    }
+}
+
+// A guest calls, and its REC has what it asked for.
+fn call<S: PageStore>(
+    granules: &mut Granules<S>,
+    realm: &Realm,
+    g: Gran,
+    flags: u64,
+    step: Step,
+) -> Came
+    requires inside { g < granule_count granules.old }
+    requires width { realm.now.s2sz ≤ 48 }
+    ensures came { result
+        ≡ steps.came_of_call granules.old.settings realm.now (guests.rec_in granules.old g) flags step }
+    ensures machine { granules.new ≡ command.with_exit_of granules.old g step (steps.is_exit result) }
+    ensures count { granule_count granules.new ≡ granule_count granules.old }
+{
+    let rec = rec_in(granules, g);
+    let came = came_of_call(granules.settings(), realm, &rec, flags, step);
+    if let Came::Exit(_, _) = came {
+        set_rec(granules, g, rec_after_exit(&rec, step));
+    }
+    came
+}
+
+// A guest calls to turn its realm off.
+fn turn_off<S: PageStore>(
+    granules: &mut Granules<S>,
+    realm: &Realm,
+    g: Gran,
+    flags: u64,
+    step: Step,
+) -> Came
+    requires inside { g < granule_count granules.old }
+    requires width { realm.now.s2sz ≤ 48 }
+    ensures came { result
+        ≡ steps.came_of_call granules.old.settings realm.now (guests.rec_in granules.old g) flags step }
+    ensures machine { granules.new
+        ≡ command.with_system_off granules.old (granule_at granules.old g).owner }
+    ensures count { granule_count granules.new ≡ granule_count granules.old }
+{
+    let rec = rec_in(granules, g);
+    let came = came_of_call(granules.settings(), realm, &rec, flags, step);
+    system_off(granules, g);
+    came
+}
+
+// A guest performs a step.
+#[tactic(auto, unfolding(rmm_model::specs::Command::RecEnter::came_of, rmm_model::specs::Command::RecEnter::after_step))]
+fn perform<S: PageStore>(
+    granules: &mut Granules<S>,
+    realm: &Realm,
+    g: Gran,
+    flags: u64,
+    step: Step,
+) -> Came
+    requires inside { g < granule_count granules.old }
+    requires served { IsServed (granule_count granules.old) realm.now }
+    ensures came { result ≡ command.came_of granules.old realm.now g flags step }
+    ensures machine { granules.new ≡ command.after_step granules.old realm.now g step result }
+    ensures count { granule_count granules.new ≡ granule_count granules.old }
+{
+    match step {
+        Step::Write { ipa, value } => write_byte(granules, realm, ipa, value),
+        Step::Read { ipa } => read_byte(granules, realm, ipa),
+        Step::Fetch { ipa } => tried(fetched(granules, realm, ipa)),
+        Step::SystemOff => turn_off(granules, realm, g, flags, step),
+        Step::SystemReset => turn_off(granules, realm, g, flags, step),
+        _ => call(granules, realm, g, flags, step),
+    }
+}
+
+// Whether a guest tries a step again that made an exit.
+fn is_tried_again(reason: ExitReason, last: LastExit) -> bool
+    ensures { result ≡ (command.is_sync reason && not (command.is_done last)) }
+{
+    matches!(reason, ExitReason::Sync) && !matches!(last, LastExit::SystemRegister)
+}
+
+// The guest goes on behind a step, but for one that it tries again.
+fn go_behind<S: PageStore>(granules: &mut Granules<S>, g: Gran, came: Came)
+    requires { g < granule_count granules.old }
+    ensures machine { granules.new ≡ command.behind granules.old g came }
+    ensures count { granule_count granules.new ≡ granule_count granules.old }
+{
+    match came {
+        Came::Result(r) => end_step(granules, g, &r),
+        Came::Exit(exit, last) => {
+            if !is_tried_again(exit.reason, last) {
+                past_step(granules, g);
+            }
+        }
+        Came::Spin => past_step(granules, g),
+    }
+}
+
+// An exit as by a timer of the host's.
+fn no_step() -> Came
+    ensures { result ≡ command.no_step }
+{
+    Came::Exit(RecExit::only(ExitReason::Irq), LastExit::Other)
+}
+
+// A guest performs its first step.
+#[tactic(auto, unfolding(rmm_model::specs::Command::RecEnter::came_now, rmm_model::specs::Command::RecEnter::after_now))]
+fn perform_first<S: PageStore>(granules: &mut Granules<S>, g: Gran, flags: u64) -> Came
+    requires { g < granule_count granules.old }
+    ensures came { result ≡ command.came_now granules.old g flags }
+    ensures machine { granules.new ≡ command.after_now granules.old g flags }
+    ensures count { granule_count granules.new ≡ granule_count granules.old }
+{
+    if rec_in(granules, g).step_count == 0 {
+        return no_step();
+    }
+    match owner_realm(granules, g) {
+        Some(realm) => {
+            let step = first_step(granules, g);
+            let came = perform(granules, &realm, g, flags, step);
+            go_behind(granules, g, came);
+            came
+        }
+        None => no_step(),
+    }
+}
+
+// A guest performs its steps, up to one that makes an exit or spins. Whether the REC left.
+fn ran<S: PageStore>(granules: &mut Granules<S>, g: Gran, flags: u64) -> bool
+    requires { g < granule_count granules.old }
+    ensures { (result, granules.new) ≡ command.ran granules.old g flags 16 }
+{
+    for i in 0..16u8 {
+        match perform_first(granules, g, flags) {
+            Came::Result(_) => {}
+            Came::Exit(exit, last) => {
+                leave(granules, g, &exit, last);
+                return true;
+            }
+            Came::Spin => return false,
+        }
+    }
+    leave(
+        granules,
+        g,
+        &RecExit::only(ExitReason::Irq),
+        LastExit::Other,
+    );
+    true
+}
+
+// ---- the command
+
+// Whether the host emulates an access, and the last exit was none that can be emulated.
+fn is_no_mmio(rec: &Rec, flags: u64) -> bool
+    ensures { result ≡ command.is_no_mmio rec.now flags }
+{
+    EnterFlags::emulates_mmio(flags) && !matches!(rec.exit, LastExit::EmulatableAbort)
+}
+
+// The state of a realm; if there is none it counts as NEW.
+fn state_of(realm: Option<Realm>) -> RealmState
+    ensures { result ≡ command.state_of realm }
+{
+    match realm {
+        Some(realm) => realm.state,
+        None => RealmState::New,
+    }
+}
+
+// Passes a REC of an ACTIVE realm that is READY and runnable, and has nothing pending.
+#[tactic(auto, unfolding(rmm_model::specs::Command::RecEnter::enter_checks))]
+fn check_enter(state: RealmState, rec: &Rec, flags: u64) -> Result<(), Refusal>
+    ensures { refusal_in result ≡ first_failing (command.enter_checks state rec.now flags) }
+{
+    if matches!(state, RealmState::New) {
+        return Err(error_realm(Condition::RealmNew));
+    }
+    if matches!(state, RealmState::SystemOff) {
+        return Err(Refusal {
+            condition: Condition::SystemOff,
+            answer: Answer::only(Word::ErrorRealm(1)),
+        });
+    }
+    if rec.is_running() {
+        return Err(error_rec(Condition::RecState));
+    }
+    if !rec.is_runnable {
+        return Err(error_rec(Condition::RecRunnable));
+    }
+    if is_no_mmio(rec, flags) {
+        return Err(error_rec(Condition::RecMmio));
+    }
+    if is_pending(rec.psci) {
+        return Err(error_rec(Condition::RecPsci));
+    }
+    Ok(())
+}
+
+// The REC that RMI_REC_ENTER enters, if its operands pass.
+#[tactic(auto, unfolding(rmm_model::specs::Command::RecEnter::rec_enter))]
+fn find_entry<S: PageStore>(
+    granules: &Granules<S>,
+    rec: u64,
+    address: u64,
+) -> Result<Entering, Refusal>
+    ensures refusal { refusal_in result ≡ first_failing (command.rec_enter rec address granules.now).checks }
+    ensures found { IfOk result (IsEntry granules.now rec address) }
+{
+    let run = host_page(granules, address, RUN)?;
+    let found = rec_of(granules, rec, REC)?;
+    let state = state_of(owner_realm(granules, found.granule));
+    check_enter(state, &found.rec, EnterFlags::read(granules.page(run)))?;
+    Ok(Entering {
+        rec: found.granule,
+        run,
+    })
+}
+
+// RMI_REC_ENTER
+#[tactic(auto, unfolding(rmm_model::specs::Command::RecEnter::rec_enter))]
+pub fn rec_enter<S: PageStore>(granules: &mut Granules<S>, rec: u64, address: u64) -> Answer
+    ensures answer { result ≡ (outcome (command.rec_enter rec address granules.old) granules.old).0 }
+    ensures machine { granules.new ≡ (outcome (command.rec_enter rec address granules.old) granules.old).1 }
+{
+    match find_entry(granules, rec, address) {
+        Ok(found) => {
+            let flags = EnterFlags::read(granules.page(found.run));
+            enter(granules, found.rec, address, found.run, flags);
+            if ran(granules, found.rec, flags) {
+                Answer::only(Word::Success)
+            } else {
+                Answer::only(Word::Running)
+            }
+        }
+        Err(refusal) => refusal.answer,
+    }
+}
+
+// The run of a REC ends by an interrupt of the host's; `None` comes for a REC that does not run.
+#[tactic(auto, unfolding(rmm_model::specs::Command::RecEnter::interrupted))]
+pub fn interrupt<S: PageStore>(granules: &mut Granules<S>, address: u64) -> Option<Word>
+    ensures { (result, granules.new) ≡ command.interrupted granules.old address }
+{
+    let g = rec_named(granules, address)?;
+    let rec = rec_in(granules, g);
+    if !rec.is_running() {
+        return None;
+    }
+    let word = if host_granule(granules, rec.run).is_some() {
+        Word::Success
+    } else {
+        Word::ErrorInput
+    };
+    leave(
+        granules,
+        g,
+        &RecExit::only(ExitReason::Irq),
+        LastExit::Other,
+    );
+    Some(word)
+}

@@ -1,0 +1,245 @@
+-- RMI_REC_ENTER.
+use Rattle.std.specs.Prelude.{ℕ, zero, suc, ◌+◌, ◌%◌, ◌==◌, ◌&&◌, Bool, true, false, not, List, [], ◌∷◌, ◌++◌, Option, Some, None, if◌then◌else◌}
+use Rattle.rmi_abi.specs.declared.rec_run.ExitReason.{ExitReason}
+use Rattle.rmi_abi.specs.declared.rec_run.ExitReason.TheVariants.{Sync, Irq}
+use Rattle.rmi_abi.specs.declared.rec_run.RecExit.{RecExit}
+use Rattle.rmi_abi.specs.declared.registers.Answer.{Answer}
+use Rattle.rmi_abi.specs.declared.word.Word.{Word}
+use Rattle.rmi_abi.specs.declared.word.Word.TheVariants.{Success, ErrorInput, ErrorRealm, Running as RunsOn}
+use Rattle.rmi_abi.specs.Answer.{only}
+use Rattle.rmi_abi.specs.RecRun.{flags_in, entry_gpr_in, emulates_mmio, injects_sea, rejects_ripas, exit_word, only_reason}
+use Rattle.rmm_model.specs.declared.condition.Condition.TheVariants.{RunAlign, RunBound, RunPas, RecAlign, RecBound, RecGranState, RealmNew, SystemOff, RecState, RecRunnable, RecMmio, RecPsci}
+use Rattle.rmm_model.specs.declared.granule.GranuleState.TheVariants.{Rd}
+use Rattle.rmm_model.specs.declared.realm.Realm.{Realm}
+use Rattle.rmm_model.specs.declared.realm.RealmState.{RealmState}
+use Rattle.rmm_model.specs.declared.realm.RealmState.TheVariants.{New, SystemOff as IsSystemOff}
+use Rattle.rmm_model.specs.declared.rec.LastExit.{LastExit}
+use Rattle.rmm_model.specs.declared.rec.LastExit.TheVariants.{Other, HostCall, RipasChange, EmulatableAbort, UnprotectedAbort, SystemRegister}
+use Rattle.rmm_model.specs.declared.rec.PsciRequest.{PsciRequest}
+use Rattle.rmm_model.specs.declared.rec.PsciRequest.TheVariants.{None as NoRequest, Complete}
+use Rattle.rmm_model.specs.declared.rec.Rec.{Rec as Attributes}
+use Rattle.rmm_model.specs.declared.rec.RecState.TheVariants.{Ready, Running}
+use Rattle.rmm_model.specs.declared.rec.RipasRequest.{RipasRequest}
+use Rattle.rmm_model.specs.declared.step.Came.{Came}
+use Rattle.rmm_model.specs.declared.step.Came.TheVariants.{Result as IsResult, Exit as IsExit, Spin as Spins}
+use Rattle.rmm_model.specs.declared.step.Step.{Step}
+use Rattle.rmm_model.specs.declared.step.Step.TheVariants.{Write, Read, Fetch, SystemOff as SystemOffStep, SystemReset}
+use Rattle.rmm_model.specs.declared.step.StepResult.{StepResult}
+use Rattle.rmm_model.specs.declared.step.StepResult.TheVariants.{Done, Read as IsRead, Sea, Psci, Accepted, Rejected, Returned}
+use Rattle.rmm_model.specs.Check.{Command, Check, check, success, error_realm, error_rec}
+use Rattle.rmm_model.specs.Granule.{of_no_realm, realm_of}
+use Rattle.rmm_model.specs.Guest.{rec_in, is_rec_named, first_step, past_step, with_result}
+use Rattle.rmm_model.specs.Host.{is_host_page}
+use Rattle.rmm_model.specs.Machine.{Machine, granule_at, page_in, number_of, with_granule, with_word}
+use Rattle.rmm_model.specs.Realm.{is_new}
+use Rattle.rmm_model.specs.Rec.{is_running, no_request}
+use Rattle.rmm_model.specs.Entry.{is_ram}
+use Rattle.rmm_model.specs.Step.{access, fetched, tried, came_of_read, after_write, came_of_call, is_exit, rec_after_exit}
+use Rattle.rmm_model.specs.Command.Operand.{host_checks, rec_checks, rec_at}
+use Rattle.rmm_model.specs.Command.PsciComplete.{is_pending, with_rec}
+
+-- ---- realms of RECs
+
+abbrev pub realm_by : Machine → Option ℕ → Option Realm
+realm_by m (Some rd) = realm_of (granule_at m rd).state
+realm_by m None = None
+
+-- the realm that owns a granule
+abbrev pub owner_realm : Machine → ℕ → Option Realm
+owner_realm m g = realm_by m (granule_at m g).owner
+
+-- the state of a realm; where there is none it counts as NEW
+abbrev pub state_of : Option Realm → RealmState
+state_of (Some realm) = realm.state
+state_of None = New
+
+abbrev pub is_system_off : RealmState → Bool
+is_system_off IsSystemOff = true
+is_system_off _ = false
+
+abbrev pub with_realm_off : Machine → ℕ → Option Realm → Machine
+with_realm_off m rd (Some realm) = with_granule m rd (of_no_realm (Rd (record realm { state = IsSystemOff })))
+with_realm_off m rd None = m
+
+-- the realm of an RD is off
+abbrev pub with_system_off : Machine → Option ℕ → Machine
+with_system_off m (Some rd) = with_realm_off m rd (realm_of (granule_at m rd).state)
+with_system_off m None = m
+
+abbrev pub is_emulatable : LastExit → Bool
+is_emulatable EmulatableAbort = true
+is_emulatable _ = false
+
+-- ---- exits
+
+-- the first words of a page from one on are those of an exit
+unfoldable pub with_exit_words : Machine → ℕ → RecExit → ℕ → Machine
+with_exit_words m page exit zero = m
+with_exit_words m page exit (suc k) = with_word (with_exit_words m page exit k) page (256 + k) (exit_word exit (256 + k))
+
+-- an exit is written into the run page at an address, where that is a page of the host
+abbrev pub with_exit : Machine → ℕ → RecExit → Machine
+with_exit m address exit = if is_host_page m address then with_exit_words m (number_of m address) exit 256 else m
+
+-- A REC leaves: it is READY, and its exit is in its run page. RMM 1.0, RmiRecExit.
+unfoldable pub left : Machine → ℕ → RecExit → LastExit → Machine
+left m g exit last =
+    let rec = rec_in m g in
+    with_exit (with_rec m g (record rec { state = Ready; exit = last })) rec.run exit
+
+-- ---- entries
+
+-- general-purpose registers of a REC that the host gives
+unfoldable pub with_gprs : Machine → ℕ → ℕ → ℕ → Machine
+with_gprs m g page zero = m
+with_gprs m g page (suc k) = with_word (with_gprs m g page k) g k (entry_gpr_in (page_in (with_gprs m g page k) page) k)
+
+-- the result of a change of RIPAS: how far it came, and whether the host rejected the rest
+abbrev pub ripas_result : RipasRequest → ℕ → StepResult
+ripas_result asked flags =
+    if rejects_ripas flags && is_ram asked.ripas && not (asked.base == asked.top) then Rejected asked.base else Accepted asked.base
+
+-- the result of an access that the host emulated
+abbrev pub emulated : Step → ℕ → StepResult
+emulated (Read ipa) gpr0 = IsRead (gpr0 % 256)
+emulated _ gpr0 = Done
+
+-- the step that made the last exit ends with a result
+abbrev pub ended : Machine → ℕ → StepResult → Machine
+ended m g r = with_result (past_step m g) g r
+
+abbrev pub with_psci_result : Machine → ℕ → PsciRequest → Machine
+with_psci_result m g (Complete value) = with_result (with_rec m g (record (rec_in m g) { psci = NoRequest })) g (Psci value)
+with_psci_result m g _ = m
+
+-- The guest gets the host's answer to its last exit. RMM 1.0, RmiRecEnter.
+abbrev pub answered : Machine → ℕ → LastExit → ℕ → ℕ → Machine
+answered m g RipasChange page flags =
+    with_result (with_rec m g (record (rec_in m g) { ripas = no_request })) g (ripas_result (rec_in m g).ripas flags)
+answered m g HostCall page flags = with_result (with_gprs m g page 31) g (Returned (entry_gpr_in (page_in m page) 0))
+answered m g SystemRegister page flags = with_result m g Done
+answered m g UnprotectedAbort page flags = if injects_sea flags then ended m g Sea else m
+answered m g EmulatableAbort page flags =
+    if injects_sea flags then ended m g Sea else
+    (if emulates_mmio flags then ended m g (emulated (first_step m g) (entry_gpr_in (page_in m page) 0)) else m)
+answered m g Other page flags = with_psci_result m g (rec_in m g).psci
+
+-- a REC that runs, with the address of its run page
+abbrev pub begun : Attributes → ℕ → Attributes
+begun rec address = record rec { state = Running; run = address; exit = Other; result_count = 0 }
+
+-- A REC is entered.
+unfoldable pub entered : Machine → ℕ → ℕ → ℕ → Machine
+entered m g address flags = answered (with_rec m g (begun (rec_in m g) address)) g (rec_in m g).exit (number_of m address) flags
+
+-- ---- steps
+
+-- what comes of a step
+unfoldable pub came_of : Machine → Realm → ℕ → ℕ → Step → Came
+came_of m realm g flags (Write ipa value) = tried (access m realm ipa true (value % 256))
+came_of m realm g flags (Read ipa) = came_of_read m ipa (access m realm ipa false 0)
+came_of m realm g flags (Fetch ipa) = tried (fetched m realm ipa)
+came_of m realm g flags step = came_of_call m.settings realm (rec_in m g) flags step
+
+abbrev pub with_exit_of : Machine → ℕ → Step → Bool → Machine
+with_exit_of m g step true = with_rec m g (rec_after_exit (rec_in m g) step)
+with_exit_of m g step false = m
+
+-- the machine after what a step does
+unfoldable pub after_step : Machine → Realm → ℕ → Step → Came → Machine
+after_step m realm g (Write ipa value) came = after_write m ipa value (access m realm ipa true (value % 256))
+after_step m realm g (Read ipa) came = m
+after_step m realm g (Fetch ipa) came = m
+after_step m realm g SystemOffStep came = with_system_off m (granule_at m g).owner
+after_step m realm g SystemReset came = with_system_off m (granule_at m g).owner
+after_step m realm g step came = with_exit_of m g step (is_exit came)
+
+abbrev pub is_sync : ExitReason → Bool
+is_sync Sync = true
+is_sync _ = false
+
+abbrev pub is_done : LastExit → Bool
+is_done SystemRegister = true
+is_done _ = false
+
+-- the guest goes on behind a step, but for one that made a SYNC exit, which it tries again
+abbrev pub behind : Machine → ℕ → Came → Machine
+behind m g (IsResult r) = with_result (past_step m g) g r
+behind m g (IsExit exit last) = if is_sync exit.reason && not (is_done last) then m else past_step m g
+behind m g Spins = past_step m g
+
+-- an exit as by a timer of the host's, where a guest has no step
+abbrev pub no_step : Came
+no_step = IsExit (only_reason Irq) Other
+
+abbrev pub came_in : Machine → Option Realm → ℕ → ℕ → Came
+came_in m (Some realm) g flags = came_of m realm g flags (first_step m g)
+came_in m None g flags = no_step
+
+abbrev pub after_in : Machine → Option Realm → ℕ → ℕ → Machine
+after_in m (Some realm) g flags =
+    behind (after_step m realm g (first_step m g) (came_of m realm g flags (first_step m g))) g (came_of m realm g flags (first_step m g))
+after_in m None g flags = m
+
+-- What comes of the first step of a guest, and the machine after it.
+unfoldable pub came_now : Machine → ℕ → ℕ → Came
+came_now m g flags = if (rec_in m g).step_count == 0 then no_step else came_in m (owner_realm m g) g flags
+
+unfoldable pub after_now : Machine → ℕ → ℕ → Machine
+after_now m g flags = if (rec_in m g).step_count == 0 then m else after_in m (owner_realm m g) g flags
+
+abbrev pub carried : Came → Machine → ℕ → Bool × Machine → Bool × Machine
+carried (IsResult r) m g rest = rest
+carried (IsExit exit last) m g rest = (true, left m g exit last)
+carried Spins m g rest = (false, m)
+
+-- The guest performs at most that many steps, up to one that makes an exit or spins. Whether the REC left, and the machine then.
+unfoldable pub ran : Machine → ℕ → ℕ → ℕ → Bool × Machine
+ran m g flags zero = (true, left m g (only_reason Irq) Other)
+ran m g flags (suc count) = carried (came_now m g flags) (after_now m g flags) g (ran (after_now m g flags) g flags count)
+
+-- ---- the command
+
+-- the host emulates an access, where the last exit was none that can be emulated
+abbrev pub is_no_mmio : Attributes → ℕ → Bool
+is_no_mmio rec flags = emulates_mmio flags && not (is_emulatable rec.exit)
+
+-- a REC of an ACTIVE realm that is READY and runnable, and has nothing pending
+unfoldable pub enter_checks : RealmState → Attributes → ℕ → List Check
+enter_checks state rec flags =
+    check RealmNew (RecGranState ∷ []) (is_new state) error_realm
+    ∷ check SystemOff (RecGranState ∷ []) (is_system_off state) (only (ErrorRealm 1))
+    ∷ check RecState (RecGranState ∷ []) (is_running rec.state) error_rec
+    ∷ check RecRunnable (RecState ∷ []) (not rec.is_runnable) error_rec
+    ∷ check RecMmio (RecState ∷ RunPas ∷ []) (is_no_mmio rec flags) error_rec
+    ∷ check RecPsci (RecState ∷ []) (is_pending rec.psci) error_rec ∷ []
+
+-- RMI_SUCCESS comes at the REC's exit; until then the call goes on
+abbrev pub entered_answer : Bool → Answer
+entered_answer leaves = if leaves then success else only RunsOn
+
+-- A REC runs until its guest makes an exit. RMM 1.0, RMI_REC_ENTER.
+unfoldable pub rec_enter : ℕ → ℕ → Machine → Command
+rec_enter rec address m =
+    let g = number_of m rec in
+    let flags = flags_in (page_in m (number_of m address)) in
+    let after = ran (entered m g address flags) g flags 16 in
+    record {
+      checks = host_checks RunAlign RunBound RunPas m address ++ rec_checks RecAlign RecBound RecGranState m rec
+          ++ enter_checks (state_of (owner_realm m g)) (rec_at m rec) flags;
+      answer = entered_answer after.0;
+      machine = after.1;
+    }
+
+-- ---- interrupts
+
+-- a REC is RUNNING
+abbrev pub runs_at : Machine → ℕ → Bool
+runs_at m address = is_rec_named m address && is_running (rec_at m address).state
+
+-- The run of a REC ends by an interrupt of the host's. RMI_ERROR_INPUT comes where its run page is not the host's any more.
+unfoldable pub interrupted : Machine → ℕ → Option Word × Machine
+interrupted m address =
+    if runs_at m address then
+    (Some (if is_host_page m (rec_in m (number_of m address)).run then Success else ErrorInput), left m (number_of m address) (only_reason Irq) Other)
+    else (None, m)

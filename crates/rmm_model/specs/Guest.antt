@@ -1,0 +1,115 @@
+-- Guests of RECs. This monitor's own: a guest is simulated by a list of at most 16 steps, a ring in words 48 to 127 of the page of its
+-- REC, five words each. The results of its steps since its last entry are in words 128 to 191, two words each.
+use Rattle.std.specs.Prelude.{ℕ, ◌+◌, ◌-◌, ◌*◌, ◌%◌, ◌==◌, ◌&&◌, Bool, nat_lt, List, is_some, unwrap_or, if◌then◌else◌}
+use Rattle.page_arena.specs.Word.{word_of_page}
+use Rattle.rmm_model.specs.declared.rec.Rec.{Rec as Attributes}
+use Rattle.rmm_model.specs.declared.step.Queued.{Queued}
+use Rattle.rmm_model.specs.declared.step.Queued.TheVariants.{Queued as IsQueued, Full, NoRec}
+use Rattle.rmm_model.specs.declared.step.Step.{Step}
+use Rattle.rmm_model.specs.declared.step.Step.TheVariants.{Write, Read, Fetch, HostCall, SetRipas, CpuOn, AffinityInfo, CpuOff, CpuSuspend, SystemOff, SystemReset}
+use Rattle.rmm_model.specs.declared.step.Step.TheVariants.{Wfi, Wfe, SystemRegister, Spin}
+use Rattle.rmm_model.specs.declared.step.StepResult.{StepResult}
+use Rattle.rmm_model.specs.declared.step.StepResult.TheVariants.{Done, Read as IsRead, Sea, Psci, RsiErrorInput, Accepted, Rejected, Returned}
+use Rattle.rmm_model.specs.declared.step.StepWords.{StepWords}
+use Rattle.rmm_model.specs.Granule.{rec_of}
+use Rattle.rmm_model.specs.Machine.{Machine, granule_at, page_in, is_aligned, is_inside, number_of, state_at, with_word}
+use Rattle.rmm_model.specs.Rec.{no_rec}
+use Rattle.rmm_model.specs.Command.PsciComplete.{with_rec}
+
+-- ---- steps
+
+-- the step that words are
+abbrev pub step_of : StepWords → Step
+step_of w =
+    if w.kind == 0 then Write w.a w.b else
+    (if w.kind == 1 then Read w.a else
+    (if w.kind == 2 then HostCall w.a w.b w.c w.d else
+    (if w.kind == 3 then SetRipas w.a w.b w.c w.d else
+    (if w.kind == 4 then CpuOn w.a w.b w.c else
+    (if w.kind == 5 then AffinityInfo w.a w.b else
+    (if w.kind == 6 then CpuOff else
+    (if w.kind == 7 then CpuSuspend else
+    (if w.kind == 8 then SystemOff else
+    (if w.kind == 9 then SystemReset else
+    (if w.kind == 10 then Wfi else
+    (if w.kind == 11 then Wfe else
+    (if w.kind == 13 then Fetch w.a else
+    (if w.kind == 14 then SystemRegister w.a w.b else Spin)))))))))))))
+
+-- the words of a place of the ring
+unfoldable pub words_at : List ℕ → ℕ → StepWords
+words_at page place = record {
+  kind = word_of_page page (48 + 5 * place);
+  a = word_of_page page (48 + 5 * place + 1);
+  b = word_of_page page (48 + 5 * place + 2);
+  c = word_of_page page (48 + 5 * place + 3);
+  d = word_of_page page (48 + 5 * place + 4);
+}
+
+-- ---- results
+
+abbrev pub result_code : StepResult → ℕ
+result_code Done = 0
+result_code (IsRead value) = 1
+result_code Sea = 2
+result_code (Psci value) = 6
+result_code RsiErrorInput = 7
+result_code (Accepted value) = 3
+result_code (Rejected value) = 4
+result_code (Returned value) = 5
+
+abbrev pub result_value : StepResult → ℕ
+result_value (IsRead value) = value
+result_value (Psci value) = value
+result_value (Accepted value) = value
+result_value (Rejected value) = value
+result_value (Returned value) = value
+result_value _ = 0
+
+-- ---- RECs by number
+
+-- the attributes of a REC
+abbrev pub rec_in : Machine → ℕ → Attributes
+rec_in m g = unwrap_or (rec_of (granule_at m g).state) no_rec
+
+-- the words of a step at a place of the ring
+abbrev pub with_step_at : Machine → ℕ → ℕ → StepWords → Machine
+with_step_at m g place w =
+    with_word (with_word (with_word (with_word (with_word m g (48 + 5 * place) w.kind) g (48 + 5 * place + 1) w.a) g (48 + 5 * place + 2) w.b)
+    g (48 + 5 * place + 3) w.c) g (48 + 5 * place + 4) w.d
+
+-- the first step of a guest
+abbrev pub first_step : Machine → ℕ → Step
+first_step m g = step_of (words_at (page_in m g) ((rec_in m g).first_step % 16))
+
+-- the guest of a REC is past its first step
+unfoldable pub past_step : Machine → ℕ → Machine
+past_step m g =
+    let rec = rec_in m g in
+    with_rec m g (record rec { first_step = (rec.first_step % 16 + 1) % 16; step_count = rec.step_count - 1 })
+
+-- the guest of a REC has one result more
+unfoldable pub with_result : Machine → ℕ → StepResult → Machine
+with_result m g r =
+    let rec = rec_in m g in
+    let place = rec.result_count % 32 in
+    with_rec (with_word (with_word m g (128 + 2 * place) (result_code r)) g (128 + 2 * place + 1) (result_value r)) g (record rec { result_count = (place + 1) % 32 })
+
+-- ---- the host's hand
+
+-- an address is that of a REC
+abbrev pub is_rec_named : Machine → ℕ → Bool
+is_rec_named m address = is_aligned address && is_inside m address && is_some (rec_of (state_at m address))
+
+-- a step is behind those that a guest has
+unfoldable pub with_step : Machine → ℕ → StepWords → Machine
+with_step m g w =
+    let rec = rec_in m g in
+    with_rec (with_step_at m g ((rec.first_step % 16 + rec.step_count % 16) % 16) w) g (record rec { step_count = rec.step_count + 1 })
+
+abbrev pub queued_at : Machine → ℕ → StepWords → Queued × Machine
+queued_at m g w = if nat_lt (rec_in m g).step_count 16 then (IsQueued, with_step m g w) else (Full, m)
+
+-- A guest is given a step: it has at most 16 at a time.
+abbrev pub queued : Machine → ℕ → StepWords → Queued × Machine
+queued m address w = if is_rec_named m address then queued_at m (number_of m address) w else (NoRec, m)

@@ -1,0 +1,188 @@
+-- What comes of a guest's step. RMM 1.0, Realm exits, RSI_HOST_CALL, RSI_IPA_STATE_SET and PSCI; Arm Architecture Reference Manual, ESR_EL2.
+use Rattle.std.specs.Prelude.{ℕ, ◌+◌, ◌-◌, ◌*◌, ◌/◌, ◌%◌, ◌^◌, ◌==◌, ◌&&◌, Bool, true, false, not, nat_lt, Option, Some, None, Result, Ok, Err, slice_index_or, slice_set, if◌then◌else◌}
+use Rattle.rmi_abi.specs.declared.rec_run.ExitReason.{ExitReason}
+use Rattle.rmi_abi.specs.declared.rec_run.ExitReason.TheVariants.{Sync, Psci as PsciExit, RipasChange as RipasExit, HostCall as HostExit}
+use Rattle.rmi_abi.specs.declared.rec_run.RecExit.{RecExit}
+use Rattle.rmi_abi.specs.declared.settings.Settings.{Settings}
+use Rattle.rmi_abi.specs.Mpidr.{is_mpidr, rec_number}
+use Rattle.rmi_abi.specs.RecRun.{traps_wfi, traps_wfe, only_reason}
+use Rattle.rmm_model.specs.declared.entry.Entry.{Entry}
+use Rattle.rmm_model.specs.declared.entry.Entry.TheVariants.{Assigned}
+use Rattle.rmm_model.specs.declared.entry.Ripas.{Ripas}
+use Rattle.rmm_model.specs.declared.entry.Ripas.TheVariants.{Empty, Ram, Destroyed}
+use Rattle.rmm_model.specs.declared.realm.Realm.{Realm}
+use Rattle.rmm_model.specs.declared.rec.LastExit.TheVariants.{Other, HostCall as LastHostCall, RipasChange as LastRipasChange, EmulatableAbort, UnprotectedAbort, SystemRegister as LastSystemRegister}
+use Rattle.rmm_model.specs.declared.rec.PsciRequest.TheVariants.{CpuOn as CpuOnRequest, AffinityInfo as AffinityInfoRequest, Complete}
+use Rattle.rmm_model.specs.declared.rec.Rec.{Rec as Attributes}
+use Rattle.rmm_model.specs.declared.step.Came.{Came}
+use Rattle.rmm_model.specs.declared.step.Came.TheVariants.{Result as IsResult, Exit as IsExit, Spin as Spins}
+use Rattle.rmm_model.specs.declared.step.Step.{Step}
+use Rattle.rmm_model.specs.declared.step.Step.TheVariants.{Write, Read, Fetch, HostCall, SetRipas, CpuOn, AffinityInfo, CpuOff, CpuSuspend, SystemOff, SystemReset}
+use Rattle.rmm_model.specs.declared.step.Step.TheVariants.{Wfi, Wfe, SystemRegister, Spin}
+use Rattle.rmm_model.specs.declared.step.StepResult.TheVariants.{Done, Read as IsRead, Sea, Psci, RsiErrorInput}
+use Rattle.rmm_model.specs.Entry.{descriptor_of, is_assigned_ns, is_ram, ripas_in}
+use Rattle.rmm_model.specs.Host.{is_host_page}
+use Rattle.rmm_model.specs.Level.{entry_size}
+use Rattle.rmm_model.specs.Machine.{Machine, page_in, number_of, with_page}
+use Rattle.rmm_model.specs.Realm.{is_in_space, is_protected}
+use Rattle.rmm_model.specs.Walk.{entry_at, granule_named, walk}
+
+-- ---- accesses to memory
+
+-- an abort at an address
+abbrev pub abort : ℕ → ℕ → RecExit
+abort esr ipa = record (only_reason Sync) { esr = esr; hpfar = ipa / 4096 * 16 }
+
+-- an abort that the host can emulate, with a value that the guest writes
+abbrev pub emulatable : ℕ → ℕ → ℕ → RecExit
+emulatable esr ipa value = record (only_reason Sync) { esr = esr; far = ipa % 4096; hpfar = ipa / 4096 * 16; gpr0 = value }
+
+abbrev pub is_empty : Ripas → Bool
+is_empty Empty = true
+is_empty _ = false
+
+-- the entry leads to memory of the guest
+abbrev pub is_memory : Entry → Bool
+is_memory (Assigned ripas address) = is_ram ripas
+is_memory _ = false
+
+-- a granule, where it is one of the machine
+abbrev pub found_or_sea : Option ℕ → Result ℕ Came
+found_or_sea (Some granule) = Ok granule
+found_or_sea None = Err (IsResult Sea)
+
+-- the granule of a protected address, or what comes of an access there, by an exception class
+abbrev pub protected_access : Machine → ℕ → Entry → ℕ → ℕ → Result ℕ Came
+protected_access m class entry level ipa =
+    if is_memory entry then found_or_sea (granule_named m (descriptor_of entry + ipa % entry_size level)) else
+    Err (if is_empty (ripas_in entry) then IsResult Sea else IsExit (abort (class + 4 + level) ipa) Other)
+
+-- S2AP of a descriptor lets a guest write, or read
+abbrev pub may_access : ℕ → Bool → Bool
+may_access desc writes = if writes then desc / 2 ^ 7 % 2 == 1 else desc / 2 ^ 6 % 2 == 1
+
+-- WnR of a data abort
+abbrev pub wnr : Bool → ℕ
+wnr writes = if writes then 0x40 else 0
+
+-- the granule of the host at a physical address
+abbrev pub host_access : Machine → ℕ → ℕ → Result ℕ Came
+host_access m address ipa = if is_host_page m address then Ok (number_of m address) else Err (IsExit (abort 0x90000028 ipa) UnprotectedAbort)
+
+-- the granule of an unprotected address, or what comes of an access there
+abbrev pub unprotected_access : Machine → Entry → ℕ → ℕ → Bool → ℕ → Result ℕ Came
+unprotected_access m entry level ipa writes value =
+    if not (is_assigned_ns entry) then Err (IsExit (emulatable (0x91000004 + (wnr writes + level)) ipa value) EmulatableAbort) else
+    (if may_access (descriptor_of entry) writes then host_access m (descriptor_of entry / 4096 * 4096 + ipa % entry_size level) ipa else
+    Err (IsExit (emulatable (0x9100000C + (wnr writes + level)) ipa value) EmulatableAbort))
+
+-- The granule that an address of a guest is in, or what comes of an access there.
+unfoldable pub access : Machine → Realm → ℕ → Bool → ℕ → Result ℕ Came
+access m realm ipa writes value =
+    let found = walk m realm ipa 3 in
+    if not (is_in_space realm ipa) then Err (IsResult Sea) else
+    (if is_protected realm ipa then protected_access m 0x90000000 (entry_at m found ipa) found.level ipa else
+    unprotected_access m (entry_at m found ipa) found.level ipa writes value)
+
+-- the granule that a guest fetches an instruction from, or what comes of it
+unfoldable pub fetched : Machine → Realm → ℕ → Result ℕ Came
+fetched m realm ipa =
+    let found = walk m realm ipa 3 in
+    if is_protected realm ipa then protected_access m 0x80000000 (entry_at m found ipa) found.level ipa else Err (IsResult Sea)
+
+-- what comes of a step that only tries an access
+abbrev pub tried : Result ℕ Came → Came
+tried (Ok granule) = IsResult Done
+tried (Err came) = came
+
+-- what comes of reading a byte
+abbrev pub came_of_read : Machine → ℕ → Result ℕ Came → Came
+came_of_read m ipa (Ok granule) = IsResult (IsRead (slice_index_or (page_in m granule) (ipa % 4096) 0))
+came_of_read m ipa (Err came) = came
+
+-- the machine after a byte is written
+abbrev pub after_write : Machine → ℕ → ℕ → Result ℕ Came → Machine
+after_write m ipa value (Ok granule) = with_page m granule (slice_set (page_in m granule) (ipa % 4096) (value % 256))
+after_write m ipa value (Err came) = m
+
+-- ---- calls
+
+-- RSI_HOST_CALL
+abbrev pub host_call : ℕ → ℕ → ℕ → ℕ → Came
+host_call imm gpr0 gpr1 gpr2 = IsExit (record (only_reason HostExit) { gpr0 = gpr0; gpr1 = gpr1; gpr2 = gpr2; imm = imm % 2 ^ 16 }) LastHostCall
+
+-- RSI_IPA_STATE_SET takes a range of pages of the protected half, and EMPTY or RAM
+abbrev pub is_ripas_range : Realm → ℕ → ℕ → ℕ → Bool
+is_ripas_range realm base top ripas =
+    base % 4096 == 0 && top % 4096 == 0 && nat_lt base top && is_protected realm (top - 1) && nat_lt ripas 2
+
+abbrev pub ripas_of : ℕ → Ripas
+ripas_of code = if code == 1 then Ram else Empty
+
+abbrev pub ripas_exit : ℕ → ℕ → ℕ → Came
+ripas_exit base top ripas = IsExit (record (only_reason RipasExit) { ripas_base = base; ripas_top = top; ripas = ripas }) LastRipasChange
+
+-- what a PSCI exit shows of its second and third operand is a setting
+abbrev pub shown : Settings → ℕ → ℕ
+shown s operand = if s.shows_target_alone then 0 else operand
+
+-- the exit of a PSCI call
+abbrev pub psci_exit : Settings → ℕ → ℕ → ℕ → ℕ → Came
+psci_exit s function target b c =
+    IsExit (record (only_reason PsciExit) { gpr0 = function; gpr1 = target; gpr2 = shown s b; gpr3 = shown s c }) Other
+
+abbrev pub psci_gives : ℕ → Came
+psci_gives value = IsResult (Psci value)
+
+-- a REC of the realm was given that MPIDR
+abbrev pub was_given : Realm → ℕ → Bool
+was_given realm mpidr = is_mpidr mpidr && nat_lt (rec_number mpidr) realm.next_rec
+
+-- PSCI_CPU_ON
+abbrev pub cpu_on : Settings → Realm → Attributes → ℕ → ℕ → ℕ → Came
+cpu_on s realm rec target entry_point context =
+    if not (is_protected realm entry_point) then psci_gives (2 ^ 64 - 9) else
+    (if not (was_given realm target) then psci_gives (2 ^ 64 - 2) else
+    (if target == rec.mpidr then psci_gives (2 ^ 64 - 4) else psci_exit s 0xC4000003 target entry_point context))
+
+-- PSCI_AFFINITY_INFO
+abbrev pub affinity_info : Settings → Realm → Attributes → ℕ → ℕ → Came
+affinity_info s realm rec target level =
+    if not (level == 0 && was_given realm target) then psci_gives (2 ^ 64 - 2) else
+    (if target == rec.mpidr then psci_gives 0 else psci_exit s 0xC4000004 target level 0)
+
+-- a wait, trapped or not
+abbrev pub wait : Bool → ℕ → Came
+wait traps esr = if traps then IsExit (record (only_reason Sync) { esr = esr }) Other else IsResult Done
+
+-- a write of a system register
+abbrev pub system_register : ℕ → ℕ → Came
+system_register iss value = IsExit (record (only_reason Sync) { esr = 0x60000000 + iss % 2 ^ 25; gpr0 = value }) LastSystemRegister
+
+-- What comes of a step that accesses no memory.
+abbrev pub came_of_call : Settings → Realm → Attributes → ℕ → Step → Came
+came_of_call s realm rec flags (HostCall imm gpr0 gpr1 gpr2) = host_call imm gpr0 gpr1 gpr2
+came_of_call s realm rec flags (SetRipas base top ripas more) = if is_ripas_range realm base top ripas then ripas_exit base top ripas else IsResult RsiErrorInput
+came_of_call s realm rec flags (CpuOn target entry_point context) = cpu_on s realm rec target entry_point context
+came_of_call s realm rec flags (AffinityInfo target level) = affinity_info s realm rec target level
+came_of_call s realm rec flags CpuOff = psci_exit s 0x84000002 0 0 0
+came_of_call s realm rec flags CpuSuspend = psci_exit s 0xC4000001 0 0 0
+came_of_call s realm rec flags SystemOff = psci_exit s 0x84000008 0 0 0
+came_of_call s realm rec flags SystemReset = psci_exit s 0x84000009 0 0 0
+came_of_call s realm rec flags Wfi = wait (traps_wfi flags) 0x04000000
+came_of_call s realm rec flags Wfe = wait (traps_wfe flags) 0x04000001
+came_of_call s realm rec flags (SystemRegister iss value) = system_register iss value
+came_of_call s realm rec flags _ = Spins
+
+abbrev pub is_exit : Came → Bool
+is_exit (IsExit exit last) = true
+is_exit _ = false
+
+-- the attributes of a REC after a step of its guest that makes an exit
+abbrev pub rec_after_exit : Attributes → Step → Attributes
+rec_after_exit rec (SetRipas base top ripas more) = record rec { ripas = record { base = base; top = top; ripas = ripas_of ripas; changes_destroyed = more % 2 == 1 } }
+rec_after_exit rec (CpuOn target entry_point context) = record rec { psci = CpuOnRequest target entry_point context }
+rec_after_exit rec (AffinityInfo target level) = record rec { psci = AffinityInfoRequest target }
+rec_after_exit rec CpuOff = record rec { is_runnable = false }
+rec_after_exit rec CpuSuspend = record rec { psci = Complete 0 }
+rec_after_exit rec _ = rec

@@ -1,0 +1,188 @@
+//! Guests of RECs: the steps that they perform, and what comes of them.
+ghost use Rattle.std.specs.Prelude.{◌≡◌, ◌<◌, length};
+ghost use Rattle.rmm_model.specs.Guest as guests;
+
+use crate::LastExit;
+use page_arena::word_in;
+use rmi_abi::RecExit;
+
+/// A step of a guest: an access of a byte, an RSI or PSCI call, or a wait. This monitor's own: a guest is simulated.
+#[derive(Clone, Copy)]
+pub enum Step {
+    Write {
+        ipa: u64,
+        value: u64,
+    },
+    Read {
+        ipa: u64,
+    },
+    Fetch {
+        ipa: u64,
+    },
+    HostCall {
+        imm: u64,
+        gpr0: u64,
+        gpr1: u64,
+        gpr2: u64,
+    },
+    SetRipas {
+        base: u64,
+        top: u64,
+        ripas: u64,
+        flags: u64,
+    },
+    CpuOn {
+        target: u64,
+        entry_point: u64,
+        context: u64,
+    },
+    AffinityInfo {
+        target: u64,
+        level: u64,
+    },
+    CpuOff,
+    CpuSuspend,
+    SystemOff,
+    SystemReset,
+    Wfi,
+    Wfe,
+    SystemRegister {
+        iss: u64,
+        value: u64,
+    },
+    Spin,
+}
+
+/// The result of a step, as its guest sees it.
+#[derive(Clone, Copy)]
+pub enum StepResult {
+    Done,
+    Read(u64),
+    /// An external abort.
+    Sea,
+    Psci(u64),
+    RsiErrorInput,
+    /// The RIPAS is changed up to an address.
+    Accepted(u64),
+    Rejected(u64),
+    /// The host's answer of a host call.
+    Returned(u64),
+}
+
+/// What comes of a step: a result, an exit, or a guest that spins.
+#[derive(Clone, Copy)]
+pub enum Came {
+    Result(StepResult),
+    Exit(RecExit, LastExit),
+    Spin,
+}
+
+/// The answer to a step that a guest is given.
+#[derive(Clone, Copy, Debug, PartialEq, Eq)]
+pub enum Queued {
+    Queued,
+    Full,
+    NoRec,
+}
+
+/// The words of a step: its kind, and four operands.
+#[derive(Clone, Copy)]
+pub struct StepWords {
+    pub kind: u64,
+    pub a: u64,
+    pub b: u64,
+    pub c: u64,
+    pub d: u64,
+}
+
+impl StepWords {
+    /// The step that words are; words of no other kind are a guest that spins.
+    pub fn step(&self) -> Step
+        ensures { result ≡ guests.step_of self.now }
+    {
+        let (a, b, c, d) = (self.a, self.b, self.c, self.d);
+        match self.kind {
+            0 => Step::Write { ipa: a, value: b },
+            1 => Step::Read { ipa: a },
+            2 => Step::HostCall {
+                imm: a,
+                gpr0: b,
+                gpr1: c,
+                gpr2: d,
+            },
+            3 => Step::SetRipas {
+                base: a,
+                top: b,
+                ripas: c,
+                flags: d,
+            },
+            4 => Step::CpuOn {
+                target: a,
+                entry_point: b,
+                context: c,
+            },
+            5 => Step::AffinityInfo {
+                target: a,
+                level: b,
+            },
+            6 => Step::CpuOff,
+            7 => Step::CpuSuspend,
+            8 => Step::SystemOff,
+            9 => Step::SystemReset,
+            10 => Step::Wfi,
+            11 => Step::Wfe,
+            13 => Step::Fetch { ipa: a },
+            14 => Step::SystemRegister { iss: a, value: b },
+            _ => Step::Spin,
+        }
+    }
+
+    /// The words of step `place` of the ring in the page of a REC.
+    #[tactic(auto, unfolding(crate::specs::Guest::words_at))]
+    pub fn read(page: &[u8], place: u8) -> StepWords
+        requires page { length page.now ≡ 4096 }
+        requires below { place < 16 }
+        ensures { result ≡ guests.words_at page.now place }
+    {
+        let first = 48 + 5 * place as usize;
+        StepWords {
+            kind: word_in(page, first),
+            a: word_in(page, first + 1),
+            b: word_in(page, first + 2),
+            c: word_in(page, first + 3),
+            d: word_in(page, first + 4),
+        }
+    }
+}
+
+impl StepResult {
+    /// The number of the kind of a result.
+    pub fn code(&self) -> u64
+        ensures { result ≡ guests.result_code self.now }
+    {
+        match self {
+            StepResult::Done => 0,
+            StepResult::Read(_) => 1,
+            StepResult::Sea => 2,
+            StepResult::Psci(_) => 6,
+            StepResult::RsiErrorInput => 7,
+            StepResult::Accepted(_) => 3,
+            StepResult::Rejected(_) => 4,
+            StepResult::Returned(_) => 5,
+        }
+    }
+
+    /// The value of a result, and 0 of one that has none.
+    pub fn value(&self) -> u64
+        ensures { result ≡ guests.result_value self.now }
+    {
+        match self {
+            StepResult::Read(value) => *value,
+            StepResult::Psci(value) => *value,
+            StepResult::Accepted(value) => *value,
+            StepResult::Rejected(value) => *value,
+            StepResult::Returned(value) => *value,
+            _ => 0,
+        }
+    }
+}
