@@ -74,7 +74,7 @@ test: ## the whole gate from nothing: proofs, tests, what the built programs pri
 	@mkdir -p bin
 	@for it in $(PROGRAMS) test_memory; do install -m 755 crates/$$it/out/$$it bin/$$it || exit 1; done
 	@! command -v $(CC) > /dev/null || tools/c-library
-	@tools/at_once tests/commands tests/program tests/traces tests/rules tests/rmm_traces tests/rmm_rules tests/rmm_program tests/view tests/terminal tests/orders tests/json tests/page tests/allocations tests/c-library tests/documents tests/prose tests/believed tests/names tests/pages tests/schema "tools/pictures --check" "tools/calls --check" "tools/page_template --check"
+	@tools/at_once tests/commands tests/program tests/traces tests/rules tests/rmm_traces tests/rmm_rules tests/rmm_program tests/view tests/terminal tests/orders tests/json tests/page tests/allocations tests/c-library tests/documents tests/prose tests/believed tests/names tests/pages tests/schema "tools/pictures --check" "tools/calls --check" "tools/commands_index --check" "tools/page_template --check"
 
 wrong-bodies: ## tries the mutants of CRATE or all: the prover has to refuse each
 	@tests/wrong-bodies $(if $(JOBS),--jobs $(JOBS)) $(if $(SINCE),--since $(SINCE)) $(CRATE)
