@@ -6,7 +6,7 @@ TRACE ?= traces/granules.trace
 CRATE ?=
 SINCE ?=
 JOBS ?=
-# COUNT: how many random inputs of each kind `make fuzz` runs (2,000).
+# COUNT: how many random inputs of each kind, and random histories, `make fuzz` runs (2,000).
 COUNT ?=
 # Where `make install` puts the programs and what belongs to them.
 PREFIX ?= /usr/local
@@ -89,8 +89,10 @@ allocations: ## refuses each allocation of the programs in turn, over all plans 
 memcheck: build ## runs the programs under valgrind's memcheck
 	@tests/memcheck
 
-fuzz: build ## runs COUNT plans and traces of each kind of random change, and long inputs
+fuzz: build ## runs COUNT plans and traces of each kind of random change, long inputs, and COUNT histories by registers
 	@tests/fuzz $(COUNT)
+	@tools/build test_rmm_lines
+	@tests/fuzz_rmm $(COUNT)
 
 bench: build ## CPU time and peak memory of the program over plans of several shapes, and how they grow, beside plain Rust (needs cargo)
 	@bench/run --series

@@ -35,7 +35,7 @@ sys.dont_write_bytecode = True
 from second_rmm.command import COMMANDS, smc
 from second_rmm.facts import INPUT, PAGE, RUNNING, STATUSES, SUCCESS, Settings, word_of
 from second_rmm.guest import MOST_STEPS, interrupt
-from second_rmm.judge import MASKED, Answer, answer_of
+from second_rmm.judge import MASKED, Answer, answer_of, full
 from second_rmm.printing import NAMES
 from second_rmm.reading import PAGES, PSCI_NAMES, machine_of, named, parts_of, step_of
 from second_rmm.machine import Granule, Machine, Rec
@@ -71,7 +71,7 @@ def value(text: str, name: str = "") -> str:
 
 def word(answer: Answer) -> str:
     """The result word of an answer, as X0."""
-    status, *index = answer.word
+    status, *index = full(answer.word)
     if status == "RUNNING":
         return digits(RUNNING)
     if index == [NOT_COMPARED]:
@@ -81,6 +81,10 @@ def word(answer: Answer) -> str:
 
 def line(*words: str, answer: str | None = None) -> str:
     return " ".join(words) + ("" if answer is None else f" = {answer}")
+
+
+class NoLine(Exception):
+    """A line that has no raw operations, since it is none of a trace."""
 
 
 class Raw:
@@ -251,8 +255,11 @@ class Raw:
 def raw(lines: list[str]) -> Iterator[str]:
     """The raw operations of a trace."""
     made = Raw()
-    for text in lines:
-        yield from made.operations(text)
+    for number, text in enumerate(lines, 1):
+        try:
+            yield from made.operations(text)
+        except (AttributeError, IndexError, TypeError, ValueError):
+            raise NoLine(f"line {number}: no line of a trace by registers: {text}") from None
 
 
 # ---- raw operations, performed
@@ -371,7 +378,11 @@ def main(words: list[str]) -> int:
     if words == ["--run"]:
         told = [f"operation {number}: {operation}, and here {came}" for number, operation, came in differences(lines)]
     else:
-        told = list(raw(lines))
+        try:
+            told = list(raw(lines))
+        except NoLine as why:
+            sys.stderr.write(f"rmm_lines: {why}\n")
+            return 2
     sys.stdout.write("".join(f"{it}\n" for it in told))
     return int(words == ["--run"] and bool(told))
 

@@ -156,7 +156,7 @@ class ByRegisters:
         auxiliaries = ["aux", *map(at, aux)] if aux else []
         self.ask("rec_params", PARAMS, "flags", 1, "mpidr", mpidr, *auxiliaries)
         verdict = self.call(old, "rmi_rec_create", at(rd), at(rec), PARAMS)
-        return verdict if old[0] != "0" or number == int(old[1]) else UNEXPLAINED
+        return verdict if old[0] != "0" or old[1:] in ([], [str(number)]) else UNEXPLAINED
 
     def run_page(self, rec: int) -> int:
         """A page of the host for each REC of the first granules; the others share."""
@@ -265,8 +265,8 @@ def lines_of(path: str) -> list[str]:
     for number, text in enumerate(Path(path).read_text().splitlines(), 1):
         try:
             verdict = it.line(text)
-        except (AttributeError, TypeError, ValueError, NoCommand):
-            raise NoCommand(f"{path}, line {number}: no line of a trace by granule numbers: {text}") from None
+        except (AttributeError, IndexError, TypeError, ValueError, NoCommand):
+            raise NoCommand(f"{path}, line {number}: no line with an answer of a trace by granule numbers: {text}") from None
         counts.update([verdict] if verdict else [])
     return [*it.lines, *(f"# {count} {verdict}" for verdict, count in counts.most_common())]
 

@@ -76,9 +76,15 @@ def are_values(written: list[str], here: list[str], name: str = "") -> bool:
 # ---- answers
 
 
+def full(word: list[str]) -> list[str]:
+    """A word with its status and index. One of a status alone has index 0; a number is X0 as it was returned."""
+    x0 = number(word[0]) if len(word) == 1 else None
+    if x0 is not None and x0 & 0xFF < len(STATUSES):
+        return [STATUSES[x0 & 0xFF], str(x0 >> 8)]
+    return [*word, "0"] if len(word) == 1 and word[0] in STATUSES else word
+
+
 def is_word(written: list[str], here: list[str]) -> bool:
-    """Whether a word is the same; one of a status alone has index 0."""
-    full = lambda it: [*it, "0"] if len(it) == 1 and it[0] in STATUSES else it
     return are_values(full(written), full(here))
 
 
